@@ -1,0 +1,29 @@
+-- The place that is read is the slot's, and the heap has its expiry there.
+use Rattle.std.proofs.Common.{◌≡◌, Some, sym, arith}
+use Rattle.std.proofs.lemmas.Grind.{common_steps}
+use Rattle.std.proofs.lemmas.Option.{gets}
+use Rattle.rb_binary.specs.Layout.{place_of}
+use Rattle.rb_binary.proofs.Contents.{get-content, get-content_read}
+use Rattle.rb_binary.proofs.binary_timer.BinaryTimerTimer.get.Goals as goal
+
+pub returns-in_err-place : goal.returns-in_err-place
+returns-in_err-place c =
+    let timer = c.args.self.now in
+    let at_slot = get-content timer.heap.items timer.places.items c.args.slot in
+    grind (arith, common_steps, gets, at_slot, c.in_err-place.was)
+
+pub index-requires : goal.index-requires
+index-requires c =
+    let timer = c.args.self.now in
+    let noted : place_of timer.places.items c.args.slot ≡ Some c.in_ok-place.place =
+    grind (arith, common_steps, gets, c.in_ok-place.was) in
+    let within = timer.agrees.in_heap c.args.slot c.in_ok-place.place noted in
+    omega arith
+
+pub returns : goal.returns
+returns c =
+    let timer = c.args.self.now in
+    let noted : place_of timer.places.items c.args.slot ≡ Some c.in_ok-place.place =
+    grind (arith, common_steps, gets, c.in_ok-place.was) in
+    sym (get-content_read timer.heap.items timer.places.items c.args.slot c.in_ok-place.place
+    c.index.result.now timer.agrees noted c.index.ensures)

@@ -1,0 +1,87 @@
+ghost use Rattle.std.specs.Prelude.{◌≡◌, ℕ, ◌+◌, ◌*◌, ◌-◌, ◌/◌, ◌<◌, ◌≤◌, Some, length, slice_set};
+ghost use Rattle.rb_binary.specs.Layout.{slot_at, IsPutAt, IsOrderedBut, MayRise, MaySink, IsLeastChild, Settles};
+
+/// A slot and its expiry, in nanoseconds.
+#[derive(Clone, Copy, Debug)]
+pub(crate) struct Entry {
+    pub(crate) slot: usize,
+    pub(crate) expiry: u64,
+}
+
+// Puts the entry there, and notes its place.
+fn put(heap: &mut [Entry], places: &mut [Option<usize>], place: usize, entry: Entry)
+    requires in_heap { place < length heap.old }
+    requires in_room { entry.slot < length places.old }
+    ensures heap { heap.new ≡ slice_set heap.old place entry }
+    ensures places { places.new ≡ slice_set places.old entry.slot (Some place) }
+{
+    heap[place] = entry;
+    places[entry.slot] = Some(place);
+}
+
+/// Moves the entry up to where it does not expire before its parent.
+///
+/// Its place need not be noted yet.
+pub(crate) fn sift_up(heap: &mut [Entry], places: &mut [Option<usize>], mut place: usize)
+    requires put { IsPutAt heap.old places.old place }
+    requires ordered { MayRise heap.old place }
+    ensures { Settles heap.old places.old place heap.new places.new }
+{
+    let entry = heap[place];
+    while place > 0 {
+        let parent = (place - 1) / 2;
+        let above = heap[parent];
+        if above.expiry <= entry.expiry {
+            break;
+        }
+        put(heap, places, place, above);
+        place = parent;
+    }
+    put(heap, places, place, entry);
+}
+
+// Moves the entry down to where no child expires before it. Its place need not be noted yet.
+fn sift_down(heap: &mut [Entry], places: &mut [Option<usize>], mut place: usize)
+    requires put { IsPutAt heap.old places.old place }
+    requires ordered { MaySink heap.old place }
+    ensures { Settles heap.old places.old place heap.new places.new }
+{
+    let entry = heap[place];
+    while place < heap.len() / 2 {
+        let child = least_child(heap, place);
+        let below = heap[child];
+        if entry.expiry <= below.expiry {
+            break;
+        }
+        put(heap, places, place, below);
+        place = child;
+    }
+    put(heap, places, place, entry);
+}
+
+// The child that expires first.
+fn least_child(heap: &[Entry], place: usize) -> usize
+    requires { 2 * place + 1 < length heap.now }
+    ensures { IsLeastChild heap.now place result }
+{
+    let left = 2 * place + 1;
+    let right = left + 1;
+    if right < heap.len() && heap[right].expiry < heap[left].expiry {
+        right
+    } else {
+        left
+    }
+}
+
+/// Moves the entry up or down to where it belongs. Its place need not be noted yet.
+pub(crate) fn settle(heap: &mut [Entry], places: &mut [Option<usize>], place: usize)
+    requires put { IsPutAt heap.old places.old place }
+    requires ordered { IsOrderedBut heap.old place }
+    ensures { Settles heap.old places.old place heap.new places.new }
+{
+    if place > 0 && heap[place].expiry < heap[(place - 1) / 2].expiry {
+        sift_up(heap, places, place);
+    } else {
+        sift_down(heap, places, place);
+    }
+}

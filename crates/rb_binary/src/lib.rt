@@ -1,0 +1,9 @@
+//! The timer that the program runs with: a binary heap that knows where each slot's entry is.
+#![tactic(auto)]
+
+mod binary_timer;
+mod heap;
+#[cfg(test)]
+mod tests;
+
+pub use binary_timer::BinaryTimer;

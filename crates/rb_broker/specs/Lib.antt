@@ -1,0 +1,12 @@
+pub mod Number
+pub mod Form
+pub mod LineWords
+pub mod Reading
+pub mod ReplyText
+pub mod Lines
+pub mod Buffer
+pub mod Session
+pub mod Progress
+pub mod BrokerFault
+pub mod TimerKind
+pub mod Script

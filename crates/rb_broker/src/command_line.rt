@@ -1,0 +1,81 @@
+ghost use Rattle.std.specs.Prelude.{◌≡◌, ◌≤◌, ℕ, List, IsSome, IfSome, Some, codes};
+ghost use Rattle.std.specs.Str.Parse.{IsNumeral, digits_value, without_leading_plus};
+ghost use Rattle.clap.specs.Words.{first_value, found_of, one_text};
+ghost use Rattle.rb_broker.specs.TimerKind.{name_of};
+
+use crate::script_options::ScriptOptions;
+use crate::timer_kind::TimerKind;
+use crate::words::Words;
+use clap::error::ErrorKind;
+use clap::{Arg, ArgMatches, Command, Error, value_parser};
+use rb_kept::MOST_CALLS;
+use std::alloc::{AllocError, Global};
+
+/// What the words of a command line ask for, the first of which is the program's own name.
+///
+/// Where they are no command, the error has the text for the user and the exit code: 0 for help,
+/// which was asked for, and else 2. For want of memory its kind is `OutOfMemory`.
+pub fn read_words(alloc: Global, words: &[&str]) -> Result<Words, Error> {
+    let mut command = broker_command(alloc)?;
+    let matches = command.try_get_matches_from_mut(words)?;
+    if let Some(("script", given)) = matches.subcommand()
+        && let Some(options) = script_options(given)
+    {
+        return Ok(Words::Script(options));
+    }
+    Err(command.error(
+        ErrorKind::InvalidValue,
+        "the command or a value of its options is not known",
+    )?)
+}
+
+/// The program's command with the subcommand `script`.
+fn broker_command<'a>(alloc: Global) -> Result<Command<'a>, AllocError> {
+    let calls = Arg::new(alloc, "calls")
+        .long("calls")
+        .value_name("N")
+        .help("how many calls the run has room for")
+        .value_parser(value_parser!(u64).range(1..=MOST_CALLS as i64))
+        .default_value("10000");
+    let timer = Arg::new(alloc, "timer")
+        .long("timer")
+        .value_name("T")
+        .help("which timer the queue uses")
+        .value_parser(TimerKind::NAMES.as_slice())
+        .default_value(TimerKind::DEFAULT_NAME);
+    let script = Command::new(alloc, "script")
+        .about("Runs a script from standard input to standard output")
+        .arg(calls)?
+        .arg(timer)?;
+    Command::new(alloc, "rb_broker")
+        .about("A broker of delayed elements")
+        .subcommand_required(true)
+        .subcommand(script)
+}
+
+/// The options that were given to `script`, if each is there and in its range.
+///
+/// clap has refused every other value before. But what its contracts say of the values that passed
+/// is said of a command's own options, and not of a subcommand's, so the range is tested here once
+/// more, and `read_words` refuses what this test would find.
+fn script_options(given: &ArgMatches<'_>) -> Option<ScriptOptions>
+    ensures timer { IfSome result (λ options. first_value (found_of given.now) (codes "timer")
+        ≡ Some (name_of options.timer)) }
+    ensures calls { IfSome result (λ options. (text : List ℕ)
+        → one_text (found_of given.now) (codes "calls") ≡ Some text
+        → options.calls ≡ digits_value 10 (without_leading_plus text)) }
+    ensures given { (text : List ℕ) → (kind : TimerKind)
+        → one_text (found_of given.now) (codes "calls") ≡ Some text
+        → IsNumeral 10 (without_leading_plus text)
+        → 1 ≤ digits_value 10 (without_leading_plus text)
+        → digits_value 10 (without_leading_plus text) ≤ MOST_CALLS
+        → first_value (found_of given.now) (codes "timer") ≡ Some (name_of kind)
+        → IsSome result }
+{
+    let calls = given.get_one::<u64>("calls")?;
+    let timer = TimerKind::named(given.get_str("timer")?)?;
+    if !(1..=MOST_CALLS).contains(&calls) {
+        return None;
+    }
+    Some(ScriptOptions { timer, calls })
+}

@@ -1,0 +1,177 @@
+ghost use Rattle.std.specs.Prelude.{◌≤◌};
+ghost use Rattle.rb_kept.specs.declared.kept.TheConstants.{MOST_CALLS};
+
+use crate::broker_fault::BrokerFault;
+use crate::command_line::read_words;
+use crate::script_options::ScriptOptions;
+use crate::session_fault::SessionFault;
+use crate::timer_kind::TimerKind;
+use crate::words::Words;
+use clap::error::ErrorKind;
+use std::alloc::Global;
+use std::test::Fail;
+
+fn options_of(alloc: Global, words: &[&str]) -> Option<ScriptOptions> {
+    match read_words(alloc, words) {
+        Ok(Words::Script(options)) => Some(options),
+        Err(_) => None,
+    }
+}
+
+fn options(timer: TimerKind, calls: u64) -> Option<ScriptOptions>
+    requires from_one { 1 ≤ calls }
+    requires in_range { calls ≤ MOST_CALLS }
+{
+    Some(ScriptOptions { timer, calls })
+}
+
+#[test]
+fn takes_a_script_and_its_options(rt: HostRuntime) {
+    let alloc = rt.alloc();
+    let plain = options_of(alloc, &["rb_broker", "script"]);
+    assert_eq!(rt; plain, options(TimerKind::Heap, 10_000));
+    let least = options_of(alloc, &["rb_broker", "script", "--calls", "1"]);
+    assert_eq!(rt; least, options(TimerKind::Heap, 1));
+    let most = options_of(alloc, &["rb_broker", "script", "--calls", "1000000"]);
+    assert_eq!(rt; most, options(TimerKind::Heap, 1_000_000));
+    let list = options_of(alloc, &["rb_broker", "script", "--timer", "list"]);
+    assert_eq!(rt; list, options(TimerKind::List, 10_000));
+    let heap = options_of(alloc, &["rb_broker", "script", "--timer=heap"]);
+    assert_eq!(rt; heap, options(TimerKind::Heap, 10_000));
+    let both = options_of(
+        alloc,
+        &["rb_broker", "script", "--timer", "list", "--calls=7"],
+    );
+    assert_eq!(rt; both, options(TimerKind::List, 7));
+}
+
+#[test]
+fn refuses_other_words_with_status_2(rt: HostRuntime) {
+    let alloc = rt.alloc();
+    for (words, kind) in [
+        (["rb_broker"].as_slice(), ErrorKind::MissingSubcommand),
+        (
+            ["rb_broker", "scripts"].as_slice(),
+            ErrorKind::InvalidSubcommand,
+        ),
+        (
+            ["rb_broker", "--timer", "list"].as_slice(),
+            ErrorKind::UnknownArgument,
+        ),
+        (
+            ["rb_broker", "script", "more"].as_slice(),
+            ErrorKind::UnknownArgument,
+        ),
+        (
+            ["rb_broker", "script", "--call", "1"].as_slice(),
+            ErrorKind::UnknownArgument,
+        ),
+        (
+            ["rb_broker", "script", "--calls"].as_slice(),
+            ErrorKind::InvalidValue,
+        ),
+        (
+            ["rb_broker", "script", "--calls", "0"].as_slice(),
+            ErrorKind::ValueValidation,
+        ),
+        (
+            ["rb_broker", "script", "--calls", "1000001"].as_slice(),
+            ErrorKind::ValueValidation,
+        ),
+        (
+            ["rb_broker", "script", "--calls", "x"].as_slice(),
+            ErrorKind::ValueValidation,
+        ),
+        (
+            ["rb_broker", "script", "--calls", "18446744073709551617"].as_slice(),
+            ErrorKind::ValueValidation,
+        ),
+        (
+            ["rb_broker", "script", "--timer", "tree"].as_slice(),
+            ErrorKind::InvalidValue,
+        ),
+        (
+            ["rb_broker", "script", "--timer", "Heap"].as_slice(),
+            ErrorKind::InvalidValue,
+        ),
+        (
+            ["rb_broker", "script", "--calls", "1", "--calls", "2"].as_slice(),
+            ErrorKind::ArgumentConflict,
+        ),
+    ] {
+        let error = read_words(alloc, words).err().expect(&rt, "an error");
+        assert_eq!(rt; error.kind(), kind);
+        assert_eq!(rt; error.exit_code(), 2);
+        assert!(rt; error.use_stderr());
+    }
+}
+
+#[test]
+fn no_word_is_refused(rt: HostRuntime) {
+    let error = read_words(rt.alloc(), &[]).err().expect(&rt, "an error");
+    assert_eq!(rt; error.exit_code(), 2);
+}
+
+#[test]
+fn shows_help_with_status_0(rt: HostRuntime) -> Result<(), Fail> {
+    let alloc = rt.alloc();
+    let error = read_words(alloc, &["rb_broker", "--help"])
+        .err()
+        .expect(&rt, "help");
+    assert_eq!(rt; error.kind(), ErrorKind::DisplayHelp);
+    assert_eq!(rt; error.exit_code(), 0);
+    assert!(rt; error.to_string(alloc)?.as_str().contains("script"));
+    let error = read_words(alloc, &["rb_broker", "script", "--help"])
+        .err()
+        .expect(&rt, "help");
+    assert_eq!(rt; error.kind(), ErrorKind::DisplayHelp);
+    assert_eq!(rt; error.exit_code(), 0);
+    let text = error.to_string(alloc)?;
+    for part in [
+        "--calls <N>",
+        "how many calls the run has room for",
+        "10000",
+        "--timer <T>",
+        "which timer the queue uses",
+        "list, heap",
+    ] {
+        assert!(rt; text.as_str().contains(part), "{part}");
+    }
+    Ok(())
+}
+
+#[test]
+fn faults_have_a_status_and_a_text(rt: HostRuntime) -> Result<(), Fail> {
+    let alloc = rt.alloc();
+    for (session, fault, status, text) in [
+        (
+            SessionFault::Read,
+            BrokerFault::Read,
+            3,
+            "cannot read input",
+        ),
+        (
+            SessionFault::Write,
+            BrokerFault::Write,
+            3,
+            "cannot write output",
+        ),
+        (
+            SessionFault::ReadTurns,
+            BrokerFault::ReadTurns,
+            3,
+            "too many reads",
+        ),
+        (
+            SessionFault::Memory,
+            BrokerFault::Memory,
+            4,
+            "out of memory",
+        ),
+    ] {
+        assert_eq!(rt; BrokerFault::from(session), fault);
+        assert_eq!(rt; fault.status(), status);
+        assert_eq!(rt; fault.to_string(alloc)?.as_str(), text);
+    }
+    Ok(())
+}

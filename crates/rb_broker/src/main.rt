@@ -1,0 +1,102 @@
+//! A broker of delayed elements, as a command.
+//!
+//! `rb_broker script` reads a script from standard input and writes its answers to standard output.
+//! The exit status is 0 at the end of a run and after help, 2 where the words are refused, 3 where
+//! input or output fails, and 4 for want of memory.
+#![tactic(auto)]
+
+mod answer;
+mod broker_fault;
+mod command_line;
+#[cfg(test)]
+mod command_line_rows;
+mod ended;
+mod error_word;
+mod line_buffer;
+mod line_fault;
+mod line_reply;
+mod line_words;
+mod number;
+#[cfg(test)]
+mod reply_rows;
+mod request;
+#[cfg(test)]
+mod request_rows;
+mod script;
+mod script_options;
+#[cfg(test)]
+mod script_rows;
+mod send;
+mod served;
+mod session;
+mod session_fault;
+mod timer_kind;
+mod words;
+
+use broker_fault::BrokerFault;
+use clap::error::ErrorKind;
+use command_line::read_words;
+use script::run_script;
+use std::alloc::{AllocError, Global};
+use std::process::ExitCode;
+use std::{env, io};
+use words::Words;
+
+/// The exit status where the words are refused before clap reads them.
+const WORDS_REFUSED: u8 = 2;
+
+fn main(rt: HostRuntime) -> ExitCode {
+    match gathered_words(&rt) {
+        Ok(words) => match lent_words(rt.alloc(), &words) {
+            Ok(words) => run(&rt, words.as_slice()),
+            Err(AllocError) => ended_by(&rt, BrokerFault::Memory),
+        },
+        Err(error) if error.kind() == io::ErrorKind::OutOfMemory => {
+            ended_by(&rt, BrokerFault::Memory)
+        }
+        Err(_) => {
+            let _ = rt.eprintln("rb_broker: a word of the command line is not UTF-8 text");
+            ExitCode::from(WORDS_REFUSED)
+        }
+    }
+}
+
+/// The words of the command line, the program's own name first.
+fn gathered_words(rt: &HostRuntime) -> io::Result<Vec<String>> {
+    Ok(env::args(rt)?.collect(rt.alloc())?)
+}
+
+/// The texts of `words`, in their order.
+fn lent_words<'a>(alloc: Global, words: &'a Vec<String>) -> Result<Vec<&'a str>, AllocError> {
+    words.iter().map(|word| word.as_str()).collect(alloc)
+}
+
+/// Does what `words` ask for, and answers the exit status of it.
+fn run(rt: &HostRuntime, words: &[&str]) -> ExitCode {
+    match read_words(rt.alloc(), words) {
+        Ok(Words::Script(options)) => {
+            match run_script(rt.alloc(), &options, &mut rt.stdin(), &mut rt.stdout()) {
+                Ok(_) => ExitCode::SUCCESS,
+                Err(fault) => ended_by(rt, fault),
+            }
+        }
+        Err(error) if error.kind() == ErrorKind::OutOfMemory => ended_by(rt, BrokerFault::Memory),
+        Err(error) => refused_by(rt, &error),
+    }
+}
+
+/// Prints the text of `error`, help to standard output and else to standard error, and answers its
+/// exit status. Help that cannot be written is a fault of output.
+fn refused_by(rt: &HostRuntime, error: &clap::Error) -> ExitCode {
+    let printed = error.print(rt);
+    if printed.is_err() && !error.use_stderr() {
+        return ended_by(rt, BrokerFault::Write);
+    }
+    ExitCode::from(error.exit_code() as u8)
+}
+
+/// Prints the line of `fault` to standard error and answers its exit status.
+fn ended_by(rt: &HostRuntime, fault: BrokerFault) -> ExitCode {
+    let _ = eprintln!(rt; "rb_broker: {fault}");
+    ExitCode::from(fault.status())
+}

@@ -1,0 +1,55 @@
+ghost use Rattle.std.specs.Prelude.{◌≡◌, ◌≤◌, ℕ, List, Some};
+ghost use Rattle.rb_kept.specs.declared.kept.TheConstants.{MOST_CALLS};
+ghost use Rattle.rb_broker.specs.Script.{RanScript};
+
+use crate::broker_fault::BrokerFault;
+use crate::ended::Ended;
+use crate::script_options::ScriptOptions;
+use crate::session::run_session;
+use crate::timer_kind::TimerKind;
+use rb_binary::BinaryTimer;
+use rb_kept::Kept;
+use rb_timer::{ListTimer, Timer};
+use std::alloc::Global;
+use std::io::{Read, Write};
+
+/// Runs one session over an empty queue, from a reader to a writer.
+///
+/// The room for the calls is taken before the first read. What is written is the text of the session,
+/// whichever timer is chosen.
+pub fn run_script<R: Read, W: Write>(
+    alloc: Global,
+    options: &ScriptOptions,
+    reader: &mut R,
+    writer: &mut W,
+) -> Result<Ended, BrokerFault>
+    ensures { (stream before : List ℕ) → R.remaining reader.old ≡ Some stream → W.contents writer.old ≡ Some before
+        → RanScript options.now.calls stream before result (R.remaining reader.new) (W.contents writer.new) }
+{
+    let calls = options.calls;
+    match options.timer {
+        TimerKind::List => run_on::<ListTimer, R, W>(alloc, calls, reader, writer),
+        TimerKind::Heap => run_on::<BinaryTimer, R, W>(alloc, calls, reader, writer),
+    }
+}
+
+fn run_on<T: Timer, R: Read, W: Write>(
+    alloc: Global,
+    calls: u64,
+    reader: &mut R,
+    writer: &mut W,
+) -> Result<Ended, BrokerFault>
+    requires from_one { 1 ≤ calls }
+    requires in_range { calls ≤ MOST_CALLS }
+    ensures { (stream before : List ℕ) → R.remaining reader.old ≡ Some stream → W.contents writer.old ≡ Some before
+        → RanScript calls stream before result (R.remaining reader.new) (W.contents writer.new) }
+{
+    // The number of calls is in range, so that memory alone can be missing.
+    let Ok(mut kept) = Kept::<T>::new(alloc, calls) else {
+        return Err(BrokerFault::Memory);
+    };
+    match run_session(alloc, reader, writer, &mut kept) {
+        Ok(ended) => Ok(ended),
+        Err(fault) => Err(BrokerFault::from(fault)),
+    }
+}

@@ -1,0 +1,3 @@
+pub mod Moment
+pub mod Payload
+pub mod Padding

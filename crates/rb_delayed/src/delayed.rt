@@ -1,0 +1,46 @@
+ghost use Rattle.std.specs.Prelude.{◌≡◌, ℕ, ◌≤◌, ◌↔◌, IsTrue};
+ghost use Rattle.std.specs.Ordering.{int_cmp};
+ghost use Rattle.rb_delayed.specs.Moment.{delay_of, IsExpired};
+
+use std::cmp::Ordering;
+
+/// Something that may be taken once its delay has expired, as `java.util.concurrent.Delayed` of
+/// Java SE 17.
+pub trait Delayed {
+    /// Its name.
+    ghost id: { Self → ℕ };
+
+    /// The moment at which its delay is zero.
+    ghost expiry: { Self → ℕ };
+
+    /// Its name.
+    fn id(&self) -> u64
+        ensures { result ≡ id self.now };
+
+    /// The moment, in nanoseconds, from which on it is expired.
+    fn expiry(&self) -> u64
+        ensures { result ≡ expiry self.now };
+
+    /// How many nanoseconds after `now` it expires, as `Delayed.getDelay`. The delay is zero at the
+    /// expiry, and negative after it.
+    fn delay(&self, now: u64) -> i128
+        ensures { result ≡ delay_of (expiry self.now) now }
+    {
+        i128::from(self.expiry()) - i128::from(now)
+    }
+
+    /// The order of the two delays, which is the same at every moment, as `Delayed.compareTo`.
+    fn delay_order(&self, other: &Self) -> Ordering
+        ensures { (now : ℕ) → result ≡ int_cmp (delay_of (expiry self.now) now) (delay_of (expiry other.now) now) }
+    {
+        self.expiry().cmp(&other.expiry())
+    }
+}
+
+/// Whether the delay is zero or less at `now`, as `DelayQueue` of Java SE 17 has it.
+pub fn is_expired<D: Delayed>(element: &D, now: u64) -> bool
+    ensures expired { IsTrue result ↔ IsExpired (D.expiry element.now) now }
+    ensures by_expiry { IsTrue result ↔ (D.expiry element.now ≤ now) }
+{
+    element.expiry() <= now
+}

@@ -1,0 +1,20 @@
+//! What a delay queue holds: elements with their payloads, each with the moment at which it expires.
+//!
+//! A moment is a `u64` count of nanoseconds. The delay of an element at a moment is its expiry less
+//! that moment, and may be negative; the element is expired once its delay is zero or less, as
+//! `java.util.concurrent.Delayed` and `DelayQueue` of Java SE 17 have it. Nothing here takes memory.
+#![tactic(auto)]
+
+mod delayed;
+mod element;
+mod moment;
+mod payload;
+mod payload_fault;
+#[cfg(test)]
+mod tests;
+
+pub use delayed::{Delayed, is_expired};
+pub use element::{Element, GREATEST_ATTEMPT};
+pub use moment::{GREATEST_MOMENT, add_capped, add_delay};
+pub use payload::{GREATEST_PAYLOAD_BYTE, LEAST_PAYLOAD_BYTE, MOST_PAYLOAD_BYTES, Payload};
+pub use payload_fault::PayloadFault;

@@ -1,0 +1,13 @@
+pub use Rattle.rb_delayed.specs.Moment
+pub use Rattle.rb_queue.specs.Bag
+pub use Rattle.rb_queue.specs.Head
+pub use Rattle.rb_queue.specs.Queue
+pub use Rattle.rb_queue.specs.Draft
+pub use Rattle.rb_queue.specs.Calls
+pub use Rattle.rb_queue.specs.History
+pub use Rattle.rb_queue.specs.Replies
+pub use Rattle.rb_queue.specs.Counts
+pub mod Log
+pub mod Tries
+pub mod Naming
+pub mod Layout

@@ -1,0 +1,11 @@
+-- Which element a draft becomes.
+use Rattle.std.specs.Prelude.{◌≡◌, unwrap_or}
+use Rattle.rb_delayed.specs.declared.element.Element.{Element}
+use Rattle.rb_queue.specs.declared.draft.Draft.{Draft}
+
+-- the element has the draft's fields, and is its own origin where the draft names none
+pub record IsDrafted (draft : Draft) (element : Element) : Type 0 where
+  pub expiry : element.expiry ≡ draft.expiry
+  pub origin : element.origin ≡ unwrap_or draft.origin element.id
+  pub attempt : element.attempt ≡ draft.attempt
+  pub payload : element.payload ≡ draft.payload

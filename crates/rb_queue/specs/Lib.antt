@@ -1,0 +1,11 @@
+pub use Rattle.rb_delayed.specs.Moment
+pub mod Bag
+pub mod Head
+pub mod Queue
+pub mod Draft
+pub mod Calls
+pub mod History
+pub mod Replies
+pub mod Counts
+pub mod Leaving
+pub mod Slots

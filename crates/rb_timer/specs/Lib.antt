@@ -1,0 +1,3 @@
+pub mod Content
+pub mod Run
+pub mod Slots

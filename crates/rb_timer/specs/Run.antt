@@ -1,0 +1,53 @@
+-- Which answers a timer with a room may give to a list of commands, and what it contains after them.
+use Rattle.std.specs.Prelude.{◌≡◌, ℕ, ◌<◌, List, [], ◌∷◌, Some, None}
+use Rattle.std.specs.FinMap as map
+use Rattle.rb_timer.specs.Content.{Content, IsLeastEntry, IsDueEntry}
+use Rattle.rb_timer.specs.declared.command.TimerCommand.{TimerCommand}
+use Rattle.rb_timer.specs.declared.command.TimerCommand.TheVariants.{Insert, Remove, Least, Due, Clear}
+use Rattle.rb_timer.specs.declared.command.TimerAnswer.{TimerAnswer}
+use Rattle.rb_timer.specs.declared.command.TimerAnswer.TheVariants.{Inserted, Removed, Entry, Cleared, Refused}
+
+-- the condition of an insert: the slot is below the room, and has no entry
+abbrev pub CanInsert : ℕ → Content → ℕ → Type 0
+CanInsert room content slot = (slot < room) × (map.get content slot ≡ None)
+
+-- From `old` a timer with this room may give the answer to the command, and then contains `new`.
+abbrev pub Step : ℕ → Content → TimerCommand → TimerAnswer → Content → Type 0
+Step room old (Insert slot expiry) Inserted new =
+    CanInsert room old slot × (new ≡ map.insert old slot expiry)
+Step room old (Remove slot) (Removed expiry) new =
+    (map.get old slot ≡ Some expiry) × (new ≡ map.remove old slot)
+Step room old Least (Entry entry) new = IsLeastEntry old entry × (new ≡ old)
+Step room old (Due now) (Entry entry) new = IsDueEntry old now entry × (new ≡ old)
+Step room old Clear Cleared new = new ≡ map.empty
+-- where a condition fails, nothing changes
+Step room old (Insert slot expiry) Refused new = ¬ CanInsert room old slot × (new ≡ old)
+Step room old (Remove slot) Refused new = (map.get old slot ≡ None) × (new ≡ old)
+-- no other answer is given
+Step room old (Insert slot expiry) (Removed other) new = ⊥
+Step room old (Insert slot expiry) (Entry entry) new = ⊥
+Step room old (Insert slot expiry) Cleared new = ⊥
+Step room old (Remove slot) Inserted new = ⊥
+Step room old (Remove slot) (Entry entry) new = ⊥
+Step room old (Remove slot) Cleared new = ⊥
+Step room old Least Inserted new = ⊥
+Step room old Least (Removed other) new = ⊥
+Step room old Least Cleared new = ⊥
+Step room old Least Refused new = ⊥
+Step room old (Due now) Inserted new = ⊥
+Step room old (Due now) (Removed other) new = ⊥
+Step room old (Due now) Cleared new = ⊥
+Step room old (Due now) Refused new = ⊥
+Step room old Clear Inserted new = ⊥
+Step room old Clear (Removed other) new = ⊥
+Step room old Clear (Entry entry) new = ⊥
+Step room old Clear Refused new = ⊥
+
+-- the answers to the commands, one step after the other, from `old` to `new`
+abbrev pub Run : ℕ → Content → List TimerCommand → List TimerAnswer → Content → Type 0
+Run room old [] [] new = new ≡ old
+Run room old (command ∷ commands) (answer ∷ answers) new =
+    (between : Content) × Step room old command answer between
+    × Run room between commands answers new
+Run room old [] (answer ∷ answers) new = ⊥
+Run room old (command ∷ commands) [] new = ⊥

@@ -1,0 +1,20 @@
+//! Which slot expires first: the contract of all timers, a run over any of them, the plain timer,
+//! and trials for the others.
+//!
+//! A timer is seen as a finite map from slot to expiry, with a room that every slot is below. A
+//! slot is a number that the timer's owner chose, and an expiry a moment in nanoseconds. Memory is
+//! taken by `reserve` alone, so that whoever has made room cannot fail later.
+#![tactic(auto)]
+
+mod command;
+mod list_timer;
+mod run;
+#[cfg(test)]
+mod tests;
+mod timer;
+pub mod trials;
+
+pub use command::{TimerAnswer, TimerCommand};
+pub use list_timer::ListTimer;
+pub use run::run_timer;
+pub use timer::Timer;
