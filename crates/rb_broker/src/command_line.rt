@@ -15,7 +15,10 @@ use std::alloc::{AllocError, Global};
 ///
 /// Where they are no command, the error has the text for the user and the exit code: 0 for help,
 /// which was asked for, and else 2. For want of memory its kind is `OutOfMemory`.
-pub fn read_words(alloc: Global, words: &[&str]) -> Result<Words, Error> {
+pub fn read_words(alloc: Global, words: &[&str]) -> Result<Words, Error>
+    ensures in_range { (options : ScriptOptions) → result ≡ Ok (Words.Script options)
+        → (1 ≤ options.calls) × (options.calls ≤ MOST_CALLS) }
+{
     let mut command = broker_command(alloc)?;
     let matches = command.try_get_matches_from_mut(words)?;
     if let Some(("script", given)) = matches.subcommand()

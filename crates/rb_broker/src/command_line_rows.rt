@@ -9,6 +9,7 @@ use crate::timer_kind::TimerKind;
 use crate::words::Words;
 use clap::error::ErrorKind;
 use std::alloc::Global;
+use std::process::Abort;
 use std::test::Fail;
 
 fn options_of(alloc: Global, words: &[&str]) -> Option<ScriptOptions> {
@@ -45,9 +46,15 @@ fn takes_a_script_and_its_options(rt: HostRuntime) {
     assert_eq!(rt; both, options(TimerKind::List, 7));
 }
 
+fn refuses(rt: &impl Abort, alloc: Global, words: &[&str], kind: ErrorKind) {
+    let error = read_words(alloc, words).err().expect(rt, "an error");
+    assert_eq!(rt; error.kind(), kind, "{words:?}");
+    assert_eq!(rt; error.exit_code(), 2, "{words:?}");
+    assert!(rt; error.use_stderr());
+}
+
 #[test]
-fn refuses_other_words_with_status_2(rt: HostRuntime) {
-    let alloc = rt.alloc();
+fn refuses_other_commands_with_status_2(rt: HostRuntime) {
     for (words, kind) in [
         (["rb_broker"].as_slice(), ErrorKind::MissingSubcommand),
         (
@@ -66,44 +73,29 @@ fn refuses_other_words_with_status_2(rt: HostRuntime) {
             ["rb_broker", "script", "--call", "1"].as_slice(),
             ErrorKind::UnknownArgument,
         ),
-        (
-            ["rb_broker", "script", "--calls"].as_slice(),
-            ErrorKind::InvalidValue,
-        ),
-        (
-            ["rb_broker", "script", "--calls", "0"].as_slice(),
-            ErrorKind::ValueValidation,
-        ),
-        (
-            ["rb_broker", "script", "--calls", "1000001"].as_slice(),
-            ErrorKind::ValueValidation,
-        ),
-        (
-            ["rb_broker", "script", "--calls", "x"].as_slice(),
-            ErrorKind::ValueValidation,
-        ),
-        (
-            ["rb_broker", "script", "--calls", "18446744073709551617"].as_slice(),
-            ErrorKind::ValueValidation,
-        ),
-        (
-            ["rb_broker", "script", "--timer", "tree"].as_slice(),
-            ErrorKind::InvalidValue,
-        ),
-        (
-            ["rb_broker", "script", "--timer", "Heap"].as_slice(),
-            ErrorKind::InvalidValue,
-        ),
-        (
-            ["rb_broker", "script", "--calls", "1", "--calls", "2"].as_slice(),
-            ErrorKind::ArgumentConflict,
-        ),
     ] {
-        let error = read_words(alloc, words).err().expect(&rt, "an error");
-        assert_eq!(rt; error.kind(), kind);
-        assert_eq!(rt; error.exit_code(), 2);
-        assert!(rt; error.use_stderr());
+        refuses(&rt, rt.alloc(), words, kind);
     }
+}
+
+#[test]
+fn refuses_other_values_with_status_2(rt: HostRuntime) {
+    for (option, kind) in [
+        ("--calls", ErrorKind::InvalidValue),
+        ("--calls=0", ErrorKind::ValueValidation),
+        ("--calls=1000001", ErrorKind::ValueValidation),
+        ("--calls=x", ErrorKind::ValueValidation),
+        ("--calls=-1", ErrorKind::ValueValidation),
+        ("--calls=18446744073709551617", ErrorKind::ValueValidation),
+        ("--timer=tree", ErrorKind::InvalidValue),
+        ("--timer=Heap", ErrorKind::InvalidValue),
+    ] {
+        refuses(&rt, rt.alloc(), &["rb_broker", "script", option], kind);
+    }
+    let twice = ["rb_broker", "script", "--calls=1", "--calls=2"];
+    refuses(&rt, rt.alloc(), &twice, ErrorKind::ArgumentConflict);
+    let apart = ["rb_broker", "script", "--calls", "0"];
+    refuses(&rt, rt.alloc(), &apart, ErrorKind::ValueValidation);
 }
 
 #[test]
