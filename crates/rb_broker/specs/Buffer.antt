@@ -25,8 +25,10 @@ TakesLine bytes None new = HasNoFeed bytes × IsUnserved new bytes
 TakesLine bytes (Some reading) new = (raw rest : List ℕ)
     × (bytes ≡ raw ++ 10 ∷ rest) × HasNoFeed raw × IsReading (line_of raw) reading × IsUnserved new rest
 
--- the first bytes of the stream come behind those that are not served, none of them only at its end
+-- so many of the first bytes of the stream come behind those that are not served, none of them only at
+-- its end
 abbrev pub TakesMore : List ℕ → List ℕ → Result ℕ Error → LineBuffer → Option (List ℕ) → Type 0
 TakesMore bytes stream (Ok count) new left = (more rest : List ℕ)
     × (stream ≡ more ++ rest) × (left ≡ Some rest) × IsUnserved new (bytes ++ more) × (count ≡ 0 → stream ≡ [])
+    × (length more ≡ count)
 TakesMore bytes stream (Err error) new left = (left ≡ Some stream) × IsUnserved new bytes

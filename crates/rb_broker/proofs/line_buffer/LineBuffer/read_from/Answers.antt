@@ -6,7 +6,7 @@ use Rattle.std.specs.declared.io.Error.{Error}
 use Rattle.rb_broker.specs.Buffer.{held_by}
 use Rattle.rb_broker.specs.declared.line_buffer.TheConstants.{MOST_RAW_BYTES}
 use Rattle.rb_broker.proofs.Buffers.{range_more, range_same, read_ok, read_err, unserved_more, unserved_same, length-written}
-use Rattle.std.proofs.lemmas.List.{with_items_is}
+use Rattle.std.proofs.lemmas.List.{with_items_is, length-take-le}
 use Rattle.rb_broker.proofs.line_buffer.LineBuffer.read_from.Goals as goal
 
 pub returns-in-Ok : goal.returns-in-Ok
@@ -23,7 +23,7 @@ returns-in-Ok g c bytes stream unserved none known =
     let grows = ap (λ (ys : List ℕ). slice_range ys before.start (before.end + c.in-Ok.count)) written
     ∙ range_more xs c.read.new.buf (post_of before.end (length xs - before.end) xs) before.start before.end c.in-Ok.count before.ordered within c.in-Ok.ensures.bound.0
     ∙ ap (λ (ys : List ℕ). slice_range ys before.start before.end ++ take c.in-Ok.count c.read.new.buf) c.deref_mut.ensures.value in
-    (take c.in-Ok.count c.read.new.buf, read.0, read.1, read.2, unserved_more before.is_long MOST_RAW_BYTES (held_by before) _ _ bytes grows kept, read.3)
+    (take c.in-Ok.count c.read.new.buf, read.0, read.1, read.2, unserved_more before.is_long MOST_RAW_BYTES (held_by before) _ _ bytes grows kept, read.3, length-take-le c.in-Ok.count c.read.new.buf c.in-Ok.ensures.bound.0)
 
 pub returns-in-Err : goal.returns-in-Err
 returns-in-Err g c bytes stream unserved none known =
