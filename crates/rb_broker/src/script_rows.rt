@@ -327,24 +327,48 @@ fn an_interrupted_read_is_made_again(rt: HostRuntime) {
 // Each reply is one write and one flush, so call 2 k is the write of reply k, and the next its flush.
 #[test]
 fn a_writer_that_fails_ends_the_session(rt: HostRuntime) {
-    let alloc = rt.alloc();
-    for timer in KINDS {
-        for call in 0..10_usize {
-            let mut writer = Held::new(alloc);
-            let fault = Fault::Fails;
-            writer.fault = Some(FaultAt { call, fault });
-            let mut reader = Pieces::of(FIRST_SCRIPT, usize::MAX);
-            let result = run(&rt, alloc, timer, 10, &mut reader, &mut writer);
-            assert_eq!(rt; result, Err(BrokerFault::Write), "{call}");
-            let lines = call.div_ceil(2);
-            assert_eq!(rt;
-                writer.bytes.as_slice(),
-                first_lines(FIRST_REPLIES, lines),
-                "{call}"
-            );
-            assert_eq!(rt; writer.calls, call + 1, "{call}");
+    for (script, replies, calls) in [
+        (FIRST_SCRIPT, FIRST_REPLIES, 10),
+        (
+            b"OFFER 0 a\npoll\nPOLL\nPOLL".as_slice(),
+            b"OFFERED 0 0\nERR 1 syntax\nITEM 0 0 1 a\nERR 8 line\n".as_slice(),
+            8,
+        ),
+        (
+            b"SIZE\nQUIT\nSIZE\n".as_slice(),
+            b"SIZE 0\nBYE\n".as_slice(),
+            4,
+        ),
+    ] {
+        for timer in KINDS {
+            for call in 0..calls {
+                expect_write_fault(&rt, rt.alloc(), timer, script, replies, call);
+            }
         }
     }
+}
+
+// A writer that fails at this call has the replies before, and that of the call if it was a flush.
+fn expect_write_fault(
+    rt: &impl Abort,
+    alloc: Global,
+    timer: TimerKind,
+    script: &[u8],
+    replies: &[u8],
+    call: usize,
+) {
+    let mut writer = Held::new(alloc);
+    let fault = Fault::Fails;
+    writer.fault = Some(FaultAt { call, fault });
+    let mut reader = Pieces::of(script, usize::MAX);
+    let result = run(rt, alloc, timer, 10, &mut reader, &mut writer);
+    assert_eq!(rt; result, Err(BrokerFault::Write), "{call}");
+    assert_eq!(rt;
+        writer.bytes.as_slice(),
+        first_lines(replies, call.div_ceil(2)),
+        "{call}"
+    );
+    assert_eq!(rt; writer.calls, call.saturating_add(1), "{call}");
 }
 
 #[test]
@@ -394,4 +418,37 @@ fn no_whole_session_needs_more_writes_than_replies(rt: HostRuntime) {
     assert_eq!(rt; result, Ok(Ended::EndOfInput));
     assert_eq!(rt; writer.calls, 10);
     assert_eq!(rt; reader.calls, 2);
+}
+
+// Gives one byte at each read, and never a line's end.
+#[derive(Drop)]
+struct Endless {
+    calls: u64,
+}
+
+impl Read for Endless {
+    fn read(&mut self, buf: &mut [u8]) -> io::Result<usize> {
+        self.calls = self.calls.saturating_add(1);
+        match buf.first_mut() {
+            Some(byte) => {
+                *byte = b'x';
+                Ok(1)
+            }
+            None => Ok(0),
+        }
+    }
+}
+
+#[test]
+fn an_input_without_an_end_is_given_up(rt: HostRuntime) {
+    let mut writer = Held::new(rt.alloc());
+    let mut reader = Endless { calls: 0 };
+    let options = ScriptOptions {
+        timer: TimerKind::Heap,
+        calls: 1,
+    };
+    let result = run_script(rt.alloc(), &options, &mut reader, &mut writer);
+    assert_eq!(rt; result, Err(BrokerFault::ReadTurns));
+    assert_eq!(rt; reader.calls, 10_000_000);
+    assert_eq!(rt; writer.calls, 0);
 }

@@ -13,6 +13,7 @@ use Rattle.rb_queue.specs.declared.event.Event.{Event}
 use Rattle.rb_queue.proofs.Bags.{get_inserted, get_removed, get_inserted_other, get_removed_other, get_removed_same}
 use Rattle.rb_queue.specs.Queue.{Queue, empty_queue}
 use Rattle.rb_queue.specs.History.{State, state_after, queue_after, AllowsAct, Leads}
+use Rattle.rb_queue.specs.Head.{IsHead}
 use Rattle.rb_queue.specs.Leaving.{is_offer_of, is_leaving_of, offer_count_of, leaving_count_of}
 
 one_more : (b : Bool) (n : ℕ) → n ≤ 1 → (b ≡ true → n ≡ 0) → cond b 1 0 + n ≤ 1
@@ -134,7 +135,7 @@ leaves_next-act id queue now (Offer e) allowed below leaves = cc
 leaves_next-act id queue now (Poll None) allowed below leaves = cc
 leaves_next-act id queue now (Poll (Some given)) allowed below leaves =
     let same : given ≡ id = grind (arith, nat_tests) in
-    let held : given < queue.next_id = something_at _ _ _ allowed.allowed (below given) in
+    let held : given < queue.next_id = something_at (map.get queue.bag given) (IsHead queue.bag now) (given < queue.next_id) allowed.allowed (below given) in
     (omega arith, ap (λ gone. map.get (map.remove queue.bag gone) id) same ∙ get_removed_same queue.bag id)
 leaves_next-act id queue now (Peek shown) allowed below leaves = cc
 leaves_next-act id queue now (Size count) allowed below leaves = cc
