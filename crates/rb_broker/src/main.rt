@@ -30,6 +30,8 @@ mod send;
 mod served;
 mod session;
 mod session_fault;
+#[cfg(test)]
+mod session_rows;
 mod timer_kind;
 mod words;
 
