@@ -7,6 +7,9 @@
 #![tactic(auto)]
 
 mod command;
+mod large_trials;
+#[cfg(test)]
+mod limited_timer;
 mod list_timer;
 mod run;
 #[cfg(test)]

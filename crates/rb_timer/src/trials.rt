@@ -1,22 +1,24 @@
 //! Trials that every timer has to pass: commands for an empty timer, each with its right answer.
 //!
-//! They are for tests. A timer's crate tries its timer in one line,
-//! `assert_eq!(rt; trials::first_failure::<MyTimer>(rt.alloc())?, None)`.
+//! They are for tests. A timer's crate tries its timer in two lines, with few entries and with many:
+//! `assert_eq!(rt; trials::first_failure::<MyTimer>(rt.alloc())?, None)` and
+//! `assert_eq!(rt; trials::first_large_failure::<MyTimer>(rt.alloc())?, None)`.
 use crate::command::TimerAnswer::{self, Cleared, Entry, Inserted, Refused, Removed};
 use crate::command::TimerCommand::{self, Clear, Due, Insert, Least, Remove};
+pub use crate::large_trials::first_large_failure;
 use crate::run::run_timer;
 use crate::timer::Timer;
 use std::alloc::{AllocError, Global};
 
 // No two entries of a trial have equal expiries, so that each answer is the only right one.
 #[derive(Clone, Copy, Debug)]
-struct Trial {
-    name: &'static str,
-    room: usize,
-    steps: &'static [(TimerCommand, TimerAnswer)],
+pub(crate) struct Trial<'a> {
+    pub(crate) name: &'static str,
+    pub(crate) room: usize,
+    pub(crate) steps: &'a [(TimerCommand, TimerAnswer)],
 }
 
-static TRIALS: [Trial; 3] = [
+pub(crate) static TRIALS: [Trial<'static>; 3] = [
     Trial {
         name: "each command, and each way to refuse one",
         room: 4,
@@ -105,8 +107,18 @@ static TRIALS: [Trial; 3] = [
 ];
 
 /// The name of the first trial that the timer answers otherwise, or `None` where it passes all.
+///
+/// An `Err` says that the timer, or a trial, got no memory. With ample memory there is none.
 pub fn first_failure<T: Timer>(alloc: Global) -> Result<Option<&'static str>, AllocError> {
-    for trial in &TRIALS {
+    first_failure_of::<T>(alloc, &TRIALS)
+}
+
+/// The name of the first of these trials that the timer answers otherwise.
+pub(crate) fn first_failure_of<T: Timer>(
+    alloc: Global,
+    trials: &[Trial<'_>],
+) -> Result<Option<&'static str>, AllocError> {
+    for trial in trials {
         if !passes::<T>(alloc, trial)? {
             return Ok(Some(trial.name));
         }
@@ -115,7 +127,7 @@ pub fn first_failure<T: Timer>(alloc: Global) -> Result<Option<&'static str>, Al
 }
 
 // Whether an empty timer, once it has the room, answers the commands so.
-fn passes<T: Timer>(alloc: Global, trial: &Trial) -> Result<bool, AllocError> {
+fn passes<T: Timer>(alloc: Global, trial: &Trial<'_>) -> Result<bool, AllocError> {
     let commands: Vec<TimerCommand> = trial.steps.iter().map(|step| step.0).collect(alloc)?;
     let expected: Vec<TimerAnswer> = trial.steps.iter().map(|step| step.1).collect(alloc)?;
     let mut timer = T::new(alloc);
