@@ -8,7 +8,7 @@ use Rattle.rb_timer.specs.Slots.{content_of, get-content_of, content_empty, same
 use Rattle.rb_binary.specs.declared.heap.Entry.{Entry}
 use Rattle.rb_binary.specs.Layout.{no_entry, slot_at, expiry_at, parent, place_of, expiries, Agrees, IsOrdered}
 use Rattle.rb_binary.specs.Room.{in_room_of_content}
-use Rattle.rb_binary.proofs.Rows.{shown_at, is_some-option_map, get_or-expiries, count_by-expiries}
+use Rattle.rb_binary.proofs.Expiries.{shown_at, is_some-option_map, get_or-expiries, count_by-expiries}
 
 -- what the content has at a slot
 pub get-content : (heap : List Entry) (places : List (Option ℕ)) (slot : ℕ)

@@ -1,7 +1,7 @@
 pub mod Contents
-pub mod Pushed
-pub mod Taken
-pub mod Carried
+pub mod Inserts
+pub mod Removals
+pub mod KeptPlaces
 pub mod Exchange
 pub mod Order
-pub mod Rows
+pub mod Expiries

@@ -1,6 +1,6 @@
 use Rattle.std.proofs.Common.{◌-◌, length, set}
 use Rattle.rb_binary.specs.Layout.{MaySink, expiries, note}
-use Rattle.rb_binary.proofs.Carried.{Carries}
+use Rattle.rb_binary.proofs.KeptPlaces.{Carries}
 use Rattle.rb_binary.proofs.heap.sift_down.Given as goal
 
 abbrev pub invariant-loop-place : goal.invariant-loop-place

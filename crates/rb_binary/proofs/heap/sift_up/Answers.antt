@@ -1,6 +1,6 @@
 -- The parent moves into the hole, and leaves the hole at its own place.
 use Rattle.std.proofs.Common.{◌-◌, ◌/◌, arith}
-use Rattle.rb_binary.proofs.Carried.{other_in_room, carries_step}
+use Rattle.rb_binary.proofs.KeptPlaces.{other_in_room, carries_step}
 use Rattle.rb_binary.proofs.Order.{rise_step}
 use Rattle.rb_binary.proofs.heap.sift_up.Goals as goal
 

@@ -1,6 +1,6 @@
 use Rattle.std.proofs.Common.{set}
 use Rattle.rb_binary.specs.Layout.{MayRise, expiries, note}
-use Rattle.rb_binary.proofs.Carried.{Carries}
+use Rattle.rb_binary.proofs.KeptPlaces.{Carries}
 use Rattle.rb_binary.proofs.heap.sift_up.Given as goal
 
 abbrev pub invariant-loop-place : goal.invariant-loop-place

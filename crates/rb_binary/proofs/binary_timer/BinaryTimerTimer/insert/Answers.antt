@@ -3,8 +3,8 @@ use Rattle.std.proofs.Common.{◌≡◌, length, arith}
 use Rattle.rb_binary.specs.declared.heap.Entry.{Entry}
 use Rattle.rb_binary.specs.Layout.{expiries}
 use Rattle.rb_binary.proofs.Contents.{place_of-absent}
-use Rattle.rb_binary.proofs.Rows.{written_back}
-use Rattle.rb_binary.proofs.Pushed.{room_to_push, pushed_put, content_of-pushed}
+use Rattle.rb_binary.proofs.Expiries.{written_back}
+use Rattle.rb_binary.proofs.Inserts.{room_to_push, pushed_put, content_of-pushed}
 use Rattle.rb_binary.proofs.binary_timer.BinaryTimerTimer.insert.Goals as goal
 
 pub push_reserved-requires : goal.push_reserved-requires

@@ -3,8 +3,8 @@ use Rattle.std.proofs.lemmas.List.{get_or_read}
 use Rattle.rb_binary.specs.Room.{in_room_of_content}
 use Rattle.rb_binary.proofs.Contents.{place_of-present, noted_from_read, get-content_read}
 use Rattle.std.specs.Prelude.{slice_set}
-use Rattle.rb_binary.proofs.Rows.{written_back}
-use Rattle.rb_binary.proofs.Taken.{takes_out, inner_put, inner_row, last_agrees, last_row, content_of-taken}
+use Rattle.rb_binary.proofs.Expiries.{written_back}
+use Rattle.rb_binary.proofs.Removals.{takes_out, inner_put, inner_row, last_agrees, last_row, content_of-taken}
 use Rattle.rb_binary.proofs.binary_timer.BinaryTimerTimer.remove.Goals as goal
 
 pub index_mut-requires : goal.index_mut-requires

@@ -7,7 +7,7 @@ use Rattle.std.proofs.lemmas.Option.{none-some, same_Some}
 use Rattle.rb_binary.specs.declared.heap.Entry.{Entry}
 use Rattle.rb_binary.specs.Layout.{no_entry, slot_at, expiry_at, place_of, expiries, note, Agrees, IsPutAt}
 use Rattle.rb_binary.proofs.Exchange.{AreExchanged, exchanged, length-stepped, shown-set_same, shown-set_other}
-use Rattle.rb_binary.proofs.Rows.{shown_at, each_slot, same_shown, same_rows, count_by-expiries}
+use Rattle.rb_binary.proofs.Expiries.{shown_at, each_slot, same_shown, same_rows, count_by-expiries}
 
 -- a slot whose place is noted stands in the row
 pub is_within : (places : List (Option ℕ)) (slot place : ℕ) → place_of places slot ≡ Some place

@@ -9,7 +9,7 @@ use Rattle.std.specs.FinMap as finite
 use Rattle.rb_timer.specs.Slots.{content_of, content_of-insert}
 use Rattle.rb_binary.specs.declared.heap.Entry.{Entry}
 use Rattle.rb_binary.specs.Layout.{no_entry, slot_at, expiry_at, place_of, expiries, note, Agrees, IsPutAt}
-use Rattle.rb_binary.proofs.Rows.{length-expiries, same_shown, row_is_set}
+use Rattle.rb_binary.proofs.Expiries.{length-expiries, same_shown, row_is_set}
 
 -- how many places are noted after one more is
 count_noted : (places : List (Option ℕ)) (slot place : ℕ) → slot < length places

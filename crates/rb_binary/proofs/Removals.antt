@@ -8,8 +8,8 @@ use Rattle.std.specs.FinMap as finite
 use Rattle.rb_timer.specs.Slots.{content_of, content_of-remove}
 use Rattle.rb_binary.specs.declared.heap.Entry.{Entry}
 use Rattle.rb_binary.specs.Layout.{no_entry, slot_at, expiry_at, place_of, expiries, note, Agrees, IsPutAt}
-use Rattle.rb_binary.proofs.Rows.{shown_at, length-expiries, same_shown, row_is_set}
-use Rattle.rb_binary.proofs.Carried.{is_within}
+use Rattle.rb_binary.proofs.Expiries.{shown_at, length-expiries, same_shown, row_is_set}
+use Rattle.rb_binary.proofs.KeptPlaces.{is_within}
 
 -- `after` lacks the entry at `place`, where the last entry is now, if another was last
 pub record TakesOut (heap after : List Entry) (place : ℕ) : Type 0 where
