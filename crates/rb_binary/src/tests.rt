@@ -10,6 +10,9 @@ fn passes_the_trials(rt: HostRuntime) -> Result<(), Fail> {
 
 #[test]
 fn answers_with_ample_memory(rt: HostRuntime) -> Result<(), Fail> {
-    assert_eq!(rt; trials::first_large_failure::<BinaryTimer>(rt.alloc())?, None);
+    assert_eq!(rt;
+        trials::first_large_failure::<BinaryTimer>(rt.alloc())?,
+        None
+    );
     Ok(())
 }

@@ -24,24 +24,7 @@ Step room old Clear Cleared new = new ≡ map.empty
 Step room old (Insert slot expiry) Refused new = ¬ CanInsert room old slot × (new ≡ old)
 Step room old (Remove slot) Refused new = (map.get old slot ≡ None) × (new ≡ old)
 -- no other answer is given
-Step room old (Insert slot expiry) (Removed other) new = ⊥
-Step room old (Insert slot expiry) (Entry entry) new = ⊥
-Step room old (Insert slot expiry) Cleared new = ⊥
-Step room old (Remove slot) Inserted new = ⊥
-Step room old (Remove slot) (Entry entry) new = ⊥
-Step room old (Remove slot) Cleared new = ⊥
-Step room old Least Inserted new = ⊥
-Step room old Least (Removed other) new = ⊥
-Step room old Least Cleared new = ⊥
-Step room old Least Refused new = ⊥
-Step room old (Due now) Inserted new = ⊥
-Step room old (Due now) (Removed other) new = ⊥
-Step room old (Due now) Cleared new = ⊥
-Step room old (Due now) Refused new = ⊥
-Step room old Clear Inserted new = ⊥
-Step room old Clear (Removed other) new = ⊥
-Step room old Clear (Entry entry) new = ⊥
-Step room old Clear Refused new = ⊥
+Step room old _ _ new = ⊥
 
 -- the answers to the commands, one step after the other, from `old` to `new`
 abbrev pub Run : ℕ → Content → List TimerCommand → List TimerAnswer → Content → Type 0
@@ -49,5 +32,4 @@ Run room old [] [] new = new ≡ old
 Run room old (command ∷ commands) (answer ∷ answers) new =
     (between : Content) × Step room old command answer between
     × Run room between commands answers new
-Run room old [] (answer ∷ answers) new = ⊥
-Run room old (command ∷ commands) [] new = ⊥
+Run room old _ _ new = ⊥
