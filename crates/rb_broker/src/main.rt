@@ -12,6 +12,8 @@ mod command_line;
 mod command_line_rows;
 mod ended;
 mod error_word;
+#[cfg(test)]
+mod large_rows;
 mod line_buffer;
 mod line_fault;
 mod line_reply;

@@ -420,6 +420,24 @@ fn no_whole_session_needs_more_writes_than_replies(rt: HostRuntime) {
     assert_eq!(rt; reader.calls, 2);
 }
 
+// Lines of eight bytes, so that each read of 65,536 bytes ends with a whole line.
+#[test]
+fn a_read_takes_64_kib(rt: HostRuntime) -> Result<(), Fail> {
+    let alloc = rt.alloc();
+    let (mut script, mut replies) = (Vec::new(alloc), Vec::new(alloc));
+    for _ in 0..16_384 {
+        script.extend_from_slice(b"AT 1234\n")?;
+        replies.extend_from_slice(b"NOW 1234\n")?;
+    }
+    let mut writer = Held::new(alloc);
+    let mut reader = Pieces::of(&script, usize::MAX);
+    let result = run(&rt, alloc, TimerKind::Heap, 1, &mut reader, &mut writer);
+    assert_eq!(rt; result, Ok(Ended::EndOfInput));
+    assert!(rt; writer.bytes.as_slice() == replies.as_slice());
+    assert_eq!(rt; reader.calls, 3);
+    Ok(())
+}
+
 // Gives one byte at each read, and never a line's end.
 #[derive(Drop)]
 struct Endless {

@@ -1,0 +1,154 @@
+use crate::ended::Ended;
+use crate::script::run_script;
+use crate::script_options::ScriptOptions;
+use crate::timer_kind::TimerKind;
+use std::alloc::{AllocError, Global};
+use std::process::Abort;
+use std::test::Fail;
+
+/// How many elements are offered. It is a prime, so that `rank_of` scatters them, and it lies past
+/// many growths of each array.
+const ELEMENTS: u64 = 2503;
+
+/// The expiry at rank 0, in nanoseconds. It has 20 digits, and so have all the others.
+const LEAST_EXPIRY: u64 = 18_446_744_073_709_500_000;
+
+/// Each element is offered and taken. `SIZE`, `PEEK` and `POLL` are asked once between, and `POLL`
+/// and `SIZE` once more at the end.
+const CALLS: u64 = 5011;
+
+// An id by the one is its rank, and a rank by the other its id: by `ELEMENTS` the product leaves 1.
+const TO_RANK: u64 = 1117;
+
+const TO_ID: u64 = 977;
+
+// How many elements expire before the one with this id.
+fn rank_of(id: u64) -> u64 {
+    id.wrapping_mul(TO_RANK) % ELEMENTS
+}
+
+fn id_of(rank: u64) -> u64 {
+    rank.wrapping_mul(TO_ID) % ELEMENTS
+}
+
+fn expiry_at(rank: u64) -> u64 {
+    LEAST_EXPIRY.saturating_add(rank)
+}
+
+// What is sent, and what has to come back.
+#[derive(Drop)]
+struct Dialogue {
+    script: Vec<u8>,
+    replies: Vec<u8>,
+}
+
+impl Dialogue {
+    fn push(&mut self, line: &str, reply: &str) -> Result<(), AllocError> {
+        self.script.extend_from_slice(line.as_bytes())?;
+        self.script.push(b'\n')?;
+        self.replies.extend_from_slice(reply.as_bytes())?;
+        self.replies.push(b'\n')?;
+        Ok(())
+    }
+
+    // At moment 0 a delay is an expiry. The payload is the rank in 64 digits.
+    fn push_offers(&mut self, alloc: Global) -> Result<(), AllocError> {
+        for id in 0..ELEMENTS {
+            let rank = rank_of(id);
+            let expiry = expiry_at(rank);
+            let line = format!(in alloc; "OFFER {expiry} {rank:064}")?;
+            let reply = format!(in alloc; "OFFERED {id} {expiry}")?;
+            self.push(&line, &reply)?;
+        }
+        Ok(())
+    }
+
+    fn push_polls(&mut self, alloc: Global) -> Result<(), AllocError> {
+        for rank in 0..ELEMENTS {
+            let (id, expiry) = (id_of(rank), expiry_at(rank));
+            let reply = format!(in alloc; "ITEM {id} {expiry} 1 {rank:064}")?;
+            self.push("POLL", &reply)?;
+        }
+        Ok(())
+    }
+}
+
+fn long_dialogue(alloc: Global) -> Result<Dialogue, AllocError> {
+    let mut dialogue = Dialogue {
+        script: Vec::new(alloc),
+        replies: Vec::new(alloc),
+    };
+    dialogue.push_offers(alloc)?;
+    dialogue.push("SIZE", "SIZE 2503")?;
+    let rank = 0;
+    let head = format!(in alloc; "HEAD 0 18446744073709500000 1 {rank:064}")?;
+    dialogue.push("PEEK", &head)?;
+    dialogue.push("POLL", "NONE")?;
+    dialogue.push("AT 18446744073709551615", "NOW 18446744073709551615")?;
+    dialogue.push_polls(alloc)?;
+    dialogue.push("POLL", "NONE")?;
+    dialogue.push("SIZE", "SIZE 0")?;
+    dialogue.push("SIZE", "ERR 6 full")?;
+    dialogue.push("QUIT", "BYE")?;
+    Ok(dialogue)
+}
+
+fn expect_replies(
+    rt: &impl Abort,
+    alloc: Global,
+    options: ScriptOptions,
+    script: &[u8],
+    replies: &[u8],
+    ended: Ended,
+) {
+    let mut reader = script;
+    let mut writer = Vec::new(alloc);
+    let result = run_script(alloc, &options, &mut reader, &mut writer);
+    assert_eq!(rt; result, Ok(ended), "{options:?}");
+    assert!(rt; writer.as_slice() == replies, "{options:?}");
+}
+
+#[test]
+fn answers_with_ample_memory(rt: HostRuntime) -> Result<(), Fail> {
+    let alloc = rt.alloc();
+    let dialogue = long_dialogue(alloc)?;
+    let (script, replies) = (&dialogue.script, &dialogue.replies);
+    for timer in [TimerKind::List, TimerKind::Heap] {
+        let options = ScriptOptions {
+            timer,
+            calls: CALLS,
+        };
+        expect_replies(&rt, alloc, options, script, replies, Ended::Quit);
+    }
+    Ok(())
+}
+
+#[test]
+fn the_most_calls_find_ample_memory(rt: HostRuntime) {
+    for timer in [TimerKind::List, TimerKind::Heap] {
+        let options = ScriptOptions {
+            timer,
+            calls: 1_000_000,
+        };
+        let (script, replies) = (b"SIZE\n", b"SIZE 0\n");
+        expect_replies(&rt, rt.alloc(), options, script, replies, Ended::EndOfInput);
+    }
+}
+
+// Which of equals comes first is open to clients. Here it tells which timer is used: the list gives
+// the least slot. The heap puts its last entry in the place of the one that it gives.
+#[test]
+fn the_named_timer_is_used(rt: HostRuntime) {
+    let script = b"OFFER 0 a\nOFFER 0 b\nOFFER 0 c\nPOLL\nPOLL\nPOLL\n";
+    let by_list =
+        b"OFFERED 0 0\nOFFERED 1 0\nOFFERED 2 0\nITEM 0 0 1 a\nITEM 1 0 1 b\nITEM 2 0 1 c\n";
+    let by_heap =
+        b"OFFERED 0 0\nOFFERED 1 0\nOFFERED 2 0\nITEM 0 0 1 a\nITEM 2 0 1 c\nITEM 1 0 1 b\n";
+    for (timer, replies) in [
+        (TimerKind::List, by_list.as_slice()),
+        (TimerKind::Heap, by_heap.as_slice()),
+    ] {
+        let options = ScriptOptions { timer, calls: 6 };
+        expect_replies(&rt, rt.alloc(), options, script, replies, Ended::EndOfInput);
+    }
+}
