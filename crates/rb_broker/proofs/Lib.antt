@@ -6,3 +6,4 @@ pub mod Sending
 pub mod Buffers
 pub mod Turns
 pub mod Runs
+pub mod CommandLines

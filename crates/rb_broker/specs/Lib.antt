@@ -10,3 +10,4 @@ pub mod Progress
 pub mod BrokerFault
 pub mod TimerKind
 pub mod Script
+pub mod CommandLine
