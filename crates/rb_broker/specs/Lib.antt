@@ -11,3 +11,4 @@ pub mod BrokerFault
 pub mod TimerKind
 pub mod Script
 pub mod CommandLine
+pub mod ExitStatus

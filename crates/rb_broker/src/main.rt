@@ -37,16 +37,24 @@ mod session_rows;
 mod timer_kind;
 mod words;
 
+ghost use Rattle.std.specs.Process.{exit_status};
+ghost use Rattle.clap.specs.Words.{kind_of};
+ghost use Rattle.rb_broker.specs.BrokerFault.{status_of};
+ghost use Rattle.std.specs.Prelude.{◌≡◌};
+ghost use Rattle.rb_broker.specs.ExitStatus.{IsStatusOfWords, status_of_script};
+
 use broker_fault::BrokerFault;
+use clap::Error;
 use clap::error::ErrorKind;
 use command_line::read_words;
+use ended::Ended;
 use script::run_script;
 use std::alloc::{AllocError, Global};
 use std::process::ExitCode;
 use std::{env, io};
 use words::Words;
 
-/// The exit status where the words are refused before clap reads them.
+/// The exit status where the words are refused.
 const WORDS_REFUSED: u8 = 2;
 
 fn main(rt: HostRuntime) -> ExitCode {
@@ -79,28 +87,45 @@ fn lent_words<'a>(alloc: Global, words: &'a Vec<String>) -> Result<Vec<&'a str>,
 fn run(rt: &HostRuntime, words: &[&str]) -> ExitCode {
     match read_words(rt.alloc(), words) {
         Ok(Words::Script(options)) => {
-            match run_script(rt.alloc(), &options, &mut rt.stdin(), &mut rt.stdout()) {
-                Ok(_) => ExitCode::SUCCESS,
-                Err(fault) => ended_by(rt, fault),
-            }
+            let outcome = run_script(rt.alloc(), &options, &mut rt.stdin(), &mut rt.stdout());
+            ended_as(rt, outcome)
         }
-        Err(error) if error.kind() == ErrorKind::OutOfMemory => ended_by(rt, BrokerFault::Memory),
         Err(error) => refused_by(rt, &error),
+    }
+}
+
+/// Prints the line of the fault, where there is one, and answers the exit status.
+fn ended_as(rt: &HostRuntime, outcome: Result<Ended, BrokerFault>) -> ExitCode
+    ensures { exit_status result ≡ status_of_script outcome }
+{
+    match outcome {
+        Ok(_) => ExitCode::SUCCESS,
+        Err(fault) => ended_by(rt, fault),
     }
 }
 
 /// Prints the text of `error`, help to standard output and else to standard error, and answers its
 /// exit status. Help that cannot be written is a fault of output.
-fn refused_by(rt: &HostRuntime, error: &clap::Error) -> ExitCode {
-    let printed = error.print(rt);
-    if printed.is_err() && !error.use_stderr() {
-        return ended_by(rt, BrokerFault::Write);
+fn refused_by(rt: &HostRuntime, error: &Error) -> ExitCode
+    ensures { IsStatusOfWords (kind_of error.now) (exit_status result) }
+{
+    match error.kind() {
+        ErrorKind::OutOfMemory => ended_by(rt, BrokerFault::Memory),
+        ErrorKind::DisplayHelp | ErrorKind::DisplayVersion => match error.print(rt) {
+            Ok(()) => ExitCode::SUCCESS,
+            Err(_) => ended_by(rt, BrokerFault::Write),
+        },
+        _ => {
+            let _ = error.print(rt);
+            ExitCode::from(WORDS_REFUSED)
+        }
     }
-    ExitCode::from(error.exit_code() as u8)
 }
 
 /// Prints the line of `fault` to standard error and answers its exit status.
-fn ended_by(rt: &HostRuntime, fault: BrokerFault) -> ExitCode {
+fn ended_by(rt: &HostRuntime, fault: BrokerFault) -> ExitCode
+    ensures { exit_status result ≡ status_of fault }
+{
     let _ = eprintln!(rt; "rb_broker: {fault}");
     ExitCode::from(fault.status())
 }

@@ -1,8 +1,6 @@
-use Rattle.std.proofs.Common.{◌≡◌, ◌∙◌, refl, sym, ap, ap₂, subst, true, Some, Ok, map, codes, List, ℕ}
-use Rattle.clap.specs.Words.{App, Row, is_simple, found_of, rows_of, subcommand_of, subcommand_rows_of}
-use Rattle.clap.proofs.OnLiterals.{clap_on_literals}
+use Rattle.std.proofs.Common.{◌≡◌, ◌∙◌, refl, sym, ap, subst, true, Some, map, codes}
+use Rattle.clap.specs.Words.{is_simple, found_of, rows_of, subcommand_of, subcommand_rows_of}
 use Rattle.clap.proofs.WalkLemmas.{first_value-rows, one_text-rows}
-use Rattle.rb_broker.specs.declared.script_options.ScriptOptions.{ScriptOptions}
 use Rattle.rb_broker.specs.CommandLine.{GivesScript, program, number_in}
 use Rattle.rb_broker.proofs.CommandLines.{number_is, name_with_rows}
 use Rattle.rb_broker.proofs.command_line.read_words.Goals as goal
@@ -14,7 +12,7 @@ returns-clause-given c options is =
     let met = c.in-Some-script-default.ensures in
     let found = found_of c.in-Some-script-default.given.now in
     let entered : subcommand_rows_of c.in_ok-matches.matches ≡ Some (c.in-Some-script-default.field-0-0.now, rows_of found) =
-        name_with_rows _ _ _ _ met.name met.rows in
+    name_with_rows _ _ _ _ met.name met.rows in
     let named : c.in-Some-script-default.field-0-0.now ≡ codes "script" = c.in-Some-script-default.is-script in
     let read = (c.in_ok-matches.ensures.ok.2 (ap is_simple program_is ∙ simple)).1 in
     let gives : GivesScript (map (λ word. word.now) c.args.words.now) c.in-Some.options = record {

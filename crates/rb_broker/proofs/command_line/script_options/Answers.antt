@@ -1,4 +1,3 @@
-use Rattle.std.proofs.Common.{rules, ◌≡◌, refl}
 use Rattle.rb_broker.proofs.CommandLines.{value_is_there}
 use Rattle.rb_broker.proofs.command_line.script_options.Goals as goal
 

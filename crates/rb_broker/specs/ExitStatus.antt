@@ -1,0 +1,20 @@
+-- The exit status that the program ends with.
+use Rattle.std.specs.Prelude.{◌≡◌, ℕ, Result, Ok, Err, ◌⊎◌}
+use Rattle.clap.specs.declared.error.kind.ErrorKind.{ErrorKind}
+use Rattle.clap.specs.declared.error.kind.ErrorKind.TheVariants as kinds
+use Rattle.rb_broker.specs.declared.ended.Ended.{Ended}
+use Rattle.rb_broker.specs.declared.broker_fault.BrokerFault.{BrokerFault}
+use Rattle.rb_broker.specs.BrokerFault.{status_of}
+
+-- 0 where the script came to its end, and else the status of the fault
+abbrev pub status_of_script : Result Ended BrokerFault → ℕ
+status_of_script (Ok ended) = 0
+status_of_script (Err fault) = status_of fault
+
+-- Where the words were not taken: 4 for want of memory, 2 for a mistake, and for help 0, or 3 where it
+-- could not be printed.
+abbrev pub IsStatusOfWords : ErrorKind → ℕ → Type 0
+IsStatusOfWords kinds.OutOfMemory status = status ≡ 4
+IsStatusOfWords kinds.DisplayHelp status = (status ≡ 0) ⊎ (status ≡ 3)
+IsStatusOfWords kinds.DisplayVersion status = (status ≡ 0) ⊎ (status ≡ 3)
+IsStatusOfWords _ status = status ≡ 2
