@@ -19,6 +19,18 @@ pub record TakesOut (heap after : List Entry) (place : ℕ) : Type 0 where
   pub moved : place < length after
       → get_or after place no_entry ≡ get_or heap (length after) no_entry
 
+-- a slot other than the one taken out is noted at k, as it was before, and not at the place taken out
+record IsStillNoted (places : List (Option ℕ)) (slot place other k : ℕ) : Type 0 where
+  apart : other ≢ slot
+  noted : place_of places other ≡ Some k
+  elsewhere : k ≢ place
+
+-- a slot is noted at k, as it was before, not at the place taken out, and before the end
+record IsStillWithin (places : List (Option ℕ)) (place end other k : ℕ) : Type 0 where
+  noted : place_of places other ≡ Some k
+  elsewhere : k ≢ place
+  within : k < end
+
 -- what `swap_remove` says of a list of n
 pub takes_out : (heap after : List Entry) (place n : ℕ) → n ≡ length heap
     → length after + 1 ≡ length heap
@@ -78,11 +90,15 @@ module _ (heap after : List Entry) (places : List (Option ℕ)) (slot place : �
 
   -- what is noted after the slot is forgotten, was noted of another entry
   still_noted : (other k : ℕ) → place_of forgotten other ≡ Some k
-      → (other ≢ slot) × (place_of places other ≡ Some k) × (k ≢ place)
+      → IsStillNoted places slot place other k
   still_noted other k is =
       let off : other ≢ slot = λ e. none-some k (sym forgotten_here ∙ ap (place_of forgotten) (sym e) ∙ is) in
       let was : place_of places other ≡ Some k = sym (forgotten_other other off) ∙ is in
-      (off, was, λ e. off (sym (agrees.of_slot other k was) ∙ ap (slot_at heap) e ∙ slot_taken))
+      record {
+        apart = off;
+        noted = was;
+        elsewhere = λ e. off (sym (agrees.of_slot other k was) ∙ ap (slot_at heap) e ∙ slot_taken);
+      }
 
   -- two places of the heap that are apart have two slots
   slots_apart : (one other : ℕ) → one < length heap → other < length heap → one ≢ other
@@ -95,14 +111,14 @@ module _ (heap after : List Entry) (places : List (Option ℕ)) (slot place : �
     still_low : (other k : ℕ) → place_of forgotten other ≡ Some k → k < length after
     still_low other k is =
         let still = still_noted other k is in
-        let low = agrees.in_heap other k still.1 in
-        let off = still.2 in
+        let low = agrees.in_heap other k still.noted in
+        let off = still.elsewhere in
         let long = takes.long in
         omega (arith, in_heap)
 
     still_at_end : (other k : ℕ) → place_of forgotten other ≡ Some k
         → expiry_at after k ≡ expiry_at heap k
-    still_at_end other k is = expiry_kept k (still_noted other k is).2 (still_low other k is)
+    still_at_end other k is = expiry_kept k (still_noted other k is).elsewhere (still_low other k is)
 
     pub last_agrees : Agrees after forgotten
     last_agrees = record {
@@ -114,8 +130,8 @@ module _ (heap after : List Entry) (places : List (Option ℕ)) (slot place : �
           ∙ agrees.noted other (omega (arith, takes.long));
       in_heap = still_low;
       of_slot = λ other k is.
-          let still = still_noted other k is in slot_kept k still.2 (still_low other k is)
-          ∙ agrees.of_slot other k still.1;
+          let still = still_noted other k is in slot_kept k still.elsewhere (still_low other k is)
+          ∙ agrees.of_slot other k still.noted;
       count =
           omega (arith, takes.long, agrees.count, count_forgotten places slot place within noted);
     }
@@ -156,12 +172,16 @@ module _ (heap after : List Entry) (places : List (Option ℕ)) (slot place : �
 
     -- what is noted of another slot, was noted of it, and not at the end
     still_inner : (other k : ℕ) → other ≢ mover → place_of renoted other ≡ Some k
-        → (place_of places other ≡ Some k) × (k ≢ place) × (k < length after)
+        → IsStillWithin places place (length after) other k
     still_inner other k off is =
         let still = still_noted other k (sym (renoted_other other off) ∙ is) in
-        let low = agrees.in_heap other k still.1 in
-        let off_end : k ≢ length after = λ e. off (sym (agrees.of_slot other k still.1) ∙ ap (slot_at heap) e ∙ sym mover_was) in
-        (still.1, still.2, omega (arith, takes.long))
+        let low = agrees.in_heap other k still.noted in
+        let off_end : k ≢ length after = λ e. off (sym (agrees.of_slot other k still.noted) ∙ ap (slot_at heap) e ∙ sym mover_was) in
+        record {
+          noted = still.noted;
+          elsewhere = still.elsewhere;
+          within = omega (arith, takes.long);
+        }
 
     inner_agrees : Agrees after renoted
     inner_agrees = record {
@@ -178,11 +198,11 @@ module _ (heap after : List Entry) (places : List (Option ℕ)) (slot place : �
           (cases_eq other place);
       in_heap = λ other k is. ⊎_elim
           (λ e. let same = same_Some place k (sym renoted_mover ∙ ap (place_of renoted) (sym e) ∙ is) in omega arith)
-          (λ off. (still_inner other k off is).2)
+          (λ off. (still_inner other k off is).within)
           (cases_eq other mover);
       of_slot = λ other k is. ⊎_elim
           (λ e. ap (slot_at after) (sym (same_Some place k (sym renoted_mover ∙ ap (place_of renoted) (sym e) ∙ is))) ∙ sym e)
-          (λ off. let still = still_inner other k off is in slot_kept k still.1 still.2 ∙ agrees.of_slot other k still.0)
+          (λ off. let still = still_inner other k off is in slot_kept k still.elsewhere still.within ∙ agrees.of_slot other k still.noted)
           (cases_eq other mover);
       count =
           let still = forgotten_other mover mover_apart ∙ mover_noted in
@@ -204,7 +224,7 @@ module _ (heap after : List Entry) (places : List (Option ℕ)) (slot place : �
         (λ off_mover. let same = renoted_other other off_mover ∙ forgotten_other other off in
         ap (option_map (expiry_at after)) same
         ∙ same_shown (expiry_at heap) (expiry_at after) (place_of places other)
-        (λ k is. let still = still_inner other k off_mover (same ∙ is) in expiry_kept k still.1 still.2))
+        (λ k is. let still = still_inner other k off_mover (same ∙ is) in expiry_kept k still.elsewhere still.within))
         (cases_eq other mover)
 
     pub inner_row : expiries after (note after forgotten place) ≡ set (expiries heap places) slot None

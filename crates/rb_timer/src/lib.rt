@@ -2,8 +2,8 @@
 //! and trials for the others.
 //!
 //! A timer is seen as a finite map from slot to expiry, with a room that every slot is below. A
-//! slot is a number that the timer's owner chose, and an expiry a moment in nanoseconds. Memory is
-//! taken by `reserve` alone, so that whoever has made room cannot fail later.
+//! slot is a number that the timer's owner chose, and an expiry a moment in nanoseconds. `reserve`
+//! alone may fail for want of memory, so whoever has made room cannot fail later.
 #![tactic(auto)]
 
 mod command;
