@@ -10,9 +10,13 @@ module _ (room : ℕ) (between new : Content) (answer : TimerAnswer) where
   -- a run goes on by one step
   pub run_more : (old : Content) (commands : List TimerCommand) (answers : List TimerAnswer) (command : TimerCommand) → Run room old commands answers between → Step room between command answer new → Run room old (commands ++ command ∷ []) (answers ++ answer ∷ []) new
   run_more old [] [] command run step =
-      (new, subst (λ content. Step room content command answer new) run step, refl)
+      record { between = new; first = subst (λ content. Step room content command answer new) run step; others = refl }
   run_more old (first ∷ commands) (reply ∷ answers) command run step =
-      (run.0, run.1, run_more run.0 commands answers command run.2 step)
+      record {
+        between = run.between;
+        first = run.first;
+        others = run_more run.between commands answers command run.others step;
+      }
   run_more old [] (reply ∷ answers) command run step = absurd run
   run_more old (first ∷ commands) [] command run step = absurd run
 

@@ -26,10 +26,15 @@ Step room old (Remove slot) Refused new = (map.get old slot ≡ None) × (new �
 -- no other answer is given
 Step room old _ _ new = ⊥
 
+-- one step leads to what the timer contains between it and the rest
+pub record GoesOn (step rest : Content → Type 0) : Type 0 where
+  pub between : Content
+  pub first : step between
+  pub others : rest between
+
 -- the answers to the commands, one step after the other, from `old` to `new`
 abbrev pub Run : ℕ → Content → List TimerCommand → List TimerAnswer → Content → Type 0
 Run room old [] [] new = new ≡ old
 Run room old (command ∷ commands) (answer ∷ answers) new =
-    (between : Content) × Step room old command answer between
-    × Run room between commands answers new
+    GoesOn (λ between. Step room old command answer between) (λ between. Run room between commands answers new)
 Run room old _ _ new = ⊥
