@@ -16,6 +16,8 @@ pub struct Element {
     pub expiry: u64,
     /// The id of the first element that carried this job, its own at the first attempt.
     pub origin: u64,
+    /// The expiry of that first element, in nanoseconds. A retry at a fixed rate counts from it.
+    pub first: u64,
     /// Which attempt of the job it is, 1 to 1,000.
     pub attempt: u32,
     /// What the job carries.

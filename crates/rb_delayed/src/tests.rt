@@ -8,6 +8,7 @@ fn element(rt: &impl Abort, id: u64, expiry: u64) -> Element {
         id,
         expiry,
         origin: id,
+        first: expiry,
         attempt: 1,
         payload: Payload::new(b"job").ok().expect(rt, "a payload"),
     }

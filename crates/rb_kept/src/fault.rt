@@ -21,7 +21,7 @@ pub enum CallFault {
     /// The history has as many events as its capacity.
     #[error("the history is full")]
     Full,
-    /// There is no memory for the offered element.
+    /// There is no memory for the offered element or for what is drained.
     #[error("out of memory")]
     Memory,
 }

@@ -1,15 +1,17 @@
-ghost use Rattle.std.specs.Prelude.{◌≡◌, ℕ, ◌<◌, ◌≤◌, ◌↔◌, [], ◌∷◌, ◌++◌, length, IsTrue, IsOk, OnOk, OnErr, IfOk, IfErr, IsErrOf};
-ghost use Rattle.rb_queue.specs.History.{IsLegal, AllowsAct, queue_after, state_of};
-ghost use Rattle.rb_queue.specs.Counts.{call_count, offer_count, give_count, is_offer, is_give};
-ghost use Rattle.rb_kept.specs.Tries.{IsActOf, IsOffer, StepsTo, StepsAlong};
-ghost use Rattle.rb_kept.specs.Naming.{Names};
+ghost use Rattle.std.specs.Prelude.{◌≡◌, ℕ, ◌<◌, ◌≤◌, ◌↔◌, [], length, IsErrOf, IsErrAnd, IfOk, IfErr, OnErr};
+ghost use Rattle.rb_ledger.specs.Totals.{nothing};
+ghost use Rattle.rb_queue.specs.History.{IsLegal, state_of};
+ghost use Rattle.rb_queue.specs.Counts.{audit_of};
+ghost use Rattle.rb_kept.specs.Log.{IsFull};
+ghost use Rattle.rb_kept.specs.Tries.{TakesMemory, StepsTo, StepsAlong};
+ghost use Rattle.rb_kept.specs.Shares.{Grows};
 
-use crate::counts::Counts;
 use crate::fault::{CallFault, NewFault};
 use crate::outcome::{Outcome, Step};
+use crate::perform::{Performed, perform};
 use crate::tries::Try;
-use rb_delayed::Delayed;
-use rb_queue::{Act, Ask, DelayQueue, Draft, Event, Reply};
+use rb_ledger::{Books, Tally};
+use rb_queue::{Ask, Audit, DelayQueue, Event, Opening};
 use rb_timer::Timer;
 use std::alloc::{AllocError, Global};
 use std::marker::Model;
@@ -17,17 +19,20 @@ use std::marker::Model;
 /// How many calls a history has room for at most.
 pub const MOST_CALLS: u64 = 1_000_000;
 
-/// A delay queue and the history of its calls, which leads to exactly this queue.
+/// A delay queue and the history of its calls, which leads from the opening to exactly this queue.
 ///
-/// Each answered call appends one event; a refused one changes nothing. Room for all events is taken
-/// in `new`, so that of the calls an offer alone can want memory.
+/// Each answered call appends one event; a refused one changes nothing. Room for all events is taken at
+/// the start, so that of the calls an offer and a drain alone can want memory.
 #[derive(Drop)]
 pub struct Kept<T: Timer> {
     queue: DelayQueue<T>,
+    opening: Opening,
     history: Vec<Event>,
     capacity: u64,
-    offered: u64,
-    given: u64,
+    books: Books,
+    removed: u64,
+    cleared: u64,
+    alloc: Global,
 }
 
 impl<T: Timer> Model for Kept<T> {
@@ -38,90 +43,145 @@ impl<T: Timer> Model for Kept<T> {
 
     ghost coded = { log_code };
 
-    ghost use Rattle.rb_kept.specs.Layout.{IsSound};
+    ghost use Rattle.rb_kept.specs.Layout.{IsKept};
 
-    ghost view = { λ k. record { history = k.history.items; capacity = k.capacity } };
+    ghost view = { λ k. record { opening = k.opening; history = k.history.items; capacity = k.capacity } };
 
-    ghost invariant = { λ k. IsSound k.queue k.history.items (vec_capacity k.history) k.capacity k.offered k.given };
+    ghost invariant = { λ k. IsKept k.queue (record { opening = k.opening; history = k.history.items; capacity = k.capacity })
+        (vec_capacity k.history) k.books k.removed k.cleared };
 }
 
 impl<T: Timer> Kept<T> {
-    /// An empty queue with room for `capacity` calls, 1 to 1,000,000, which is taken at once.
-    pub fn new(alloc: Global, capacity: u64) -> Result<Self, NewFault>
-        ensures history { IfOk result (λ kept. kept.history ≡ []) }
-        ensures capacity { IfOk result (λ kept. kept.capacity ≡ capacity) }
+    /// An empty queue with room for `capacity` calls, 1 to 1,000,000, which is taken at once, and the
+    /// first share of its totals.
+    pub fn new(alloc: Global, capacity: u64) -> Result<(Self, Tally), NewFault>
+        ensures elements { IfOk result (λ made. made.0.opening.elements ≡ []) }
+        ensures next_id { IfOk result (λ made. made.0.opening.next_id ≡ 0) }
+        ensures last_at { IfOk result (λ made. made.0.opening.last_at ≡ 0) }
+        ensures history { IfOk result (λ made. made.0.history ≡ []) }
+        ensures capacity { IfOk result (λ made. made.0.capacity ≡ capacity) }
+        ensures tally { IfOk result (λ made. made.1 ≡ nothing) }
         ensures bad_capacity { IsErrOf result NewFault.BadCapacity ↔ (¬ ((1 ≤ capacity) × (capacity ≤ MOST_CALLS))) }
     {
+        Kept::new_from(alloc, capacity, Opening::empty(alloc)).map_err(|refused| refused.1)
+    }
+
+    /// The queue of an opening, with room for `capacity` calls, 1 to 1,000,000, which is taken at once,
+    /// and the first share of its totals. A fault hands the opening back.
+    pub fn new_from(
+        alloc: Global,
+        capacity: u64,
+        opening: Opening,
+    ) -> Result<(Self, Tally), (Opening, NewFault)>
+        ensures opening { IfOk result (λ made. made.0.opening ≡ opening) }
+        ensures history { IfOk result (λ made. made.0.history ≡ []) }
+        ensures capacity { IfOk result (λ made. made.0.capacity ≡ capacity) }
+        ensures tally { IfOk result (λ made. made.1 ≡ nothing) }
+        ensures bad_capacity { IsErrAnd result (λ refused. refused.1 ≡ NewFault.BadCapacity)
+            ↔ (¬ ((1 ≤ capacity) × (capacity ≤ MOST_CALLS))) }
+        ensures handed_back { IfErr result (λ refused. refused.0 ≡ opening) }
+    {
         if !(1..=MOST_CALLS).contains(&capacity) {
-            return Err(NewFault::BadCapacity);
+            return Err((opening, NewFault::BadCapacity));
         }
         let Ok(history) = Vec::with_capacity(alloc, capacity as usize) else {
-            return Err(NewFault::Memory);
+            return Err((opening, NewFault::Memory));
         };
-        Ok(Kept {
-            queue: DelayQueue::new(alloc),
+        let Ok(queue) = DelayQueue::new_from(alloc, &opening) else {
+            return Err((opening, NewFault::Memory));
+        };
+        let (books, tally) = Books::new();
+        let kept = Kept {
+            queue,
+            opening,
             history,
             capacity,
-            offered: 0,
-            given: 0,
-        })
+            books,
+            removed: 0,
+            cleared: 0,
+            alloc,
+        };
+        Ok((kept, tally))
     }
 
     /// Makes one call for a seat, at the moment `asked`, or at that of the last event where that is
-    /// later.
+    /// later, and counts it in the caller's share.
     ///
-    /// `Done` has appended exactly one event. `Full` is answered exactly where the history has
-    /// `capacity` events, whatever the ask; `Memory` for an offer alone. A fault changes nothing.
-    pub fn act(&mut self, seat: u64, asked: u64, ask: Ask) -> Result<Outcome, CallFault>
-        ensures step { StepsTo self.old.capacity self.old.history (record { seat = seat; asked = asked; ask = ask })
-            result self.new.history }
-        ensures full { IsErrOf result CallFault.Full ↔ (length self.old.history ≡ self.old.capacity) }
-        ensures memory { IsErrOf result CallFault.Memory → IsOffer ask }
+    /// `Done` has appended exactly one event. `Later` is answered exactly where the ask would wait, and
+    /// changes nothing. `Full` is answered exactly where the history has `capacity` events, whatever the
+    /// ask; `Memory` for an offer and a drain alone. A fault changes nothing.
+    pub fn act(
+        &mut self,
+        tally: &mut Tally,
+        seat: u64,
+        asked: u64,
+        ask: Ask,
+    ) -> Result<Outcome, CallFault>
+        ensures step { StepsTo self.old (record { seat = seat; asked = asked; ask = ask }) result self.new }
+        ensures tally { Grows self.old self.new tally.old tally.new }
+        ensures full { IsErrOf result CallFault.Full ↔ IsFull self.old }
+        ensures memory { IsErrOf result CallFault.Memory → TakesMemory ask }
         ensures capacity { self.new.capacity ≡ self.old.capacity }
+        ensures opening { self.new.opening ≡ self.old.opening }
         ensures err { OnErr result (self.new ≡ self.old) }
+        ensures err_tally { OnErr result (tally.new ≡ tally.old) }
     {
         if self.history.len() as u64 == self.capacity {
             return Err(CallFault::Full);
         }
-        let at = asked.max(last_moment(&self.history));
-        let (act, reply) = perform(&mut self.queue, at, ask)?;
-        self.offered += u64::from(act.is_offer());
-        self.given += u64::from(act.is_give());
-        self.history.push_reserved(Event {
-            seat,
-            asked,
-            at,
-            act,
-        });
-        Ok(Outcome::Done(reply))
+        let at = asked.max(last_moment(&self.opening, &self.history));
+        let standing = self.queue.size();
+        match perform(self.alloc, &mut self.queue, at, ask)? {
+            Performed::Done(answer) => {
+                let act = answer.act;
+                self.books.note(tally, act.offered(), act.given());
+                self.removed += act.removed();
+                self.cleared += act.cleared(standing);
+                self.history.push_reserved(Event {
+                    seat,
+                    asked,
+                    at,
+                    act,
+                });
+                Ok(Outcome::Done(answer.reply))
+            }
+            Performed::Later(next) => Ok(Outcome::Later(next)),
+        }
     }
 
     /// Makes the tries one after the other, with a step for each. A fault stands in its place, and the
     /// run goes on.
     ///
     /// Room for the steps is asked for first: after an `Err` nothing has changed.
-    pub fn run_tries(&mut self, alloc: Global, tries: Vec<Try>) -> Result<Vec<Step>, AllocError>
-        ensures steps { IfOk result (λ steps.
-            StepsAlong self.old.capacity self.old.history tries.items steps.items self.new.history) }
-        ensures legal { IsLegal self.new.history }
-        ensures capacity { self.new.capacity ≡ self.old.capacity }
+    pub fn run_tries(&mut self, tally: &mut Tally, tries: Vec<Try>) -> Result<Vec<Step>, AllocError>
+        ensures steps { IfOk result (λ steps. StepsAlong self.old tries.items steps.items self.new) }
+        ensures tally { Grows self.old self.new tally.old tally.new }
+        ensures legal { IsLegal self.new.opening self.new.history }
         ensures err { OnErr result (self.new ≡ self.old) }
+        ensures err_tally { OnErr result (tally.new ≡ tally.old) }
     {
         // The proof reads here that the history is legal.
         let _ = &self.history;
-        let mut steps = Vec::with_capacity(alloc, tries.len())?;
-        for attempt in &tries {
-            steps.push_reserved(self.act(attempt.seat, attempt.asked, attempt.ask));
+        let mut steps = Vec::with_capacity(self.alloc, tries.len())?;
+        for one in &tries {
+            steps.push_reserved(self.act(tally, one.seat, one.asked, one.ask));
         }
         Ok(steps)
     }
 
-    /// The events, in order. They are a legal history.
+    /// The events, in order. They are a legal history from the opening on.
     pub fn history(&self) -> &[Event]
         ensures events { result.now ≡ self.now.history }
-        ensures legal { IsLegal self.now.history }
+        ensures legal { IsLegal self.now.opening self.now.history }
     {
         &self.history
+    }
+
+    /// What the run began with.
+    pub fn opening(&self) -> &Opening
+        ensures { result.now ≡ self.now.opening }
+    {
+        &self.opening
     }
 
     /// How many events the history has room for.
@@ -133,96 +193,28 @@ impl<T: Timer> Kept<T> {
         self.capacity
     }
 
-    /// How many calls were answered, elements offered and elements given.
-    pub fn counts(&self) -> Counts
-        ensures calls { result.calls ≡ call_count self.now.history }
-        ensures offered { result.offered ≡ offer_count self.now.history }
-        ensures given { result.given ≡ give_count self.now.history }
+    /// What the run came to so far.
+    pub fn audit(&self) -> Audit
+        ensures { result ≡ audit_of self.now.opening self.now.history }
     {
-        Counts {
+        Audit {
             calls: self.history.len() as u64,
-            offered: self.offered,
-            given: self.given,
+            offered: self.books.offered(),
+            given: self.books.given(),
+            removed: self.removed,
+            cleared: self.cleared,
+            left: self.queue.size(),
+            opening: self.opening.elements.as_slice().len() as u64,
         }
     }
 }
 
-// The moment of the last event, or 0 before the first.
-fn last_moment(history: &[Event]) -> u64
-    ensures { result ≡ (state_of history.now).moment }
+// The moment of the last event, or that of the opening before the first.
+fn last_moment(opening: &Opening, history: &[Event]) -> u64
+    ensures { result ≡ (state_of opening.now history.now).moment }
 {
     match history.last() {
         Some(event) => event.at,
-        None => 0,
+        None => opening.last_at,
     }
-}
-
-// The act that the ask makes of the queue at this moment, with its reply. Where there is no memory
-// nothing has changed, and an offer was asked.
-fn perform<T: Timer>(
-    queue: &mut DelayQueue<T>,
-    at: u64,
-    ask: Ask,
-) -> Result<(Act, Reply), AllocError>
-    requires { queue.old.next_id < u64.MAX }
-    ensures act { IfOk result (λ done. IsActOf ask done.0) }
-    ensures allowed { IfOk result (λ done. AllowsAct queue.old at done.0 queue.new) }
-    ensures names { IfOk result (λ done. Names queue.old done.0 done.1) }
-    ensures after { IfOk result (λ done. queue.new ≡ queue_after queue.old done.0) }
-    ensures offer { OnErr result (IsOffer ask) }
-    ensures err { OnErr result (queue.new ≡ queue.old) }
-{
-    match ask {
-        Ask::Offer(draft) => offer(queue, draft),
-        Ask::Poll => Ok(poll(queue, at)),
-        Ask::Peek => Ok(peek(queue)),
-        Ask::Size => Ok(size(queue)),
-    }
-}
-
-fn offer<T: Timer>(queue: &mut DelayQueue<T>, draft: Draft) -> Result<(Act, Reply), AllocError>
-    requires { queue.old.next_id < u64.MAX }
-    ensures act { IfOk result (λ done. IsActOf (Ask.Offer draft) done.0) }
-    ensures allowed { IfOk result (λ done. (now : ℕ) → AllowsAct queue.old now done.0 queue.new) }
-    ensures names { IfOk result (λ done. Names queue.old done.0 done.1) }
-    ensures after { IfOk result (λ done. queue.new ≡ queue_after queue.old done.0) }
-    ensures err { OnErr result (queue.new ≡ queue.old) }
-{
-    let element = queue.offer(draft)?;
-    let recorded = element;
-    Ok((Act::Offer(recorded), Reply::Offered(element)))
-}
-
-fn poll<T: Timer>(queue: &mut DelayQueue<T>, at: u64) -> (Act, Reply)
-    ensures act { IsActOf Ask.Poll result.0 }
-    ensures allowed { AllowsAct queue.old at result.0 queue.new }
-    ensures names { Names queue.old result.0 result.1 }
-    ensures after { queue.new ≡ queue_after queue.old result.0 }
-{
-    match queue.poll(at) {
-        Some(element) => (Act::Poll(Some(element.id())), Reply::Item(element)),
-        None => (Act::Poll(None), Reply::Nothing),
-    }
-}
-
-fn peek<T: Timer>(queue: &DelayQueue<T>) -> (Act, Reply)
-    ensures act { IsActOf Ask.Peek result.0 }
-    ensures allowed { (now : ℕ) → AllowsAct queue.now now result.0 queue.now }
-    ensures names { Names queue.now result.0 result.1 }
-    ensures after { queue.now ≡ queue_after queue.now result.0 }
-{
-    match queue.peek() {
-        Some(element) => (Act::Peek(Some(element.id())), Reply::Head(element)),
-        None => (Act::Peek(None), Reply::Nothing),
-    }
-}
-
-fn size<T: Timer>(queue: &DelayQueue<T>) -> (Act, Reply)
-    ensures act { IsActOf Ask.Size result.0 }
-    ensures allowed { (now : ℕ) → AllowsAct queue.now now result.0 queue.now }
-    ensures names { Names queue.now result.0 result.1 }
-    ensures after { queue.now ≡ queue_after queue.now result.0 }
-{
-    let count = queue.size();
-    (Act::Size(count), Reply::Size(count))
 }

@@ -1,18 +1,15 @@
 //! A queue with the history of its calls: each answered call is one event more, and the history is
-//! always one that a single queue may have had.
+//! always one that a single queue may have had from its opening on.
 //!
 //! Moments are nanoseconds. All memory for the history is taken when it is made.
 #![tactic(auto)]
 
-mod counts;
 mod fault;
 mod kept;
 mod outcome;
-#[cfg(test)]
-mod tests;
+mod perform;
 mod tries;
 
-pub use counts::Counts;
 pub use fault::{CallFault, NewFault};
 pub use kept::{Kept, MOST_CALLS};
 pub use outcome::{Outcome, Step};

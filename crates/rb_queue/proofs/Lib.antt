@@ -1,7 +1,11 @@
 pub mod Bags
+pub mod Options
+pub mod BagsInSlots
+pub mod Stores
+pub mod Queues
+pub mod Drains
+pub mod Orders
 pub mod Histories
-pub mod OncePerId
-pub mod Lying
-pub mod Sound
-pub mod Calls
-pub mod Named
+pub mod Effects
+pub mod Leavings
+pub mod OfferedElements

@@ -1,41 +1,62 @@
--- What each call does: from the queue before it to the queue after it, at one moment.
-use Rattle.std.specs.Prelude.{◌≡◌, ℕ, ◌+◌, Option, Some, None, MatchOption, IsSomeAnd, option_map}
+-- What each call may do: of a queue, at one moment.
+use Rattle.std.specs.Prelude.{◌≡◌, ℕ, ◌+◌, ◌<◌, ◌≤◌, ◌↔◌, min, IsTrue, IsSome, List, [], ◌∷◌, length, Option, Some, None, MatchOption, IsSomeAnd, option_map}
 use Rattle.std.specs.FinMap as map
 use Rattle.rb_delayed.specs.declared.element.Element.{Element}
-use Rattle.rb_queue.specs.Bag.{NoneExpired}
-use Rattle.rb_queue.specs.Head.{IsLeast, IsHead}
+use Rattle.rb_delayed.specs.declared.moment.TheConstants.{GREATEST_MOMENT}
+use Rattle.rb_queue.specs.Bag.{Bag, NoneExpired, without}
+use Rattle.rb_queue.specs.Head.{IsLeast, IsHeadId}
 use Rattle.rb_queue.specs.Queue.{Queue}
+use Rattle.rb_queue.specs.Effect.{effect_of, queue_after}
+use Rattle.rb_queue.specs.declared.act.Act.{Act}
+use Rattle.rb_queue.specs.declared.act.Act.TheVariants.{Offer, Poll, Take, PollFor, Peek, Remove, Drain, Clear, Size}
+
+-- `poll` takes the head, or gives nothing where no element is expired
+abbrev pub Polls : Bag → ℕ → Option ℕ → Type 0
+Polls bag now given = MatchOption given (NoneExpired bag now) (IsHeadId bag now)
+
+-- the moment until which a timed poll waits
+abbrev pub deadline_of : ℕ → ℕ → ℕ
+deadline_of start timeout = min (start + timeout) GREATEST_MOMENT
+
+-- a timed poll takes the head, or gives nothing at its deadline where no element is expired
+abbrev pub PollsFor : Bag → ℕ → ℕ → Option ℕ → Type 0
+PollsFor bag now deadline None = NoneExpired bag now × (deadline ≤ now)
+PollsFor bag now deadline (Some id) = IsHeadId bag now id
+
+-- `peek` shows a least element, expired or not, and nothing where there is none
+abbrev pub Peeks : Bag → Option ℕ → Type 0
+Peeks bag shown =
+    MatchOption shown (bag ≡ map.empty) (λ id. IsSomeAnd (map.get bag id) (IsLeast bag))
+
+-- each of the ids is that of a head, where those before it have left
+abbrev pub AreHeads : Bag → ℕ → List ℕ → Type 0
+AreHeads bag now [] = Unit {0}
+AreHeads bag now (id ∷ ids) = IsHeadId bag now id × AreHeads (map.remove bag id) now ids
+
+-- `drain` takes heads one after the other, at most `max`, and all that are expired where it takes fewer
+pub record Drains (bag : Bag) (now max : ℕ) (ids : List ℕ) : Type 0 where
+  pub heads : AreHeads bag now ids
+  pub at_most : length ids ≤ max
+  pub all : length ids < max → NoneExpired (without bag ids) now
+
+-- the act is one that a call at this moment may do
+abbrev pub Permits : Queue → ℕ → Act → Type 0
+Permits queue now (Offer element) = element.id ≡ queue.next_id
+Permits queue now (Poll given) = Polls queue.bag now given
+Permits queue now (Take id) = IsHeadId queue.bag now id
+Permits queue now (PollFor start timeout given) =
+    PollsFor queue.bag now (deadline_of start timeout) given
+Permits queue now (Peek shown) = Peeks queue.bag shown
+Permits queue now (Remove id found) = IsTrue found ↔ IsSome (map.get queue.bag id)
+Permits queue now (Drain max ids) = Drains queue.bag now max ids
+Permits queue now Clear = Unit {0}
+Permits queue now (Size count) = count ≡ map.len queue.bag
+
+-- a call at this moment that does the act, from the queue before it to the queue after it
+pub record Acts (old : Queue) (now : ℕ) (act : Act) (new : Queue) : Type 0 where
+  pub permitted : Permits old now act
+  pub after : new ≡ queue_after old (effect_of act)
 
 -- the id of the element that a call gave, if it gave one
 abbrev pub id_of : Option Element → Option ℕ
 id_of given = option_map (λ element. element.id) given
-
--- the queue with the element
-abbrev pub with_element : Queue → Element → Queue
-with_element queue element =
-    record { bag = map.insert queue.bag element.id element; next_id = queue.next_id + 1 }
-
--- the queue without the element that was given, if one was
-abbrev pub without : Queue → Option ℕ → Queue
-without queue None = queue
-without queue (Some id) = record queue { bag = map.remove queue.bag id }
-
--- `offer` inserts the element, and never waits for room. Each gets the next id, so none comes twice.
-pub record Offers (old : Queue) (element : Element) (new : Queue) : Type 0 where
-  pub id : element.id ≡ old.next_id
-  pub after : new ≡ with_element old element
-
--- `poll` takes the head, or gives nothing where no element is expired.
-pub record Polls (old : Queue) (now : ℕ) (given : Option ℕ) (new : Queue) : Type 0 where
-  pub allowed : MatchOption given (NoneExpired old.bag now) (λ id. IsSomeAnd (map.get old.bag id) (IsHead old.bag now))
-  pub after : new ≡ without old given
-
--- `peek` shows a least element, expired or not, and leaves it. It shows nothing where there is none.
-pub record Peeks (old : Queue) (shown : Option ℕ) (new : Queue) : Type 0 where
-  pub allowed : MatchOption shown (old.bag ≡ map.empty) (λ id. IsSomeAnd (map.get old.bag id) (IsLeast old.bag))
-  pub after : new ≡ old
-
--- `size` counts the elements, expired and unexpired.
-pub record Sizes (old : Queue) (count : ℕ) (new : Queue) : Type 0 where
-  pub counted : count ≡ map.len old.bag
-  pub after : new ≡ old

@@ -1,33 +1,48 @@
--- Whose events a history has, and how many of each kind.
-use Rattle.std.specs.Prelude.{ℕ, Bool, true, false, ◌==◌, List, length, filter, count_by, Some, None}
-use Rattle.rb_queue.specs.declared.act.Act.{Act}
-use Rattle.rb_queue.specs.declared.act.Act.TheVariants.{Offer, Poll, Peek, Size}
+-- Whose events a history has, and what they come to.
+use Rattle.std.specs.Prelude.{ℕ, ◌+◌, ◌==◌, List, [], ◌∷◌, length, filter, sum_by}
+use Rattle.std.specs.FinMap as map
+use Rattle.rb_queue.specs.Effect.{effect_of, inserted, given, discarded, cleared}
+use Rattle.rb_queue.specs.History.{State, start_of, state_after, state_of}
+use Rattle.rb_queue.specs.declared.audit.Audit.{Audit}
 use Rattle.rb_queue.specs.declared.event.Event.{Event}
+use Rattle.rb_queue.specs.declared.opening.Opening.{Opening}
 
 -- the events of one seat, in order
 abbrev pub events_of : List Event → ℕ → List Event
 events_of history seat = filter (λ event. event.seat == seat) history
 
--- the act inserts an element
-abbrev pub is_offer : Act → Bool
-is_offer (Offer element) = true
-is_offer (Poll given) = false
-is_offer (Peek shown) = false
-is_offer (Size count) = false
-
--- the act gives an element out
-abbrev pub is_give : Act → Bool
-is_give (Offer element) = false
-is_give (Poll None) = false
-is_give (Poll (Some id)) = true
-is_give (Peek shown) = false
-is_give (Size count) = false
-
 abbrev pub call_count : List Event → ℕ
 call_count history = length history
 
 abbrev pub offer_count : List Event → ℕ
-offer_count history = count_by (λ event. is_offer event.act) history
+offer_count history = sum_by (λ event. length (inserted (effect_of event.act))) history
 
 abbrev pub give_count : List Event → ℕ
-give_count history = count_by (λ event. is_give event.act) history
+give_count history = sum_by (λ event. length (given (effect_of event.act))) history
+
+abbrev pub removed_count : List Event → ℕ
+removed_count history = sum_by (λ event. length (discarded (effect_of event.act))) history
+
+-- how many elements the events clear away, from this state on
+abbrev pub cleared_from : State → List Event → ℕ
+cleared_from state [] = 0
+cleared_from state (event ∷ events) =
+    cleared (effect_of event.act) (map.len state.queue.bag) + cleared_from (state_after state event) events
+
+abbrev pub cleared_count : Opening → List Event → ℕ
+cleared_count opening history = cleared_from (start_of opening) history
+
+-- how many elements are in the bag that the history leads to
+abbrev pub left_count : Opening → List Event → ℕ
+left_count opening history = map.len (state_of opening history).queue.bag
+
+abbrev pub audit_of : Opening → List Event → Audit
+audit_of opening history = record {
+  calls = call_count history;
+  offered = offer_count history;
+  given = give_count history;
+  removed = removed_count history;
+  cleared = cleared_count opening history;
+  left = left_count opening history;
+  opening = length opening.elements;
+}

@@ -1,5 +1,5 @@
 -- Which elements of a bag come first.
-use Rattle.std.specs.Prelude.{◌≡◌, ℕ, ◌≤◌, Some, IfSome}
+use Rattle.std.specs.Prelude.{◌≡◌, ℕ, ◌≤◌, Option, Some, IfSome, IsSomeAnd, MatchOption}
 use Rattle.std.specs.FinMap as map
 use Rattle.rb_delayed.specs.declared.element.Element.{Element}
 use Rattle.rb_delayed.specs.Moment.{IsExpired}
@@ -16,6 +16,14 @@ pub record IsHead (bag : Bag) (now : ℕ) (element : Element) : Type 0 where
   pub least : IsLeast bag element
   pub expired : IsExpired element.expiry now
 
+-- the id is a head's
+abbrev pub IsHeadId : Bag → ℕ → ℕ → Type 0
+IsHeadId bag now id = IsSomeAnd (map.get bag id) (IsHead bag now)
+
 -- some least element has this expiry
 abbrev pub IsLeastExpiry : Bag → ℕ → Type 0
 IsLeastExpiry bag expiry = (element : Element) × IsLeast bag element × (element.expiry ≡ expiry)
+
+-- the least expiry, or none where the bag is empty
+abbrev pub IsNextExpiry : Bag → Option ℕ → Type 0
+IsNextExpiry bag expiry = MatchOption expiry (bag ≡ map.empty) (IsLeastExpiry bag)

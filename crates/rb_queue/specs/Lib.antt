@@ -2,7 +2,9 @@ pub use Rattle.rb_delayed.specs.Moment
 pub mod Bag
 pub mod Head
 pub mod Queue
+pub mod Opening
 pub mod Draft
+pub mod Effect
 pub mod Calls
 pub mod History
 pub mod Replies

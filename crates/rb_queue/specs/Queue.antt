@@ -13,7 +13,10 @@ pub record Queue : Type 0 where
 abbrev pub empty_queue : Queue
 empty_queue = record { bag = map.empty; next_id = 0 }
 
+-- a bag is stored as the list of its entries
+abbrev pub bag_code : Coded Bag
+bag_code = map.code coded_ℕ the_row.coded
+
 -- a queue is stored as the pair of its fields
 abbrev pub queue_code : Coded Queue
-queue_code =
-    code_by (Bag × ℕ) (coded× (map.code coded_ℕ the_row.coded) coded_ℕ) (λ q. (q.bag, q.next_id)) (λ p. record { bag = p.0; next_id = p.1 }) (λ _. refl)
+queue_code = code_by (Bag × ℕ) (coded× bag_code coded_ℕ) (λ q. (q.bag, q.next_id)) (λ p. record { bag = p.0; next_id = p.1 }) (λ _. refl)

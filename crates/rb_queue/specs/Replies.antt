@@ -1,34 +1,56 @@
 -- What the caller of the last event of a history is answered.
-use Rattle.std.specs.Prelude.{ℕ, ◌-◌, ◌==◌, List, [], ◌∷◌, length, Option, Some, None, option_map, option_and_then, slice_get, if◌then◌else◌}
+use Rattle.std.specs.Prelude.{ℕ, ◌-◌, List, [], ◌∷◌, length, Option, Some, None, option_map, option_and_then, slice_get}
+use Rattle.std.specs.FinMap as map
 use Rattle.rb_delayed.specs.declared.element.Element.{Element}
+use Rattle.rb_queue.specs.Bag.{Bag, bag_from}
+use Rattle.rb_queue.specs.Effect.{Effect, inserts, gives, discards, empties, effect_of}
 use Rattle.rb_queue.specs.declared.act.Act.{Act}
 use Rattle.rb_queue.specs.declared.act.Act.TheVariants as acts
 use Rattle.rb_queue.specs.declared.reply.Reply.{Reply}
-use Rattle.rb_queue.specs.declared.reply.Reply.TheVariants.{Offered, Item, Nothing, Head, Size}
+use Rattle.rb_queue.specs.declared.reply.Reply.TheVariants.{Offered, Item, Nothing, Head, Removed, Drained, Cleared, Size}
 use Rattle.rb_queue.specs.declared.event.Event.{Event}
+use Rattle.rb_queue.specs.declared.opening.Opening.{Opening}
 
--- the element that an act offered under the id, or else this
-abbrev pub offered_by : Act → ℕ → Option Element → Option Element
-offered_by (acts.Offer element) id otherwise = if element.id == id then Some element else otherwise
-offered_by (acts.Poll given) id otherwise = otherwise
-offered_by (acts.Peek shown) id otherwise = otherwise
-offered_by (acts.Size count) id otherwise = otherwise
+-- the elements of these ids, in their order, where the bag has each
+abbrev pub elements_in : Bag → List ℕ → Option (List Element)
+elements_in bag [] = Some []
+elements_in bag (id ∷ ids) =
+    option_and_then (λ element. option_map (λ rest. element ∷ rest) (elements_in bag ids)) (map.get bag id)
 
--- the element that a history offered under the id
-abbrev pub offered : List Event → ℕ → Option Element
-offered [] id = None
-offered (event ∷ events) id = offered_by event.act id (offered events id)
+-- the element of the id is answered so, and no id by `Nothing`
+abbrev pub answer_in : Bag → (Element → Reply) → Option ℕ → Option Reply
+answer_in bag answer None = Some Nothing
+answer_in bag answer (Some id) = option_map answer (map.get bag id)
 
--- the reply that an act names, where each id stands for the element that the history offered
-abbrev pub reply_to : List Event → Act → Option Reply
-reply_to history (acts.Offer element) = Some (Offered element)
-reply_to history (acts.Poll None) = Some Nothing
-reply_to history (acts.Poll (Some id)) = option_map Item (offered history id)
-reply_to history (acts.Peek None) = Some Nothing
-reply_to history (acts.Peek (Some id)) = option_map Head (offered history id)
-reply_to history (acts.Size count) = Some (Size count)
+-- the reply that an act names, where each id stands for an element of the bag
+abbrev pub reply_in : Bag → Act → Option Reply
+reply_in bag (acts.Offer element) = Some (Offered element)
+reply_in bag (acts.Poll given) = answer_in bag Item given
+reply_in bag (acts.Take id) = answer_in bag Item (Some id)
+reply_in bag (acts.PollFor start timeout given) = answer_in bag Item given
+reply_in bag (acts.Peek shown) = answer_in bag Head shown
+reply_in bag (acts.Remove id found) = Some (Removed found)
+reply_in bag (acts.Drain max ids) = option_map Drained (elements_in bag ids)
+reply_in bag acts.Clear = Some Cleared
+reply_in bag (acts.Size count) = Some (Size count)
 
--- the reply to the last event
-abbrev pub reply_of : List Event → Option Reply
-reply_of history =
-    option_and_then (λ event. reply_to history event.act) (slice_get history (length history - 1))
+-- with the element that came in
+abbrev pub with_inserted : Bag → Effect → Bag
+with_inserted bag (inserts element) = map.insert bag element.id element
+with_inserted bag (gives ids) = bag
+with_inserted bag (discards ids) = bag
+with_inserted bag empties = bag
+
+-- these elements and all that the events offered
+abbrev pub offered_from : Bag → List Event → Bag
+offered_from bag [] = bag
+offered_from bag (event ∷ events) = offered_from (with_inserted bag (effect_of event.act)) events
+
+-- every element that the opening had or the history offered, under its id
+abbrev pub offered : Opening → List Event → Bag
+offered opening history = offered_from (bag_from opening.elements) history
+
+-- the reply to the last event, where each id stands for the element that was offered under it
+abbrev pub reply_of : Opening → List Event → Option Reply
+reply_of opening history =
+    option_and_then (λ event. reply_in (offered opening history) event.act) (slice_get history (length history - 1))

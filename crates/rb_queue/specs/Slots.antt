@@ -1,10 +1,21 @@
--- How a queue lies in its slots. No public clause cites this module.
-use Rattle.std.specs.Prelude.{◌≡◌, ℕ, ◌<◌, List, [], ◌∷◌, Option, Some, None, IfSome, option_map}
+-- How the elements lie in their slots. No public clause cites this module.
+use Rattle.std.specs.Prelude.{◌≡◌, ℕ, ◌<◌, List, [], ◌∷◌, Option, Some, None, IsSome, IsSomeAnd, nat_eq, option_map}
 use Rattle.std.specs.FinMap as map
+use Rattle.std.specs.declared.hash.FoldHasher.{FoldHasher}
+use Rattle.std.specs.declared.hash.BuildHasherDefault.{BuildHasherDefault}
+use Rattle.indexmap.specs.IndexMap as index
 use Rattle.rb_delayed.specs.declared.element.Element.{Element}
 use Rattle.rb_timer.specs.Content.{Content}
 use Rattle.rb_queue.specs.Bag.{Bag}
 use Rattle.slab.specs.Slab.{Slab, get, slab_len}
+
+-- from id to slot
+abbrev pub Directory : Type 0
+Directory = index.IndexMap ℕ ℕ (BuildHasherDefault FoldHasher)
+
+-- the slot of an id
+abbrev pub slot_of : Directory → ℕ → Option ℕ
+slot_of directory id = index.get nat_eq directory id
 
 -- the elements that lie in these slots
 abbrev pub bag_of : List (Option Element) → Bag
@@ -12,9 +23,13 @@ bag_of [] = map.empty
 bag_of (None ∷ slots) = bag_of slots
 bag_of (Some element ∷ slots) = map.insert (bag_of slots) element.id element
 
--- the timer has the expiry of each element at the element's slot, and no two elements have one id
-pub record IsSound (elements : Slab Element) (content : Content) (next_id : ℕ) : Type 0 where
+-- the timer has the expiry of each element at its slot, and the directory its slot at its id
+pub record IsSound (elements : Slab Element) (content : Content) (directory : Directory) : Type 0 where
   pub timed : (slot : ℕ) → map.get content slot ≡ option_map (λ element. element.expiry) (get elements slot)
-  pub distinct : (slot other : ℕ) (a b : Element) → get elements slot ≡ Some a → get elements other ≡ Some b → a.id ≡ b.id → slot ≡ other
-  pub below : (slot : ℕ) → IfSome (get elements slot) (λ element. element.id < next_id)
+  pub listed : (slot : ℕ) (element : Element) → get elements slot ≡ Some element → slot_of directory element.id ≡ Some slot
+  pub filed : (id slot : ℕ) → slot_of directory id ≡ Some slot → IsSomeAnd (get elements slot) (λ element. element.id ≡ id)
   pub counted : slab_len elements ≡ map.len (bag_of elements.slots)
+
+-- each id of the bag is below the next one
+pub record AreBelow (bag : Bag) (next_id : ℕ) : Type 0 where
+  pub below : (id : ℕ) → IsSome (map.get bag id) → id < next_id

@@ -1,34 +1,77 @@
-ghost use Rattle.std.specs.Prelude.{◌≡◌};
+ghost use Rattle.std.specs.Prelude.{◌≡◌, length};
 
+use crate::sequence::Ids;
 use rb_delayed::Element;
 
 /// What an event did. Elements that were offered before stand by their ids.
-#[derive(Clone, Copy, Debug, PartialEq, Eq)]
+#[derive(Debug, Drop, PartialEq, Eq)]
 pub enum Act {
     /// This element was inserted.
     Offer(Element),
     /// The element of this id was taken, or nothing was expired.
     Poll(Option<u64>),
+    /// The element of this id was taken.
+    Take(u64),
+    /// The element of this id was taken, or nothing was expired at the deadline, which is so many
+    /// nanoseconds after the start.
+    PollFor {
+        start: u64,
+        timeout: u64,
+        got: Option<u64>,
+    },
     /// The element of this id was shown, or there was none.
     Peek(Option<u64>),
+    /// The element of this id was taken out, where it was found.
+    Remove {
+        id: u64,
+        found: bool,
+    },
+    /// The elements of these ids were taken, at most `max`.
+    Drain {
+        max: u64,
+        ids: Ids,
+    },
+    /// All elements were discarded.
+    Clear,
     /// There were so many elements.
     Size(u64),
 }
 
 impl Act {
-    ghost use Rattle.rb_queue.specs.Counts.{is_offer, is_give};
+    ghost use Rattle.rb_queue.specs.Effect.{effect_of, inserted, given, discarded, cleared};
 
-    /// Whether it inserted an element.
-    pub fn is_offer(&self) -> bool
-        ensures { result ≡ is_offer self.now }
+    /// How many elements it inserted.
+    pub fn offered(&self) -> u64
+        ensures { result ≡ length (inserted (effect_of self.now)) }
     {
-        matches!(self, Act::Offer(_))
+        u64::from(matches!(self, Act::Offer(_)))
     }
 
-    /// Whether it gave an element out.
-    pub fn is_give(&self) -> bool
-        ensures { result ≡ is_give self.now }
+    /// How many elements it gave out.
+    pub fn given(&self) -> u64
+        ensures { result ≡ length (given (effect_of self.now)) }
     {
-        matches!(self, Act::Poll(Some(_)))
+        match self {
+            Act::Poll(Some(_)) | Act::Take(_) | Act::PollFor { got: Some(_), .. } => 1,
+            Act::Drain { ids, .. } => ids.as_slice().len() as u64,
+            _ => 0,
+        }
+    }
+
+    /// How many elements it took out by name.
+    pub fn removed(&self) -> u64
+        ensures { result ≡ length (discarded (effect_of self.now)) }
+    {
+        u64::from(matches!(self, Act::Remove { found: true, .. }))
+    }
+
+    /// How many elements it cleared away, of so many that stood in the queue.
+    pub fn cleared(&self, standing: u64) -> u64
+        ensures { result ≡ cleared (effect_of self.now) standing }
+    {
+        match self {
+            Act::Clear => standing,
+            _ => 0,
+        }
     }
 }

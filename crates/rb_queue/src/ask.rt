@@ -7,8 +7,18 @@ pub enum Ask {
     Offer(Draft),
     /// Take the head, if there is one.
     Poll,
+    /// Take the head, and wait for it if there is none.
+    Take,
+    /// Take the head, and wait for it until so many nanoseconds after the start.
+    PollFor { start: u64, timeout: u64 },
     /// Show an element of least expiry, expired or not.
     Peek,
+    /// Take out the element of this id, expired or not.
+    Remove(u64),
+    /// Take at most so many expired elements.
+    Drain(u64),
+    /// Discard all elements.
+    Clear,
     /// Count the elements, expired or not.
     Size,
 }

@@ -1,26 +1,31 @@
-ghost use Rattle.std.specs.Prelude.{◌≡◌, ◌<◌, ◌↔◌, Some, None, IfSome, IfOk, OnErr, IsNone, MatchOption, option_map};
+ghost use Rattle.std.specs.Prelude.{◌≡◌, ◌<◌, ◌≤◌, ℕ, length, Some, IfSome, IfOk, OnErr};
 ghost use Rattle.std.specs.FinMap as map;
 ghost use Rattle.rb_queue.specs.Queue.{empty_queue};
+ghost use Rattle.rb_queue.specs.Opening.{ids_of};
 ghost use Rattle.rb_queue.specs.Draft.{IsDrafted};
-ghost use Rattle.rb_queue.specs.Head.{IsLeastExpiry};
-ghost use Rattle.rb_queue.specs.Calls.{Offers, Polls, Peeks, Sizes, id_of};
+ghost use Rattle.rb_queue.specs.Head.{IsNextExpiry};
+ghost use Rattle.rb_queue.specs.History.{opening_queue};
+ghost use Rattle.rb_queue.specs.Replies.{elements_in};
+ghost use Rattle.rb_queue.specs.Calls.{Acts, id_of};
+ghost use Rattle.rb_queue.specs.declared.act.Act.TheVariants as acts;
 
 use crate::draft::Draft;
-use rb_delayed::{Delayed, Element};
+use crate::opening::Opening;
+use crate::sequence::Items;
+use crate::store::Store;
+use rb_delayed::Element;
 use rb_timer::Timer;
-use slab::Slab;
 use std::alloc::{AllocError, Global};
 use std::marker::Model;
 
 /// A delay queue over any timer, as `DelayQueue` of Java SE 17 for one thread.
 ///
-/// Each element lies in a slot, and the timer knows which slot expires first: both have an entry at
-/// exactly the same slots. Memory is taken by `offer` alone.
+/// Memory is taken by `new_from`, `offer` and `drain` alone.
 #[derive(Drop)]
 pub struct DelayQueue<T: Timer> {
-    elements: Slab<Element>,
-    timer: T,
+    store: Store<T>,
     next_id: u64,
+    alloc: Global,
 }
 
 impl<T: Timer> Model for DelayQueue<T> {
@@ -30,11 +35,11 @@ impl<T: Timer> Model for DelayQueue<T> {
 
     ghost coded = { queue_code };
 
-    ghost use Rattle.rb_queue.specs.Slots.{bag_of, IsSound};
+    ghost use Rattle.rb_queue.specs.Slots.{AreBelow};
 
-    ghost view = { λ q. record { bag = bag_of q.elements.slots; next_id = q.next_id } };
+    ghost view = { λ q. record { bag = q.store; next_id = q.next_id } };
 
-    ghost invariant = { λ q. IsSound q.elements (T.content q.timer) q.next_id };
+    ghost invariant = { λ q. AreBelow q.store q.next_id };
 }
 
 impl<T: Timer> DelayQueue<T> {
@@ -43,10 +48,25 @@ impl<T: Timer> DelayQueue<T> {
         ensures { result ≡ empty_queue }
     {
         DelayQueue {
-            elements: Slab::new(alloc),
-            timer: T::new(alloc),
+            store: Store::new(alloc),
             next_id: 0,
+            alloc,
         }
+    }
+
+    /// The queue that a run begins with.
+    pub fn new_from(alloc: Global, opening: &Opening) -> Result<Self, AllocError>
+        ensures { IfOk result (λ queue. queue ≡ opening_queue opening.now) }
+    {
+        let mut store = Store::new(alloc);
+        for element in opening.elements.as_slice() {
+            store.insert(element)?;
+        }
+        Ok(DelayQueue {
+            store,
+            next_id: opening.next_id,
+            alloc,
+        })
     }
 
     /// Inserts an element under the next id, as `DelayQueue.offer`, and gives it. It never waits.
@@ -54,16 +74,12 @@ impl<T: Timer> DelayQueue<T> {
     /// All memory is asked for first: after an `Err` the queue is as before. There must be an id left.
     pub fn offer(&mut self, draft: Draft) -> Result<Element, AllocError>
         requires { self.old.next_id < u64.MAX }
-        ensures offered { IfOk result (λ element. Offers self.old element self.new) }
+        ensures offers { IfOk result (λ element. (now : ℕ) → Acts self.old now (acts.Offer element) self.new) }
         ensures drafted { IfOk result (IsDrafted draft) }
         ensures err { OnErr result (self.new ≡ self.old) }
     {
-        self.elements.reserve(1)?;
-        let capacity = self.elements.capacity();
-        self.timer.reserve(capacity)?;
         let element = draft.element(self.next_id);
-        let slot = self.elements.insert_reserved(element);
-        self.timer.insert(slot, element.expiry());
+        self.store.insert(&element)?;
         self.next_id += 1;
         Ok(element)
     }
@@ -71,28 +87,64 @@ impl<T: Timer> DelayQueue<T> {
     /// Takes the head, an element of least expiry that is expired at `now`, as `DelayQueue.poll`.
     /// `None` exactly where nothing is expired.
     pub fn poll(&mut self, now: u64) -> Option<Element>
-        ensures polls { Polls self.old now (id_of result) self.new }
+        ensures polls { Acts self.old now (acts.Poll (id_of result)) self.new }
         ensures element { IfSome result (λ element. map.get self.old.bag element.id ≡ Some element) }
     {
-        let (slot, _) = self.timer.due(now)?;
-        self.timer.remove(slot);
-        Some(self.elements.remove(slot))
+        self.store.take_due(now)
     }
 
     /// An element of least expiry, expired or not; it stays. `None` exactly where the queue is empty.
+    ///
+    /// As `DelayQueue.peek`, but that every element of least expiry may be shown.
     pub fn peek(&self) -> Option<Element>
-        ensures peeks { Peeks self.now (id_of result) self.now }
+        ensures peeks { (now : ℕ) → Acts self.now now (acts.Peek (id_of result)) self.now }
         ensures element { IfSome result (λ element. map.get self.now.bag element.id ≡ Some element) }
     {
-        let (slot, _) = self.timer.least()?;
-        self.elements.get(slot).copied()
+        self.store.least()
+    }
+
+    /// Takes out the element of the id, expired or not, as `DelayQueue.remove`, and tells whether there
+    /// was one.
+    pub fn remove(&mut self, id: u64) -> bool
+        ensures { (now : ℕ) → Acts self.old now (acts.Remove id result) self.new }
+    {
+        self.store.take(id).is_some()
+    }
+
+    /// Takes heads one after the other, at most `max`, while one is expired at `now`, as
+    /// `DelayQueue.drainTo`, and gives them in that order.
+    ///
+    /// Room for the lesser of `max` and the size is asked for first: after an `Err` the queue is as
+    /// before.
+    pub fn drain(&mut self, now: u64, max: u64) -> Result<Items, AllocError>
+        ensures drains { IfOk result (λ items. Acts self.old now (acts.Drain max (ids_of items)) self.new) }
+        ensures elements { IfOk result (λ items. elements_in self.old.bag (ids_of items) ≡ Some items) }
+        ensures few { IfOk result (λ items. length items ≤ map.len self.old.bag) }
+        ensures err { OnErr result (self.new ≡ self.old) }
+    {
+        let most = max.min(self.size()) as usize;
+        let mut items = Vec::with_capacity(self.alloc, most)?;
+        for _ in 0..max {
+            let Some(element) = self.poll(now) else {
+                break;
+            };
+            items.push_reserved(element);
+        }
+        Ok(Items::new(items))
+    }
+
+    /// Discards all elements, unexpired ones too, as `DelayQueue.clear`. The ids go on.
+    pub fn clear(&mut self)
+        ensures { (now : ℕ) → Acts self.old now acts.Clear self.new }
+    {
+        self.store.clear();
     }
 
     /// The number of elements, expired and unexpired, as `DelayQueue.size`.
     pub fn size(&self) -> u64
-        ensures { Sizes self.now result self.now }
+        ensures { (now : ℕ) → Acts self.now now (acts.Size result) self.now }
     {
-        self.elements.len() as u64
+        self.store.len() as u64
     }
 
     /// The id that the next offer gives out.
@@ -104,9 +156,8 @@ impl<T: Timer> DelayQueue<T> {
 
     /// The least expiry, in nanoseconds, or `None` exactly where the queue is empty.
     pub fn next_expiry(&self) -> Option<u64>
-        ensures { MatchOption result (self.now.bag ≡ map.empty) (IsLeastExpiry self.now.bag) }
+        ensures { IsNextExpiry self.now.bag result }
     {
-        let (_, expiry) = self.timer.least()?;
-        Some(expiry)
+        self.store.least_expiry()
     }
 }

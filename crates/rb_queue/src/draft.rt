@@ -1,4 +1,4 @@
-ghost use Rattle.std.specs.Prelude.{◌≡◌, ◌≤◌, None};
+ghost use Rattle.std.specs.Prelude.{◌≡◌, ◌≤◌, None, is_some};
 ghost use Rattle.rb_delayed.specs.declared.element.TheConstants.{GREATEST_ATTEMPT};
 
 use rb_delayed::{Element, Payload};
@@ -10,10 +10,13 @@ pub struct Draft {
     pub expiry: u64,
     /// The id of the first element that carried this job, or `None` for the element's own.
     pub origin: Option<u64>,
+    /// The expiry of that first element, in nanoseconds, or `None` for the element's own.
+    pub first: Option<u64>,
     /// Which attempt of the job it is, 1 to 1,000.
     pub attempt: u32,
     /// What the job carries.
     pub payload: Payload,
+    pub ghost first_with_origin: { is_some first ≡ is_some origin },
     pub ghost attempt_from_one: { 1 ≤ attempt },
     pub ghost attempt_in_range: { attempt ≤ GREATEST_ATTEMPT },
 }
@@ -25,12 +28,14 @@ impl Draft {
     pub fn first(expiry: u64, payload: Payload) -> Draft
         ensures expiry { result.expiry ≡ expiry }
         ensures origin { result.origin ≡ None }
+        ensures first { result.first ≡ None }
         ensures attempt { result.attempt ≡ 1 }
         ensures payload { result.payload ≡ payload }
     {
         Draft {
             expiry,
             origin: None,
+            first: None,
             attempt: 1,
             payload,
         }
@@ -45,6 +50,7 @@ impl Draft {
             id,
             expiry: self.expiry,
             origin: self.origin.unwrap_or(id),
+            first: self.first.unwrap_or(self.expiry),
             attempt: self.attempt,
             payload: self.payload,
         }

@@ -1,7 +1,7 @@
 use crate::act::Act;
 
 /// One answered call, as the history keeps it.
-#[derive(Clone, Copy, Debug, PartialEq, Eq)]
+#[derive(Debug, Drop, PartialEq, Eq)]
 pub struct Event {
     /// Who called.
     pub seat: u64,

@@ -1,10 +1,14 @@
-ghost use Rattle.std.specs.Prelude.{◌≤◌, ℕ, List};
-ghost use Rattle.rb_queue.specs.History.{IsLegal};
-ghost use Rattle.rb_queue.specs.Leaving.{offer_count_of, leaving_count_of};
-ghost use Rattle.rb_queue.specs.declared.event.Event.{Event};
+ghost use Rattle.rb_queue.specs.Leaving.{IsOfferedOnce, LeavesOnce, IsBalanced};
 
-/// In a legal history no id is offered twice, and none leaves twice.
+/// In a legal history no id is offered twice, and none leaves twice. An element of the opening counts
+/// as offered.
 pub fn each_id_once()
-    ensures offered { (history : List Event) (id : ℕ) → IsLegal history → offer_count_of history id ≤ 1 }
-    ensures leaves { (history : List Event) (id : ℕ) → IsLegal history → leaving_count_of history id ≤ 1 }
+    ensures offered { IsOfferedOnce }
+    ensures leaves { LeavesOnce }
+{}
+
+/// In a legal history nothing is lost: the elements of the opening and those that were offered are
+/// those that were given, removed and cleared, and those that are left.
+pub fn each_element_counted()
+    ensures { IsBalanced }
 {}

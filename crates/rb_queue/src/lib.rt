@@ -2,24 +2,29 @@
 //! of Java SE 17, and what a history of its calls may be.
 //!
 //! The queue is seen as a bag of elements, which has no order, and the id that the next offer gives out.
-//! Each call is one named relation on these, which the relation on events cites too. Moments and delays
-//! are nanoseconds.
+//! What each call may do is one named permission on these, which the legal histories cite too, and what it
+//! changes follows from the effect of its act. Moments and delays are nanoseconds.
 #![tactic(auto)]
 
 mod act;
 mod ask;
+mod audit;
 mod delay_queue;
 mod draft;
 mod event;
 mod laws;
+mod opening;
 mod reply;
-#[cfg(test)]
-mod tests;
+mod sequence;
+mod store;
 
 pub use act::Act;
 pub use ask::Ask;
+pub use audit::Audit;
 pub use delay_queue::DelayQueue;
 pub use draft::Draft;
 pub use event::Event;
-pub use laws::each_id_once;
+pub use laws::{each_element_counted, each_id_once};
+pub use opening::{GREATEST_OPENING_ID, MOST_OPENING_ELEMENTS, Opening};
 pub use reply::Reply;
+pub use sequence::{Ids, Items, Sequence};

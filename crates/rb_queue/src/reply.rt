@@ -1,7 +1,8 @@
+use crate::sequence::Items;
 use rb_delayed::Element;
 
 /// What a caller is answered.
-#[derive(Clone, Copy, Debug, PartialEq, Eq)]
+#[derive(Debug, Drop, PartialEq, Eq)]
 pub enum Reply {
     /// This element was inserted.
     Offered(Element),
@@ -11,6 +12,12 @@ pub enum Reply {
     Nothing,
     /// This element has least expiry.
     Head(Element),
+    /// Whether there was such an element, which then was taken out.
+    Removed(bool),
+    /// These elements were taken, in this order.
+    Drained(Items),
+    /// All elements were discarded.
+    Cleared,
     /// There are so many elements.
     Size(u64),
 }

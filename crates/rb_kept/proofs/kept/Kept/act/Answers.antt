@@ -1,49 +1,70 @@
-use Rattle.std.proofs.Common.{◌≡◌, ℕ, List, ◌≢◌, ◌<◌, length, refl, sym, ap, ◌∙◌, arith, max}
+use Rattle.std.proofs.Common.{List, ◌+◌, length, refl, sym, ap, ◌∙◌, arith}
 use Rattle.rb_queue.specs.declared.event.Event.{Event}
 use Rattle.rb_queue.specs.Queue.{Queue}
-use Rattle.rb_queue.specs.History.{start, state_of}
-use Rattle.rb_queue.proofs.Named.{next_id_few}
-use Rattle.rb_kept.proofs.Recorded.{replies, legal_more, sound_more, bit_of}
+use Rattle.rb_queue.specs.Effect.{effect_of, cleared}
+use Rattle.rb_queue.specs.History.{start_of}
+use Rattle.rb_kept.specs.Log.{Log}
+use Rattle.rb_kept.specs.Performing.{DoesAsk}
+use Rattle.rb_kept.proofs.Logs.{next_id_few, IsNext, is_next, removed_fits, cleared_fits, kept_more, recorded}
 use Rattle.rb_kept.proofs.kept.Kept.act.Goals as goal
 
--- there are no more ids than events
+-- there are no more ids than the opening's and the events
 pub perform-requires : goal.perform-requires
 perform-requires g c =
-    let few = next_id_few start c.self.inside.history.items (state_of c.self.inside.history.items) c.self.invariant.legal in
+    let few = next_id_few (start_of c.self.inside.opening) c.self.inside.history.items in
     let same = ap (λ (q : Queue). q.next_id) c.self.invariant.leads in
-    omega (arith, few, same, c.self.invariant.few, c.self.invariant.most)
+    omega (arith, few, same, c.self.invariant.few, c.self.invariant.most, c.self.inside.opening.opening.next)
 
--- the moment of the event is the later of the two
-at_moment : (asked at last moment : ℕ) (shown items : List Event) → at ≡ max asked last → last ≡ (state_of shown).moment → shown ≡ items → at ≡ max asked (state_of items).moment
-at_moment asked at last moment shown items is found same = is ∙ ap (max asked) (found ∙ ap (λ (h : List Event). (state_of h).moment) same)
+pub overflow_add-self : goal.overflow_add-self
+overflow_add-self g c =
+    let log : Log = record { opening = c.self.inside.opening; history = c.self.inside.history.items; capacity = c.self.inside.capacity } in
+    let event : Event = record { seat = c.args.seat; asked = c.args.asked; at = c.max-at.result; act = c.in-Done.answer.act } in
+    let does : DoesAsk c.self.inside.queue c.max-at.result c.args.ask c.in-Done.answer c.perform.new.queue = rw c.in-Done.is at c.in_ok-answer.ensures.performs in
+    let next : IsNext c.self.inside.queue c.perform.new.queue log event =
+    is_next _ _ log event c.last_moment.result c.len.result _ c.max-at.ensures c.last_moment.ensures c.deref.ensures.value c.if-len-self.false
+    (c.len.ensures ∙ sym c.deref.ensures.len ∙ ap length c.deref.ensures.value) c.self.invariant.few does.acts in
+    let fits = removed_fits _ _ log event _ _ _ _ c.self.invariant next in
+    omega (arith, fits, c.removed.ensures)
 
-pub invariant_of-self-2 : goal.invariant_of-self-2
-invariant_of-self-2 g c =
-    let event : Event = record { seat = c.args.seat; asked = c.args.asked; at = c.max-at.result; act = c.in_ok-act.act } in
-    let at = at_moment c.args.asked c.max-at.result c.last_moment.result 0 _ _ c.max-at.ensures c.last_moment.ensures c.deref.ensures.value in
+pub overflow_add-self-in-Done : goal.overflow_add-self-in-Done
+overflow_add-self-in-Done g c =
+    let log : Log = record { opening = c.self.inside.opening; history = c.self.inside.history.items; capacity = c.self.inside.capacity } in
+    let event : Event = record { seat = c.args.seat; asked = c.args.asked; at = c.max-at.result; act = c.in-Done.answer.act } in
+    let does : DoesAsk c.self.inside.queue c.max-at.result c.args.ask c.in-Done.answer c.perform.new.queue = rw c.in-Done.is at c.in_ok-answer.ensures.performs in
+    let next : IsNext c.self.inside.queue c.perform.new.queue log event =
+    is_next _ _ log event c.last_moment.result c.len.result _ c.max-at.ensures c.last_moment.ensures c.deref.ensures.value c.if-len-self.false
+    (c.len.ensures ∙ sym c.deref.ensures.len ∙ ap length c.deref.ensures.value) c.self.invariant.few does.acts in
+    let fits = cleared_fits _ _ log event _ _ _ _ c.self.invariant next in
+    let away = c.cleared.ensures ∙ ap (cleared (effect_of c.in-Done.answer.act)) (c.size-standing.ensures 0).permitted in
+    omega (arith, fits, away)
+
+pub invariant_of-self-in-Done : goal.invariant_of-self-in-Done
+invariant_of-self-in-Done g c =
+    let log : Log = record { opening = c.self.inside.opening; history = c.self.inside.history.items; capacity = c.self.inside.capacity } in
+    let event : Event = record { seat = c.args.seat; asked = c.args.asked; at = c.max-at.result; act = c.in-Done.answer.act } in
+    let does : DoesAsk c.self.inside.queue c.max-at.result c.args.ask c.in-Done.answer c.perform.new.queue = rw c.in-Done.is at c.in_ok-answer.ensures.performs in
+    let next : IsNext c.self.inside.queue c.perform.new.queue log event =
+    is_next _ _ log event c.last_moment.result c.len.result _ c.max-at.ensures c.last_moment.ensures c.deref.ensures.value c.if-len-self.false
+    (c.len.ensures ∙ sym c.deref.ensures.len ∙ ap length c.deref.ensures.value) c.self.invariant.few does.acts in
+    let away = c.cleared.ensures ∙ ap (cleared (effect_of c.in-Done.answer.act)) (c.size-standing.ensures 0).permitted in
+    let booked = rw (c.offered.ensures, c.given.ensures) at c.note.ensures.books in
     rw c.push_reserved.ensures.capacity
-    (sound_more c.self.inside.queue c.perform.new.queue c.self.inside.history.items event _ _ _ _ c.self.invariant at c.in_ok-act.ensures.allowed c.in_ok-act.ensures.after
-    c.push_reserved.new.self.items c.from.result c.from-2.result c.push_reserved.ensures.items
-    (λ full. c.if-len-self.false (c.len.ensures ∙ sym c.deref.ensures.len ∙ ap length c.deref.ensures.value ∙ full))
-    (bit_of _ _ _ c.from.ensures c.is_offer.ensures) (bit_of _ _ _ c.from-2.ensures c.is_give.ensures))
+    (kept_more _ _ log event _ _ _ _ c.self.invariant next c.push_reserved.new.self.items c.note.new.self _ _ c.push_reserved.ensures.items booked
+    (ap (λ n. c.self.inside.removed + n) c.removed.ensures) (ap (λ n. c.self.inside.cleared + n) away))
 
-pub returns-clause-step : goal.returns-clause-step
-returns-clause-step g c =
-    let event : Event = record { seat = c.args.seat; asked = c.args.asked; at = c.max-at.result; act = c.in_ok-act.act } in
-    let at = at_moment c.args.asked c.max-at.result c.last_moment.result 0 _ _ c.max-at.ensures c.last_moment.ensures c.deref.ensures.value in
-    let free : length c.self.inside.history.items ≢ c.self.inside.capacity = λ full. c.if-len-self.false (c.len.ensures ∙ sym c.deref.ensures.len ∙ ap length c.deref.ensures.value ∙ full) in
-    let room : length c.self.inside.history.items < c.self.inside.capacity = omega (arith, free, c.self.invariant.few) in
+pub returns-in-Done-clause-step : goal.returns-in-Done-clause-step
+returns-in-Done-clause-step g c =
+    let log : Log = record { opening = c.self.inside.opening; history = c.self.inside.history.items; capacity = c.self.inside.capacity } in
+    let event : Event = record { seat = c.args.seat; asked = c.args.asked; at = c.max-at.result; act = c.in-Done.answer.act } in
+    let does : DoesAsk c.self.inside.queue c.max-at.result c.args.ask c.in-Done.answer c.perform.new.queue = rw c.in-Done.is at c.in_ok-answer.ensures.performs in
+    let next : IsNext c.self.inside.queue c.perform.new.queue log event =
+    is_next _ _ log event c.last_moment.result c.len.result _ c.max-at.ensures c.last_moment.ensures c.deref.ensures.value c.if-len-self.false
+    (c.len.ensures ∙ sym c.deref.ensures.len ∙ ap length c.deref.ensures.value) c.self.invariant.few does.acts in
     rw (← c.self.view_is) (
-      room,
+      next.room,
       (
         event,
-        c.push_reserved.ensures.items,
-        record {
-          seat = refl;
-          asked = refl;
-          act = c.in_ok-act.ensures.act;
-          legal = legal_more c.self.inside.queue c.perform.new.queue c.self.inside.history.items event _ _ _ _ c.self.invariant at c.in_ok-act.ensures.allowed c.in_ok-act.ensures.after;
-          reply = replies c.self.inside.history.items event c.in_ok-act.reply c.self.inside.queue c.self.invariant.legal c.self.invariant.leads c.in_ok-act.ensures.names;
-        },
+        ap (λ (items : List Event). record log { history = items }) c.push_reserved.ensures.items,
+        recorded _ _ log event _ _ _ _ c.self.invariant next (record { seat = c.args.seat; asked = c.args.asked; ask = c.args.ask }) c.in-Done.answer.reply refl refl does.of_ask does.reply,
       ),
     )

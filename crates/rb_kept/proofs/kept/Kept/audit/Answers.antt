@@ -1,0 +1,23 @@
+use Rattle.std.proofs.Common.{◌≡◌, length, sym, ap, ◌∙◌, arith}
+use Rattle.std.specs.FinMap as map
+use Rattle.rb_ledger.specs.declared.totals.Totals.{Totals}
+use Rattle.rb_queue.specs.Queue.{Queue}
+use Rattle.rb_queue.specs.Counts.{left_count}
+use Rattle.rb_kept.proofs.kept.Kept.audit.Goals as goal
+
+pub returns : goal.returns
+returns g c =
+    let calls : c.len.result ≡ length c.self.inside.history.items = omega arith in
+    let offered = c.offered.ensures ∙ ap (λ (t : Totals). t.offered) c.self.invariant.booked in
+    let given = c.given.ensures ∙ ap (λ (t : Totals). t.given) c.self.invariant.booked in
+    let left : c.size.result ≡ left_count c.self.inside.opening c.self.inside.history.items = (c.size.ensures 0).permitted ∙ ap (λ (q : Queue). map.len q.bag) (sym c.self.invariant.leads) in
+    let opening = ap length c.as_slice.ensures in
+    rw (← c.self.view_is) (λ i. record {
+      calls = calls i;
+      offered = offered i;
+      given = given i;
+      removed = c.self.invariant.removed i;
+      cleared = c.self.invariant.cleared i;
+      left = left i;
+      opening = opening i;
+    })

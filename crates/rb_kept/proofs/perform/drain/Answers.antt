@@ -1,0 +1,16 @@
+use Rattle.std.proofs.Common.{arith}
+use Rattle.std.proofs.lemmas.List.{length-map}
+use Rattle.rb_delayed.specs.declared.element.Element.{Element}
+use Rattle.rb_kept.proofs.perform.drain.Goals as goal
+
+pub ids_of-ids-requires-clause-room : goal.ids_of-ids-requires-clause-room
+ids_of-ids-requires-clause-room g c =
+    rw c.as_slice.ensures (omega (
+      arith,
+      (c.size.ensures 0).permitted,
+      c.min-most.ensures,
+      c.in_ok-room.ensures.capacity,
+      c.in_ok-items.ensures.drains.permitted.at_most,
+      c.in_ok-items.ensures.few,
+      length-map c.in_ok-items.items (λ (e : Element). e.id),
+    ))

@@ -1,0 +1,5 @@
+use Rattle.std.proofs.Common.{refl}
+use Rattle.rb_kept.proofs.perform.size.Goals as goal
+
+pub returns : goal.returns
+returns g c = λ now. record { of_ask = tt; acts = c.size-count.ensures now; reply = refl }

@@ -1,0 +1,16 @@
+//! Totals of a run, and the shares of them that its callers keep.
+//!
+//! The books count every call, and each caller's tally counts its own. So the shares, once they are
+//! joined, come to the books exactly where nobody's share is missing. Nothing here takes memory, and a
+//! count that would pass 2^64 - 1 stays there.
+#![tactic(auto)]
+
+mod books;
+mod tally;
+#[cfg(test)]
+mod tests;
+mod totals;
+
+pub use books::Books;
+pub use tally::Tally;
+pub use totals::{GREATEST_COUNT, Totals};

@@ -1,0 +1,37 @@
+ghost use Rattle.std.specs.Prelude.{◌≡◌};
+
+/// The greatest count, 2^64 - 1.
+pub const GREATEST_COUNT: u64 = u64::MAX;
+
+/// How many calls there were, and how many elements they offered and gave out.
+#[derive(Clone, Copy, Debug, PartialEq, Eq)]
+pub struct Totals {
+    /// The calls that were answered.
+    pub calls: u64,
+    /// The elements that were offered.
+    pub offered: u64,
+    /// The elements that were given out.
+    pub given: u64,
+}
+
+impl Totals {
+    ghost use Rattle.rb_ledger.specs.Totals.{total_of};
+
+    // No call, and no element.
+    pub(crate) const NOTHING: Totals = Totals {
+        calls: 0,
+        offered: 0,
+        given: 0,
+    };
+
+    // Both together.
+    pub(crate) fn plus(self, other: Totals) -> Totals
+        ensures { result ≡ total_of self other }
+    {
+        Totals {
+            calls: self.calls.saturating_add(other.calls),
+            offered: self.offered.saturating_add(other.offered),
+            given: self.given.saturating_add(other.given),
+        }
+    }
+}

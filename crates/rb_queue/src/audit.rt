@@ -1,0 +1,20 @@
+/// What a run came to, in numbers of elements but for `calls`.
+///
+/// What was there at the start and what was offered is what was given, removed, cleared or is left.
+#[derive(Clone, Copy, Debug, PartialEq, Eq)]
+pub struct Audit {
+    /// The calls that were answered.
+    pub calls: u64,
+    /// The elements that were offered.
+    pub offered: u64,
+    /// The elements that were given out.
+    pub given: u64,
+    /// The elements that `remove` took out.
+    pub removed: u64,
+    /// The elements that `clear` discarded.
+    pub cleared: u64,
+    /// The elements that stand in the queue.
+    pub left: u64,
+    /// The elements that stood in the queue at the start.
+    pub opening: u64,
+}

@@ -1,0 +1,126 @@
+ghost use Rattle.std.specs.Prelude.{◌≡◌, ℕ, Some, None, IfSome, IfNone, OnOk, OnErr};
+ghost use Rattle.std.specs.FinMap as map;
+ghost use Rattle.rb_queue.specs.Bag.{NoneExpired};
+ghost use Rattle.rb_queue.specs.Head.{IsHead, IsLeast, IsNextExpiry};
+ghost use Rattle.std.specs.Prelude.{MatchOption};
+
+use indexmap::IndexMap;
+use rb_delayed::{Delayed, Element};
+use rb_timer::Timer;
+use slab::Slab;
+use std::alloc::{AllocError, Global};
+use std::marker::Model;
+
+/// The elements that stand in a queue, found by id and by expiry.
+///
+/// Each element lies in a slot. The timer knows the expiry at each slot and the directory the slot of
+/// each id: all three have an entry for exactly the same elements. Memory is taken by `insert` alone.
+#[derive(Drop)]
+pub(crate) struct Store<T: Timer> {
+    elements: Slab<Element>,
+    timer: T,
+    directory: IndexMap<u64, usize>,
+}
+
+impl<T: Timer> Model for Store<T> {
+    ghost use Rattle.rb_queue.specs.Bag.{Bag};
+    ghost use Rattle.rb_queue.specs.Queue.{bag_code};
+
+    ghost Value = { Bag };
+
+    ghost coded = { bag_code };
+
+    ghost use Rattle.rb_queue.specs.Slots.{bag_of, IsSound};
+
+    ghost view = { λ s. bag_of s.elements.slots };
+
+    ghost invariant = { λ s. IsSound s.elements (T.content s.timer) s.directory };
+}
+
+impl<T: Timer> Store<T> {
+    /// An empty store, which takes no memory.
+    pub(crate) fn new(alloc: Global) -> Self
+        ensures { result ≡ map.empty }
+    {
+        Store {
+            elements: Slab::new(alloc),
+            timer: T::new(alloc),
+            directory: IndexMap::new(alloc),
+        }
+    }
+
+    /// Inserts an element under its id, which none here has.
+    ///
+    /// All memory is asked for first: after an `Err` the store is as before.
+    pub(crate) fn insert(&mut self, element: &Element) -> Result<(), AllocError>
+        requires { map.get self.old element.now.id ≡ None }
+        ensures ok { OnOk result (self.new ≡ map.insert self.old element.now.id element.now) }
+        ensures err { OnErr result (self.new ≡ self.old) }
+    {
+        self.elements.reserve(1)?;
+        let capacity = self.elements.capacity();
+        self.timer.reserve(capacity)?;
+        self.directory.reserve(1)?;
+        let slot = self.elements.insert_reserved(*element);
+        self.timer.insert(slot, element.expiry());
+        self.directory.insert(element.id(), slot).unwrap();
+        Ok(())
+    }
+
+    /// Takes out an element of least expiry that is expired at `now`. `None` exactly where none is
+    /// expired.
+    pub(crate) fn take_due(&mut self, now: u64) -> Option<Element>
+        ensures none { IfNone result (NoneExpired self.old now) }
+        ensures head { IfSome result (IsHead self.old now) }
+        ensures removed { IfSome result (λ element. self.new ≡ map.remove self.old element.id) }
+        ensures same { IfNone result (self.new ≡ self.old) }
+    {
+        let (slot, _) = self.timer.due(now)?;
+        self.timer.remove(slot);
+        let element = self.elements.remove(slot);
+        self.directory.swap_remove(&element.id);
+        Some(element)
+    }
+
+    /// Takes out the element of the id, if there is one.
+    pub(crate) fn take(&mut self, id: u64) -> Option<Element>
+        ensures element { result ≡ map.get self.old id }
+        ensures removed { self.new ≡ map.remove self.old id }
+    {
+        let slot = self.directory.swap_remove(&id)?;
+        self.timer.remove(slot);
+        Some(self.elements.remove(slot))
+    }
+
+    /// An element of least expiry. `None` exactly where the store is empty.
+    pub(crate) fn least(&self) -> Option<Element>
+        ensures { MatchOption result (self.now ≡ map.empty) (IsLeast self.now) }
+    {
+        let (slot, _) = self.timer.least()?;
+        self.elements.get(slot).copied()
+    }
+
+    /// The least expiry, in nanoseconds. `None` exactly where the store is empty.
+    pub(crate) fn least_expiry(&self) -> Option<u64>
+        ensures { IsNextExpiry self.now result }
+    {
+        let (_, expiry) = self.timer.least()?;
+        Some(expiry)
+    }
+
+    /// The number of elements.
+    pub(crate) fn len(&self) -> usize
+        ensures { result ≡ map.len self.now }
+    {
+        self.elements.len()
+    }
+
+    /// Discards all elements.
+    pub(crate) fn clear(&mut self)
+        ensures { self.new ≡ map.empty }
+    {
+        self.elements.clear();
+        self.timer.clear();
+        self.directory.clear();
+    }
+}
