@@ -1,0 +1,5 @@
+pub mod Numbers
+pub mod Cuts
+pub mod Faults
+pub mod Readings
+pub mod Attempts

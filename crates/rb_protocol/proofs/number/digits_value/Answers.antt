@@ -1,0 +1,39 @@
+use Rattle.std.proofs.Common.{◌≡◌, ℕ, ◌+◌, ◌*◌, ◌<◌, ◌≤◌, ◌^◌, take, get_or, length, true, false, Some, None, IfNone, rules, arith}
+use Rattle.std.proofs.lemmas.Bool.Decides.{nat_tests}
+use Rattle.std.proofs.lemmas.Str.Parse.{digit_at}
+use Rattle.std.specs.Int.{IsInRange}
+use Rattle.rb_protocol.proofs.Numbers.{value_more, digits_one_more, too_large}
+use Rattle.rb_protocol.proofs.number.digits_value.Goals as goal
+
+pub returns-then-not-is_ascii_digit-clause-none : goal.returns-then-not-is_ascii_digit-clause-none
+returns-then-not-is_ascii_digit-clause-none c = λ all.
+    let range : IsInRange 48 57 (get_or c.args.digits.now c.loop-byte.byte-index 0) =
+    digit_at c.args.digits.now c.loop-byte.byte-index all (omega arith) in
+    let none = rw c.if-not-is_ascii_digit.true at c.is_ascii_digit.ensures.cases in
+    absurd (omega (arith, range, none))
+
+pub returns-in_err-checked_mul-clause-none : goal.returns-in_err-checked_mul-clause-none
+returns-in_err-checked_mul-clause-none c =
+    rw c.from_residual.ensures (λ all.
+    let range : IsInRange 48 57 (get_or c.args.digits.now c.loop-byte.byte-index 0) =
+    digit_at c.args.digits.now c.loop-byte.byte-index all (omega arith) in
+    too_large _ c.loop-byte.byte-index _ (omega arith) range c.loop-byte.invariant.same_value
+    (omega (arith, c.in_err-checked_mul.ensures)))
+
+pub returns-in_err-value-clause-none : goal.returns-in_err-value-clause-none
+returns-in_err-value-clause-none c =
+    rw c.from_residual-in_err-value.ensures (λ all.
+    let range : IsInRange 48 57 (get_or c.args.digits.now c.loop-byte.byte-index 0) =
+    digit_at c.args.digits.now c.loop-byte.byte-index all (omega arith) in
+    too_large _ c.loop-byte.byte-index _ (omega arith) range c.loop-byte.invariant.same_value
+    (omega (arith, c.in_err-value.ensures, c.in_ok-checked_mul.ensures)))
+
+pub loop-byte-preserved : goal.loop-byte-preserved
+loop-byte-preserved c =
+    let range : IsInRange 48 57 (get_or c.args.digits.now c.loop-byte.byte-index 0) =
+    rw c.if-not-is_ascii_digit.false at c.is_ascii_digit.ensures.cases in
+    let more = value_more c.args.digits.now c.loop-byte.byte-index _ (omega arith) range c.loop-byte.invariant.same_value in
+    record {
+      all_digits = digits_one_more c.args.digits.now c.loop-byte.byte-index (omega arith) range c.loop-byte.invariant.all_digits;
+      same_value = omega (arith, more, c.in_ok-value.ensures, c.in_ok-checked_mul.ensures);
+    }

@@ -1,0 +1,5 @@
+use Rattle.rb_protocol.proofs.Readings.{one_reading}
+use Rattle.rb_protocol.proofs.request.one_reading.Goals as goal
+
+pub returns : goal.returns
+returns c = one_reading

@@ -1,0 +1,5 @@
+/// What stands between two words of a line.
+pub const SPACE: u8 = b' ';
+
+/// What ends a line.
+pub const LINE_FEED: u8 = b'\n';

@@ -1,0 +1,25 @@
+//! The line protocol of the broker: which request a line is, and which line a reply is.
+//!
+//! A request is one line of words with one space between two of them, and so is a reply. Lines are
+//! read without their ends, and written with them. Reading takes no memory; writing takes none where
+//! the text has `REPLY_ROOM` bytes of free capacity.
+#![tactic(auto)]
+
+mod error_word;
+mod format;
+mod keywords;
+mod line_fault;
+mod line_reply;
+mod line_words;
+mod number;
+#[cfg(test)]
+mod reply_rows;
+mod request;
+#[cfg(test)]
+mod request_rows;
+
+pub use error_word::ErrorWord;
+pub use format::{LINE_FEED, SPACE};
+pub use line_fault::LineFault;
+pub use line_reply::{LineReply, MOST_REPLY_BYTES, REPLY_ROOM, write_reply};
+pub use request::{MOST_LINE_BYTES, Request, one_reading, read_request};

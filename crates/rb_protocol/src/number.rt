@@ -1,0 +1,41 @@
+ghost use Rattle.std.specs.Prelude.{◌≡◌, ◌↔◌, ℕ, ◌^◌, ◌<◌, ◌≤◌, length, slice_index, IsTrue, IfSome, IfNone};
+ghost use Rattle.std.specs.Str.Parse.{AllDigits, digits_value};
+ghost use Rattle.rb_protocol.specs.Number.{IsNumber};
+
+// The least digit. No other stands behind it where it is the first.
+const ZERO: u8 = b'0';
+
+/// Reads a number as a line has it: `0`, or up to 20 digits of which the first is not `0`, at most
+/// 2^64 - 1. `None` exactly where the word is no such number.
+pub fn read_number(word: &[u8]) -> Option<u64>
+    ensures some { IfSome result (IsNumber word.now) }
+    ensures none { IfNone result ((number : ℕ) → IsNumber word.now number → ⊥) }
+{
+    if word.is_empty() || has_leading_zero(word) {
+        return None;
+    }
+    digits_value(word)
+}
+
+// Whether a zero stands in front of another byte.
+fn has_leading_zero(word: &[u8]) -> bool
+    ensures { IsTrue result ↔ ((slice_index word.now 0 ≡ ZERO) × (1 < length word.now)) }
+{
+    matches!(word, [ZERO, _, ..])
+}
+
+// The value of decimal digits. `None` exactly where a byte is no digit, or the value passes 2^64 - 1.
+fn digits_value(digits: &[u8]) -> Option<u64>
+    ensures digits { IfSome result (λ _. AllDigits 10 digits.now) }
+    ensures value { IfSome result (λ value. value ≡ digits_value 10 digits.now) }
+    ensures none { IfNone result (AllDigits 10 digits.now → 2 ^ 64 ≤ digits_value 10 digits.now) }
+{
+    let mut value: u64 = 0;
+    for &byte in digits {
+        if !byte.is_ascii_digit() {
+            return None;
+        }
+        value = value.checked_mul(10)?.checked_add(u64::from(byte - ZERO))?;
+    }
+    Some(value)
+}

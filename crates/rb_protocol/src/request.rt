@@ -1,0 +1,87 @@
+ghost use Rattle.std.specs.Prelude.{◌≡◌, ℕ, List, Result};
+ghost use Rattle.rb_protocol.specs.Reading.{IsReading};
+ghost use Rattle.rb_protocol.specs.Words.{IsAnswer, place_words};
+ghost use Rattle.rb_protocol.specs.declared.request.Request.{Request};
+ghost use Rattle.rb_protocol.specs.declared.line_fault.LineFault.{LineFault};
+
+use crate::keywords::{NumberKeyword, OfferKeyword, read_alone};
+use crate::line_fault::LineFault;
+use crate::line_words::{Places, read_line_words};
+use crate::number::read_number;
+use rb_delayed::Payload;
+
+/// How many bytes a line of a request has at most, without its end.
+pub const MOST_LINE_BYTES: usize = 256;
+
+/// What a line asks for. Moments, delays and timeouts are in nanoseconds.
+#[derive(Clone, Copy, Debug, PartialEq, Eq)]
+pub enum Request {
+    /// Offer an element that expires `delay` from now.
+    Offer { delay: u64, payload: Payload },
+    /// Offer an element that expires at `expiry`.
+    OfferAt { expiry: u64, payload: Payload },
+    /// Take the head, if there is one.
+    Poll,
+    /// Take the head, once there is one within this timeout.
+    PollFor(u64),
+    /// Take the head, once there is one.
+    Take,
+    /// Show an element of least expiry.
+    Peek,
+    /// Remove the element of this id from the queue.
+    Remove(u64),
+    /// Take at most so many expired elements.
+    Drain(u64),
+    /// Remove all elements from the queue.
+    Clear,
+    /// Count the elements.
+    Size,
+    /// The held element of this id is finished.
+    Done(u64),
+    /// The held element of this id failed.
+    Fail(u64),
+    /// Let it be this moment, or later.
+    At(u64),
+    /// End the session.
+    Quit,
+}
+
+/// Reads a line without its end.
+///
+/// Of the faults the first that holds is answered: `Line`, `Syntax`, `Number`, `Payload`. This takes
+/// no memory, and the line is not copied.
+pub fn read_request(line: &[u8]) -> Result<Request, LineFault>
+    ensures { IsReading line.now result }
+{
+    if line.len() > MOST_LINE_BYTES {
+        return Err(LineFault::Line);
+    }
+    let (keyword, places) = read_line_words(line).ok_or(LineFault::Syntax)?;
+    request_of(keyword, places)
+}
+
+// The keyword is read before the number, and that before the payload, as their faults are ordered.
+fn request_of(keyword: &[u8], places: Places<'_>) -> Result<Request, LineFault>
+    ensures { IsAnswer keyword.now (place_words places.entry) result }
+{
+    match places {
+        Places::Nothing => read_alone(keyword).ok_or(LineFault::Syntax),
+        Places::One(word) => {
+            let keyword = NumberKeyword::read(keyword).ok_or(LineFault::Syntax)?;
+            let number = read_number(word).ok_or(LineFault::Number)?;
+            Ok(keyword.request(number))
+        }
+        Places::Two(word, bytes) => {
+            let keyword = OfferKeyword::read(keyword).ok_or(LineFault::Syntax)?;
+            let number = read_number(word).ok_or(LineFault::Number)?;
+            let payload = Payload::new(bytes).map_err(|_| LineFault::Payload)?;
+            Ok(keyword.request(number, payload))
+        }
+    }
+}
+
+/// A line is at most one request, or has one fault.
+pub fn one_reading()
+    ensures { (line : List ℕ) (one other : Result Request LineFault)
+        → IsReading line one → IsReading line other → one ≡ other }
+{}
