@@ -1,7 +1,7 @@
 -- A line has at most one reading.
-use Rattle.std.proofs.Common.{◌≡◌, ℕ, ◌<◌, ◌^◌, ◌≤◌, zero, suc, List, [], ◌∷◌, length, get_or, Result, Ok, Err, codes, decimal, refl, sym, ap, ◌∙◌, subst, arith}
+use Rattle.std.proofs.Common.{◌≡◌, ℕ, ◌<◌, zero, suc, List, [], ◌∷◌, length, get_or, Result, Ok, Err, decimal, refl, sym, ap, ◌∙◌, subst, arith}
 use Rattle.std.proofs.lemmas.Fmt.{decimal_injective, decimal_nonempty}
-use Rattle.rb_protocol.specs.Form.{Form, form, form_of, Arguments, nothing, number, number_and_payload, argument_words, AreRight, Takes}
+use Rattle.rb_protocol.specs.Form.{form_of, Arguments, nothing, number, number_and_payload, argument_words, AreRight}
 use Rattle.rb_protocol.specs.Reading.{words_of, IsRequest, NoGap, HasWords, HasNumber, HasPayload, LacksNumber, LacksPayload, IsReading}
 use Rattle.rb_protocol.specs.declared.request.Request.{Request}
 use Rattle.rb_protocol.specs.declared.request.Request.TheVariants.{Offer, OfferAt, Poll, PollFor, Take, Peek, Remove, Drain, Clear, Size, Done, Fail, At, Quit}

@@ -38,13 +38,14 @@ fn expect_line(
 #[test]
 fn replies_of_elements(rt: HostRuntime) -> Result<(), Fail> {
     let alloc = rt.alloc();
-    let first = element(&rt, 0, 150, 1, b"a");
+    let item = element(&rt, 0, 150, 1, b"a");
     let other = element(&rt, 12, 34, 56, b"!job~");
+    let head = element(&rt, 3, 63, 1_000, b"d");
     for (reply, line) in [
         (LineReply::Offered { id: 0, expiry: 150 }, "OFFERED 0 150\n"),
-        (LineReply::Item(first), "ITEM 0 150 1 a\n"),
+        (LineReply::Item(item), "ITEM 0 150 1 a\n"),
         (LineReply::Item(other), "ITEM 12 34 56 !job~\n"),
-        (LineReply::Head(first), "HEAD 0 150 1 a\n"),
+        (LineReply::Head(head), "HEAD 3 63 1000 d\n"),
         (LineReply::Nothing, "NONE\n"),
         (LineReply::Removed(true), "REMOVED yes\n"),
         (LineReply::Removed(false), "REMOVED no\n"),

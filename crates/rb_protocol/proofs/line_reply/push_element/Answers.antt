@@ -1,4 +1,4 @@
-use Rattle.std.proofs.Common.{◌≤◌, length, ap, arith}
+use Rattle.std.proofs.Common.{length, ap, arith}
 use Rattle.rb_protocol.proofs.Attempts.{attempt_added}
 use Rattle.rb_protocol.proofs.line_reply.push_element.Goals as goal
 

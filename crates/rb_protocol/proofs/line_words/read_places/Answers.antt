@@ -1,7 +1,7 @@
 use Rattle.std.proofs.Common.{rules, ◌≡◌, ◌∷◌, ◌<◌, length, arith}
 use Rattle.std.proofs.lemmas.Bool.Decides.{nat_tests}
 use Rattle.rb_protocol.proofs.Cuts.{first_filled, second_filled, words_behind_some}
-use Rattle.rb_protocol.specs.Words.{AreFew, words_behind}
+use Rattle.rb_protocol.specs.Words.{words_behind}
 use Rattle.rb_protocol.proofs.line_words.read_places.Goals as goal
 use Rattle.rb_protocol.proofs.line_words.read_places.Goals.{then-is_empty-via-then-is_empty, then-is_empty-via-else-is_empty+then-is_empty-2, then-is_empty-via-else-is_empty+else-is_empty-2+then-is_some}
 

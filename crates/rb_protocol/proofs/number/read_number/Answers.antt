@@ -1,4 +1,4 @@
-use Rattle.std.proofs.Common.{◌≡◌, ◌<◌, get_or, length, true, false, rules, refl, arith}
+use Rattle.std.proofs.Common.{◌≡◌, ◌<◌, length, true, false, rules, refl, arith}
 use Rattle.std.proofs.lemmas.Bool.Decides.{nat_tests}
 use Rattle.rb_protocol.proofs.Numbers.{number_filled, number_start, number_read, number_unread}
 use Rattle.rb_protocol.proofs.number.read_number.Goals as goal

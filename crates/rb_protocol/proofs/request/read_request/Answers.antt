@@ -1,5 +1,4 @@
 use Rattle.std.proofs.Common.{rules, ◌≡◌, None, Err, arith}
-use Rattle.rb_protocol.specs.Words.{AreFew}
 use Rattle.rb_protocol.specs.declared.line_fault.LineFault.TheVariants.{Syntax}
 use Rattle.rb_protocol.proofs.Faults.{takes_few}
 use Rattle.rb_protocol.proofs.request.read_request.Goals as goal

@@ -1,4 +1,4 @@
-use Rattle.std.proofs.Common.{rules, ◌≡◌, [], ◌∷◌, Some, None, Err, arith}
+use Rattle.std.proofs.Common.{rules, ◌≡◌, [], ◌∷◌, Some, None, Err}
 use Rattle.rb_protocol.specs.Words.{place_words}
 use Rattle.rb_protocol.specs.declared.line_fault.LineFault.TheVariants.{Number, Payload}
 use Rattle.rb_protocol.proofs.Faults.{takes_number, takes_payload}

@@ -1,6 +1,5 @@
-use Rattle.std.proofs.Common.{rules, ◌≡◌, sym, codes, arith}
+use Rattle.std.proofs.Common.{rules, ◌≡◌, codes, arith}
 use Rattle.std.proofs.lemmas.Slice.Eq.{text_from_reads}
-use Rattle.rb_protocol.specs.Form.{form, number}
 use Rattle.rb_protocol.proofs.keywords.NumberKeyword.read.Goals as goal
 
 pub returns-in-REMOVE-clause-some : goal.returns-in-REMOVE-clause-some
