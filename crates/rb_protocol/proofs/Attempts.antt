@@ -11,4 +11,5 @@ attempt_digits attempt h = length-decimal-le 4 attempt (lit< tt) (omega arith) (
 pub attempt_added : (old new : List ℕ) (space attempt : ℕ) → attempt ≤ 1000
     → new ≡ old ++ (space ∷ decimal attempt) → length new ≤ length old + 5
 attempt_added old new space attempt h e =
-    omega (arith, ap length e, length-append old (space ∷ decimal attempt), attempt_digits attempt h)
+    let digits : length (decimal attempt) ≤ 4 = attempt_digits attempt h in
+    omega (arith, ap length e, length-append old (space ∷ decimal attempt))

@@ -5,7 +5,7 @@ use Rattle.std.proofs.lemmas.List.Splits.{slice_split_first, slice_split_none, l
 use Rattle.std.proofs.lemmas.List.Sums.{fails_before_first}
 use denote.Ref.{Bor}
 use Rattle.std.specs.List.{position_or_len, All}
-use Rattle.rb_protocol.specs.Reading.{words_of}
+use Rattle.rb_protocol.specs.Line.{words_of}
 use Rattle.rb_protocol.specs.Words.{first_space, words_behind, AreFew}
 use Rattle.rb_protocol.specs.declared.format.TheConstants.{SPACE}
 
@@ -20,7 +20,7 @@ same_place n len place e = grind (arith, nat_tests)
 within : (n len place : ℕ) → cond (nat_lt n len) (Some n) None ≡ Some place → n < len
 within n len place e = grind (arith, nat_tests)
 
-at_end : (n len : ℕ) → cond (nat_lt n len) (Some n) None ≡ None → len ≤ n
+pub at_end : (n len : ℕ) → cond (nat_lt n len) (Some n) None ≡ None → len ≤ n
 at_end n len e = grind (arith, nat_tests)
 
 -- the first word stands before the first space, and the others behind it
@@ -47,8 +47,9 @@ words_behind_some None h = absurd (cc)
 words_behind_some (Some text) h =
     omega (arith, length-slice_split (λ byte. byte == SPACE) text.now)
 
--- a word that is followed by others is one of at most two, and no word is empty
-pub first_filled : (word : List ℕ) (others : List (List ℕ)) → AreFew (word ∷ others) → 0 < length word
+-- of few words the first has a byte, and so has the second
+pub first_filled : (word : List ℕ) (others : List (List ℕ))
+    → AreFew (word ∷ others) → 0 < length word
 first_filled word others h = h.no_gap 0 [] (omega arith)
 
 pub second_filled : (word other : List ℕ) (others : List (List ℕ))

@@ -5,6 +5,7 @@ use Rattle.rb_protocol.specs.Keywords.{number_request, offer_request}
 use Rattle.rb_protocol.specs.declared.keywords.NumberKeyword.{NumberKeyword}
 use Rattle.rb_protocol.specs.declared.keywords.OfferKeyword.{OfferKeyword}
 
+-- arguments are two words at most
 few_words : (arguments : Arguments) → length (argument_words arguments) ≤ 2
 few_words nothing = lit≤ tt
 few_words (number value) = lit≤ tt
@@ -31,4 +32,5 @@ takes_payload keyword payload k e = record {
 
 -- a request has at most two words behind its keyword
 pub takes_few : (keyword : List ℕ) (count : ℕ) → Takes keyword count → count ≤ 2
-takes_few keyword count h = subst (λ n. n ≤ 2) (sym h.counted) (few_words (form_of h.request).arguments)
+takes_few keyword count h =
+    subst (λ n. n ≤ 2) (sym h.counted) (few_words (form_of h.request).arguments)

@@ -4,6 +4,7 @@ use Rattle.std.proofs.lemmas.Fmt.{decimal_digit, digits_decimal, digits_value-de
 use Rattle.std.proofs.lemmas.Str.Parse.{IsNumeralModel, numerals_by_value, tells_digits, digits_value-take-le}
 use Rattle.std.proofs.lemmas.Str.{digit_value_digit}
 use Rattle.std.proofs.lemmas.Int.Digits.{digits_more, digits_value_more}
+use Rattle.std.specs.Char.{digit_value}
 use Rattle.std.specs.Int.{IsInRange}
 use Rattle.std.specs.Str.Parse.{AllDigits, digits_value}
 use Rattle.rb_protocol.specs.Number.{IsNumber}
@@ -16,7 +17,8 @@ pub number_filled : (word : List ℕ) (number : ℕ) → IsNumber word number �
 number_filled word number h = subst (λ w. 0 < length w) (sym h.0) (decimal_nonempty number h.1)
 
 -- and no zero in front of another
-decimal_start : (number : ℕ) → number < 2 ^ 64 → get_or (decimal number) 0 0 ≡ 48 → length (decimal number) ≤ 1
+decimal_start : (number : ℕ) → number < 2 ^ 64
+    → get_or (decimal number) 0 0 ≡ 48 → length (decimal number) ≤ 1
 decimal_start zero small e =
     let digit : decimal 0 ≡ 48 ∷ [] = decimal_digit 0 (lit< tt) in
     omega (arith, ap length digit)
@@ -33,7 +35,8 @@ number_start word number h =
 pub number_digits : (word : List ℕ) (number : ℕ) → IsNumber word number → AllDigits 10 word
 number_digits word number h = subst (AllDigits 10) (sym h.0) (digits_decimal numerals number h.1)
 
-pub number_value : (word : List ℕ) (number : ℕ) → IsNumber word number → digits_value 10 word ≡ number
+pub number_value : (word : List ℕ) (number : ℕ) → IsNumber word number
+    → digits_value 10 word ≡ number
 number_value word number h = ap (digits_value 10) h.0 ∙ digits_value-decimal numerals number h.1
 
 -- digits with no zero in front are the number that is their value
@@ -55,20 +58,23 @@ pub value_more : (digits : List ℕ) (i value : ℕ) → i < length digits
     → IsInRange 48 57 (get_or digits i 0) → value ≡ digits_value 10 (take i digits)
     → value * 10 + (get_or digits i 0 - 48) ≡ digits_value 10 (take (i + 1) digits)
 value_more digits i value within range same =
-    omega (arith, digits_value_more 10 digits i within, digit_value_digit (get_or digits i 0) range, same, range)
+    let digit : digit_value (get_or digits i 0) + 48 ≡ get_or digits i 0 = digit_value_digit _ range in
+    omega (arith, digits_value_more 10 digits i within)
 
 pub digits_one_more : (digits : List ℕ) (i : ℕ) → i < length digits
     → IsInRange 48 57 (get_or digits i 0) → AllDigits 10 (take i digits)
     → AllDigits 10 (take (i + 1) digits)
 digits_one_more digits i within range all =
-    digits_more 10 digits i within all (omega (arith, digit_value_digit (get_or digits i 0) range, range))
+    let digit : digit_value (get_or digits i 0) + 48 ≡ get_or digits i 0 = digit_value_digit _ range in
+    digits_more 10 digits i within all (omega arith)
 
 -- a front part that is too large makes the whole too large
 pub too_large : (digits : List ℕ) (i value : ℕ) → i < length digits
     → IsInRange 48 57 (get_or digits i 0) → value ≡ digits_value 10 (take i digits)
     → 2 ^ 64 ≤ value * 10 + (get_or digits i 0 - 48) → 2 ^ 64 ≤ digits_value 10 digits
 too_large digits i value within range same large =
-    omega (arith, value_more digits i value within range same, digits_value-take-le 10 digits (i + 1) (lit≤ tt), large)
+    let more = value_more digits i value within range same in
+    omega (arith, more, digits_value-take-le 10 digits (i + 1) (lit≤ tt))
 
 -- what is read of digits with no zero in front is a number
 pub number_read : (word : List ℕ) (r : Option ℕ) → 0 < length word

@@ -2,7 +2,8 @@
 use Rattle.std.proofs.Common.{◌≡◌, ℕ, ◌<◌, zero, suc, List, [], ◌∷◌, length, get_or, Result, Ok, Err, decimal, refl, sym, ap, ◌∙◌, subst, arith}
 use Rattle.std.proofs.lemmas.Fmt.{decimal_injective, decimal_nonempty}
 use Rattle.rb_protocol.specs.Form.{form_of, Arguments, nothing, number, number_and_payload, argument_words, AreRight}
-use Rattle.rb_protocol.specs.Reading.{words_of, IsRequest, NoGap, HasWords, HasNumber, HasPayload, LacksNumber, LacksPayload, IsReading}
+use Rattle.rb_protocol.specs.Line.{words_of}
+use Rattle.rb_protocol.specs.Reading.{IsRequest, NoGap, HasWords, HasNumber, HasPayload, LacksNumber, LacksPayload, IsReading}
 use Rattle.rb_protocol.specs.declared.request.Request.{Request}
 use Rattle.rb_protocol.specs.declared.request.Request.TheVariants.{Offer, OfferAt, Poll, PollFor, Take, Peek, Remove, Drain, Clear, Size, Done, Fail, At, Quit}
 use Rattle.rb_protocol.specs.declared.line_fault.LineFault.{LineFault}
@@ -55,7 +56,8 @@ one_request line one other h k =
     let words : (form_of one).keyword ∷ argument_words (form_of one).arguments
     ≡ (form_of other).keyword ∷ argument_words (form_of other).arguments = sym h.words ∙ k.words in
     let keywords : (form_of one).keyword ≡ (form_of other).keyword = cc in
-    let behind : argument_words (form_of one).arguments ≡ argument_words (form_of other).arguments = cc in
+    let behind : argument_words (form_of one).arguments
+    ≡ argument_words (form_of other).arguments = cc in
     let arguments : (form_of one).arguments ≡ (form_of other).arguments =
     same_arguments _ _ h.right k.right behind in
     same_request one other keywords arguments
@@ -107,9 +109,11 @@ no_fault : (line : List ℕ) (request : Request) (fault : LineFault)
 no_fault line request Line h k = omega (arith, h.0, k)
 no_fault line request Syntax h k = k.1 _ _ (words_of_request line request h.1)
 no_fault line request Number h k =
-    k.1.no_number (subst HasNumber (same_places line _ _ _ _ h.1.words k.1.words.words) (numbered _ h.1.right))
+    let same = same_places line _ _ _ _ h.1.words k.1.words.words in
+    k.1.no_number (subst HasNumber same (numbered _ h.1.right))
 no_fault line request Payload h k =
-    k.1.no_payload (subst HasPayload (same_places line _ _ _ _ h.1.words k.1.words.words) (loaded _ h.1.right))
+    let same = same_places line _ _ _ _ h.1.words k.1.words.words in
+    k.1.no_payload (subst HasPayload same (loaded _ h.1.right))
 
 -- the first fault is one
 number_first : (line : List ℕ) → LacksNumber line → LacksPayload line → ⊥

@@ -1,4 +1,4 @@
--- What the keywords that take arguments ask for.
+-- What the keywords that take arguments ask for. No public clause cites this.
 use Rattle.std.specs.Prelude.{ℕ, List}
 use Rattle.rb_protocol.specs.declared.keywords.NumberKeyword.{NumberKeyword}
 use Rattle.rb_protocol.specs.declared.keywords.NumberKeyword.TheVariants as of_number

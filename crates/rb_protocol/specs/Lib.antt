@@ -1,4 +1,5 @@
 pub mod Number
+pub mod Line
 pub mod Form
 pub mod Reading
 pub mod Keywords

@@ -1,25 +1,25 @@
 -- Which request a line is, and else the first of its faults.
-use Rattle.std.specs.Prelude.{◌≡◌, ℕ, ◌<◌, ◌≤◌, ◌==◌, List, [], ◌∷◌, length, All, Result, Ok, Err}
-use Rattle.std.specs.List.{slice_split}
+use Rattle.std.specs.Prelude.{◌≡◌, ℕ, ◌<◌, ◌≤◌, List, [], ◌∷◌, length, All, Result, Ok, Err}
 use Rattle.rb_delayed.specs.Payload.{IsPayload}
 use Rattle.rb_protocol.specs.Number.{IsNumber}
+use Rattle.rb_protocol.specs.Line.{spaced, words_of}
 use Rattle.rb_protocol.specs.Form.{form_of, argument_words, AreRight, Takes}
-use Rattle.rb_protocol.specs.declared.format.TheConstants.{SPACE}
 use Rattle.rb_protocol.specs.declared.request.TheConstants.{MOST_LINE_BYTES}
 use Rattle.rb_protocol.specs.declared.request.Request.{Request}
 use Rattle.rb_protocol.specs.declared.line_fault.LineFault.{LineFault}
 use Rattle.rb_protocol.specs.declared.line_fault.LineFault.TheVariants.{Line, Syntax, Number, Payload}
 
--- what stands between the spaces of a line
-abbrev pub words_of : List ℕ → List (List ℕ)
-words_of line = slice_split (λ byte. byte == SPACE) line
+-- the text of a request
+abbrev pub request_text : Request → List ℕ
+request_text request =
+    spaced ((form_of request).keyword ∷ argument_words (form_of request).arguments)
 
 -- the line is this request: its words with one space between two of them, and none before or after
 pub record IsRequest (line : List ℕ) (request : Request) : Type 0 where
   pub words : words_of line ≡ (form_of request).keyword ∷ argument_words (form_of request).arguments
   pub right : AreRight (form_of request).arguments
 
--- no word is empty, as it would be between two spaces, or before or behind the last
+-- no word is empty, as one between two spaces or behind a last space would be
 abbrev pub NoGap : List (List ℕ) → Type 0
 NoGap words = All (λ word. 0 < length word) words
 
@@ -55,8 +55,8 @@ pub record LacksPayload (line : List ℕ) : Type 0 where
   pub number : HasNumber places
   pub no_payload : ¬ HasPayload places
 
--- The line is this request, or has this fault and none of those before it: too long, then the words,
--- then the number, then the payload.
+-- The line is this request, or has this fault and none of those before it: too long, then the
+-- words, then the number, then the payload.
 abbrev pub IsReading : List ℕ → Result Request LineFault → Type 0
 IsReading line (Err Line) = MOST_LINE_BYTES < length line
 IsReading line (Err Syntax) =

@@ -1,8 +1,8 @@
 -- The text of each reply line.
 use Rattle.std.specs.Prelude.{ℕ, List, [], ◌∷◌, ◌++◌, codes, decimal, if◌then◌else◌}
-use Rattle.std.specs.List.{join_with_byte}
 use Rattle.rb_delayed.specs.declared.element.Element.{Element}
-use Rattle.rb_protocol.specs.declared.format.TheConstants.{SPACE, LINE_FEED}
+use Rattle.rb_protocol.specs.Line.{spaced}
+use Rattle.rb_protocol.specs.declared.format.TheConstants.{LINE_FEED}
 use Rattle.rb_protocol.specs.declared.error_word.ErrorWord.{ErrorWord}
 use Rattle.rb_protocol.specs.declared.error_word.ErrorWord.TheVariants.{Syntax, Number, Range, Payload, NotHeld, Full, Memory, Line, Held}
 use Rattle.rb_protocol.specs.declared.line_reply.LineReply.{LineReply}
@@ -41,10 +41,6 @@ reply_words (Now moment) = codes "NOW" ∷ decimal moment ∷ []
 reply_words Stopped = codes "STOPPED" ∷ []
 reply_words Bye = codes "BYE" ∷ []
 reply_words (Error word) = codes "ERR" ∷ error_words word
-
--- words in a row, with one space between two of them
-abbrev pub spaced : List (List ℕ) → List ℕ
-spaced words = join_with_byte SPACE words
 
 -- the line, with its end
 abbrev pub text_of : LineReply → List ℕ

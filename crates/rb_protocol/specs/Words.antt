@@ -1,7 +1,9 @@
--- The words that a line was taken apart into, and what they were read as. No public clause cites this.
+-- The words that a line was taken apart into, and what they were read as. No public clause cites
+-- this.
 use Rattle.std.specs.Prelude.{◌≡◌, ℕ, ◌≤◌, ◌==◌, List, [], ◌∷◌, length, Option, Some, None, position, Result, Ok, Err}
 use Rattle.rb_protocol.specs.Form.{form_of, argument_words, AreRight, Takes}
-use Rattle.rb_protocol.specs.Reading.{words_of, NoGap, HasNumber, HasPayload}
+use Rattle.rb_protocol.specs.Line.{words_of}
+use Rattle.rb_protocol.specs.Reading.{NoGap, HasNumber, HasPayload}
 use Rattle.rb_protocol.specs.declared.format.TheConstants.{SPACE}
 use Rattle.rb_protocol.specs.declared.line_words.Places.{Places}
 use Rattle.rb_protocol.specs.declared.line_words.Places.TheVariants.{Nothing, One, Two}

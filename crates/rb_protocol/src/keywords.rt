@@ -43,7 +43,8 @@ pub fn read_alone(word: &[u8]) -> Option<Request>
 impl NumberKeyword {
     /// The keyword that the word is.
     pub fn read(word: &[u8]) -> Option<NumberKeyword>
-        ensures some { IfSome result (λ keyword. (value : ℕ) → form_of (number_request keyword value)
+        ensures some { IfSome result (λ keyword. (value : ℕ)
+            → form_of (number_request keyword value)
             ≡ record { keyword = word.now; arguments = number value }) }
         ensures none { IfNone result (¬ Takes word.now 1) }
     {

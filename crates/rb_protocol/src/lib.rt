@@ -1,8 +1,8 @@
 //! The line protocol of the broker: which request a line is, and which line a reply is.
 //!
 //! A request is one line of words with one space between two of them, and so is a reply. Lines are
-//! read without their ends, and written with them. Reading takes no memory; writing takes none where
-//! the text has `REPLY_ROOM` bytes of free capacity.
+//! read without their ends, and written with them. Reading takes no memory, and writing takes none
+//! where the text has `REPLY_ROOM` bytes of free capacity.
 #![tactic(auto)]
 
 mod error_word;
@@ -22,4 +22,4 @@ pub use error_word::ErrorWord;
 pub use format::{LINE_FEED, SPACE};
 pub use line_fault::LineFault;
 pub use line_reply::{LineReply, MOST_REPLY_BYTES, REPLY_ROOM, write_reply};
-pub use request::{MOST_LINE_BYTES, Request, one_reading, read_request};
+pub use request::{MOST_LINE_BYTES, Request, one_reading, read_request, request_has_text};

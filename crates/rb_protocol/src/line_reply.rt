@@ -1,5 +1,6 @@
 ghost use Rattle.std.specs.Prelude.{◌≡◌, ◌+◌, ◌<◌, ◌≤◌, [], ◌∷◌, ◌++◌, length, codes, decimal, OnOk, OnErr, IsOk, vec_len, vec_capacity};
-ghost use Rattle.rb_protocol.specs.ReplyText.{text_of, reply_words, element_words, error_words, spaced};
+ghost use Rattle.rb_protocol.specs.Line.{spaced};
+ghost use Rattle.rb_protocol.specs.ReplyText.{text_of, reply_words, element_words, error_words};
 
 use crate::error_word::ErrorWord;
 use crate::format::{LINE_FEED, SPACE};
@@ -48,7 +49,8 @@ pub enum LineReply {
     Error(ErrorWord),
 }
 
-/// Appends the reply's line, with its end. An `Err` leaves the text as it was.
+/// Appends the reply's line, with its end. An `Err` comes where the text could not grow, and leaves it
+/// as it was.
 ///
 /// With `REPLY_ROOM` bytes of free capacity no memory is taken, and it is `Ok`.
 pub fn write_reply(reply: &LineReply, text: &mut Vec<u8>) -> Result<(), AllocError>
@@ -103,7 +105,8 @@ const ELEMENT_ROOM: usize = 111;
 // Appends the front, id, expiry, attempt and payload.
 fn push_element(text: &mut Vec<u8>, front: &[u8], element: &Element)
     requires room { vec_len text.old + length front.now + ELEMENT_ROOM ≤ vec_capacity text.old }
-    ensures items { text.new.items ≡ text.old.items ++ (front.now ++ spaced (element_words element.now)) }
+    ensures items { text.new.items
+        ≡ text.old.items ++ (front.now ++ spaced (element_words element.now)) }
     ensures len { vec_len text.new ≤ vec_len text.old + length front.now + ELEMENT_ROOM }
     ensures capacity { vec_capacity text.old ≤ vec_capacity text.new }
 {
@@ -116,7 +119,8 @@ fn push_element(text: &mut Vec<u8>, front: &[u8], element: &Element)
 // Appends the front and two numbers.
 fn push_numbers(text: &mut Vec<u8>, front: &[u8], one: u64, other: u64)
     requires room { vec_len text.old + length front.now + NUMBERS_ROOM ≤ vec_capacity text.old }
-    ensures items { text.new.items ≡ text.old.items ++ (front.now ++ spaced (decimal one ∷ decimal other ∷ [])) }
+    ensures items { text.new.items
+        ≡ text.old.items ++ (front.now ++ spaced (decimal one ∷ decimal other ∷ [])) }
     ensures len { vec_len text.new ≤ vec_len text.old + length front.now + NUMBERS_ROOM }
     ensures capacity { vec_capacity text.old ≤ vec_capacity text.new }
 {

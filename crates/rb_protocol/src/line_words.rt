@@ -1,5 +1,5 @@
 ghost use Rattle.std.specs.Prelude.{◌≡◌, ℕ, List, ◌∷◌, IfSome, IfNone};
-ghost use Rattle.rb_protocol.specs.Reading.{words_of};
+ghost use Rattle.rb_protocol.specs.Line.{words_of};
 ghost use Rattle.rb_protocol.specs.Words.{first_space, words_behind, place_words, AreFew};
 
 use crate::format::SPACE;

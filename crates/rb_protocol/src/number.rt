@@ -24,7 +24,8 @@ fn has_leading_zero(word: &[u8]) -> bool
     matches!(word, [ZERO, _, ..])
 }
 
-// The value of decimal digits. `None` exactly where a byte is no digit, or the value passes 2^64 - 1.
+// The value of decimal digits. `None` exactly where a byte is no digit, or the value passes
+// 2^64 - 1.
 fn digits_value(digits: &[u8]) -> Option<u64>
     ensures digits { IfSome result (λ _. AllDigits 10 digits.now) }
     ensures value { IfSome result (λ value. value ≡ digits_value 10 digits.now) }

@@ -1,5 +1,6 @@
-ghost use Rattle.std.specs.Prelude.{◌≡◌, ℕ, List, Result};
-ghost use Rattle.rb_protocol.specs.Reading.{IsReading};
+ghost use Rattle.std.specs.Prelude.{◌≡◌, ◌↔◌, ℕ, List, Result};
+ghost use Rattle.rb_protocol.specs.Form.{form_of, AreRight};
+ghost use Rattle.rb_protocol.specs.Reading.{IsReading, IsRequest, request_text};
 ghost use Rattle.rb_protocol.specs.Words.{IsAnswer, place_words};
 ghost use Rattle.rb_protocol.specs.declared.request.Request.{Request};
 ghost use Rattle.rb_protocol.specs.declared.line_fault.LineFault.{LineFault};
@@ -48,8 +49,8 @@ pub enum Request {
 
 /// Reads a line without its end.
 ///
-/// Of the faults the first that holds is answered: `Line`, `Syntax`, `Number`, `Payload`. This takes
-/// no memory, and the line is not copied.
+/// Of the faults the first that holds is answered: `Line`, `Syntax`, `Number`, `Payload`. No memory
+/// is taken, and the line is not copied.
 pub fn read_request(line: &[u8]) -> Result<Request, LineFault>
     ensures { IsReading line.now result }
 {
@@ -79,6 +80,12 @@ fn request_of(keyword: &[u8], places: Places<'_>) -> Result<Request, LineFault>
         }
     }
 }
+
+/// A line is a request exactly where it is that request's text.
+pub fn request_has_text()
+    ensures { (line : List ℕ) (request : Request) → IsRequest line request
+        ↔ ((line ≡ request_text request) × AreRight (form_of request).arguments) }
+{}
 
 /// A line is at most one request, or has one fault.
 pub fn one_reading()

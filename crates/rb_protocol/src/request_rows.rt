@@ -1,6 +1,6 @@
 use crate::format::{LINE_FEED, SPACE};
 use crate::line_fault::LineFault;
-use crate::request::{MOST_LINE_BYTES, Request, one_reading, read_request};
+use crate::request::{MOST_LINE_BYTES, Request, one_reading, read_request, request_has_text};
 use rb_delayed::Payload;
 use std::alloc::{AllocError, Global};
 use std::process::Abort;
@@ -32,6 +32,7 @@ fn refuses(rt: &impl Abort, lines: &[&[u8]], fault: LineFault) {
 #[test]
 fn the_format_has_its_numbers(rt: HostRuntime) {
     one_reading();
+    request_has_text();
     assert_eq!(rt; MOST_LINE_BYTES, 256);
     assert_eq!(rt; SPACE, 0x20);
     assert_eq!(rt; LINE_FEED, 0x0A);

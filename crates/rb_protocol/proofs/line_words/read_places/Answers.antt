@@ -14,6 +14,7 @@ returns-then-is_empty-clause-none c =
       | then-is_empty-via-else-is_empty+then-is_empty-2 w ↦
           let filled = second_filled _ _ _ few in grind (arith, nat_tests)
       | then-is_empty-via-else-is_empty+else-is_empty-2+then-is_some w ↦
-          let more : 0 < length (words_behind c.cut_word-2.result.1) = words_behind_some c.cut_word-2.result.1 (search rules) in
+          let more : 0 < length (words_behind c.cut_word-2.result.1) =
+          words_behind_some c.cut_word-2.result.1 (search rules) in
           omega arith
     ])

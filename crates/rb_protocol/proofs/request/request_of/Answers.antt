@@ -20,7 +20,8 @@ returns-in_err-number-in-Two c =
     let refused : c.from_residual-in_err-number-in-Two.result ≡ Err Number = search rules in
     let known : c.read-in-Two.result ≡ Some c.in_ok-keyword-in-Two.keyword = search rules in
     let none : c.read_number-in-Two.result ≡ None = search rules in
-    let places : place_words c.args.places ≡ c.in-Two.word.now ∷ c.in-Two.bytes.now ∷ [] = search rules in
+    let places : place_words c.args.places ≡ c.in-Two.word.now ∷ c.in-Two.bytes.now ∷ [] =
+    search rules in
     rw (refused, places) (
       takes_payload _ [] _ ((rw known at c.read-in-Two.ensures.some) 0 []),
       λ h. (rw none at c.read_number-in-Two.ensures.none) h.0 h.1,
@@ -31,7 +32,8 @@ returns-in_err-payload-in-Two c =
     let refused : c.from_residual-in_err-payload-in-Two.result ≡ Err Payload = search rules in
     let known : c.read-in-Two.result ≡ Some c.in_ok-keyword-in-Two.keyword = search rules in
     let value : c.read_number-in-Two.result ≡ Some c.in_ok-number-in-Two.number = search rules in
-    let places : place_words c.args.places ≡ c.in-Two.word.now ∷ c.in-Two.bytes.now ∷ [] = search rules in
+    let places : place_words c.args.places ≡ c.in-Two.word.now ∷ c.in-Two.bytes.now ∷ [] =
+    search rules in
     rw (refused, places) (
       takes_payload _ [] _ ((rw known at c.read-in-Two.ensures.some) 0 []),
       (c.in_ok-number-in-Two.number, rw value at c.read_number-in-Two.ensures.some),

@@ -1,0 +1,5 @@
+use Rattle.rb_protocol.proofs.Texts.{request_has_text}
+use Rattle.rb_protocol.proofs.request.request_has_text.Goals as goal
+
+pub returns : goal.returns
+returns c = request_has_text
