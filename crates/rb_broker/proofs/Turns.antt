@@ -4,29 +4,27 @@ use Rattle.std.proofs.lemmas.Bool.Decides.{nat_tests}
 use Rattle.std.proofs.lemmas.List.{append-nil}
 use Rattle.std.specs.Prelude.{MatchBool, nat_le, Result}
 use Rattle.rb_delayed.specs.declared.moment.TheConstants.{GREATEST_MOMENT}
-use Rattle.rb_queue.specs.declared.draft.Draft.{Draft}
-use Rattle.rb_queue.specs.declared.ask.Ask.TheVariants as asks
 use Rattle.rb_queue.specs.declared.event.Event.{Event}
-use Rattle.rb_broker.specs.declared.request.Request.{Request}
-use Rattle.rb_broker.specs.declared.line_fault.LineFault.{LineFault}
-use Rattle.rb_broker.specs.declared.error_word.ErrorWord.TheVariants as words
-use Rattle.rb_broker.specs.declared.line_reply.LineReply.{LineReply}
-use Rattle.rb_broker.specs.declared.line_reply.LineReply.TheVariants as lines
+use Rattle.rb_protocol.specs.declared.request.Request.{Request}
+use Rattle.rb_protocol.specs.declared.line_fault.LineFault.{LineFault}
+use Rattle.rb_protocol.specs.declared.error_word.ErrorWord.TheVariants as words
+use Rattle.rb_protocol.specs.declared.line_reply.LineReply.{LineReply}
+use Rattle.rb_protocol.specs.declared.line_reply.LineReply.TheVariants as lines
 use Rattle.rb_broker.specs.declared.ended.Ended.{Ended}
 use Rattle.rb_broker.specs.declared.ended.Ended.TheVariants as ends
 use Rattle.rb_broker.specs.Lines.{HasNoFeed, line_of}
-use Rattle.rb_broker.specs.Reading.{IsReading}
-use Rattle.rb_broker.specs.ReplyText.{text_of}
-use Rattle.rb_broker.specs.Session.{Point, IsFirst, IsCall, IsNoCall, IsOffering, IsTurn, IsSession, over, truncated, turn, quit}
+use Rattle.rb_protocol.specs.Reading.{IsReading}
+use Rattle.rb_protocol.specs.ReplyText.{text_of}
+use Rattle.rb_broker.specs.Session.{Point, IsNoCall, IsOfferingAt, IsOffering, IsTurn, IsSession, over, truncated, turn, quit}
 use Rattle.rb_broker.specs.Progress.{Stands, Fails, Quits, rest_text}
 
 -- an offer in range is a call
-pub offering_made : (point : Point) (delay : ℕ) (payload : List ℕ) (draft : Draft) (events : List Event) (reply : LineReply)
-    → point.now + delay ≤ GREATEST_MOMENT → IsFirst draft (point.now + delay) payload → IsCall point (asks.Offer draft) events reply
+pub offering_made : (point : Point) (delay : ℕ) (payload : List ℕ) (events : List Event) (reply : LineReply)
+    → point.now + delay ≤ GREATEST_MOMENT → IsOfferingAt point (point.now + delay) payload events reply
     → IsOffering point delay payload events reply
-offering_made point delay payload draft events reply within first call =
+offering_made point delay payload events reply within offering =
     let test : nat_le (point.now + delay) GREATEST_MOMENT ≡ true = grind (arith, nat_tests, within) in
-    subst (λ b. MatchBool b ((d : Draft) × IsFirst d (point.now + delay) payload × IsCall point (asks.Offer d) events reply) (IsNoCall (lines.Error words.Range) events reply)) (sym test) (draft, first, call)
+    subst (λ b. MatchBool b (IsOfferingAt point (point.now + delay) payload events reply) (IsNoCall (lines.Error words.Range) events reply)) (sym test) offering
 
 -- a session of equal bytes, events and text
 pub moved : (point : Point) (bytes bytes' : List ℕ) (events events' : List Event) (text text' : List ℕ) (ended : Ended) → bytes ≡ bytes' → events ≡ events' → text ≡ text'
@@ -36,14 +34,8 @@ moved point bytes bytes' events events' text text' ended b e t session =
 
 -- a reply ends the session, or it does not
 pub bye_or_not : (reply : LineReply) → (reply ≡ lines.Bye) ⊎ (reply ≢ lines.Bye)
-bye_or_not (lines.Offered id expiry) = inr (λ same. absurd (cc))
-bye_or_not (lines.Item element) = inr (λ same. absurd (cc))
-bye_or_not (lines.Head element) = inr (λ same. absurd (cc))
-bye_or_not lines.Nothing = inr (λ same. absurd (cc))
-bye_or_not (lines.Size count) = inr (λ same. absurd (cc))
-bye_or_not (lines.Now moment) = inr (λ same. absurd (cc))
 bye_or_not lines.Bye = inl refl
-bye_or_not (lines.Error word) = inr (λ same. absurd (cc))
+bye_or_not _ = inr (λ same. absurd (cc))
 
 -- nothing was served yet
 unfoldable pub stands_first : (from : Point) (bytes before : List ℕ) (written : Option (List ℕ)) → written ≡ Some before → Stands from bytes before from written

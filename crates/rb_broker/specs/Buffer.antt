@@ -2,9 +2,9 @@
 use Rattle.std.specs.Prelude.{◌≡◌, ℕ, ◌<◌, List, [], ◌∷◌, ◌++◌, length, slice_range, Option, Some, None, Result, Ok, Err, MatchBool}
 use Rattle.std.specs.declared.io.Error.{Error}
 use Rattle.rb_broker.specs.Lines.{HasNoFeed, line_of}
-use Rattle.rb_broker.specs.Reading.{IsReading}
-use Rattle.rb_broker.specs.declared.request.Request.{Request}
-use Rattle.rb_broker.specs.declared.line_fault.LineFault.{LineFault}
+use Rattle.rb_protocol.specs.Reading.{IsReading}
+use Rattle.rb_protocol.specs.declared.request.Request.{Request}
+use Rattle.rb_protocol.specs.declared.line_fault.LineFault.{LineFault}
 use Rattle.rb_broker.specs.declared.line_buffer.LineBuffer.{LineBuffer}
 use Rattle.rb_broker.specs.declared.line_buffer.TheConstants.{MOST_RAW_BYTES}
 

@@ -1,8 +1,5 @@
-pub mod Number
-pub mod Form
-pub mod LineWords
-pub mod Reading
-pub mod ReplyText
+pub use Rattle.rb_protocol.specs.Reading
+pub use Rattle.rb_protocol.specs.ReplyText
 pub mod Lines
 pub mod Buffer
 pub mod Session

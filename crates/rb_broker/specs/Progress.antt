@@ -4,10 +4,10 @@ use Rattle.rb_queue.specs.declared.event.Event.{Event}
 use Rattle.rb_kept.specs.Log.{Log}
 use Rattle.rb_broker.specs.Lines.{HasNoFeed}
 use Rattle.rb_broker.specs.Buffer.{IsUnserved}
-use Rattle.rb_broker.specs.ReplyText.{text_of}
+use Rattle.rb_protocol.specs.ReplyText.{text_of}
 use Rattle.rb_broker.specs.Session.{Point, IsSession}
-use Rattle.rb_broker.specs.declared.line_reply.LineReply.TheVariants as lines
-use Rattle.rb_broker.specs.declared.error_word.ErrorWord.TheVariants as words
+use Rattle.rb_protocol.specs.declared.line_reply.LineReply.TheVariants as lines
+use Rattle.rb_protocol.specs.declared.error_word.ErrorWord.TheVariants as words
 use Rattle.rb_broker.specs.declared.line_buffer.LineBuffer.{LineBuffer}
 use Rattle.rb_broker.specs.declared.ended.Ended.{Ended}
 use Rattle.rb_broker.specs.declared.ended.Ended.TheVariants as ends
@@ -18,7 +18,8 @@ use Rattle.rb_broker.specs.declared.session_fault.SessionFault.TheVariants as fa
 
 -- the point of a kept queue at a moment
 abbrev pub point_of : Log → ℕ → Point
-point_of log moment = record { capacity = log.capacity; now = moment; history = log.history }
+point_of log moment =
+    record { opening = log.opening; capacity = log.capacity; now = moment; history = log.history }
 
 -- Serving these bytes makes these events and gives this text, and leads from one point to the other:
 -- whatever session the bytes after them are, all the bytes are that session with this before it.

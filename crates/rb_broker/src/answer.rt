@@ -1,14 +1,13 @@
-ghost use Rattle.std.specs.Prelude.{◌≡◌, ℕ, List, ◌++◌, ◌↔◌, IsTrue};
+ghost use Rattle.std.specs.Prelude.{◌≡◌, ℕ, List, ◌++◌};
+ghost use Rattle.rb_queue.specs.declared.ask.Ask.TheVariants as asks;
 ghost use Rattle.rb_queue.specs.declared.event.Event.{Event};
-ghost use Rattle.rb_broker.specs.Session.{word_for, line_for, IsCall, IsOffering, IsTurn};
+ghost use Rattle.rb_broker.specs.Session.{word_for, line_for, reply_line, IsCall, IsOffering, IsOfferingAt, IsTurn};
 ghost use Rattle.rb_broker.specs.Progress.{point_of};
 
-use crate::error_word::ErrorWord;
-use crate::line_fault::LineFault;
-use crate::line_reply::LineReply;
-use crate::request::Request;
 use rb_delayed::{Payload, add_delay};
 use rb_kept::{CallFault, Kept, Outcome, Step};
+use rb_ledger::Tally;
+use rb_protocol::{ErrorWord, LineFault, LineReply, Request};
 use rb_queue::{Ask, Draft, Reply};
 use rb_timer::Timer;
 
@@ -20,29 +19,48 @@ const SEAT: u64 = 0;
 /// Now is the greatest moment that was set so far, in nanoseconds.
 pub fn answer<T: Timer>(
     kept: &mut Kept<T>,
+    tally: &mut Tally,
     now: &mut u64,
     reading: Result<Request, LineFault>,
 ) -> LineReply
     ensures turn { (events : List Event) × (kept.new.history ≡ kept.old.history ++ events)
         × IsTurn (point_of kept.old now.old) reading events result (point_of kept.new now.new) }
     ensures capacity { kept.new.capacity ≡ kept.old.capacity }
+    ensures opening { kept.new.opening ≡ kept.old.opening }
 {
     match reading {
-        Ok(request) => serve(kept, now, request),
+        Ok(request) => serve(kept, tally, now, request),
         Err(fault) => LineReply::Error(word_for(fault)),
     }
 }
 
-fn serve<T: Timer>(kept: &mut Kept<T>, now: &mut u64, request: Request) -> LineReply
+fn serve<T: Timer>(
+    kept: &mut Kept<T>,
+    tally: &mut Tally,
+    now: &mut u64,
+    request: Request,
+) -> LineReply
     ensures turn { (events : List Event) × (kept.new.history ≡ kept.old.history ++ events)
         × IsTurn (point_of kept.old now.old) (Ok request) events result (point_of kept.new now.new) }
     ensures capacity { kept.new.capacity ≡ kept.old.capacity }
+    ensures opening { kept.new.opening ≡ kept.old.opening }
 {
     match request {
-        Request::Offer { delay, payload } => offer(kept, *now, delay, payload),
-        Request::Poll => call(kept, *now, Ask::Poll),
-        Request::Peek => call(kept, *now, Ask::Peek),
-        Request::Size => call(kept, *now, Ask::Size),
+        Request::Offer { delay, payload } => offer(kept, tally, *now, delay, payload),
+        Request::OfferAt { expiry, payload } => offer_at(kept, tally, *now, expiry, payload),
+        Request::Poll => call(kept, tally, *now, Ask::Poll),
+        Request::PollFor(timeout) => {
+            let start = *now;
+            call(kept, tally, *now, Ask::PollFor { start, timeout })
+        }
+        Request::Take => call(kept, tally, *now, Ask::Take),
+        Request::Peek => call(kept, tally, *now, Ask::Peek),
+        Request::Remove(id) => call(kept, tally, *now, Ask::Remove(id)),
+        Request::Clear => call(kept, tally, *now, Ask::Clear),
+        Request::Size => call(kept, tally, *now, Ask::Size),
+        // A script holds no element.
+        Request::Done(_) | Request::Fail(_) => LineReply::Error(ErrorWord::NotHeld),
+        Request::Drain(_) => LineReply::Error(ErrorWord::Syntax),
         Request::At(moment) => {
             *now = moment.max(*now);
             LineReply::Now(*now)
@@ -52,24 +70,48 @@ fn serve<T: Timer>(kept: &mut Kept<T>, now: &mut u64, request: Request) -> LineR
 }
 
 // An offer that expires `delay` nanoseconds from now, unless that passes the greatest moment.
-fn offer<T: Timer>(kept: &mut Kept<T>, now: u64, delay: u64, payload: Payload) -> LineReply
+fn offer<T: Timer>(
+    kept: &mut Kept<T>,
+    tally: &mut Tally,
+    now: u64,
+    delay: u64,
+    payload: Payload,
+) -> LineReply
     ensures offering { (events : List Event) × (kept.new.history ≡ kept.old.history ++ events)
         × IsOffering (point_of kept.old now) delay payload events result }
     ensures capacity { kept.new.capacity ≡ kept.old.capacity }
+    ensures opening { kept.new.opening ≡ kept.old.opening }
 {
     match add_delay(now, delay) {
-        Some(expiry) => call(kept, now, Ask::Offer(Draft::first(expiry, payload))),
+        Some(expiry) => offer_at(kept, tally, now, expiry, payload),
         None => LineReply::Error(ErrorWord::Range),
     }
 }
 
+// An offer that expires at this moment.
+fn offer_at<T: Timer>(
+    kept: &mut Kept<T>,
+    tally: &mut Tally,
+    now: u64,
+    expiry: u64,
+    payload: Payload,
+) -> LineReply
+    ensures offering { (events : List Event) × (kept.new.history ≡ kept.old.history ++ events)
+        × IsOfferingAt (point_of kept.old now) expiry payload events result }
+    ensures capacity { kept.new.capacity ≡ kept.old.capacity }
+    ensures opening { kept.new.opening ≡ kept.old.opening }
+{
+    call(kept, tally, now, Ask::Offer(Draft::first(expiry, payload)))
+}
+
 // One call of the queue.
-fn call<T: Timer>(kept: &mut Kept<T>, now: u64, ask: Ask) -> LineReply
+fn call<T: Timer>(kept: &mut Kept<T>, tally: &mut Tally, now: u64, ask: Ask) -> LineReply
     ensures call { (events : List Event) × (kept.new.history ≡ kept.old.history ++ events)
         × IsCall (point_of kept.old now) ask events result }
     ensures capacity { kept.new.capacity ≡ kept.old.capacity }
+    ensures opening { kept.new.opening ≡ kept.old.opening }
 {
-    line_for(kept.act(SEAT, now, ask))
+    line_for(kept.act(tally, SEAT, now, ask))
 }
 
 // The line for an answer of the queue, or for its refusal.
@@ -77,16 +119,29 @@ fn line_for(step: Step) -> LineReply
     ensures { result ≡ line_for step }
 {
     match step {
-        Ok(Outcome::Done(Reply::Offered(element))) => LineReply::Offered {
+        Ok(Outcome::Done(reply)) => line_of(reply),
+        Ok(Outcome::Later(_)) => LineReply::Stopped,
+        Err(CallFault::Full) => LineReply::Error(ErrorWord::Full),
+        Err(CallFault::Memory) => LineReply::Error(ErrorWord::Memory),
+    }
+}
+
+// The line for a reply.
+fn line_of(reply: Reply) -> LineReply
+    ensures { result ≡ reply_line reply }
+{
+    match reply {
+        Reply::Offered(element) => LineReply::Offered {
             id: element.id,
             expiry: element.expiry,
         },
-        Ok(Outcome::Done(Reply::Item(element))) => LineReply::Item(element),
-        Ok(Outcome::Done(Reply::Nothing)) => LineReply::Nothing,
-        Ok(Outcome::Done(Reply::Head(element))) => LineReply::Head(element),
-        Ok(Outcome::Done(Reply::Size(count))) => LineReply::Size(count),
-        Err(CallFault::Full) => LineReply::Error(ErrorWord::Full),
-        Err(CallFault::Memory) => LineReply::Error(ErrorWord::Memory),
+        Reply::Item(element) => LineReply::Item(element),
+        Reply::Nothing => LineReply::Nothing,
+        Reply::Head(element) => LineReply::Head(element),
+        Reply::Removed(found) => LineReply::Removed(found),
+        Reply::Drained(items) => LineReply::Drained(items.as_slice().len() as u64),
+        Reply::Cleared => LineReply::Cleared,
+        Reply::Size(count) => LineReply::Size(count),
     }
 }
 

@@ -1,10 +1,9 @@
 ghost use Rattle.std.specs.Prelude.{◌≡◌, ℕ, ◌+◌, ◌<◌, ◌≤◌, List, [], ◌∷◌, ◌++◌, ◌↔◌, length, take, slice_index, ◌-◌, Some, IfOk, IfSome, IsTrue, MatchOption, vec_len};
 ghost use Rattle.rb_broker.specs.Lines.{HasNoFeed, line_of};
-ghost use Rattle.rb_broker.specs.Reading.{IsReading};
+ghost use Rattle.rb_protocol.specs.Reading.{IsReading};
 ghost use Rattle.rb_broker.specs.declared.line_buffer.TheConstants.{MOST_RAW_BYTES};
 
-use crate::line_fault::LineFault;
-use crate::request::{MOST_LINE_BYTES, Request, read_request};
+use rb_protocol::{LINE_FEED, LineFault, MOST_LINE_BYTES, Request, read_request};
 use std::alloc::{AllocError, Global};
 use std::io;
 use std::io::Read;
@@ -14,8 +13,6 @@ const BUFFER_BYTES: usize = 64 * 1024;
 
 /// How many bytes before a line feed may still be a request: the longest line, and a carriage return.
 const MOST_RAW_BYTES: usize = MOST_LINE_BYTES + 1;
-
-const LINE_FEED: u8 = b'\n';
 
 /// Bytes that were read and are not served yet.
 ///

@@ -11,19 +11,9 @@ mod command_line;
 #[cfg(test)]
 mod command_line_rows;
 mod ended;
-mod error_word;
 #[cfg(test)]
 mod large_rows;
 mod line_buffer;
-mod line_fault;
-mod line_reply;
-mod line_words;
-mod number;
-#[cfg(test)]
-mod reply_rows;
-mod request;
-#[cfg(test)]
-mod request_rows;
 mod script;
 mod script_options;
 #[cfg(test)]

@@ -45,10 +45,10 @@ fn run_on<T: Timer, R: Read, W: Write>(
         → RanScript calls stream before result (R.remaining reader.new) (W.contents writer.new) }
 {
     // The number of calls is in range, so that memory alone can be missing.
-    let Ok(mut kept) = Kept::<T>::new(alloc, calls) else {
+    let Ok((mut kept, mut tally)) = Kept::<T>::new(alloc, calls) else {
         return Err(BrokerFault::Memory);
     };
-    match run_session(alloc, reader, writer, &mut kept) {
+    match run_session(alloc, reader, writer, &mut kept, &mut tally) {
         Ok(ended) => Ok(ended),
         Err(fault) => Err(BrokerFault::from(fault)),
     }

@@ -1,17 +1,17 @@
 ghost use Rattle.std.specs.Prelude.{◌≡◌, ℕ, ◌≤◌, List, Some, IfOk, vec_capacity};
-ghost use Rattle.rb_broker.specs.ReplyText.{text_of};
+ghost use Rattle.rb_protocol.specs.ReplyText.{text_of};
 ghost use Rattle.rb_broker.specs.Buffer.{IsUnserved};
 ghost use Rattle.rb_broker.specs.Progress.{point_of, ServesLines, Ran, Sends, rest_text};
 
 use crate::answer::answer;
 use crate::ended::Ended;
-use crate::error_word::ErrorWord;
 use crate::line_buffer::LineBuffer;
-use crate::line_reply::{LineReply, REPLY_ROOM, write_reply};
 use crate::send::send_line;
 use crate::served::Served;
 use crate::session_fault::SessionFault;
 use rb_kept::Kept;
+use rb_ledger::Tally;
+use rb_protocol::{ErrorWord, LineReply, REPLY_ROOM, write_reply};
 use rb_timer::Timer;
 use std::alloc::Global;
 use std::io::{ErrorKind, Read, Write};
@@ -22,15 +22,16 @@ const MOST_READS: u64 = 10_000_000;
 /// Serves the lines of a reader until one of them is `QUIT`, or there are no more.
 ///
 /// All memory but that of the elements is taken before the first read. The session's moment begins at
-/// 0, and an `AT` sets it. Each reply line is one write, and each request's replies are flushed.
+/// the opening's last one, and an `AT` sets it. Each reply line is one write, and each request's replies are flushed.
 pub fn run_session<T: Timer, R: Read, W: Write>(
     alloc: Global,
     reader: &mut R,
     writer: &mut W,
     kept: &mut Kept<T>,
+    tally: &mut Tally,
 ) -> Result<Ended, SessionFault>
     ensures { (stream before : List ℕ) → R.remaining reader.old ≡ Some stream → W.contents writer.old ≡ Some before
-        → Ran (point_of kept.old 0) stream before result kept.new.history (R.remaining reader.new) (W.contents writer.new) }
+        → Ran (point_of kept.old kept.old.opening.last_at) stream before result kept.new.history (R.remaining reader.new) (W.contents writer.new) }
 {
     let Ok(mut buffer) = LineBuffer::new(alloc) else {
         return Err(SessionFault::Memory);
@@ -38,7 +39,7 @@ pub fn run_session<T: Timer, R: Read, W: Write>(
     let Ok(mut text) = Vec::with_capacity(alloc, REPLY_ROOM) else {
         return Err(SessionFault::Memory);
     };
-    let mut now = 0;
+    let mut now = kept.opening().last_at;
     for _ in 0..MOST_READS {
         match buffer.read_from(reader) {
             Ok(0) => return finish(&buffer, writer, &mut text),
@@ -46,7 +47,7 @@ pub fn run_session<T: Timer, R: Read, W: Write>(
             Err(error) if error.kind() == ErrorKind::Interrupted => continue,
             Err(_) => return Err(SessionFault::Read),
         }
-        match serve_lines(&mut buffer, writer, &mut text, kept, &mut now) {
+        match serve_lines(&mut buffer, writer, &mut text, kept, tally, &mut now) {
             Ok(Served::WholeLines) => {}
             Ok(Served::Quit) => return Ok(Ended::Quit),
             Err(fault) => return Err(fault),
@@ -61,6 +62,7 @@ fn serve_lines<T: Timer, W: Write>(
     writer: &mut W,
     text: &mut Vec<u8>,
     kept: &mut Kept<T>,
+    tally: &mut Tally,
     now: &mut u64,
 ) -> Result<Served, SessionFault>
     requires { REPLY_ROOM ≤ vec_capacity text.old }
@@ -68,9 +70,10 @@ fn serve_lines<T: Timer, W: Write>(
         → ServesLines (point_of kept.old now.old) bytes before result buffer.new (point_of kept.new now.new) (W.contents writer.new) }
     ensures room { REPLY_ROOM ≤ vec_capacity text.new }
     ensures capacity { kept.new.capacity ≡ kept.old.capacity }
+    ensures opening { kept.new.opening ≡ kept.old.opening }
 {
     while let Some(reading) = buffer.next_request() {
-        let reply = answer(kept, now, reading);
+        let reply = answer(kept, tally, now, reading);
         if let Err(fault) = send_reply(writer, text, &reply) {
             return Err(fault);
         }

@@ -2,7 +2,7 @@ use Rattle.std.proofs.Common.{◌≡◌, ℕ, List, [], ◌++◌, Option, Some, 
 use Rattle.std.proofs.lemmas.List.{take-append-drop, append-nil}
 use Rattle.std.specs.Prelude.{OnOk, Result}
 use Rattle.std.specs.Io.KnownBytes.{Keeps}
-use Rattle.rb_broker.specs.ReplyText.{text_of}
+use Rattle.rb_protocol.specs.ReplyText.{text_of}
 use Rattle.rb_broker.proofs.session.send_reply.Goals as goal
 
 -- what holds on success holds of a success

@@ -10,6 +10,7 @@ loop-reading-init g c = record {
   stands = λ bytes before unserved known. (stands_first (point_of c.args.kept.now c.args.now.now) bytes before (g.W.Write.contents c.args.writer.now) known, unserved);
   room = c.requires;
   capacity = refl;
+  opening = refl;
 }
 
 pub returns-in-Err-clause-served : goal.returns-in-Err-clause-served
@@ -53,6 +54,7 @@ loop-reading-preserved g c = record {
       );
   room = c.in_default-send_reply.ensures.room;
   capacity = c.answer-reply.ensures.capacity ∙ c.loop-reading.invariant.capacity;
+  opening = c.answer-reply.ensures.opening ∙ c.loop-reading.invariant.opening;
 }
 
 pub returns-clause-served : goal.returns-clause-served

@@ -1,6 +1,6 @@
 use Rattle.std.proofs.Common.{◌≡◌, ℕ, ◌-◌, ◌≤◌, List, Some}
 use Rattle.std.specs.Prelude.{vec_capacity}
-use Rattle.rb_broker.specs.declared.line_reply.TheConstants.{REPLY_ROOM}
+use Rattle.rb_protocol.specs.declared.line_reply.TheConstants.{REPLY_ROOM}
 use Rattle.rb_broker.specs.Buffer.{IsUnserved}
 use Rattle.rb_broker.specs.Progress.{point_of, Stands}
 use Rattle.rb_broker.proofs.session.serve_lines.Given as goal
@@ -12,6 +12,7 @@ invariant-loop-reading g l = record {
       → (stands : Stands (point_of l.fn.kept l.fn.now) bytes before (point_of l.kept l.now) (g.W.Write.contents l.writer)) × IsUnserved l.buffer stands.rest;
   room : REPLY_ROOM ≤ vec_capacity l.text;
   capacity : l.kept.capacity ≡ l.fn.kept.capacity;
+  opening : l.kept.opening ≡ l.fn.kept.opening;
 }
 
 abbrev pub decreases-loop-reading : goal.decreases-loop-reading

@@ -2,10 +2,10 @@ use Rattle.std.proofs.Common.{◌≡◌, ◌+◌, ◌<◌, List, ℕ, Err, ◌-�
 use Rattle.std.specs.Prelude.{slice_range, MatchBool}
 use Rattle.rb_broker.specs.Buffer.{held_by}
 use Rattle.rb_broker.specs.Lines.{line_of}
-use Rattle.rb_broker.specs.declared.line_fault.LineFault.TheVariants.{Line}
-use Rattle.rb_broker.specs.declared.line_fault.LineFault.{LineFault}
-use Rattle.rb_broker.specs.declared.request.Request.{Request}
-use Rattle.rb_broker.specs.Reading.{IsReading}
+use Rattle.rb_protocol.specs.declared.line_fault.LineFault.TheVariants.{Line}
+use Rattle.rb_protocol.specs.declared.line_fault.LineFault.{LineFault}
+use Rattle.rb_protocol.specs.declared.request.Request.{Request}
+use Rattle.rb_protocol.specs.Reading.{IsReading}
 use Rattle.rb_broker.specs.declared.line_buffer.TheConstants.{MOST_RAW_BYTES}
 use Rattle.rb_broker.proofs.Buffers.{first_line, range_after, length-line_of}
 use Rattle.rb_broker.proofs.line_buffer.LineBuffer.next_request.Goals as goal
