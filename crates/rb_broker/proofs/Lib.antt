@@ -2,5 +2,5 @@ pub mod Cuts
 pub mod Sending
 pub mod Buffers
 pub mod Turns
-pub mod Runs
+pub mod StreamRuns
 pub mod CommandLines

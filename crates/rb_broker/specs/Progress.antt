@@ -23,8 +23,8 @@ point_of log moment =
 
 -- Serving these bytes makes these events and gives this text, and leads from one point to the other:
 -- whatever session the bytes after them are, all the bytes are that session with this before it.
-abbrev pub Leads : Point → List ℕ → List Event → List ℕ → Point → Type 0
-Leads from served events text to =
+abbrev pub ServesUpTo : Point → List ℕ → List Event → List ℕ → Point → Type 0
+ServesUpTo from served events text to =
     (left : List ℕ) (later : List Event) (more : List ℕ) (ended : Ended) → IsSession to left later more ended
     → IsSession from (served ++ left) (events ++ later) (text ++ more) ended
 
@@ -38,7 +38,7 @@ pub record Stands (from : Point) (bytes before : List ℕ) (to : Point) (written
   pub split : bytes ≡ served ++ rest
   pub history : to.history ≡ from.history ++ events
   pub wrote : written ≡ Some (before ++ text)
-  pub leads : Leads from served events text to
+  pub leads : ServesUpTo from served events text to
 
 -- A write failed: these bytes were served, the last of them by the line whose reply failed, and what was
 -- written is the first part of their text.

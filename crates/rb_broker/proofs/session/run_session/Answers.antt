@@ -8,7 +8,7 @@ use Rattle.rb_broker.specs.Progress.{point_of, ServesLines, Ran, Sends, rest_tex
 use Rattle.rb_broker.specs.declared.served.Served.{Served}
 use Rattle.rb_broker.specs.declared.session_fault.SessionFault.{SessionFault}
 use Rattle.rb_broker.proofs.Turns.{stands_first}
-use Rattle.rb_broker.proofs.Runs.{breaks_off, ran_end, ran_quit, ran_fails, stands_on, stream_split, nothing_left}
+use Rattle.rb_broker.proofs.StreamRuns.{breaks_off, ran_end, ran_quit, ran_fails, stands_on, stream_split, nothing_left}
 use Rattle.rb_broker.proofs.session.run_session.Goals as goal
 
 pub loop-init : goal.loop-init
