@@ -1,4 +1,3 @@
-pub mod Cuts
 pub mod Sending
 pub mod Buffers
 pub mod Turns

@@ -15,7 +15,15 @@ pub loop-init : goal.loop-init
 unfolding stands_first
 loop-init g c = record {
   stands = λ stream before readable writable.
-      (stream, [], readable, refl, stands_first (point_of c.args.kept.now c.args.kept.now.opening.last_at) [] before (g.W.Write.contents c.args.writer.now) writable, tt, c.in-Ok.ensures);
+      (
+        stream,
+        [],
+        readable,
+        refl,
+        rw c.opening.ensures (stands_first (point_of c.args.kept.now c.args.kept.now.opening.last_at) [] before (g.W.Write.contents c.args.writer.now) writable),
+        tt,
+        c.in-Ok.ensures,
+      );
   room = c.in-Ok-with_capacity.ensures.capacity;
   capacity = refl;
   opening = refl;
