@@ -1,0 +1,67 @@
+-- Single writes, taken together: a cut, and an entry put under another.
+use Rattle.std.proofs.Common.{◌≡◌, ℕ, ◌<◌, ◌≢◌, List, Option, Some, None, sym, ap, ◌∙◌, arith, ⊎_elim}
+use Rattle.rb_pairing.specs.declared.node.Node.{Node}
+use Rattle.rb_pairing.specs.Nodes.{child_of, next_of, previous_of}
+use Rattle.rb_pairing.specs.Forest.{IsForest}
+use Rattle.rb_pairing.specs.Changes.{SetsPrevious, SetsLink, SetsPlace, SetsChild, Cuts, Adopts}
+use Rattle.rb_pairing.proofs.LinkTests.{cases_link}
+
+-- no entry is before itself
+pub not_before_itself : (nodes : List Node) (parent rank : ℕ → ℕ) → IsForest nodes parent rank
+    → (slot other : ℕ) → previous_of nodes slot ≡ Some other → slot ≢ other
+not_before_itself nodes parent rank forest slot other is same =
+    let low = forest.rises slot other is in absurd (omega (arith, ap rank same))
+
+module _ (old one two new : List Node) (slot : ℕ) (parent rank : ℕ → ℕ)
+    (forest : IsForest old parent rank)
+    (behind : SetsPrevious old one (next_of old slot) (previous_of old slot))
+    (before : SetsLink one two (previous_of old slot) slot (next_of old slot))
+    (own : SetsPlace two new slot None None) where
+  pub cuts : Cuts old new slot
+  cuts = record {
+    expiries = own.expiries ∙ before.expiries ∙ behind.expiries;
+    child = λ other is. own.child other
+        ∙ before.child other (forest.child_back other slot is) (behind.child other ∙ is);
+    child_stays = λ other off. own.child other
+        ∙ before.child_stays other (λ back is. off (sym (behind.child other) ∙ is)) ∙ behind.child other;
+    next_own = own.next;
+    next = λ other is. let back = forest.next_back other slot is in
+        own.next_elsewhere other
+        (λ same. not_before_itself old parent rank forest slot other back (sym same))
+        ∙ before.next other back (λ child. forest.apart other slot (sym (behind.child other) ∙ child) is);
+    next_stays = λ other differs off. own.next_elsewhere other differs
+        ∙ before.next_stays other
+        (λ back. ⊎_elim (λ child. behind.child other ∙ child)
+        (λ no_child. absurd (off (forest.linked slot other back no_child)))
+        (cases_link (child_of old other) slot))
+        ∙ behind.next other;
+    previous_own = own.previous;
+    previous = λ other is. own.previous_elsewhere other
+        (not_before_itself old parent rank forest other slot (forest.next_back slot other is))
+        ∙ before.previous other ∙ behind.here other is;
+    previous_stays = λ other differs off. own.previous_elsewhere other differs
+        ∙ before.previous other ∙ behind.elsewhere other off;
+  }
+
+module _ (old one two new : List Node) (above slot : ℕ) (parent rank : ℕ → ℕ)
+    (forest : IsForest old parent rank) (alone : previous_of old slot ≡ None)
+    (behind : SetsPrevious old one (child_of old above) (Some slot))
+    (own : SetsPlace one two slot (Some above) (child_of old above))
+    (child : SetsChild two new above slot) where
+  pub adopts : Adopts old new above slot
+  adopts = record {
+    expiries = child.expiries ∙ own.expiries ∙ behind.expiries;
+    child = child.here;
+    child_stays = λ other differs.
+        child.elsewhere other differs ∙ own.child other ∙ behind.child other;
+    next = child.next slot ∙ own.next;
+    next_stays = λ other differs.
+        child.next other ∙ own.next_elsewhere other differs ∙ behind.next other;
+    previous_own = child.previous slot ∙ own.previous;
+    previous = λ other is. let back = forest.child_back above other is in
+        child.previous other
+        ∙ own.previous_elsewhere other (λ same. let none = ap (previous_of old) same ∙ alone in absurd (cc))
+        ∙ behind.here other is;
+    previous_stays = λ other differs off. child.previous other
+        ∙ own.previous_elsewhere other differs ∙ behind.elsewhere other off;
+  }

@@ -1,0 +1,4 @@
+pub mod Nodes
+pub mod Forest
+pub mod Changes
+pub mod Room

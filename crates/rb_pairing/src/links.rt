@@ -1,0 +1,133 @@
+ghost use Rattle.std.specs.Prelude.{◌≡◌, ℕ, ◌<◌, ◌≤◌, ◌≢◌, ◌↔◌, Option, Some, None, IsTrue, IsSome, IfSome, IfNone, is_some, length};
+ghost use Rattle.rb_pairing.specs.Nodes.{expiry_of, child_of, next_of, previous_of, moment_of};
+ghost use Rattle.rb_pairing.specs.Forest.{IsLinked, IsTop, IsInRow};
+ghost use Rattle.rb_pairing.specs.Changes.{Cuts, Adopts, Joins, Relinks, TakesChildren, Melds};
+
+use crate::node::{Node, set_child, set_link, set_place, set_previous};
+
+/// Takes the entry, with all that hang under it, out of its row, if it is in one.
+pub(crate) fn cut(nodes: &mut [Node], slot: usize)
+    requires linked { IsLinked nodes.old }
+    requires in_room { slot < length nodes.old }
+    ensures { Cuts nodes.old nodes.new slot }
+{
+    let Node { next, previous, .. } = nodes[slot];
+    set_previous(nodes, next, previous);
+    set_link(nodes, previous, slot, next);
+    set_place(nodes, slot, None, None);
+}
+
+// Puts the entry, which is in no row, first into the row under `parent`.
+fn adopt(nodes: &mut [Node], parent: usize, slot: usize)
+    requires linked { IsLinked nodes.old }
+    requires in_room { slot < length nodes.old }
+    requires parent_in_room { parent < length nodes.old }
+    requires alone { previous_of nodes.old slot ≡ None }
+    ensures { Adopts nodes.old nodes.new parent slot }
+{
+    let first = nodes[parent].child;
+    set_previous(nodes, first, Some(slot));
+    set_place(nodes, slot, Some(parent), first);
+    set_child(nodes, parent, slot);
+}
+
+// Whether the entry at `right` expires before the one at `left`.
+fn is_earlier(nodes: &[Node], right: usize, left: usize) -> bool
+    requires right { IsSome (expiry_of nodes.now right) }
+    requires left { IsSome (expiry_of nodes.now left) }
+    ensures { IsTrue result ↔ (moment_of nodes.now right < moment_of nodes.now left) }
+{
+    nodes[right].expiry.unwrap() < nodes[left].expiry.unwrap()
+}
+
+// Hangs the later of two neighbours under the other, which keeps their place in the row.
+fn join(nodes: &mut [Node], left: usize, right: usize) -> usize
+    requires linked { IsLinked nodes.old }
+    requires neighbours { next_of nodes.old left ≡ Some right }
+    ensures { Joins nodes.old nodes.new left right result }
+{
+    if is_earlier(nodes, right, left) {
+        cut(nodes, left);
+        adopt(nodes, right, left);
+        right
+    } else {
+        cut(nodes, right);
+        adopt(nodes, left, right);
+        left
+    }
+}
+
+// Joins the entries under `parent` two by two from the first on, and gives the last that stays.
+//
+// A row is no longer than the room, so the loop is left before its range ends.
+fn join_pairs(nodes: &mut [Node], parent: usize) -> Option<usize>
+    requires { IsLinked nodes.old }
+    ensures relinks { Relinks nodes.old nodes.new }
+    ensures none { IfNone result (child_of nodes.new parent ≡ None) }
+    ensures row { IfSome result (λ last. IsInRow nodes.new parent last) }
+    ensures last { IfSome result (λ last. next_of nodes.new last ≡ None) }
+{
+    let mut last = nodes[parent].child?;
+    'pairs: for _ in 0..nodes.len() {
+        let Some(right) = nodes[last].next else {
+            return Some(last);
+        };
+        last = join(nodes, last, right);
+        let Some(next) = nodes[last].next else {
+            return Some(last);
+        };
+        last = next;
+    }
+    Some(last)
+}
+
+// Joins the entries of the row under `parent` from its last on, until one is left, which it gives.
+fn join_back(nodes: &mut [Node], parent: usize, last: usize) -> usize
+    requires row { IsInRow nodes.old parent last }
+    requires last { next_of nodes.old last ≡ None }
+    ensures relinks { Relinks nodes.old nodes.new }
+    ensures only { child_of nodes.new parent ≡ Some result }
+    ensures last { next_of nodes.new result ≡ None }
+{
+    let mut last = last;
+    'back: for _ in 0..nodes.len() {
+        if nodes[parent].child == Some(last) {
+            return last;
+        }
+        let left = nodes[last].previous.unwrap();
+        last = join(nodes, left, last);
+    }
+    last
+}
+
+/// Takes the entries from under `parent`, joined into one, which is in no row then.
+pub(crate) fn take_children(nodes: &mut [Node], parent: usize) -> Option<usize>
+    requires linked { IsLinked nodes.old }
+    requires in_room { parent < length nodes.old }
+    ensures { TakesChildren nodes.old nodes.new parent result }
+{
+    let last = join_pairs(nodes, parent)?;
+    let child = join_back(nodes, parent, last);
+    cut(nodes, child);
+    Some(child)
+}
+
+/// Hangs the later of two entries that are in no row under the other, which it gives.
+pub(crate) fn meld(nodes: &mut [Node], one: Option<usize>, other: Option<usize>) -> Option<usize>
+    requires linked { IsLinked nodes.old }
+    requires one { (slot : ℕ) → one ≡ Some slot → IsTop nodes.old slot }
+    requires other { (slot : ℕ) → other ≡ Some slot → IsTop nodes.old slot }
+    requires apart { (slot : ℕ) → one ≡ Some slot → other ≢ Some slot }
+    ensures { Melds nodes.old nodes.new one other result }
+{
+    let (Some(left), Some(right)) = (one, other) else {
+        return one.or(other);
+    };
+    if is_earlier(nodes, right, left) {
+        adopt(nodes, right, left);
+        other
+    } else {
+        adopt(nodes, left, right);
+        one
+    }
+}

@@ -1,0 +1,92 @@
+ghost use Rattle.std.specs.Prelude.{◌≡◌, count_by, is_some};
+ghost use Rattle.rb_pairing.specs.Nodes.{expiries};
+ghost use Rattle.rb_pairing.specs.Forest.{IsTree};
+
+use crate::links::{cut, meld, take_children};
+use crate::node::Node;
+use rb_timer::Timer;
+use std::alloc::{AllocError, Global};
+
+/// A pairing heap of the entries, by expiry, whose links are slots.
+#[derive(Debug, Drop)]
+pub struct PairingTimer {
+    // At each slot of the room its node.
+    nodes: Vec<Node>,
+    // The slot of the entry under which all others hang.
+    root: Option<usize>,
+    // How many entries there are.
+    len: usize,
+    ghost tree: { ∥ IsTree nodes.items root ∥₁ },
+    ghost counted: { len ≡ count_by is_some (expiries nodes.items) },
+}
+
+impl Timer for PairingTimer {
+    ghost use Rattle.std.specs.Prelude.{length};
+    ghost use Rattle.rb_timer.specs.Slots.{content_of};
+    ghost use Rattle.rb_pairing.specs.Nodes.{expiries};
+    ghost use Rattle.rb_pairing.specs.Room.{in_room_of_content};
+
+    ghost content = { λ timer. content_of (expiries timer.nodes.items) };
+
+    ghost room = { λ timer. length timer.nodes.items };
+
+    ghost slots_below_room = { λ timer. in_room_of_content timer.nodes.items };
+
+    fn new(alloc: Global) -> Self {
+        PairingTimer {
+            nodes: Vec::new(alloc),
+            root: None,
+            len: 0,
+        }
+    }
+
+    fn room(&self) -> usize {
+        self.nodes.len()
+    }
+
+    fn len(&self) -> usize {
+        self.len
+    }
+
+    fn get(&self, slot: usize) -> Option<u64> {
+        self.nodes.get(slot)?.expiry
+    }
+
+    fn reserve(&mut self, wanted: usize) -> Result<(), AllocError> {
+        if wanted > self.nodes.len() {
+            self.nodes.resize(wanted, Node::VACANT)?;
+        }
+        Ok(())
+    }
+
+    fn insert(&mut self, slot: usize, expiry: u64) {
+        self.nodes[slot].expiry = Some(expiry);
+        self.root = meld(&mut self.nodes, self.root, Some(slot));
+        self.len += 1;
+    }
+
+    fn remove(&mut self, slot: usize) -> u64 {
+        let below = take_children(&mut self.nodes, slot);
+        cut(&mut self.nodes, slot);
+        let expiry = self.nodes[slot].expiry.take().unwrap();
+        let rest = self.root.filter(|&root| root != slot);
+        self.root = meld(&mut self.nodes, rest, below);
+        self.len -= 1;
+        expiry
+    }
+
+    fn least(&self) -> Option<(usize, u64)> {
+        let root = self.root?;
+        Some((root, self.nodes[root].expiry.unwrap()))
+    }
+
+    fn due(&mut self, now: u64) -> Option<(usize, u64)> {
+        self.least().filter(|&(_, expiry)| expiry <= now)
+    }
+
+    fn clear(&mut self) {
+        self.nodes.fill(Node::VACANT);
+        self.root = None;
+        self.len = 0;
+    }
+}
