@@ -1,11 +1,12 @@
 -- Trees after one is cut out of its row: it stands alone, and the others lie as trees still.
 use Rattle.std.proofs.Common.{◌≡◌, ℕ, ◌<◌, ◌≤◌, ◌≢◌, List, length, Option, Some, None, IsSome, is_some, refl, sym, ap, ◌∙◌, subst, arith, ⊎_elim}
+use Rattle.std.proofs.Math.Logic.{∥∥₁_map}
 use Rattle.std.proofs.lemmas.Bool.{cases_eq}
 use Rattle.rb_pairing.specs.declared.node.Node.{Node}
 use Rattle.rb_pairing.specs.Nodes.{expiry_of, child_of, next_of, previous_of, expiries, moment_of}
-use Rattle.rb_pairing.specs.Forest.{HasNoLinks, IsForest}
+use Rattle.rb_pairing.specs.Forest.{HasNoLinks, IsForest, Forest, IsLinked}
 use Rattle.rb_pairing.specs.Changes.{Cuts}
-use Rattle.rb_pairing.proofs.Expiries.{same_expiry, same_moment}
+use Rattle.rb_pairing.proofs.Expiries.{same_expiry, same_moment, same_length}
 use Rattle.rb_pairing.proofs.LinkTests.{cases_link, is_some-unless}
 
 module _ (old new : List Node) (slot : ℕ) (long : length new ≡ length old) (parent rank : ℕ → ℕ)
@@ -183,3 +184,14 @@ module _ (old new : List Node) (slot : ℕ) (long : length new ≡ length old) (
       (λ none. let no_next = forest.alone slot none in cc) in
       ap is_some over ∙ in_row ∙ sym (ap is_some back))
       (λ off stays apart. ap is_some stays)
+
+-- a cut leaves trees
+pub linked_after_cut : (old new : List Node) (slot : ℕ) → IsLinked old → Cuts old new slot
+    → IsLinked new
+linked_after_cut old new slot linked cuts =
+    ∥∥₁_map linked
+    (λ forest. record {
+      parent = forest.parent;
+      rank = forest.rank;
+      is_forest = cut_forest old new slot (same_length old new cuts.expiries) forest.parent forest.rank forest.is_forest cuts;
+    })

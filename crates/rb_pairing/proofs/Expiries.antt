@@ -1,5 +1,6 @@
 -- The row of expiries by its slots.
-use Rattle.std.proofs.Common.{◌≡◌, ℕ, List, Option, None, sym, ap, ◌∙◌, get_or}
+use Rattle.std.proofs.Common.{◌≡◌, ℕ, List, length, Option, None, sym, ap, ◌∙◌, get_or}
+use Rattle.std.proofs.lemmas.List.{length-map}
 use Rattle.std.specs.Option.{unwrap_or}
 use Rattle.std.proofs.Math.ListN.{get_or-map}
 use Rattle.rb_pairing.specs.declared.node.Node.{Node}
@@ -20,3 +21,9 @@ pub same_moment : (old new : List Node) → expiries new ≡ expiries old → (s
     → moment_of new slot ≡ moment_of old slot
 same_moment old new same slot =
     ap (λ expiry. unwrap_or {T = ℕ} expiry 0) (same_expiry old new same slot)
+
+-- and there are as many nodes
+pub same_length : (old new : List Node) → expiries new ≡ expiries old → length new ≡ length old
+same_length old new same =
+    sym (length-map new (λ (node : Node). node.expiry)) ∙ ap length same
+    ∙ length-map old (λ (node : Node). node.expiry)

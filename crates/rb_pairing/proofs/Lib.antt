@@ -6,3 +6,4 @@ pub mod Steps
 pub mod CutTrees
 pub mod Ranks
 pub mod AdoptedTrees
+pub mod Neighbours
