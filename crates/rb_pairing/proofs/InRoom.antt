@@ -31,6 +31,9 @@ module _ (nodes : List Node) (slot : ℕ) where
   pub in_room-previous : (other : ℕ) → previous_of nodes slot ≡ Some other → slot < length nodes
   in_room-previous other is = within (λ n. n.previous) refl (ap is_some is)
 
+  pub in_room-row : IsSome (previous_of nodes slot) → slot < length nodes
+  in_room-row some = within (λ n. n.previous) refl some
+
 module _ (nodes : List Node) (parent rank : ℕ → ℕ) (forest : IsForest nodes parent rank) (slot other : ℕ) where
   -- what a slot links to is in the room
   pub child_in_room : child_of nodes slot ≡ Some other → other < length nodes

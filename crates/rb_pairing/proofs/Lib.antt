@@ -7,3 +7,4 @@ pub mod CutTrees
 pub mod Ranks
 pub mod AdoptedTrees
 pub mod Neighbours
+pub mod Rows

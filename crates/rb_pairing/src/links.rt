@@ -61,7 +61,8 @@ fn join(nodes: &mut [Node], left: usize, right: usize) -> usize
 //
 // A row is no longer than the room, so the loop is left before its range ends.
 fn join_pairs(nodes: &mut [Node], parent: usize) -> Option<usize>
-    requires { IsLinked nodes.old }
+    requires linked { IsLinked nodes.old }
+    requires in_room { parent < length nodes.old }
     ensures relinks { Relinks nodes.old nodes.new }
     ensures none { IfNone result (child_of nodes.new parent ≡ None) }
     ensures row { IfSome result (λ last. IsInRow nodes.new parent last) }
@@ -82,14 +83,14 @@ fn join_pairs(nodes: &mut [Node], parent: usize) -> Option<usize>
 }
 
 // Joins the entries of the row under `parent` from its last on, until one is left, which it gives.
-fn join_back(nodes: &mut [Node], parent: usize, last: usize) -> usize
+fn join_back(nodes: &mut [Node], parent: usize, mut last: usize) -> usize
+    requires in_room { parent < length nodes.old }
     requires row { IsInRow nodes.old parent last }
     requires last { next_of nodes.old last ≡ None }
     ensures relinks { Relinks nodes.old nodes.new }
     ensures only { child_of nodes.new parent ≡ Some result }
     ensures last { next_of nodes.new result ≡ None }
 {
-    let mut last = last;
     'back: for _ in 0..nodes.len() {
         if nodes[parent].child == Some(last) {
             return last;

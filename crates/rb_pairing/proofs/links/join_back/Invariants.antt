@@ -1,0 +1,12 @@
+use Rattle.std.proofs.Common.{◌≡◌, None}
+use Rattle.rb_pairing.specs.Nodes.{next_of}
+use Rattle.rb_pairing.specs.Changes.{Relinks}
+use Rattle.rb_pairing.proofs.Rows.{RankTo}
+use Rattle.rb_pairing.proofs.links.join_back.Given as goal
+
+abbrev pub invariant-back : goal.invariant-back
+invariant-back l = record {
+  relinks : Relinks l.initial.nodes l.nodes;
+  row : ∥ RankTo l.nodes l.parent l.last l.counter ∥₁;
+  last : next_of l.nodes l.last ≡ None;
+}

@@ -1,0 +1,9 @@
+use Rattle.rb_pairing.specs.Changes.{Relinks}
+use Rattle.rb_pairing.proofs.Rows.{RankFrom}
+use Rattle.rb_pairing.proofs.links.join_pairs.Given as goal
+
+abbrev pub invariant-pairs : goal.invariant-pairs
+invariant-pairs l = record {
+  relinks : Relinks l.initial.nodes l.nodes;
+  row : ∥ RankFrom l.nodes l.parent l.last l.counter ∥₁;
+}
