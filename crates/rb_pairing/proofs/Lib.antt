@@ -8,3 +8,5 @@ pub mod Ranks
 pub mod AdoptedTrees
 pub mod Neighbours
 pub mod Rows
+pub mod Children
+pub mod Roots
