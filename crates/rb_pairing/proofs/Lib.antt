@@ -10,3 +10,8 @@ pub mod Neighbours
 pub mod Rows
 pub mod Children
 pub mod Roots
+pub mod Ancestors
+pub mod Entries
+pub mod Contents
+pub mod Removals
+pub mod Rooms

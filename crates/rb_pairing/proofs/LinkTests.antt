@@ -25,3 +25,8 @@ link_is_not (Some other) slot tested same =
 pub is_some-unless : (link : Option ℕ) → link ≢ None → is_some link ≡ true
 is_some-unless None not_none = absurd (not_none refl)
 is_some-unless (Some other) not_none = refl
+
+-- a link is none where one that is none is as much
+pub none_as : (link other : Option ℕ) → is_some link ≡ is_some other → other ≡ None → link ≡ None
+none_as None other same none = refl
+none_as (Some slot) other same none = let also = ap is_some none in absurd (cc)
