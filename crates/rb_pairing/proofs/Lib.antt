@@ -13,5 +13,6 @@ pub mod Roots
 pub mod Ancestors
 pub mod Entries
 pub mod Contents
+pub mod Additions
 pub mod Removals
 pub mod Rooms

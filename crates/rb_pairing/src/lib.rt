@@ -9,5 +9,6 @@ mod node;
 mod pairing_timer;
 #[cfg(test)]
 mod tests;
+mod tree;
 
 pub use pairing_timer::PairingTimer;

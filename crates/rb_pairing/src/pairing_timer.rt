@@ -1,9 +1,10 @@
 ghost use Rattle.std.specs.Prelude.{◌≡◌, count_by, is_some};
+ghost use Rattle.std.proofs.Props.{props};
 ghost use Rattle.rb_pairing.specs.Nodes.{expiries};
 ghost use Rattle.rb_pairing.specs.Forest.{IsTree};
 
-use crate::links::{cut, meld, take_children};
 use crate::node::Node;
+use crate::tree::{add, take_out};
 use rb_timer::Timer;
 use std::alloc::{AllocError, Global};
 
@@ -16,7 +17,7 @@ pub struct PairingTimer {
     root: Option<usize>,
     // How many entries there are.
     len: usize,
-    ghost tree: { ∥ IsTree nodes.items root ∥₁ },
+    ghost tree: { IsTree nodes.items root } by { Prim.hlevel props },
     ghost counted: { len ≡ count_by is_some (expiries nodes.items) },
 }
 
@@ -60,17 +61,13 @@ impl Timer for PairingTimer {
     }
 
     fn insert(&mut self, slot: usize, expiry: u64) {
-        self.nodes[slot].expiry = Some(expiry);
-        self.root = meld(&mut self.nodes, self.root, Some(slot));
+        self.root = add(&mut self.nodes, self.root, slot, expiry);
         self.len += 1;
     }
 
     fn remove(&mut self, slot: usize) -> u64 {
-        let below = take_children(&mut self.nodes, slot);
-        cut(&mut self.nodes, slot);
-        let expiry = self.nodes[slot].expiry.take().unwrap();
-        let rest = self.root.filter(|&root| root != slot);
-        self.root = meld(&mut self.nodes, rest, below);
+        let expiry = self.nodes[slot].expiry.unwrap();
+        self.root = take_out(&mut self.nodes, self.root, slot);
         self.len -= 1;
         expiry
     }
