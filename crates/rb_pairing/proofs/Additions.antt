@@ -1,11 +1,11 @@
 -- The nodes once an entry is written at a free slot, before it is made one with the tree.
-use Rattle.std.proofs.Common.{◌≡◌, ℕ, ◌<◌, ◌≢◌, List, length, Option, Some, None, IsSome, is_some, refl, sym, ap, ◌∙◌, ⊎_elim}
+use Rattle.std.proofs.Common.{◌≡◌, ℕ, ◌<◌, ◌≢◌, List, length, Option, Some, None, is_some, sym, ap, ◌∙◌, ⊎_elim}
 use Rattle.std.proofs.Math.Logic.{∥∥₁_elim, ∥∥₁_map}
 use Rattle.std.proofs.Props.{props}
 use Rattle.std.proofs.lemmas.Bool.{cases_eq}
 use Rattle.rb_pairing.specs.declared.node.Node.{Node}
 use Rattle.rb_pairing.specs.Nodes.{expiry_of, previous_of}
-use Rattle.rb_pairing.specs.Forest.{HasNoLinks, Forest, IsLinked, IsTop, IsTree}
+use Rattle.rb_pairing.specs.Forest.{HasNoLinks, IsLinked, IsTop, IsTree}
 use Rattle.rb_pairing.proofs.Entries.{written, expiry_here, expiry_elsewhere, same_previous, written_forest}
 
 module _ (nodes : List Node) (slot expiry : ℕ) (root : Option ℕ) (tree : IsTree nodes root)

@@ -1,8 +1,8 @@
 -- Trees after one that stands alone is put under an entry of another.
-use Rattle.std.proofs.Common.{◌≡◌, ℕ, ◌+◌, ◌<◌, ◌≤◌, ◌≢◌, List, length, Option, Some, None, IsSome, is_some, cond, eqb, min, max, refl, sym, ap, ◌∙◌, arith, ⊎_elim}
+use Rattle.std.proofs.Common.{◌≡◌, ℕ, ◌+◌, ◌<◌, ◌≤◌, ◌≢◌, List, length, Some, None, IsSome, is_some, cond, eqb, min, max, refl, sym, ap, ◌∙◌, arith, ⊎_elim}
 use Rattle.std.proofs.lemmas.Bool.{cases_eq, eq-eqb, ne_eqb}
 use Rattle.rb_pairing.specs.declared.node.Node.{Node}
-use Rattle.rb_pairing.specs.Nodes.{expiry_of, child_of, next_of, previous_of, expiries, moment_of}
+use Rattle.rb_pairing.specs.Nodes.{expiry_of, child_of, next_of, previous_of, moment_of}
 use Rattle.rb_pairing.specs.Forest.{HasNoLinks, IsForest, IsTop}
 use Rattle.rb_pairing.specs.Changes.{Adopts}
 use Rattle.rb_pairing.proofs.Expiries.{same_expiry, same_moment}

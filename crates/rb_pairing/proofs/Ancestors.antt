@@ -1,7 +1,7 @@
 -- What stands above an entry: the entries before it and its parents, up to the root.
 use Rattle.std.proofs.Common.{◌≡◌, ℕ, zero, suc, ◌<◌, ◌≤◌, ◌≢◌, List, Option, Some, None, IsSome, is_some, refl, sym, ap, ◌∙◌, arith, ⊎_elim}
 use Rattle.rb_pairing.specs.declared.node.Node.{Node}
-use Rattle.rb_pairing.specs.Nodes.{expiry_of, child_of, next_of, previous_of, moment_of}
+use Rattle.rb_pairing.specs.Nodes.{expiry_of, child_of, previous_of, moment_of}
 use Rattle.rb_pairing.specs.Forest.{IsForest, IsTop}
 use Rattle.rb_pairing.proofs.LinkTests.{cases_link}
 use Rattle.rb_pairing.proofs.Neighbours.{in_row-next, present-next, present-child}

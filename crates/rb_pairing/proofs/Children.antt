@@ -1,10 +1,9 @@
 -- The children of an entry after they are joined into one, and that is cut out.
-use Rattle.std.proofs.Common.{◌≡◌, ℕ, ◌≢◌, List, length, Option, Some, None, IsSome, is_some, true, refl, sym, ap, ◌∙◌, arith}
+use Rattle.std.proofs.Common.{◌≡◌, ℕ, ◌≢◌, List, Some, None, IsSome, is_some, sym, ap, ◌∙◌}
 use Rattle.std.proofs.Math.Logic.{∥∥₁_elim}
 use Rattle.std.proofs.Props.{props}
 use Rattle.rb_pairing.specs.declared.node.Node.{Node}
-use Rattle.rb_pairing.specs.Nodes.{expiry_of, child_of, next_of, previous_of, expiries}
-use Rattle.rb_pairing.specs.Forest.{Forest, IsLinked, IsTop}
+use Rattle.rb_pairing.specs.Nodes.{expiry_of, child_of, next_of, previous_of}
 use Rattle.rb_pairing.specs.Changes.{Cuts, Relinks, TakesChildren}
 use Rattle.rb_pairing.proofs.Expiries.{same_expiry, same_length}
 use Rattle.rb_pairing.proofs.Steps.{not_before_itself}
@@ -44,10 +43,10 @@ module _ (old joined new : List Node) (parent child : ℕ) (relinks : Relinks ol
         (λ forest. not_before_itself joined forest.parent forest.rank forest.is_forest child parent back
         (sym (one parent is)));
     top = λ slot is. record {
-          present = ap (λ s. is_some (expiry_of new s)) (one slot is)
-              ∙ ap is_some (same_expiry joined new cuts.expiries child) ∙ present;
-          alone = ap (previous_of new) (one slot is) ∙ cuts.previous_own;
-        };
+      present = ap (λ s. is_some (expiry_of new s)) (one slot is)
+          ∙ ap is_some (same_expiry joined new cuts.expiries child) ∙ present;
+      alone = ap (previous_of new) (one slot is) ∙ cuts.previous_own;
+    };
     was_in_row = λ slot is. ap (λ s. is_some (previous_of old s)) (one slot is)
         ∙ sym (relinks.tops child) ∙ ap is_some back;
     tops = λ slot off. tops slot (λ is. off (ap Some (sym is)));

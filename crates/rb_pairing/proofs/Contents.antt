@@ -1,16 +1,20 @@
 -- The content of the timer, read from its nodes.
-use Rattle.std.proofs.Common.{◌≡◌, ℕ, ◌<◌, ◌≤◌, ◌≢◌, List, length, get_or, set, Option, Some, None, IsSome, IfSome, is_some, refl, sym, ap, ◌∙◌, subst, arith, ⊎_elim}
+use Rattle.std.proofs.Common.{◌≡◌, ℕ, ◌+◌, ◌<◌, ◌≤◌, ◌≢◌, List, length, get_or, set, Option, Some, None, IsSome, IfSome, is_some, refl, sym, ap, ◌∙◌, subst, arith, ⊎_elim}
 use Rattle.std.specs.Option.{unwrap_or}
 use Rattle.std.proofs.Math.Logic.{∥∥₁_elim}
 use Rattle.std.proofs.Props.{props}
 use Rattle.std.specs.FinMap as map
+use Rattle.std.specs.Prelude.{count_by}
+use Rattle.std.proofs.lemmas.List.{length-map, get_or_read}
 use Rattle.rb_timer.specs.Content.{IsLeast}
-use Rattle.rb_timer.specs.Slots.{content_of, get-content_of, content_empty}
+use Rattle.rb_timer.specs.Slots.{content_of, get-content_of, content_empty, content_of-insert, content_of-remove}
 use Rattle.rb_pairing.specs.declared.node.Node.{Node}
-use Rattle.rb_pairing.specs.Nodes.{expiry_of, previous_of, expiries, moment_of}
-use Rattle.rb_pairing.specs.Forest.{Forest, IsTop, IsTree}
+use Rattle.rb_pairing.specs.Nodes.{vacant, expiry_of, previous_of, expiries, moment_of}
+use Rattle.rb_pairing.specs.Forest.{IsTop, IsTree}
 use Rattle.rb_pairing.specs.Changes.{Melds}
 use Rattle.rb_pairing.proofs.Ancestors.{climbs}
+use Rattle.rb_pairing.proofs.Entries.{count_added, count_removed}
+use Rattle.rb_pairing.proofs.InRoom.{in_room-expiry}
 use Rattle.rb_pairing.proofs.Expiries.{get_or-expiries, same_expiry}
 use Rattle.rb_pairing.proofs.LinkTests.{cases_link, is_some-unless, none_as}
 
@@ -29,6 +33,48 @@ some_moment nodes slot (Some moment) is some =
 pub expiry_is : (nodes : List Node) (slot : ℕ) → IsSome (expiry_of nodes slot)
     → expiry_of nodes slot ≡ Some (moment_of nodes slot)
 expiry_is nodes slot some = some_moment nodes slot (expiry_of nodes slot) refl some
+
+-- a slot with an entry in the content has one in the nodes
+pub present-content : (nodes : List Node) (slot : ℕ)
+    → IsSome (map.get (content_of (expiries nodes)) slot) → IsSome (expiry_of nodes slot)
+present-content nodes slot present = ap is_some (sym (get-content nodes slot)) ∙ present
+
+-- the node that was read at such a slot is the slot's
+pub expiry_read : (nodes : List Node) (slot : ℕ) (read : Node) → IsSome (expiry_of nodes slot)
+    → read ≡ get_or nodes slot read → read.expiry ≡ expiry_of nodes slot
+expiry_read nodes slot read present is =
+    ap (λ (node : Node). node.expiry) (get_or_read nodes slot read (in_room-expiry nodes slot present) is vacant)
+
+module _ (nodes new : List Node) (slot : ℕ) where
+  -- an expiry written at a slot is an entry added
+  module _ (expiry : ℕ) (within : slot < length nodes) (row : expiries new ≡ set (expiries nodes) slot (Some expiry)) where
+    row_within : slot < length (expiries nodes)
+    row_within = omega (arith, length-map nodes (λ (node : Node). node.expiry))
+
+    pub content-added : content_of (expiries new) ≡ map.insert (content_of (expiries nodes)) slot expiry
+    content-added = ap content_of row ∙ content_of-insert (expiries nodes) slot expiry row_within
+
+    pub count-added : expiry_of nodes slot ≡ None
+        → count_by is_some (expiries new) ≡ count_by is_some (expiries nodes) + 1
+    count-added free =
+        ap (count_by is_some) row
+        ∙ count_added (expiries nodes) slot expiry row_within (get_or-expiries nodes slot ∙ free)
+
+  -- none written there is an entry taken out
+  module _ (present : IsSome (expiry_of nodes slot)) (row : expiries new ≡ set (expiries nodes) slot None) where
+    present_within : slot < length (expiries nodes)
+    present_within =
+        let within = in_room-expiry nodes slot present in
+        omega (arith, length-map nodes (λ (node : Node). node.expiry))
+
+    pub content-removed : content_of (expiries new) ≡ map.remove (content_of (expiries nodes)) slot
+    content-removed = ap content_of row ∙ content_of-remove (expiries nodes) slot present_within
+
+    pub count-removed : count_by is_some (expiries new) + 1 ≡ count_by is_some (expiries nodes)
+    count-removed =
+        ap (λ row. count_by is_some row + 1) row
+        ∙ count_removed (expiries nodes) slot (moment_of nodes slot) present_within
+        (get_or-expiries nodes slot ∙ expiry_is nodes slot present)
 
 module _ (nodes : List Node) (root : Option ℕ) (tree : IsTree nodes root) where
   none_above : root ≡ None → (slot : ℕ) → expiry_of nodes slot ≢ None → ⊥

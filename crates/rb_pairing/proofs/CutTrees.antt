@@ -1,10 +1,10 @@
 -- Trees after one is cut out of its row: it stands alone, and the others lie as trees still.
-use Rattle.std.proofs.Common.{◌≡◌, ℕ, ◌<◌, ◌≤◌, ◌≢◌, List, length, Option, Some, None, IsSome, is_some, refl, sym, ap, ◌∙◌, subst, arith, ⊎_elim}
+use Rattle.std.proofs.Common.{◌≡◌, ℕ, ◌<◌, ◌≤◌, ◌≢◌, List, length, Some, None, is_some, sym, ap, ◌∙◌, arith, ⊎_elim}
 use Rattle.std.proofs.Math.Logic.{∥∥₁_map}
 use Rattle.std.proofs.lemmas.Bool.{cases_eq}
 use Rattle.rb_pairing.specs.declared.node.Node.{Node}
-use Rattle.rb_pairing.specs.Nodes.{expiry_of, child_of, next_of, previous_of, expiries, moment_of}
-use Rattle.rb_pairing.specs.Forest.{HasNoLinks, IsForest, Forest, IsLinked}
+use Rattle.rb_pairing.specs.Nodes.{expiry_of, child_of, next_of, previous_of, moment_of}
+use Rattle.rb_pairing.specs.Forest.{HasNoLinks, IsForest, IsLinked}
 use Rattle.rb_pairing.specs.Changes.{Cuts}
 use Rattle.rb_pairing.proofs.Expiries.{same_expiry, same_moment, same_length}
 use Rattle.rb_pairing.proofs.LinkTests.{cases_link, is_some-unless}

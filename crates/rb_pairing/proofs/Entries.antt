@@ -1,5 +1,5 @@
 -- Trees after an entry is written, or taken away, at a slot with no links.
-use Rattle.std.proofs.Common.{◌≡◌, ℕ, ◌+◌, ◌<◌, ◌≤◌, ◌≢◌, List, length, set, Option, Some, None, IsSome, is_some, cond, refl, sym, ap, ◌∙◌, arith, ⊎_elim, get_or, length-set}
+use Rattle.std.proofs.Common.{◌≡◌, ℕ, ◌+◌, ◌<◌, ◌≤◌, ◌≢◌, List, length, set, Option, Some, None, is_some, cond, refl, sym, ap, ◌∙◌, arith, ⊎_elim, get_or, length-set}
 use Rattle.std.specs.Prelude.{count_by}
 use Rattle.std.specs.Option.{unwrap_or}
 use Rattle.std.proofs.lemmas.Bool.{cases_eq}

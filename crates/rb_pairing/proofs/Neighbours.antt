@@ -1,10 +1,10 @@
 -- Two neighbours of a row, one of which is put under the other.
-use Rattle.std.proofs.Common.{◌≡◌, ℕ, ◌<◌, ◌≤◌, ◌≢◌, List, length, Option, Some, None, IsSome, is_some, true, min, max, refl, sym, ap, ◌∙◌, subst, arith, ⊎_elim}
+use Rattle.std.proofs.Common.{◌≡◌, ℕ, ◌<◌, ◌≢◌, List, length, Some, IsSome, is_some, true, min, max, refl, sym, ap, ◌∙◌, subst, arith, ⊎_elim}
 use Rattle.std.proofs.lemmas.Bool.{cases_eq}
 use Rattle.rb_pairing.specs.declared.node.Node.{Node}
-use Rattle.rb_pairing.specs.Nodes.{expiry_of, child_of, next_of, previous_of, expiries, moment_of}
-use Rattle.rb_pairing.specs.Forest.{IsForest, IsTop}
-use Rattle.rb_pairing.specs.Changes.{Cuts, Adopts, Moves, Joins}
+use Rattle.rb_pairing.specs.Nodes.{expiry_of, child_of, next_of, previous_of, expiries}
+use Rattle.rb_pairing.specs.Forest.{IsForest}
+use Rattle.rb_pairing.specs.Changes.{Moves, Joins}
 use Rattle.rb_pairing.proofs.Expiries.{same_expiry, same_moment, same_length}
 use Rattle.rb_pairing.proofs.LinkTests.{is_some-unless}
 use Rattle.rb_pairing.proofs.CutTrees.{cut_forest, cut_tops}

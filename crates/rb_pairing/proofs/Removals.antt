@@ -1,14 +1,13 @@
 -- The nodes while an entry is removed: its children are taken, it is cut out, and its slot is vacated.
-use Rattle.std.proofs.Common.{◌≡◌, ℕ, ◌<◌, ◌≤◌, ◌≢◌, List, length, set, Option, Some, None, IsSome, is_some, refl, sym, ap, ◌∙◌, arith, ⊎_elim}
+use Rattle.std.proofs.Common.{◌≡◌, ℕ, ◌<◌, ◌≢◌, List, length, Option, Some, None, is_some, sym, ap, ◌∙◌, ⊎_elim}
 use Rattle.std.proofs.Math.Logic.{∥∥₁_elim, ∥∥₁_map}
 use Rattle.std.proofs.Props.{props}
-use Rattle.std.proofs.lemmas.Bool.{cases_eq}
 use Rattle.rb_pairing.specs.declared.node.Node.{Node}
-use Rattle.rb_pairing.specs.Nodes.{node_at, expiry_of, child_of, next_of, previous_of, expiries}
-use Rattle.rb_pairing.specs.Forest.{HasNoLinks, IsForest, Forest, IsLinked, IsTop, IsTree}
+use Rattle.rb_pairing.specs.Nodes.{expiry_of, previous_of}
+use Rattle.rb_pairing.specs.Forest.{HasNoLinks, IsLinked, IsTop, IsTree}
 use Rattle.rb_pairing.specs.Changes.{Cuts, TakesChildren}
 use Rattle.rb_pairing.proofs.CutTrees.{cut_tops, linked_after_cut}
-use Rattle.rb_pairing.proofs.Entries.{entry, written, expiry_here, expiry_elsewhere, same_previous, written_forest}
+use Rattle.rb_pairing.proofs.Entries.{written, expiry_here, expiry_elsewhere, same_previous, written_forest}
 use Rattle.rb_pairing.proofs.Expiries.{same_expiry, same_length}
 use Rattle.rb_pairing.proofs.LinkTests.{cases_link, none_as}
 

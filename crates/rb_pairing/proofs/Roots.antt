@@ -1,10 +1,10 @@
 -- Two trees made one.
-use Rattle.std.proofs.Common.{◌≡◌, ℕ, ◌<◌, ◌≤◌, ◌≢◌, ◌⊎◌, List, length, Option, Some, None, IsSome, is_some, refl, sym, ap, ◌∙◌, subst, arith}
+use Rattle.std.proofs.Common.{◌≡◌, ℕ, ◌≤◌, ◌≢◌, List, length, Some, None, is_some, refl, sym, ap, ◌∙◌, subst}
 use Rattle.std.proofs.Math.Logic.{∥∥₁_elim, ∥∥₁_map}
 use Rattle.std.proofs.Props.{props}
 use Rattle.rb_pairing.specs.declared.node.Node.{Node}
-use Rattle.rb_pairing.specs.Nodes.{expiry_of, child_of, next_of, previous_of, expiries, moment_of}
-use Rattle.rb_pairing.specs.Forest.{Forest, IsForest, IsLinked, IsTop}
+use Rattle.rb_pairing.specs.Nodes.{previous_of, moment_of}
+use Rattle.rb_pairing.specs.Forest.{IsLinked, IsTop}
 use Rattle.rb_pairing.specs.Changes.{Adopts, Melds}
 use Rattle.rb_pairing.proofs.Expiries.{same_expiry, same_length}
 use Rattle.rb_pairing.proofs.Steps.{not_before_itself}

@@ -1,14 +1,13 @@
 -- A row while its entries are joined.
-use Rattle.std.proofs.Common.{◌≡◌, ℕ, ◌+◌, ◌<◌, ◌≤◌, ◌≢◌, List, length, Option, Some, None, IsSome, is_some, true, refl, sym, ap, ◌∙◌, arith}
+use Rattle.std.proofs.Common.{◌≡◌, ℕ, ◌+◌, ◌<◌, ◌≤◌, ◌≢◌, List, length, Some, is_some, refl, sym, ap, ◌∙◌, arith}
 use Rattle.std.proofs.Math.Logic.{∥∥₁_elim, ∥∥₁_map}
 use Rattle.std.proofs.Props.{props}
 use Rattle.rb_pairing.specs.declared.node.Node.{Node}
-use Rattle.rb_pairing.specs.Nodes.{expiry_of, child_of, next_of, previous_of, expiries}
-use Rattle.rb_pairing.specs.Forest.{IsForest, Forest, IsLinked, Row, IsInRow}
+use Rattle.rb_pairing.specs.Nodes.{child_of, next_of, previous_of}
+use Rattle.rb_pairing.specs.Forest.{Forest, IsLinked, Row}
 use Rattle.rb_pairing.specs.Changes.{Joins, Relinks}
 use Rattle.rb_pairing.proofs.Expiries.{same_length}
 use Rattle.rb_pairing.proofs.InRoom.{in_room-row}
-use Rattle.rb_pairing.proofs.LinkTests.{cases_link}
 use Rattle.rb_pairing.proofs.Neighbours.{Joined, joined}
 
 -- an entry of the row under `parent` with so many ranks below its own

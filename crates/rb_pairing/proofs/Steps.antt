@@ -1,5 +1,5 @@
 -- Single writes, taken together: a cut, and an entry put under another.
-use Rattle.std.proofs.Common.{◌≡◌, ℕ, ◌<◌, ◌≢◌, List, Option, Some, None, sym, ap, ◌∙◌, arith, ⊎_elim}
+use Rattle.std.proofs.Common.{◌≡◌, ℕ, ◌≢◌, List, Some, None, sym, ap, ◌∙◌, arith, ⊎_elim}
 use Rattle.rb_pairing.specs.declared.node.Node.{Node}
 use Rattle.rb_pairing.specs.Nodes.{child_of, next_of, previous_of}
 use Rattle.rb_pairing.specs.Forest.{IsForest}

@@ -1,9 +1,10 @@
 -- The nodes after one of them is written.
-use Rattle.std.proofs.Common.{◌≡◌, ℕ, ◌<◌, ◌≢◌, List, length, set, Option, Some, refl, sym, ap, ◌∙◌, subst, ⊎_elim, get_or-set_same, get_or-set_other}
+use Rattle.std.proofs.Common.{◌≡◌, ℕ, ◌<◌, ◌≢◌, List, ◌++◌, take, drop, length, set, Option, Some, refl, sym, ap, ◌∙◌, subst, ⊎_elim, get_or-set_same, get_or-set_other}
 use Rattle.std.proofs.Math.Seq.{map-set_same}
 use Rattle.std.proofs.lemmas.Bool.{cases_eq}
+use Rattle.std.proofs.lemmas.List.{take_at}
 use Rattle.rb_pairing.specs.declared.node.Node.{Node}
-use Rattle.rb_pairing.specs.Nodes.{vacant, node_at, expiry_of, child_of, next_of, previous_of, expiries}
+use Rattle.rb_pairing.specs.Nodes.{vacant, node_at, expiry_of, child_of, next_of, expiries}
 use Rattle.rb_pairing.specs.Changes.{SetsPrevious, SetsLink, SetsPlace, SetsChild}
 
 -- what holds at a slot and at each other one holds at each
@@ -11,6 +12,11 @@ pub each_slot : (P : ℕ → Type 0) (slot : ℕ) → P slot → ((other : ℕ) 
     → (other : ℕ) → P other
 each_slot P slot here elsewhere other =
     ⊎_elim (λ same. subst P (sym same) here) (elsewhere other) (cases_eq other slot)
+
+-- what a vector has after the whole of it was lent as a slice
+pub written_back : (n : ℕ) (new old : List Node) → length new ≡ n
+    → take n (new ++ drop (length new) old) ≡ new
+written_back n new old long = take_at new (drop (length new) old) n long
 
 module _ (nodes : List Node) (slot : ℕ) (node : Node) (within : slot < length nodes) where
   pub here : node_at (set nodes slot node) slot ≡ node

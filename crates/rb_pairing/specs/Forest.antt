@@ -1,8 +1,8 @@
 -- How the entries hang together: trees whose links agree both ways, and where no entry expires
 -- before its parent.
-use Rattle.std.specs.Prelude.{◌≡◌, ℕ, ◌<◌, ◌≤◌, ◌≢◌, List, length, Option, Some, None, IsSome, is_some, count_by}
+use Rattle.std.specs.Prelude.{◌≡◌, ℕ, ◌<◌, ◌≤◌, ◌≢◌, List, length, Option, Some, None, IsSome}
 use Rattle.rb_pairing.specs.declared.node.Node.{Node}
-use Rattle.rb_pairing.specs.Nodes.{expiry_of, child_of, next_of, previous_of, expiries, moment_of}
+use Rattle.rb_pairing.specs.Nodes.{expiry_of, child_of, next_of, previous_of, moment_of}
 
 -- the slot links to no other
 pub record HasNoLinks (nodes : List Node) (slot : ℕ) : Type 0 where

@@ -6,7 +6,12 @@ use crate::links::{cut, meld, take_children};
 use crate::node::Node;
 
 /// Adds an entry to the tree at a slot that has none, and gives the root then.
-pub(crate) fn add(nodes: &mut [Node], root: Option<usize>, slot: usize, expiry: u64) -> Option<usize>
+pub(crate) fn add(
+    nodes: &mut [Node],
+    root: Option<usize>,
+    slot: usize,
+    expiry: u64,
+) -> Option<usize>
     requires tree { IsTree nodes.old root }
     requires in_room { slot < length nodes.old }
     requires absent { expiry_of nodes.old slot ≡ None }

@@ -1,9 +1,7 @@
-use Rattle.std.proofs.Common.{◌<◌, length, arith}
 use Rattle.std.proofs.Math.Logic.{∥∥₁_elim}
 use Rattle.std.proofs.Props.{props}
 use Rattle.rb_pairing.proofs.InRoom.{child_in_room}
 use Rattle.rb_pairing.proofs.Steps.{adopts}
-use Rattle.rb_pairing.proofs.AdoptedTrees.{adopted_forest}
 use Rattle.rb_pairing.proofs.links.adopt.Goals as goal
 
 pub set_previous-requires : goal.set_previous-requires

@@ -1,10 +1,10 @@
 -- Both neighbours have an entry, and the later is cut out before it is put under the other.
-use Rattle.std.proofs.Common.{◌<◌, ◌≤◌, IsSome, length, inl, inr, refl, arith}
+use Rattle.std.proofs.Common.{◌<◌, ◌≤◌, length, inl, inr, refl, arith}
 use Rattle.std.proofs.Math.Logic.{∥∥₁_elim}
 use Rattle.std.proofs.Props.{props}
-use Rattle.rb_pairing.specs.Nodes.{expiry_of, moment_of}
+use Rattle.rb_pairing.specs.Nodes.{moment_of}
 use Rattle.rb_pairing.proofs.CutTrees.{linked_after_cut}
-use Rattle.rb_pairing.proofs.InRoom.{in_room-next, next_in_room}
+use Rattle.rb_pairing.proofs.InRoom.{next_in_room}
 use Rattle.rb_pairing.proofs.Neighbours.{present-next, present-previous}
 use Rattle.rb_pairing.proofs.links.join.Goals as goal
 

@@ -2,7 +2,7 @@
 use Rattle.std.proofs.Common.{rules, ◌≡◌, ◌∙◌, ◌<◌, Some, length, sym, arith}
 use Rattle.std.proofs.Math.Logic.{∥∥₁_elim, ∥∥₁_map}
 use Rattle.std.proofs.Props.{props}
-use Rattle.rb_pairing.specs.Nodes.{child_of, next_of}
+use Rattle.rb_pairing.specs.Nodes.{next_of}
 use Rattle.rb_pairing.proofs.LinkTests.{link_is_not}
 use Rattle.rb_pairing.proofs.Rows.{relinks_none, relinks_more, relinks_join, next_join, row_within, rank_within, rank_to, neighbour}
 use Rattle.rb_pairing.proofs.links.join_back.Goals as goal

@@ -1,5 +1,5 @@
 -- What is left of the children is made one with the rest.
-use Rattle.std.proofs.Common.{rules, ◌≡◌, ◌<◌, length, None, Some, MatchOption, not, eqb, ap, sym, ◌∙◌, arith}
+use Rattle.std.proofs.Common.{rules, ◌≡◌, ◌<◌, length, None, MatchOption, not, eqb, ap, ◌∙◌, arith}
 use Rattle.std.proofs.Math.ListN.{set}
 use Rattle.std.specs.Bool.{then_some}
 use Rattle.rb_pairing.proofs.Contents.{melded_tree}
