@@ -121,14 +121,14 @@ pub(crate) fn meld(nodes: &mut [Node], one: Option<usize>, other: Option<usize>)
     requires apart { (slot : ℕ) → one ≡ Some slot → other ≢ Some slot }
     ensures { Melds nodes.old nodes.new one other result }
 {
-    let (Some(left), Some(right)) = (one, other) else {
+    let (Some(first), Some(second)) = (one, other) else {
         return one.or(other);
     };
-    if is_earlier(nodes, right, left) {
-        adopt(nodes, right, left);
+    if is_earlier(nodes, second, first) {
+        adopt(nodes, second, first);
         other
     } else {
-        adopt(nodes, left, right);
+        adopt(nodes, first, second);
         one
     }
 }
