@@ -13,7 +13,7 @@ module _ (nodes : List Node) (slot expiry : ℕ) (root : Option ℕ) (tree : IsT
   abbrev added : List Node
   added = written nodes slot (Some expiry) within
 
-  free : HasNoLinks nodes slot
+  pub free : HasNoLinks nodes slot
   free = ∥∥₁_elim tree.linked (hlevel props) (λ forest. forest.is_forest.vacant slot absent)
 
   pub added_linked : IsLinked added

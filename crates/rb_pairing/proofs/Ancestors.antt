@@ -15,6 +15,14 @@ pub record Climbs (nodes : List Node) (parent : ℕ → ℕ) (root : Option ℕ)
       → moment_of nodes top ≤ moment_of nodes (parent slot)
 
 module _ (nodes : List Node) (parent rank : ℕ → ℕ) (forest : IsForest nodes parent rank) where
+  -- what comes before an entry is an entry
+  pub present_before : (slot before : ℕ) → previous_of nodes slot ≡ Some before
+      → IsSome (expiry_of nodes before)
+  present_before slot before back =
+      ⊎_elim (present-child nodes parent rank forest before slot)
+      (λ off. present-next nodes parent rank forest before slot (forest.linked slot before back off))
+      (cases_link (child_of nodes before) slot)
+
   module _ (root : Option ℕ) (only : (slot : ℕ) → IsTop nodes slot → root ≡ Some slot) where
     -- an entry in no row is the root
     from_top : (slot : ℕ) → IsSome (expiry_of nodes slot) → previous_of nodes slot ≡ None
@@ -45,13 +53,6 @@ module _ (nodes : List Node) (parent rank : ℕ → ℕ) (forest : IsForest node
           least = omega arith;
           least_above = λ some. above;
         }
-
-    present_before : (slot before : ℕ) → previous_of nodes slot ≡ Some before
-        → IsSome (expiry_of nodes before)
-    present_before slot before back =
-        ⊎_elim (present-child nodes parent rank forest before slot)
-        (λ off. present-next nodes parent rank forest before slot (forest.linked slot before back off))
-        (cases_link (child_of nodes before) slot)
 
     climbs_within : (fuel slot : ℕ) (link : Option ℕ) → previous_of nodes slot ≡ link → rank slot < fuel
         → IsSome (expiry_of nodes slot) → Climbs nodes parent root slot

@@ -17,7 +17,7 @@ module _ (old between cut : List Node) (slot : ℕ) (root below : Option ℕ) (t
   abbrev vacated : List Node
   vacated = written cut slot None within
 
-  free : HasNoLinks cut slot
+  pub free : HasNoLinks cut slot
   free = record {
     child = cuts.child_stays slot (λ is. let none = takes.childless in cc) ∙ takes.childless;
     next = cuts.next_own;

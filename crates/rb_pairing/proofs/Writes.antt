@@ -1,8 +1,8 @@
 -- The nodes after one of them is written.
-use Rattle.std.proofs.Common.{◌≡◌, ℕ, ◌<◌, ◌≢◌, List, ◌++◌, take, drop, length, set, Option, Some, refl, sym, ap, ◌∙◌, subst, ⊎_elim, get_or-set_same, get_or-set_other}
+use Rattle.std.proofs.Common.{◌≡◌, ℕ, ◌<◌, ◌≢◌, List, ◌++◌, take, drop, length, set, get_or, Option, Some, refl, sym, ap, ◌∙◌, subst, ⊎_elim, get_or-set_same, get_or-set_other}
 use Rattle.std.proofs.Math.Seq.{map-set_same}
 use Rattle.std.proofs.lemmas.Bool.{cases_eq}
-use Rattle.std.proofs.lemmas.List.{take_at}
+use Rattle.std.proofs.lemmas.List.{take_at, get_or_default}
 use Rattle.rb_pairing.specs.declared.node.Node.{Node}
 use Rattle.rb_pairing.specs.Nodes.{vacant, node_at, expiry_of, child_of, next_of, expiries}
 use Rattle.rb_pairing.specs.Changes.{SetsPrevious, SetsLink, SetsPlace, SetsChild}
@@ -40,6 +40,10 @@ module _ (nodes : List Node) (slot : ℕ) (node : Node) (within : slot < length 
 module _ (nodes : List Node) (slot : ℕ) (within : slot < length nodes) where
   abbrev old : Node
   old = node_at nodes slot
+
+  -- the node that is read there
+  pub read_at : (read : Node) → get_or nodes slot read ≡ node_at nodes slot
+  read_at read = get_or_default nodes slot read vacant within
 
   abbrev with_previous : Option ℕ → Node
   with_previous previous = record old { previous = previous }

@@ -1,3 +1,5 @@
+pub mod Fields
+pub mod Words
 pub mod Nodes
 pub mod Forest
 pub mod Changes

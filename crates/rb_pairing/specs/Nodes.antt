@@ -1,5 +1,5 @@
 -- What the nodes of a pairing timer say of each slot: its entry's expiry, and the entry's links.
-use Rattle.std.specs.Prelude.{ℕ, List, map, Option, None, slice_index_or}
+use Rattle.std.specs.Prelude.{ℕ, List, map, Option, None, slice_index_or, slice_set}
 use Rattle.std.specs.Option.{unwrap_or}
 use Rattle.rb_pairing.specs.declared.node.Node.{Node}
 
@@ -34,3 +34,7 @@ expiries nodes = map (λ (node : Node). node.expiry) nodes
 -- the expiry as a number, to compare those of two entries
 abbrev pub moment_of : List Node → ℕ → ℕ
 moment_of nodes slot = unwrap_or (expiry_of nodes slot) 0
+
+-- the nodes with that expiry, or none, at the slot
+abbrev pub with_expiry : List Node → ℕ → Option ℕ → List Node
+with_expiry nodes slot expiry = slice_set nodes slot (record (node_at nodes slot) { expiry = expiry })

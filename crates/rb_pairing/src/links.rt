@@ -3,7 +3,8 @@ ghost use Rattle.rb_pairing.specs.Nodes.{expiry_of, child_of, next_of, previous_
 ghost use Rattle.rb_pairing.specs.Forest.{IsLinked, IsTop, IsInRow};
 ghost use Rattle.rb_pairing.specs.Changes.{Cuts, Adopts, Joins, Relinks, TakesChildren, Melds};
 
-use crate::node::{Node, set_child, set_link, set_place, set_previous};
+use crate::node::{Node, child_at, expiry_at, next_at, previous_at};
+use crate::node::{set_child, set_link, set_place, set_previous};
 
 /// Takes the entry, with all that hang under it, out of its row, if it is in one.
 pub(crate) fn cut(nodes: &mut [Node], slot: usize)
@@ -11,7 +12,8 @@ pub(crate) fn cut(nodes: &mut [Node], slot: usize)
     requires in_room { slot < length nodes.old }
     ensures { Cuts nodes.old nodes.new slot }
 {
-    let Node { next, previous, .. } = nodes[slot];
+    let next = next_at(nodes, slot);
+    let previous = previous_at(nodes, slot);
     set_previous(nodes, next, previous);
     set_link(nodes, previous, slot, next);
     set_place(nodes, slot, None, None);
@@ -21,11 +23,11 @@ pub(crate) fn cut(nodes: &mut [Node], slot: usize)
 fn adopt(nodes: &mut [Node], parent: usize, slot: usize)
     requires linked { IsLinked nodes.old }
     requires in_room { slot < length nodes.old }
-    requires parent_in_room { parent < length nodes.old }
+    requires present { IsSome (expiry_of nodes.old parent) }
     requires alone { previous_of nodes.old slot ≡ None }
     ensures { Adopts nodes.old nodes.new parent slot }
 {
-    let first = nodes[parent].child;
+    let first = child_at(nodes, parent);
     set_previous(nodes, first, Some(slot));
     set_place(nodes, slot, Some(parent), first);
     set_child(nodes, parent, slot);
@@ -37,7 +39,7 @@ fn is_earlier(nodes: &[Node], right: usize, left: usize) -> bool
     requires left { IsSome (expiry_of nodes.now left) }
     ensures { IsTrue result ↔ (moment_of nodes.now right < moment_of nodes.now left) }
 {
-    nodes[right].expiry.unwrap() < nodes[left].expiry.unwrap()
+    expiry_at(nodes, right).unwrap() < expiry_at(nodes, left).unwrap()
 }
 
 // Hangs the later of two neighbours under the other, which keeps their place in the row.
@@ -68,13 +70,13 @@ fn join_pairs(nodes: &mut [Node], parent: usize) -> Option<usize>
     ensures row { IfSome result (λ last. IsInRow nodes.new parent last) }
     ensures last { IfSome result (λ last. next_of nodes.new last ≡ None) }
 {
-    let mut last = nodes[parent].child?;
+    let mut last = child_at(nodes, parent)?;
     'pairs: for _ in 0..nodes.len() {
-        let Some(right) = nodes[last].next else {
+        let Some(right) = next_at(nodes, last) else {
             return Some(last);
         };
         last = join(nodes, last, right);
-        let Some(next) = nodes[last].next else {
+        let Some(next) = next_at(nodes, last) else {
             return Some(last);
         };
         last = next;
@@ -92,10 +94,10 @@ fn join_back(nodes: &mut [Node], parent: usize, mut last: usize) -> usize
     ensures last { next_of nodes.new result ≡ None }
 {
     'back: for _ in 0..nodes.len() {
-        if nodes[parent].child == Some(last) {
+        if child_at(nodes, parent) == Some(last) {
             return last;
         }
-        let left = nodes[last].previous.unwrap();
+        let left = previous_at(nodes, last).unwrap();
         last = join(nodes, left, last);
     }
     last

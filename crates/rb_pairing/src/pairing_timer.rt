@@ -50,12 +50,12 @@ impl Timer for PairingTimer {
     }
 
     fn get(&self, slot: usize) -> Option<u64> {
-        self.nodes.get(slot)?.expiry
+        self.nodes.get(slot)?.expiry()
     }
 
     fn reserve(&mut self, wanted: usize) -> Result<(), AllocError> {
         if wanted > self.nodes.len() {
-            self.nodes.resize(wanted, Node::VACANT)?;
+            self.nodes.resize(wanted, Node::vacant())?;
         }
         Ok(())
     }
@@ -66,7 +66,7 @@ impl Timer for PairingTimer {
     }
 
     fn remove(&mut self, slot: usize) -> u64 {
-        let expiry = self.nodes[slot].expiry.unwrap();
+        let expiry = self.nodes[slot].expiry().unwrap();
         self.root = take_out(&mut self.nodes, self.root, slot);
         self.len -= 1;
         expiry
@@ -74,7 +74,7 @@ impl Timer for PairingTimer {
 
     fn least(&self) -> Option<(usize, u64)> {
         let root = self.root?;
-        Some((root, self.nodes[root].expiry.unwrap()))
+        Some((root, self.nodes[root].expiry().unwrap()))
     }
 
     fn due(&mut self, now: u64) -> Option<(usize, u64)> {
@@ -82,7 +82,7 @@ impl Timer for PairingTimer {
     }
 
     fn clear(&mut self) {
-        self.nodes.fill(Node::VACANT);
+        self.nodes.fill(Node::vacant());
         self.root = None;
         self.len = 0;
     }

@@ -3,7 +3,7 @@ ghost use Rattle.rb_pairing.specs.Nodes.{expiry_of, expiries};
 ghost use Rattle.rb_pairing.specs.Forest.{IsTree};
 
 use crate::links::{cut, meld, take_children};
-use crate::node::Node;
+use crate::node::{Node, occupy, vacate};
 
 /// Adds an entry to the tree at a slot that has none, and gives the root then.
 pub(crate) fn add(
@@ -18,7 +18,7 @@ pub(crate) fn add(
     ensures tree { IsTree nodes.new result }
     ensures expiries { expiries nodes.new ≡ slice_set (expiries nodes.old) slot (Some expiry) }
 {
-    nodes[slot].expiry = Some(expiry);
+    occupy(nodes, slot, expiry);
     meld(nodes, root, Some(slot))
 }
 
@@ -31,7 +31,7 @@ pub(crate) fn take_out(nodes: &mut [Node], root: Option<usize>, slot: usize) -> 
 {
     let below = take_children(nodes, slot);
     cut(nodes, slot);
-    nodes[slot].expiry = None;
+    vacate(nodes, slot);
     let rest = root.filter(|&root| root != slot);
     meld(nodes, rest, below)
 }

@@ -1,9 +1,10 @@
 -- Both neighbours have an entry, and the later is cut out before it is put under the other.
-use Rattle.std.proofs.Common.{◌<◌, ◌≤◌, length, inl, inr, refl, arith}
+use Rattle.std.proofs.Common.{◌<◌, ◌≤◌, ◌∙◌, is_some, ap, length, inl, inr, refl, arith}
 use Rattle.std.proofs.Math.Logic.{∥∥₁_elim}
 use Rattle.std.proofs.Props.{props}
 use Rattle.rb_pairing.specs.Nodes.{moment_of}
 use Rattle.rb_pairing.proofs.CutTrees.{linked_after_cut}
+use Rattle.rb_pairing.proofs.Expiries.{same_expiry}
 use Rattle.rb_pairing.proofs.InRoom.{next_in_room}
 use Rattle.rb_pairing.proofs.Neighbours.{present-next, present-previous}
 use Rattle.rb_pairing.proofs.links.join.Goals as goal
@@ -29,12 +30,19 @@ cut-requires-else-is_earlier-clause-in_room c =
 pub adopt-requires-clause-linked : goal.adopt-requires-clause-linked
 adopt-requires-clause-linked c = linked_after_cut _ _ _ c.requires.linked c.cut.ensures
 
-pub adopt-requires-clause-parent_in_room : goal.adopt-requires-clause-parent_in_room
-adopt-requires-clause-parent_in_room c =
-    ∥∥₁_elim c.requires.linked (hlevel props)
-    (λ forest. let within : c.args.right < length c.args.nodes.now =
-    next_in_room c.args.nodes.now forest.parent forest.rank forest.is_forest c.args.left c.args.right
-    c.requires.neighbours in omega arith)
+pub adopt-requires-clause-present : goal.adopt-requires-clause-present
+adopt-requires-clause-present c =
+    ap is_some (same_expiry c.args.nodes.now c.cut.new.nodes c.cut.ensures.expiries c.args.right)
+    ∙ ∥∥₁_elim c.requires.linked (hlevel props)
+    (λ forest. present-previous c.args.nodes.now forest.parent forest.rank forest.is_forest c.args.right c.args.left
+    (forest.is_forest.next_back c.args.left c.args.right c.requires.neighbours))
+
+pub adopt-requires-else-is_earlier-clause-present : goal.adopt-requires-else-is_earlier-clause-present
+adopt-requires-else-is_earlier-clause-present c =
+    ap is_some (same_expiry c.args.nodes.now c.cut-else-is_earlier.new.nodes c.cut-else-is_earlier.ensures.expiries c.args.left)
+    ∙ ∥∥₁_elim c.requires.linked (hlevel props)
+    (λ forest. present-next c.args.nodes.now forest.parent forest.rank forest.is_forest c.args.left c.args.right
+    c.requires.neighbours)
 
 pub adopt-requires-else-is_earlier-clause-linked : goal.adopt-requires-else-is_earlier-clause-linked
 adopt-requires-else-is_earlier-clause-linked c =

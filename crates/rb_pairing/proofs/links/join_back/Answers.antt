@@ -1,5 +1,5 @@
 -- The last two neighbours are joined, and the one that stays has a lower rank.
-use Rattle.std.proofs.Common.{rules, ◌≡◌, ◌∙◌, ◌<◌, Some, length, sym, arith}
+use Rattle.std.proofs.Common.{rules, ◌≡◌, ◌∙◌, ◌<◌, Some, is_some, ap, length, sym, arith}
 use Rattle.std.proofs.Math.Logic.{∥∥₁_elim, ∥∥₁_map}
 use Rattle.std.proofs.Props.{props}
 use Rattle.rb_pairing.specs.Nodes.{next_of}
@@ -15,30 +15,27 @@ back-init c = record {
   last = c.requires.last;
 }
 
-pub offset_bounds-nodes-last : goal.offset_bounds-nodes-last
-offset_bounds-nodes-last c =
-    let within : c.back.last < length c.back.nodes =
-    ∥∥₁_elim c.back.invariant.row (hlevel props) (λ to. row_within _ _ _ to.row) in
-    search rules
-
-pub bounds-nodes-last : goal.bounds-nodes-last
-bounds-nodes-last c = ∥∥₁_elim c.back.invariant.row (hlevel props) (λ to. row_within _ _ _ to.row)
+pub previous_at-requires : goal.previous_at-requires
+previous_at-requires c = ∥∥₁_elim c.back.invariant.row (hlevel props) (λ to. row_within _ _ _ to.row)
 
 pub unwrap-left-requires : goal.unwrap-left-requires
-unwrap-left-requires c = ∥∥₁_elim c.back.invariant.row (hlevel props) (λ to. to.row.in_row)
+unwrap-left-requires c = ∥∥₁_elim c.back.invariant.row (hlevel props)
+    (λ to. ap is_some c.previous_at.ensures ∙ to.row.in_row)
 
 pub join-last-requires-clause-neighbours : goal.join-last-requires-clause-neighbours
 join-last-requires-clause-neighbours c =
     ∥∥₁_elim c.back.invariant.row (hlevel props)
-    (λ to. neighbour c.back.nodes c.args.parent c.back.last to.row c.unwrap-left.result c.unwrap-left.ensures
-    (link_is_not _ _ (sym c.eq.ensures ∙ c.if-eq.false)))
+    (λ to. neighbour c.back.nodes c.args.parent c.back.last to.row c.unwrap-left.result
+    (sym c.previous_at.ensures ∙ c.unwrap-left.ensures)
+    (λ is. link_is_not _ _ (sym c.eq.ensures ∙ c.if-eq.false) (c.child_at.ensures ∙ is)))
 
 pub back-preserved : goal.back-preserved
 back-preserved c =
     let neighbours : next_of c.back.nodes c.unwrap-left.result ≡ Some c.back.last =
     ∥∥₁_elim c.back.invariant.row (hlevel props)
-    (λ to. neighbour c.back.nodes c.args.parent c.back.last to.row c.unwrap-left.result c.unwrap-left.ensures
-    (link_is_not _ _ (sym c.eq.ensures ∙ c.if-eq.false))) in
+    (λ to. neighbour c.back.nodes c.args.parent c.back.last to.row c.unwrap-left.result
+    (sym c.previous_at.ensures ∙ c.unwrap-left.ensures)
+    (λ is. link_is_not _ _ (sym c.eq.ensures ∙ c.if-eq.false) (c.child_at.ensures ∙ is))) in
     let linked = c.back.invariant.relinks.linked in
     record {
       relinks = relinks_more _ _ _ c.back.invariant.relinks

@@ -1,5 +1,5 @@
 -- The two neighbours are joined, and what is behind them has a higher rank.
-use Rattle.std.proofs.Common.{rules, ◌≡◌, ◌<◌, length, subst, arith}
+use Rattle.std.proofs.Common.{rules, sym, ◌∙◌, ◌≡◌, ◌<◌, length, subst, arith}
 use Rattle.std.proofs.Math.Logic.{∥∥₁_elim, ∥∥₁_map}
 use Rattle.std.proofs.Props.{props}
 use Rattle.rb_pairing.proofs.Rows.{RankFrom, relinks_none, relinks_more, relinks_join, row_of_child, row_within, row_stays, rank_from, rank_past}
@@ -15,35 +15,29 @@ pairs-init c = record {
       });
 }
 
-pub offset_bounds-nodes-last : goal.offset_bounds-nodes-last
-offset_bounds-nodes-last c =
-    let within : c.pairs.last < length c.pairs.nodes =
-    ∥∥₁_elim c.pairs.invariant.row (hlevel props) (λ from. row_within _ _ _ from.row) in
-    search rules
-
-pub bounds : goal.bounds
-bounds c = ∥∥₁_elim c.pairs.invariant.row (hlevel props) (λ from. row_within _ _ _ from.row)
+pub next_at-requires : goal.next_at-requires
+next_at-requires c = ∥∥₁_elim c.pairs.invariant.row (hlevel props) (λ from. row_within _ _ _ from.row)
 
 pub returns-in_default-clause-row : goal.returns-in_default-clause-row
 returns-in_default-clause-row c = ∥∥₁_map c.pairs.invariant.row (λ from. from.row)
 
-pub returns-in_default-next-clause-relinks : goal.returns-in_default-next-clause-relinks
-returns-in_default-next-clause-relinks c =
+pub returns-in_default-next_at-clause-relinks : goal.returns-in_default-next_at-clause-relinks
+returns-in_default-next_at-clause-relinks c =
     relinks_more _ _ _ c.pairs.invariant.relinks
-    (relinks_join _ _ _ _ _ c.in-Some.is c.join-last.ensures c.pairs.invariant.relinks.linked)
+    (relinks_join _ _ _ _ _ (sym c.next_at.ensures ∙ c.in-Some.is) c.join-last.ensures c.pairs.invariant.relinks.linked)
 
-pub returns-in_default-next-clause-row : goal.returns-in_default-next-clause-row
-returns-in_default-next-clause-row c =
+pub returns-in_default-next_at-clause-row : goal.returns-in_default-next_at-clause-row
+returns-in_default-next_at-clause-row c =
     ∥∥₁_map c.pairs.invariant.row
-    (λ from. row_stays _ _ _ _ _ c.in-Some.is c.join-last.ensures c.args.parent 0 from.row)
+    (λ from. row_stays _ _ _ _ _ (sym c.next_at.ensures ∙ c.in-Some.is) c.join-last.ensures c.args.parent 0 from.row)
 
 pub pairs-preserved : goal.pairs-preserved
 pairs-preserved c = record {
   relinks = relinks_more _ _ _ c.pairs.invariant.relinks
-      (relinks_join _ _ _ _ _ c.in-Some.is c.join-last.ensures c.pairs.invariant.relinks.linked);
+      (relinks_join _ _ _ _ _ (sym c.next_at.ensures ∙ c.in-Some.is) c.join-last.ensures c.pairs.invariant.relinks.linked);
   row = ∥∥₁_map c.pairs.invariant.row
-      (rank_from _ _ _ _ _ c.in-Some.is c.join-last.ensures c.args.parent c.pairs.counter c.in-Some-next.next
-      c.in-Some-next.is);
+      (rank_from _ _ _ _ _ (sym c.next_at.ensures ∙ c.in-Some.is) c.join-last.ensures c.args.parent c.pairs.counter c.in-Some-next_at.next
+      (sym c.next_at-in-pairs.ensures ∙ c.in-Some-next_at.is));
 }
 
 pub returns-clause-row : goal.returns-clause-row

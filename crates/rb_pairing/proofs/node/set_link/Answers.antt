@@ -1,17 +1,32 @@
 -- The link that is replaced is the one that the test finds.
-use Rattle.std.proofs.Common.{sym, ◌∙◌}
+use Rattle.std.proofs.Common.{◌<◌, length, sym, subst, ap, ◌∙◌}
+use Rattle.std.proofs.Math.ListN.{set}
+use Rattle.rb_pairing.specs.declared.node.Node.{Node}
+use Rattle.rb_pairing.specs.Changes.{SetsLink}
 use Rattle.rb_pairing.proofs.LinkTests.{link_is, link_is_not}
-use Rattle.rb_pairing.proofs.Writes.{sets_link_child, sets_link_next}
+use Rattle.rb_pairing.proofs.Writes.{read_at, sets_link_child, sets_link_next}
 use Rattle.rb_pairing.proofs.node.set_link.Goals as goal
 
 pub returns-then-eq : goal.returns-then-eq
 returns-then-eq c =
-    sets_link_child c.args.nodes.now c.in-Some.slot (c.requires c.in-Some.slot c.in-Some.is)
-    c.args.slot c.args.from c.args.to c.in-Some.is
-    (link_is _ c.args.from (sym c.eq.ensures ∙ c.if-eq.true))
+    let nodes = c.args.nodes.now in
+    let slot = c.in-Some.slot in
+    let within = c.requires.slot slot c.in-Some.is in
+    let child = sym (ap (λ (node : Node). node.child) (read_at nodes slot within _)) ∙ sym c.child.ensures in
+    subst (λ (node : Node). SetsLink nodes (set nodes slot node) c.args.slot c.args.from c.args.to)
+    (sym (c.set_child.ensures
+    ∙ ap (λ (node : Node). record node { child = c.args.to }) (read_at nodes slot within _)))
+    (sets_link_child nodes slot within c.args.slot c.args.from c.args.to c.in-Some.is
+    (child ∙ link_is _ c.args.from (sym c.eq.ensures ∙ c.if-eq.true)))
 
 pub returns-else-eq : goal.returns-else-eq
 returns-else-eq c =
-    sets_link_next c.args.nodes.now c.in-Some.slot (c.requires c.in-Some.slot c.in-Some.is)
-    c.args.slot c.args.from c.args.to c.in-Some.is
-    (link_is_not _ c.args.from (sym c.eq.ensures ∙ c.if-eq.false))
+    let nodes = c.args.nodes.now in
+    let slot = c.in-Some.slot in
+    let within = c.requires.slot slot c.in-Some.is in
+    let child = sym (ap (λ (node : Node). node.child) (read_at nodes slot within _)) ∙ sym c.child.ensures in
+    subst (λ (node : Node). SetsLink nodes (set nodes slot node) c.args.slot c.args.from c.args.to)
+    (sym (c.set_next.ensures
+    ∙ ap (λ (node : Node). record node { next = c.args.to }) (read_at nodes slot within _)))
+    (sets_link_next nodes slot within c.args.slot c.args.from c.args.to c.in-Some.is
+    (λ is. link_is_not _ c.args.from (sym c.eq.ensures ∙ c.if-eq.false) (sym child ∙ is)))
