@@ -1,7 +1,7 @@
 -- What a node says: options, each of which takes one word.
-use Rattle.std.specs.Prelude.{◌≡◌, ℕ, ◌≤◌, Option, Some, None, cond, ltb, eqb}
+use Rattle.std.specs.Prelude.{ℕ, Option, Some, None, cond, ltb}
 use Rattle.std.specs.Option.{unwrap_or}
-use Rattle.rb_pairing.specs.declared.node.TheConstants.{NONE, VACANT}
+use Rattle.rb_pairing.specs.declared.node.TheConstants.{NONE}
 
 -- the expiry of a slot's entry, if it has one, and the entry's links
 pub record Fields : Type 0 where

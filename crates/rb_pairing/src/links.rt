@@ -3,8 +3,9 @@ ghost use Rattle.rb_pairing.specs.Nodes.{expiry_of, child_of, next_of, previous_
 ghost use Rattle.rb_pairing.specs.Forest.{IsLinked, IsTop, IsInRow};
 ghost use Rattle.rb_pairing.specs.Changes.{Cuts, Adopts, Joins, Relinks, TakesChildren, Melds};
 
-use crate::node::{Node, child_at, expiry_at, next_at, previous_at};
-use crate::node::{set_child, set_link, set_place, set_previous};
+use crate::node::{
+    Node, child_at, expiry_at, next_at, previous_at, set_child, set_link, set_place, set_previous,
+};
 
 /// Takes the entry, with all that hang under it, out of its row, if it is in one.
 pub(crate) fn cut(nodes: &mut [Node], slot: usize)

@@ -67,7 +67,11 @@ impl Node {
     pub(crate) fn expiry(&self) -> Option<u64>
         ensures { result ≡ self.now.expiry }
     {
-        if self.child == VACANT { None } else { Some(self.expiry) }
+        if self.child == VACANT {
+            None
+        } else {
+            Some(self.expiry)
+        }
     }
 
     /// The first entry of the row under this one.

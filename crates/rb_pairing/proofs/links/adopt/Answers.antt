@@ -1,5 +1,5 @@
 -- What was first under the parent comes behind the slot.
-use Rattle.std.proofs.Common.{◌<◌, ◌∙◌, IsSome, is_some, length, sym, ap, arith}
+use Rattle.std.proofs.Common.{◌<◌, ◌∙◌, is_some, length, sym, ap, arith}
 use Rattle.std.proofs.Math.Logic.{∥∥₁_elim}
 use Rattle.std.proofs.Props.{props}
 use Rattle.rb_pairing.proofs.Expiries.{same_expiry}

@@ -1,8 +1,7 @@
 -- The slot's own links say which others to write.
-use Rattle.std.proofs.Common.{◌<◌, ◌∙◌, IsSome, is_some, length, sym, ap, arith}
+use Rattle.std.proofs.Common.{◌<◌, ◌∙◌, is_some, length, sym, ap, arith}
 use Rattle.std.proofs.Math.Logic.{∥∥₁_elim}
 use Rattle.std.proofs.Props.{props}
-use Rattle.rb_pairing.specs.Nodes.{expiry_of}
 use Rattle.rb_pairing.proofs.Ancestors.{present_before}
 use Rattle.rb_pairing.proofs.Expiries.{same_expiry}
 use Rattle.rb_pairing.proofs.InRoom.{next_in_room, previous_in_room}

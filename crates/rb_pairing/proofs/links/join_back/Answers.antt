@@ -1,5 +1,5 @@
 -- The last two neighbours are joined, and the one that stays has a lower rank.
-use Rattle.std.proofs.Common.{rules, ◌≡◌, ◌∙◌, ◌<◌, Some, is_some, ap, length, sym, arith}
+use Rattle.std.proofs.Common.{◌≡◌, ◌∙◌, Some, is_some, ap, sym, arith}
 use Rattle.std.proofs.Math.Logic.{∥∥₁_elim, ∥∥₁_map}
 use Rattle.std.proofs.Props.{props}
 use Rattle.rb_pairing.specs.Nodes.{next_of}

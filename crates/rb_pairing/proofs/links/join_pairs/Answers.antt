@@ -1,5 +1,5 @@
 -- The two neighbours are joined, and what is behind them has a higher rank.
-use Rattle.std.proofs.Common.{rules, sym, ◌∙◌, ◌≡◌, ◌<◌, length, subst, arith}
+use Rattle.std.proofs.Common.{rules, sym, ◌∙◌, ◌≡◌, length, subst, arith}
 use Rattle.std.proofs.Math.Logic.{∥∥₁_elim, ∥∥₁_map}
 use Rattle.std.proofs.Props.{props}
 use Rattle.rb_pairing.proofs.Rows.{RankFrom, relinks_none, relinks_more, relinks_join, row_of_child, row_within, row_stays, rank_from, rank_past}

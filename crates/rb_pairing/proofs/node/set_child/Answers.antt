@@ -1,8 +1,8 @@
 -- The node at the slot is written.
-use Rattle.std.proofs.Common.{◌<◌, length, sym, subst, ap, ◌∙◌}
+use Rattle.std.proofs.Common.{sym, subst, ap, ◌∙◌}
 use Rattle.std.proofs.Math.ListN.{set}
 use Rattle.rb_pairing.specs.declared.node.Node.{Node}
-use Rattle.std.proofs.Common.{Some, is_some, arith}
+use Rattle.std.proofs.Common.{Some}
 use Rattle.rb_pairing.specs.Changes.{SetsChild}
 use Rattle.rb_pairing.proofs.Writes.{read_at, sets_child}
 use Rattle.rb_pairing.proofs.node.set_child.Goals as goal

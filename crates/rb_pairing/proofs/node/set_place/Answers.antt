@@ -1,5 +1,5 @@
 -- The node at the slot is written.
-use Rattle.std.proofs.Common.{◌<◌, length, sym, subst, ap, ◌∙◌}
+use Rattle.std.proofs.Common.{sym, subst, ap, ◌∙◌}
 use Rattle.std.proofs.Math.ListN.{set}
 use Rattle.rb_pairing.specs.declared.node.Node.{Node}
 use Rattle.rb_pairing.specs.Changes.{SetsPlace}

@@ -1,5 +1,5 @@
 -- The slot with the new entry stands alone, and is made one with the tree.
-use Rattle.std.proofs.Common.{Some, sym, ap, ◌∙◌}
+use Rattle.std.proofs.Common.{Some, ◌∙◌}
 use Rattle.rb_pairing.proofs.Additions.{free, added_linked, root_apart, root_top, slot_top, none_else}
 use Rattle.rb_pairing.proofs.Contents.{melded_tree}
 use Rattle.rb_pairing.proofs.Entries.{expiries-written}

@@ -18,4 +18,4 @@ returns c =
     let nodes = c.args.self.now.nodes.items in
     let read : c.in_ok-get.field-0.now ≡ node_at nodes c.args.slot =
     rw c.deref.ensures.value at (c.in_ok-get.ensures.lookup.3.1 vacant) in
-    ap (λ (node : Node). node.expiry) read ∙ sym (get-content nodes c.args.slot)
+    c.expiry.ensures ∙ ap (λ (node : Node). node.expiry) read ∙ sym (get-content nodes c.args.slot)

@@ -24,7 +24,7 @@ unwrap-requires c =
     let timer = c.args.self.now in
     let root = c.in_ok-root.root in
     let present = (timer.tree.top root c.in_ok-root.was).present in
-    ap is_some (expiry_read timer.nodes.items root c.index.result.now present c.index.ensures) ∙ present
+    ap is_some c.expiry.ensures ∙ ap is_some (expiry_read timer.nodes.items root c.index.result.now present c.index.ensures) ∙ present
 
 pub returns : goal.returns
 returns c =
@@ -33,7 +33,7 @@ returns c =
     let present = (timer.tree.top root c.in_ok-root.was).present in
     let read = expiry_read timer.nodes.items root c.index.result.now present c.index.ensures in
     let same : Some c.unwrap.result ≡ Some (moment_of timer.nodes.items root) =
-    sym c.unwrap.ensures ∙ read ∙ expiry_is timer.nodes.items root present in
+    sym c.unwrap.ensures ∙ c.expiry.ensures ∙ read ∙ expiry_is timer.nodes.items root present in
     let moment : c.unwrap.result ≡ moment_of timer.nodes.items root = cc in
     subst (IsLeast (content_of (expiries timer.nodes.items)) root) (sym moment)
     (root_is_least timer.nodes.items timer.root timer.tree root c.in_ok-root.was)

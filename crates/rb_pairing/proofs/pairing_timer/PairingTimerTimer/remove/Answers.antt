@@ -18,7 +18,7 @@ pub unwrap-expiry-requires : goal.unwrap-expiry-requires
 unwrap-expiry-requires c =
     let nodes = c.args.self.now.nodes.items in
     let present = present-content nodes c.args.slot c.requires in
-    ap is_some (expiry_read nodes c.args.slot c.index.result.now present c.index.ensures) ∙ present
+    ap is_some c.expiry.ensures ∙ ap is_some (expiry_read nodes c.args.slot c.index.result.now present c.index.ensures) ∙ present
 
 pub take_out-self-requires-clause-present : goal.take_out-self-requires-clause-present
 take_out-self-requires-clause-present c =
@@ -59,7 +59,8 @@ returns-clause-value c =
     let nodes = c.args.self.now.nodes.items in
     let present = present-content nodes c.args.slot c.requires in
     get-content nodes c.args.slot
-    ∙ sym (expiry_read nodes c.args.slot c.index.result.now present c.index.ensures) ∙ c.unwrap-expiry.ensures
+    ∙ sym (expiry_read nodes c.args.slot c.index.result.now present c.index.ensures)
+    ∙ sym c.expiry.ensures ∙ c.unwrap-expiry.ensures
 
 pub returns-clause-content : goal.returns-clause-content
 returns-clause-content c =
