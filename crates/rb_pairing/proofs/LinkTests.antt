@@ -1,5 +1,6 @@
 -- Whether a link is to a slot.
 use Rattle.std.proofs.Common.{◌≡◌, ℕ, ◌≢◌, ◌⊎◌, Bool, true, false, not, eqb, Option, Some, None, MatchOption, is_some, refl, sym, ◌∙◌, ap, inl, inr, ⊎_elim}
+use Rattle.rb_pairing.specs.Changes.{IsRest}
 use Rattle.std.specs.Bool.{then_some}
 use Rattle.std.specs.Option.{option_eq}
 use Rattle.std.proofs.lemmas.Bool.{cases_eq, eqb-true, eq-eqb}
@@ -33,11 +34,6 @@ none_as None other same none = refl
 none_as (Some slot) other same none = let also = ap is_some none in absurd (cc)
 
 -- a link that is dropped where it is to the slot
-pub record IsRest (root rest : Option ℕ) (slot : ℕ) : Type 0 where
-  pub was : (other : ℕ) → rest ≡ Some other → root ≡ Some other
-  pub apart : (other : ℕ) → rest ≡ Some other → other ≢ slot
-  pub dropped : (other : ℕ) → root ≡ Some other → rest ≢ Some other → other ≡ slot
-
 rest_by : (top : ℕ) (rest : Option ℕ) (slot : ℕ) (same : Bool) → eqb top slot ≡ same
     → rest ≡ then_some (not same) top → IsRest (Some top) rest slot
 rest_by top rest slot true tested is = record {

@@ -82,6 +82,12 @@ abbrev pub Joins : List Node → List Node → ℕ → ℕ → ℕ → Type 0
 Joins old new left right stays =
     ((stays ≡ left) × Moves old new left right) ⊎ ((stays ≡ right) × Moves old new right left)
 
+-- the root, unless that is the slot
+pub record IsRest (root rest : Option ℕ) (slot : ℕ) : Type 0 where
+  pub was : (other : ℕ) → rest ≡ Some other → root ≡ Some other
+  pub apart : (other : ℕ) → rest ≡ Some other → other ≢ slot
+  pub dropped : (other : ℕ) → root ≡ Some other → rest ≢ Some other → other ≡ slot
+
 -- the trees are linked otherwise, of the same entries and with the same ones in no row
 pub record Relinks (old new : List Node) : Type 0 where
   pub linked : IsLinked new

@@ -43,8 +43,8 @@ impl Model for Node {
     ghost inverse_ok = { node_of-fields };
 }
 
-// The slot that a word links to.
-fn link(word: usize) -> Option<usize>
+// The slot that a word links to, if it does.
+fn slot_of(word: usize) -> Option<usize>
     ensures { result ≡ link word }
 {
     if word < NONE { Some(word) } else { None }
@@ -78,21 +78,21 @@ impl Node {
     pub(crate) fn child(&self) -> Option<usize>
         ensures { result ≡ self.now.child }
     {
-        link(self.child)
+        slot_of(self.child)
     }
 
     /// The entry behind this one in its row.
     pub(crate) fn next(&self) -> Option<usize>
         ensures { result ≡ self.now.next }
     {
-        link(self.next)
+        slot_of(self.next)
     }
 
     /// The entry before this one in its row, or for the first of a row the parent.
     pub(crate) fn previous(&self) -> Option<usize>
         ensures { result ≡ self.now.previous }
     {
-        link(self.previous)
+        slot_of(self.previous)
     }
 
     /// Puts an entry at a slot that has no child.

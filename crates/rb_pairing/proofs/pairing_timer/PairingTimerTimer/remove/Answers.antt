@@ -69,3 +69,10 @@ returns-clause-content c =
     let back = written_back timer.nodes.len new timer.nodes.items (omega arith) in
     let row = rw c.deref_mut.ensures.value at c.take_out-self.ensures.expiries in
     rw back (content-removed timer.nodes.items new c.args.slot (present-content timer.nodes.items c.args.slot c.requires) row)
+
+pub take_out-self-requires-clause-in_room : goal.take_out-self-requires-clause-in_room
+take_out-self-requires-clause-in_room c =
+    let nodes = c.args.self.now.nodes.items in
+    let within : c.args.slot < length nodes =
+    in_room-expiry nodes c.args.slot (present-content nodes c.args.slot c.requires) in
+    omega arith
