@@ -1,7 +1,7 @@
 //! A timer whose entries hang together as a pairing heap, linked by slot.
 //!
-//! An insert costs a constant, and taking out an entry a logarithm in the long run: it suits queues
-//! whose entries are mostly removed before they expire.
+//! An insert costs a constant, and taking an entry out a logarithm in the long run, whichever entry
+//! it is. No step recurses, however large the heap is.
 #![tactic(auto)]
 
 mod links;

@@ -74,28 +74,28 @@ impl Node {
         }
     }
 
-    /// The first entry of the row under this one.
-    pub(crate) fn child(&self) -> Option<usize>
+    // The first entry of the row under this one.
+    fn child(&self) -> Option<usize>
         ensures { result ≡ self.now.child }
     {
         slot_of(self.child)
     }
 
-    /// The entry behind this one in its row.
-    pub(crate) fn next(&self) -> Option<usize>
+    // The entry behind this one in its row.
+    fn next(&self) -> Option<usize>
         ensures { result ≡ self.now.next }
     {
         slot_of(self.next)
     }
 
-    /// The entry before this one in its row, or for the first of a row the parent.
-    pub(crate) fn previous(&self) -> Option<usize>
+    // The entry before this one in its row, or for the first of a row the parent.
+    fn previous(&self) -> Option<usize>
         ensures { result ≡ self.now.previous }
     {
         slot_of(self.previous)
     }
 
-    /// Puts an entry at a slot that has no child.
+    // Puts an entry at a slot that has no child.
     fn occupy(&mut self, expiry: u64)
         requires { self.old.child ≡ None }
         ensures { self.new ≡ record self.old { expiry = Some expiry } }
@@ -104,7 +104,7 @@ impl Node {
         self.child = NONE;
     }
 
-    /// Takes away the entry of a slot that has no child.
+    // Takes away the entry of a slot that has no child.
     fn vacate(&mut self)
         requires { self.old.child ≡ None }
         ensures { self.new ≡ record self.old { expiry = None } }
@@ -145,6 +145,7 @@ impl Node {
     }
 }
 
+/// The expiry of the slot's entry, in nanoseconds, if it has one.
 pub(crate) fn expiry_at(nodes: &[Node], slot: usize) -> Option<u64>
     requires { slot < length nodes.now }
     ensures { result ≡ expiry_of nodes.now slot }
@@ -152,6 +153,7 @@ pub(crate) fn expiry_at(nodes: &[Node], slot: usize) -> Option<u64>
     nodes[slot].expiry()
 }
 
+/// The first entry of the row under that one.
 pub(crate) fn child_at(nodes: &[Node], slot: usize) -> Option<usize>
     requires { slot < length nodes.now }
     ensures { result ≡ child_of nodes.now slot }
@@ -159,6 +161,7 @@ pub(crate) fn child_at(nodes: &[Node], slot: usize) -> Option<usize>
     nodes[slot].child()
 }
 
+/// The entry behind that one in its row.
 pub(crate) fn next_at(nodes: &[Node], slot: usize) -> Option<usize>
     requires { slot < length nodes.now }
     ensures { result ≡ next_of nodes.now slot }
@@ -166,6 +169,7 @@ pub(crate) fn next_at(nodes: &[Node], slot: usize) -> Option<usize>
     nodes[slot].next()
 }
 
+/// The entry before that one in its row, or for the first of a row the parent.
 pub(crate) fn previous_at(nodes: &[Node], slot: usize) -> Option<usize>
     requires { slot < length nodes.now }
     ensures { result ≡ previous_of nodes.now slot }
@@ -173,7 +177,7 @@ pub(crate) fn previous_at(nodes: &[Node], slot: usize) -> Option<usize>
     nodes[slot].previous()
 }
 
-// Notes what comes before that entry, if there is one.
+/// Notes what comes before that entry, if there is one.
 pub(crate) fn set_previous(nodes: &mut [Node], slot: Option<usize>, previous: Option<usize>)
     requires slot { (other : ℕ) → slot ≡ Some other → other < length nodes.old }
     requires previous { (other : ℕ) → previous ≡ Some other → other < length nodes.old }
@@ -184,7 +188,7 @@ pub(crate) fn set_previous(nodes: &mut [Node], slot: Option<usize>, previous: Op
     }
 }
 
-// Has the entry that links to `from` link to `to` instead.
+/// Has the entry that links to `from` link to `to` instead.
 pub(crate) fn set_link(nodes: &mut [Node], slot: Option<usize>, from: usize, to: Option<usize>)
     requires slot { (other : ℕ) → slot ≡ Some other → other < length nodes.old }
     requires present { (other : ℕ) → slot ≡ Some other → IsSome (expiry_of nodes.old other) }
@@ -200,7 +204,7 @@ pub(crate) fn set_link(nodes: &mut [Node], slot: Option<usize>, from: usize, to:
     }
 }
 
-// Notes what the entry stands between.
+/// Notes what the entry stands between.
 pub(crate) fn set_place(
     nodes: &mut [Node],
     slot: usize,
@@ -215,7 +219,7 @@ pub(crate) fn set_place(
     nodes[slot].set_place(previous, next);
 }
 
-// Notes the first of the row under the entry.
+/// Notes the first of the row under the entry.
 pub(crate) fn set_child(nodes: &mut [Node], slot: usize, child: usize)
     requires slot { slot < length nodes.old }
     requires present { IsSome (expiry_of nodes.old slot) }
@@ -225,7 +229,7 @@ pub(crate) fn set_child(nodes: &mut [Node], slot: usize, child: usize)
     nodes[slot].set_child(Some(child));
 }
 
-// Puts an entry at a slot that has no child.
+/// Puts an entry at a slot that has no child.
 pub(crate) fn occupy(nodes: &mut [Node], slot: usize, expiry: u64)
     requires slot { slot < length nodes.old }
     requires child { child_of nodes.old slot ≡ None }
@@ -234,7 +238,7 @@ pub(crate) fn occupy(nodes: &mut [Node], slot: usize, expiry: u64)
     nodes[slot].occupy(expiry);
 }
 
-// Takes away the entry of a slot that has no child.
+/// Takes away the entry of a slot that has no child.
 pub(crate) fn vacate(nodes: &mut [Node], slot: usize)
     requires slot { slot < length nodes.old }
     requires child { child_of nodes.old slot ≡ None }
