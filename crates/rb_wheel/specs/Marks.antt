@@ -1,0 +1,13 @@
+-- A set of cells, as one word of 64 bits for each level.
+use Rattle.std.specs.Prelude.{◌≡◌, ℕ, ◌/◌, ◌%◌, ◌≤◌, Option, Some, None, slice_index}
+use Rattle.std.specs.Int.{bit_at}
+use Rattle.rb_wheel.specs.declared.marks.Marks.{Marks}
+
+-- 1 where the cell is marked, otherwise 0
+abbrev pub mark_at : Marks → ℕ → ℕ
+mark_at marks cell = bit_at (slice_index marks.words (cell / 64)) (cell % 64)
+
+-- the first marked cell, or none where none is marked
+abbrev pub IsFirstMarked : Marks → Option ℕ → Type 0
+IsFirstMarked marks None = (cell : ℕ) → mark_at marks cell ≡ 0
+IsFirstMarked marks (Some cell) = (mark_at marks cell ≡ 1) × ((other : ℕ) → mark_at marks other ≡ 1 → cell ≤ other)

@@ -1,0 +1,35 @@
+ghost use Rattle.std.specs.Prelude.{◌≡◌, ◌+◌, ◌^◌, ◌<◌, ◌≤◌};
+ghost use Rattle.rb_wheel.specs.Cells.{IsCellOf, start};
+
+/// How many digits a moment has, in base 64. Each is a level of the wheel, the lowest first.
+pub(crate) const LEVELS: usize = 11;
+/// How many values a digit has. Each is a cell of its level.
+pub(crate) const DIGITS: usize = 64;
+/// How many cells there are: that of a digit on a level is `level * DIGITS + digit`.
+pub(crate) const CELLS: usize = LEVELS * DIGITS;
+const DIGIT_BITS: u32 = 6;
+
+/// The cell of an expiry: the highest level on which its digit differs from that of the base (the
+/// lowest where none does), and its digit there.
+pub(crate) fn cell_of(base: u64, expiry: u64) -> usize
+    ensures in_wheel { result < CELLS }
+    ensures cell { IsCellOf base expiry result }
+{
+    let level = match (base ^ expiry).checked_ilog2() {
+        Some(highest_bit) => highest_bit / DIGIT_BITS,
+        None => 0,
+    };
+    let digit = (expiry >> (DIGIT_BITS * level)) % DIGITS as u64;
+    level as usize * DIGITS + digit as usize
+}
+
+/// The first moment that belongs in the cell.
+pub(crate) fn start_of(base: u64, cell: usize) -> u64
+    requires in_wheel { cell < CELLS }
+    requires is_moment { start base cell < 2 ^ 64 }
+    ensures { result ≡ start base cell }
+{
+    let shift = DIGIT_BITS * (cell / DIGITS) as u32;
+    let above = (base >> shift) / DIGITS as u64 * DIGITS as u64;
+    (above + (cell % DIGITS) as u64) << shift
+}

@@ -1,0 +1,11 @@
+//! The timer for far moments: a hierarchical wheel of cells, each a list of the slots in it.
+#![tactic(auto)]
+
+mod cells;
+mod lists;
+mod marks;
+#[cfg(test)]
+mod tests;
+mod wheel_timer;
+
+pub use wheel_timer::{Wheel, WheelTimer};

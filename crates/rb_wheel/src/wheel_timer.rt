@@ -1,0 +1,150 @@
+use crate::cells::{DIGITS, cell_of, start_of};
+use crate::lists::Lists;
+use rb_binary::BinaryTimer as EarlyTimer;
+use rb_timer::Timer;
+use std::alloc::{AllocError, Global};
+use std::marker::Model;
+
+/// A hierarchical wheel over the timer that the program runs with for early entries.
+pub type WheelTimer = Wheel<EarlyTimer>;
+
+/// A hierarchical timing wheel: a moment has 11 digits in base 64, and each level of the wheel has
+/// a cell for each value of its digit. An entry lies in the cell of its digit on the highest level
+/// on which its expiry's digit differs from the base's, on the lowest level where none does.
+///
+/// Only `due` moves the base, never past its `now` nor past the least entry of the wheel, and then
+/// spreads the cell that the base has entered over lower levels. An entry that expires before the
+/// base lies in a timer of its own.
+#[derive(Debug, Drop)]
+pub struct Wheel<E: Timer> {
+    // At each slot of the room its expiry, wherever its entry lies.
+    expiries: Vec<Option<u64>>,
+    lists: Lists,
+    early: E,
+    base: u64,
+    len: usize,
+}
+
+impl<E: Timer> Model for Wheel<E> {
+    ghost use Rattle.std.specs.Prelude.{List, Option, ℕ};
+
+    ghost Value = { List (Option ℕ) };
+
+    ghost view = { λ wheel. wheel.expiries.items };
+}
+
+impl<E: Timer> Timer for Wheel<E> {
+    ghost use Rattle.std.specs.Prelude.{length};
+    ghost use Rattle.rb_timer.specs.Slots.{content_of, in_range_of_content};
+
+    ghost content = { λ expiries. content_of expiries };
+
+    ghost room = { λ expiries. length expiries };
+
+    ghost slots_below_room = { λ expiries. in_range_of_content expiries };
+
+    fn new(alloc: Global) -> Self {
+        Wheel {
+            expiries: Vec::new(alloc),
+            lists: Lists::new(alloc),
+            early: E::new(alloc),
+            base: 0,
+            len: 0,
+        }
+    }
+
+    fn room(&self) -> usize {
+        self.expiries.len()
+    }
+
+    fn len(&self) -> usize {
+        self.len
+    }
+
+    fn get(&self, slot: usize) -> Option<u64> {
+        self.expiries.get(slot).copied().flatten()
+    }
+
+    fn reserve(&mut self, wanted: usize) -> Result<(), AllocError> {
+        if wanted > self.expiries.len() {
+            self.early.reserve(wanted)?;
+            self.lists.reserve(wanted)?;
+            self.expiries.resize(wanted, None)?;
+        }
+        Ok(())
+    }
+
+    fn insert(&mut self, slot: usize, expiry: u64) {
+        self.expiries[slot] = Some(expiry);
+        self.len += 1;
+        if expiry < self.base {
+            self.early.insert(slot, expiry);
+        } else {
+            self.lists.insert(slot, cell_of(self.base, expiry));
+        }
+    }
+
+    fn remove(&mut self, slot: usize) -> u64 {
+        let expiry = self.expiries[slot].take().unwrap();
+        self.len -= 1;
+        if expiry < self.base {
+            self.early.remove(slot);
+        } else {
+            self.lists.remove(slot);
+        }
+        expiry
+    }
+
+    fn least(&self) -> Option<(usize, u64)> {
+        if let Some(entry) = self.early.least() {
+            return Some(entry);
+        }
+        let cell = self.lists.first_cell()?;
+        self.lists.least_in(cell, &self.expiries)
+    }
+
+    fn due(&mut self, now: u64) -> Option<(usize, u64)> {
+        if self.early.least().is_some() {
+            return self.early.due(now);
+        }
+        let cell = advance(&mut self.lists, &self.expiries, &mut self.base, now)?;
+        let slot = self.lists.first_in(cell)?;
+        Some((slot, self.base))
+    }
+
+    fn clear(&mut self) {
+        self.expiries.fill(None);
+        self.lists.clear();
+        self.early.clear();
+        self.len = 0;
+    }
+}
+
+// Moves the base up to `now`, or to the least expiry where that is not later. Then it gives the
+// cell of that expiry, which is on the lowest level.
+fn advance(lists: &mut Lists, expiries: &[Option<u64>], base: &mut u64, now: u64) -> Option<usize> {
+    let mut first = lists.first_cell();
+    while let Some(cell) = first {
+        let start = start_of(*base, cell);
+        if now < start {
+            break;
+        }
+        *base = start;
+        if cell < DIGITS {
+            return Some(cell);
+        }
+        cascade(lists, expiries, start, cell);
+        first = lists.first_cell();
+    }
+    *base = now.max(*base);
+    None
+}
+
+// Spreads a cell over the lower levels, now that the base is its first moment.
+fn cascade(lists: &mut Lists, expiries: &[Option<u64>], base: u64, cell: usize) {
+    while let Some(slot) = lists.first_in(cell) {
+        let expiry = expiries[slot].unwrap();
+        lists.remove(slot);
+        lists.insert(slot, cell_of(base, expiry));
+    }
+}
