@@ -1,0 +1,3 @@
+pub mod HighestBit
+pub mod MarkedCells
+pub mod Order

@@ -1,5 +1,5 @@
 -- The cells of a wheel: where an expiry belongs, seen from a base.
-use Rattle.std.specs.Prelude.{◌≡◌, ℕ, ◌+◌, ◌*◌, ◌/◌, ◌%◌, ◌^◌, ◌<◌, ◌≤◌, ◌≢◌}
+use Rattle.std.specs.Prelude.{◌≡◌, ℕ, ◌+◌, ◌*◌, ◌/◌, ◌%◌, ◌^◌, ◌<◌, ◌≢◌}
 
 -- the level of a cell, and its digit there
 abbrev pub level_of : ℕ → ℕ
@@ -8,9 +8,9 @@ level_of cell = cell / 64
 abbrev pub digit_of : ℕ → ℕ
 digit_of cell = cell % 64
 
--- a moment, in units of a level: its digits from that level on
+-- a moment in units of a level: its digits, of 6 bits each, from that level up
 abbrev pub units : ℕ → ℕ → ℕ
-units level moment = moment / 64 ^ level
+units level moment = moment / 2 ^ (6 * level)
 
 -- a moment's digit on a level, and its digits above it
 abbrev pub digit : ℕ → ℕ → ℕ
@@ -22,10 +22,10 @@ above level moment = units level moment / 64
 -- the cell has the expiry's digit, on the highest level where that differs from the base's, or on
 -- the lowest where none does
 pub record IsCellOf (base expiry cell : ℕ) : Type 0 where
-  pub digit : digit (level_of cell) expiry ≡ digit_of cell
-  pub above : above (level_of cell) expiry ≡ above (level_of cell) base
-  pub differs : 0 < level_of cell → digit_of cell ≢ digit (level_of cell) base
+  pub same_digit : digit (level_of cell) expiry ≡ digit_of cell
+  pub same_above : above (level_of cell) expiry ≡ above (level_of cell) base
+  pub differs : 0 < level_of cell → digit (level_of cell) expiry ≢ digit (level_of cell) base
 
 -- the first moment that belongs in a cell
 abbrev pub start : ℕ → ℕ → ℕ
-start base cell = (above (level_of cell) base * 64 + digit_of cell) * 64 ^ level_of cell
+start base cell = (above (level_of cell) base * 64 + digit_of cell) * 2 ^ (6 * level_of cell)

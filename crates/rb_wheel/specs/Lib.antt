@@ -1,4 +1,5 @@
 pub mod Cells
+pub mod Links
 pub mod Lists
 pub mod Marks
 pub mod Wheel

@@ -1,18 +1,21 @@
 -- Lists of slots, one for each cell, as callers see them: at each slot the cell that it lies in, or none.
-use Rattle.std.specs.Prelude.{◌≡◌, ℕ, ◌<◌, ◌≤◌, ◌≢◌, List, Option, Some, None, IfSome, map, slice_index_or}
-use Rattle.rb_wheel.specs.declared.lists.Link.{Link}
+use Rattle.std.specs.Prelude.{◌≡◌, ℕ, ◌<◌, ◌≤◌, ◌≢◌, List, Option, Some, None, IfSome, IsSome, slice_index_or}
 
 -- the cell that a slot lies in
 abbrev pub cell_at : List (Option ℕ) → ℕ → Option ℕ
 cell_at cells slot = slice_index_or cells slot None
 
--- what a slot's expiry is
+-- a slot's expiry
 abbrev pub expiry_at : List (Option ℕ) → ℕ → Option ℕ
 expiry_at expiries slot = slice_index_or expiries slot None
 
+-- no slot lies in the cell
+abbrev pub IsVacant : List (Option ℕ) → ℕ → Type 0
+IsVacant cells cell = (slot : ℕ) → cell_at cells slot ≢ Some cell
+
 -- the cell holds a slot, and no cell before it does
 pub record IsFirstCell (cells : List (Option ℕ)) (cell : ℕ) : Type 0 where
-  pub slot : (slot : ℕ) × (cell_at cells slot ≡ Some cell)
+  pub held : (slot : ℕ) × (cell_at cells slot ≡ Some cell)
   pub first : (slot : ℕ) → IfSome (cell_at cells slot) (λ other. cell ≤ other)
 
 -- the slot lies in the cell, and no slot of that cell expires before it
@@ -21,6 +24,6 @@ pub record IsLeastIn (cells expiries : List (Option ℕ)) (cell slot expiry : �
   pub expires : expiry_at expiries slot ≡ Some expiry
   pub least : (other : ℕ) → cell_at cells other ≡ Some cell → IfSome (expiry_at expiries other) (λ another. expiry ≤ another)
 
--- no slot lies in the cell
-abbrev pub IsVacant : List (Option ℕ) → ℕ → Type 0
-IsVacant cells cell = (slot : ℕ) → cell_at cells slot ≢ Some cell
+-- each slot of the cell has an expiry
+abbrev pub HasExpiries : List (Option ℕ) → List (Option ℕ) → ℕ → Type 0
+HasExpiries cells expiries cell = (slot : ℕ) → cell_at cells slot ≡ Some cell → IsSome (expiry_at expiries slot)

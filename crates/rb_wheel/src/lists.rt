@@ -1,3 +1,6 @@
+ghost use Rattle.std.specs.Prelude.{◌≡◌, ◌<◌, ◌≤◌, ◌-◌, ◌++◌, ℕ, List, [], Option, Some, None, IsSome, OnOk, OnErr, IfSome, MatchOption, length, replicate, slice_set};
+ghost use Rattle.rb_wheel.specs.Lists.{cell_at, expiry_at, IsVacant, IsFirstCell, IsLeastIn, HasExpiries};
+
 use crate::cells::CELLS;
 use crate::marks::Marks;
 use std::alloc::{AllocError, Global};
@@ -11,7 +14,11 @@ struct Link {
     previous: Option<usize>,
 }
 
-const UNLINKED: Link = Link { cell: None, next: None, previous: None };
+const UNLINKED: Link = Link {
+    cell: None,
+    next: None,
+    previous: None,
+};
 
 /// A list of slots for each cell, linked both ways. A slot lies in at most one cell.
 #[derive(Debug, Drop)]
@@ -23,8 +30,23 @@ pub(crate) struct Lists {
     links: Vec<Link>,
 }
 
+impl Model for Lists {
+    ghost use Rattle.std.specs.Prelude.{List, Option, ℕ};
+
+    ghost Value = { List (Option ℕ) };
+
+    ghost use Rattle.rb_wheel.specs.Links.{cells_of, IsSound};
+
+    ghost view = { λ lists. cells_of lists.links.items };
+
+    ghost invariant = { λ lists. IsSound lists };
+}
+
 impl Lists {
-    pub(crate) fn new(alloc: Global) -> Self {
+    /// No slot has room, and no memory is taken until `reserve`.
+    pub(crate) fn new(alloc: Global) -> Self
+        ensures { result ≡ [] }
+    {
         Lists {
             heads: Vec::new(alloc),
             marks: Marks::new(),
@@ -32,8 +54,11 @@ impl Lists {
         }
     }
 
-    /// Makes room for `wanted` slots.
-    pub(crate) fn reserve(&mut self, wanted: usize) -> Result<(), AllocError> {
+    /// Makes room for `wanted` slots. Where memory is refused nothing changes.
+    pub(crate) fn reserve(&mut self, wanted: usize) -> Result<(), AllocError>
+        ensures ok { OnOk result (self.new ≡ self.old ++ replicate (wanted - length self.old) None) }
+        ensures err { OnErr result (self.new ≡ self.old) }
+    {
         if wanted > self.links.len() {
             self.heads.resize(CELLS, None)?;
             self.links.resize(wanted, UNLINKED)?;
@@ -42,18 +67,30 @@ impl Lists {
     }
 
     /// Puts a slot that lies in no cell into one.
-    pub(crate) fn insert(&mut self, slot: usize, cell: usize) {
+    pub(crate) fn insert(&mut self, slot: usize, cell: usize)
+        requires in_room { slot < length self.old }
+        requires in_wheel { cell < CELLS }
+        requires free { cell_at self.old slot ≡ None }
+        ensures { self.new ≡ slice_set self.old slot (Some cell) }
+    {
         let next = self.heads[cell];
         match next {
             Some(next) => self.links[next].previous = Some(slot),
             None => self.marks.insert(cell),
         }
-        self.links[slot] = Link { cell: Some(cell), next, previous: None };
+        self.links[slot] = Link {
+            cell: Some(cell),
+            next,
+            previous: None,
+        };
         self.heads[cell] = Some(slot);
     }
 
     /// Takes a slot out of its cell.
-    pub(crate) fn remove(&mut self, slot: usize) {
+    pub(crate) fn remove(&mut self, slot: usize)
+        requires { IsSome (cell_at self.old slot) }
+        ensures { self.new ≡ slice_set self.old slot None }
+    {
         let link = self.links[slot];
         if let Some(next) = link.next {
             self.links[next].previous = link.previous;
@@ -72,17 +109,25 @@ impl Lists {
     }
 
     /// The first cell that holds a slot.
-    pub(crate) fn first_cell(&self) -> Option<usize> {
+    pub(crate) fn first_cell(&self) -> Option<usize>
+        ensures in_wheel { IfSome result (λ cell. cell < CELLS) }
+        ensures first { MatchOption result ((cell : ℕ) → IsVacant self.now cell) (IsFirstCell self.now) }
+    {
         self.marks.first()
     }
 
     /// A slot of the cell.
-    pub(crate) fn first_in(&self, cell: usize) -> Option<usize> {
+    pub(crate) fn first_in(&self, cell: usize) -> Option<usize>
+        ensures { MatchOption result (IsVacant self.now cell) (λ slot. cell_at self.now slot ≡ Some cell) }
+    {
         self.heads.get(cell).copied().flatten()
     }
 
     /// A slot of the cell whose expiry is least among them, with its expiry.
-    pub(crate) fn least_in(&self, cell: usize, expiries: &[Option<u64>]) -> Option<(usize, u64)> {
+    pub(crate) fn least_in(&self, cell: usize, expiries: &[Option<u64>]) -> Option<(usize, u64)>
+        requires { HasExpiries self.now expiries.now cell }
+        ensures { MatchOption result (IsVacant self.now cell) (λ entry. IsLeastIn self.now expiries.now cell entry.0 entry.1) }
+    {
         let mut least: Option<(usize, u64)> = None;
         let mut cursor = self.first_in(cell);
         while let Some(slot) = cursor {
@@ -96,7 +141,9 @@ impl Lists {
     }
 
     /// Takes every slot out of its cell.
-    pub(crate) fn clear(&mut self) {
+    pub(crate) fn clear(&mut self)
+        ensures { self.new ≡ replicate (length self.old) None }
+    {
         self.heads.fill(None);
         self.links.fill(UNLINKED);
         self.marks = Marks::new();

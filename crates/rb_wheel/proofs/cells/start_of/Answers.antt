@@ -1,0 +1,6 @@
+use Rattle.std.proofs.Math.Nat.{mod-eq_of_lt}
+use Rattle.rb_wheel.proofs.Order.{earlier_from_cells}
+use Rattle.rb_wheel.proofs.cells.start_of.Goals as goal
+
+pub returns : goal.returns
+returns c = mod-eq_of_lt c.requires.is_moment

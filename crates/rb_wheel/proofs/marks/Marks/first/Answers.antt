@@ -1,0 +1,12 @@
+use Rattle.std.proofs.Common.{◌<◌, ◌^◌, get_or, refl, arith}
+use Rattle.rb_wheel.proofs.MarkedCells.{first_marked, first_least, no_mark}
+use Rattle.rb_wheel.proofs.marks.Marks.first.Goals as goal
+
+pub returns-then-word-ne0 : goal.returns-then-word-ne0
+returns-then-word-ne0 c =
+    let words = c.args.self.now.words in
+    let level = c.loop-level.level in
+    let low = c.loop-level.invariant in
+    let fits : get_or words level 0 < 2 ^ 64 = omega arith in
+    (first_marked words level low (get_or words level 0) refl (omega arith) fits,
+    first_least words level low (get_or words level 0) refl (omega arith) fits)
