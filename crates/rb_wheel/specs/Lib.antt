@@ -3,3 +3,4 @@ pub mod Links
 pub mod Lists
 pub mod Marks
 pub mod Wheel
+pub mod Written

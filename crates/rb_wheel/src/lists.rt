@@ -1,4 +1,5 @@
 ghost use Rattle.std.specs.Prelude.{◌≡◌, ◌<◌, ◌≤◌, ◌-◌, ◌++◌, ℕ, List, [], Option, Some, None, IsSome, OnOk, OnErr, IfSome, MatchOption, length, replicate, slice_set};
+ghost use Rattle.rb_wheel.specs.Written.{with_next, with_previous};
 ghost use Rattle.rb_wheel.specs.Lists.{cell_at, expiry_at, IsVacant, IsFirstCell, IsLeastIn, HasExpiries};
 
 use crate::cells::CELLS;
@@ -74,16 +75,14 @@ impl Lists {
         ensures { self.new ≡ slice_set self.old slot (Some cell) }
     {
         let next = self.heads[cell];
-        match next {
-            Some(next) => self.links[next].previous = Some(slot),
-            None => self.marks.insert(cell),
-        }
+        set_previous(&mut self.links, next, Some(slot));
         self.links[slot] = Link {
             cell: Some(cell),
             next,
             previous: None,
         };
         self.heads[cell] = Some(slot);
+        self.marks.insert(cell);
     }
 
     /// Takes a slot out of its cell.
@@ -92,18 +91,14 @@ impl Lists {
         ensures { self.new ≡ slice_set self.old slot None }
     {
         let link = self.links[slot];
-        if let Some(next) = link.next {
-            self.links[next].previous = link.previous;
+        let cell = link.cell.unwrap();
+        set_previous(&mut self.links, link.next, link.previous);
+        set_next(&mut self.links, link.previous, link.next);
+        if link.previous.is_none() {
+            self.heads[cell] = link.next;
         }
-        match link.previous {
-            Some(previous) => self.links[previous].next = link.next,
-            None => {
-                let cell = link.cell.unwrap();
-                self.heads[cell] = link.next;
-                if link.next.is_none() {
-                    self.marks.remove(cell);
-                }
-            }
+        if self.heads[cell].is_none() {
+            self.marks.remove(cell);
         }
         self.links[slot] = UNLINKED;
     }
@@ -147,5 +142,25 @@ impl Lists {
         self.heads.fill(None);
         self.links.fill(UNLINKED);
         self.marks = Marks::new();
+    }
+}
+
+// Notes what the slot is preceded by, where there is a slot.
+fn set_previous(links: &mut [Link], slot: Option<usize>, previous: Option<usize>)
+    requires { IfSome slot (λ slot. slot < length links.old) }
+    ensures { links.new ≡ with_previous links.old slot previous }
+{
+    if let Some(slot) = slot {
+        links[slot].previous = previous;
+    }
+}
+
+// Notes what the slot is followed by, where there is a slot.
+fn set_next(links: &mut [Link], slot: Option<usize>, next: Option<usize>)
+    requires { IfSome slot (λ slot. slot < length links.old) }
+    ensures { links.new ≡ with_next links.old slot next }
+{
+    if let Some(slot) = slot {
+        links[slot].next = next;
     }
 }
