@@ -4,7 +4,8 @@ use Rattle.std.proofs.lemmas.Bool.{cases_eq}
 use Rattle.std.proofs.lemmas.List.{map-set}
 use Rattle.rb_wheel.specs.declared.lists.Link.{Link}
 use Rattle.rb_wheel.specs.Written.{unlinked, link_at, with_previous}
-use Rattle.rb_wheel.specs.Links.{head_at, cell_in, next_in, previous_in, cells_of, AreLinked, mark_of}
+use Rattle.rb_wheel.specs.Links.{head_at, cell_in, next_in, previous_in, cells_of, AreLinked}
+use Rattle.rb_wheel.specs.Marks.{mark_of}
 use Rattle.rb_wheel.proofs.Linked.{PutsFirst, IsLinked-put, rank_below, cases_some}
 use Rattle.rb_wheel.proofs.WrittenLinks.{in_room, length-with_previous, with_previous_here, with_previous_other, cells_of-with_previous}
 
@@ -12,8 +13,8 @@ use Rattle.rb_wheel.proofs.WrittenLinks.{in_room, length-with_previous, with_pre
 abbrev pub first_link : List (Option ℕ) → ℕ → Link
 first_link heads at = record { cell = Some at; next = head_at heads at; previous = None }
 
-abbrev pub with_first : List (Option ℕ) → List Link → ℕ → ℕ → List Link
-with_first heads links at slot = set (with_previous links (head_at heads at) (Some slot)) slot (first_link heads at)
+abbrev pub with_put : List (Option ℕ) → List Link → ℕ → ℕ → List Link
+with_put heads links at slot = set (with_previous links (head_at heads at) (Some slot)) slot (first_link heads at)
 
 module _ (heads : List (Option ℕ)) (links : List Link) (at slot : ℕ) (rank : ℕ → ℕ)
     (linked : AreLinked heads links rank) (in_heads : at < length heads) (in_links : slot < length links)
@@ -24,10 +25,10 @@ module _ (heads : List (Option ℕ)) (links : List Link) (at slot : ℕ) (rank :
   within : slot < length noted
   within = let long = length-with_previous links (Some slot) (head_at heads at) in omega arith
 
-  here : link_at (with_first heads links at slot) slot ≡ first_link heads at
+  here : link_at (with_put heads links at slot) slot ≡ first_link heads at
   here = get_or-set_same noted slot (first_link heads at) unlinked within
 
-  elsewhere : (s : ℕ) → s ≢ slot → link_at (with_first heads links at slot) s ≡ link_at noted s
+  elsewhere : (s : ℕ) → s ≢ slot → link_at (with_put heads links at slot) s ≡ link_at noted s
   elsewhere s apart = get_or-set_other noted slot s (first_link heads at) unlinked apart
 
   second_in_room : (s : ℕ) → head_at heads at ≡ Some s → s < length links
@@ -43,8 +44,8 @@ module _ (heads : List (Option ℕ)) (links : List Link) (at slot : ℕ) (rank :
       (cases_some (head_at heads at) s)
 
   puts : PutsFirst (head_at heads) (cell_in links) (next_in links) (previous_in links)
-      (head_at (set heads at (Some slot))) (cell_in (with_first heads links at slot))
-      (next_in (with_first heads links at slot)) (previous_in (with_first heads links at slot)) at slot
+      (head_at (set heads at (Some slot))) (cell_in (with_put heads links at slot))
+      (next_in (with_put heads links at slot)) (previous_in (with_put heads links at slot)) at slot
   puts = record {
     free = free;
     head_here = get_or-set_same heads at (Some slot) None in_heads;
@@ -60,23 +61,23 @@ module _ (heads : List (Option ℕ)) (links : List Link) (at slot : ℕ) (rank :
         ∙ ap (λ (l : Link). l.previous) (with_previous_other links (Some slot) (head_at heads at) s other);
   }
 
-  pub AreLinked-insert : AreLinked (set heads at (Some slot)) (with_first heads links at slot) (rank_below slot rank)
+  pub AreLinked-insert : AreLinked (set heads at (Some slot)) (with_put heads links at slot) (rank_below slot rank)
   AreLinked-insert = IsLinked-put _ _ _ _ _ _ _ _ at slot rank linked puts
 
-  pub cells_of-insert : cells_of (with_first heads links at slot) ≡ set (cells_of links) slot (Some at)
+  pub cells_of-insert : cells_of (with_put heads links at slot) ≡ set (cells_of links) slot (Some at)
   cells_of-insert =
       map-set (λ (l : Link). l.cell) noted slot (first_link heads at)
       ∙ ap (λ cells. set cells slot (Some at)) (cells_of-with_previous links (Some slot) (head_at heads at))
 
-  pub length-insert : length (with_first heads links at slot) ≡ length links
+  pub length-insert : length (with_put heads links at slot) ≡ length links
   length-insert = length-set noted slot (first_link heads at) ∙ length-with_previous links (Some slot) (head_at heads at)
 
--- a mark for each head is right again once the cell's is set
-pub marks-insert : (heads : List (Option ℕ)) (at slot : ℕ) (old new : ℕ → ℕ) → at < length heads
-    → ((c : ℕ) → old c ≡ mark_of (head_at heads c)) → new at ≡ 1 → ((c : ℕ) → c ≢ at → new c ≡ old c)
-    → (c : ℕ) → new c ≡ mark_of (head_at (set heads at (Some slot)) c)
-marks-insert heads at slot old new within marked here elsewhere c = ⊎_elim
-    (λ same. ap new same ∙ here
-    ∙ sym (ap (λ k. mark_of (head_at (set heads at (Some slot)) k)) same ∙ ap mark_of (get_or-set_same heads at (Some slot) None within)))
-    (λ apart. elsewhere c apart ∙ marked c ∙ sym (ap mark_of (get_or-set_other heads at c (Some slot) None apart)))
+-- the marks are right again once the cell's is, where the other heads stay
+pub marks_again : (old_head new_head : ℕ → Option ℕ) (old new : ℕ → ℕ) (at : ℕ)
+    → ((c : ℕ) → old c ≡ mark_of (old_head c)) → ((c : ℕ) → c ≢ at → new_head c ≡ old_head c)
+    → new at ≡ mark_of (new_head at) → ((c : ℕ) → c ≢ at → new c ≡ old c)
+    → (c : ℕ) → new c ≡ mark_of (new_head c)
+marks_again old_head new_head old new at marked heads here elsewhere c = ⊎_elim
+    (λ same. ap new same ∙ here ∙ ap (λ k. mark_of (new_head k)) (sym same))
+    (λ apart. elsewhere c apart ∙ marked c ∙ ap mark_of (sym (heads c apart)))
     (cases_eq c at)

@@ -2,6 +2,8 @@ pub mod HighestBit
 pub mod Insertions
 pub mod Linked
 pub mod MarkedCells
+pub mod Members
 pub mod Order
+pub mod Removals
 pub mod Viewed
 pub mod WrittenLinks

@@ -1,9 +1,9 @@
 -- How the lists lie: at each cell its first slot, at each slot its neighbours.
 use Rattle.std.specs.Prelude.{◌≡◌, ℕ, ◌<◌, ◌≤◌, List, length, map, Option, Some, None, slice_index_or}
 use Rattle.rb_wheel.specs.declared.lists.Link.{Link}
-use Rattle.rb_wheel.specs.declared.lists.Lists.TheInside.{Inside}
+use Rattle.rb_wheel.specs.declared.marks.Marks.{Marks}
 use Rattle.rb_wheel.specs.declared.cells.TheConstants.{CELLS}
-use Rattle.rb_wheel.specs.Marks.{mark_at}
+use Rattle.rb_wheel.specs.Marks.{mark_at, mark_of}
 use Rattle.rb_wheel.specs.Written.{link_at}
 
 -- a cell's first slot
@@ -40,15 +40,10 @@ pub record IsLinked (head cell next previous : ℕ → Option ℕ) (rank : ℕ �
 abbrev pub AreLinked : List (Option ℕ) → List Link → (ℕ → ℕ) → Type 0
 AreLinked heads links rank = IsLinked (head_at heads) (cell_in links) (next_in links) (previous_in links) rank
 
--- 1 for a cell with a first slot, otherwise 0
-abbrev pub mark_of : Option ℕ → ℕ
-mark_of None = 0
-mark_of (Some slot) = 1
-
 -- the lists are linked, the cells that hold a slot are marked, and there are heads for all cells
 -- once there is room for a slot
-pub record IsSound (lists : Inside) : Type 0 where
-  pub linked : (rank : ℕ → ℕ) × AreLinked lists.heads.items lists.links.items rank
-  pub marked : (at : ℕ) → mark_at lists.marks at ≡ mark_of (head_at lists.heads.items at)
-  pub few_heads : length lists.heads.items ≤ CELLS
-  pub all_heads : 0 < length lists.links.items → CELLS ≤ length lists.heads.items
+pub record IsSound (heads : List (Option ℕ)) (marks : Marks) (links : List Link) : Type 0 where
+  pub linked : (rank : ℕ → ℕ) × AreLinked heads links rank
+  pub marked : (at : ℕ) → mark_at marks at ≡ mark_of (head_at heads at)
+  pub few_heads : length heads ≤ CELLS
+  pub all_heads : 0 < length links → CELLS ≤ length heads

@@ -11,3 +11,8 @@ mark_at marks cell = bit_at (slice_index marks.words (cell / 64)) (cell % 64)
 abbrev pub IsFirstMarked : Marks → Option ℕ → Type 0
 IsFirstMarked marks None = (cell : ℕ) → mark_at marks cell ≡ 0
 IsFirstMarked marks (Some cell) = (mark_at marks cell ≡ 1) × ((other : ℕ) → mark_at marks other ≡ 1 → cell ≤ other)
+
+-- the mark of a cell with this first slot
+abbrev pub mark_of : Option ℕ → ℕ
+mark_of None = 0
+mark_of (Some slot) = 1

@@ -1,4 +1,4 @@
--- Links with one neighbour written.
+-- Links and heads after one was written.
 use Rattle.std.specs.Prelude.{ℕ, List, Option, Some, None, slice_index_or, slice_set}
 use Rattle.rb_wheel.specs.declared.lists.Link.{Link}
 
@@ -18,3 +18,8 @@ with_next links (Some slot) next = slice_set links slot (record (link_at links s
 abbrev pub with_previous : List Link → Option ℕ → Option ℕ → List Link
 with_previous links None previous = links
 with_previous links (Some slot) previous = slice_set links slot (record (link_at links slot) { previous = previous })
+
+-- the cell's list begins with `next`, where nothing precedes that
+abbrev pub with_first : List (Option ℕ) → ℕ → Option ℕ → Option ℕ → List (Option ℕ)
+with_first heads cell None next = slice_set heads cell next
+with_first heads cell (Some previous) next = heads

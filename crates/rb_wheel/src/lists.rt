@@ -1,5 +1,6 @@
-ghost use Rattle.std.specs.Prelude.{◌≡◌, ◌<◌, ◌≤◌, ◌-◌, ◌++◌, ℕ, List, [], Option, Some, None, IsSome, OnOk, OnErr, IfSome, MatchOption, length, replicate, slice_set};
-ghost use Rattle.rb_wheel.specs.Written.{with_next, with_previous};
+ghost use Rattle.std.specs.Prelude.{◌≡◌, ◌≢◌, ◌<◌, ◌≤◌, ◌-◌, ◌++◌, ℕ, List, [], Option, Some, None, IsSome, OnOk, OnErr, IfSome, MatchOption, length, replicate, slice_set};
+ghost use Rattle.rb_wheel.specs.Written.{with_next, with_previous, with_first};
+ghost use Rattle.rb_wheel.specs.Marks.{mark_at, mark_of};
 ghost use Rattle.rb_wheel.specs.Lists.{cell_at, expiry_at, IsVacant, IsFirstCell, IsLeastIn, HasExpiries};
 
 use crate::cells::CELLS;
@@ -40,7 +41,7 @@ impl Model for Lists {
 
     ghost view = { λ lists. cells_of lists.links.items };
 
-    ghost invariant = { λ lists. IsSound lists };
+    ghost invariant = { λ lists. IsSound lists.heads.items lists.marks lists.links.items };
 }
 
 impl Lists {
@@ -82,7 +83,7 @@ impl Lists {
             previous: None,
         };
         self.heads[cell] = Some(slot);
-        self.marks.insert(cell);
+        mark_held(&mut self.marks, cell, Some(slot));
     }
 
     /// Takes a slot out of its cell.
@@ -94,12 +95,8 @@ impl Lists {
         let cell = link.cell.unwrap();
         set_previous(&mut self.links, link.next, link.previous);
         set_next(&mut self.links, link.previous, link.next);
-        if link.previous.is_none() {
-            self.heads[cell] = link.next;
-        }
-        if self.heads[cell].is_none() {
-            self.marks.remove(cell);
-        }
+        set_first(&mut self.heads, cell, link.previous, link.next);
+        mark_held(&mut self.marks, cell, self.heads[cell]);
         self.links[slot] = UNLINKED;
     }
 
@@ -162,5 +159,27 @@ fn set_next(links: &mut [Link], slot: Option<usize>, next: Option<usize>)
 {
     if let Some(slot) = slot {
         links[slot].next = next;
+    }
+}
+
+// Begins the cell's list with `next`, where nothing precedes that.
+fn set_first(heads: &mut [Option<usize>], cell: usize, previous: Option<usize>, next: Option<usize>)
+    requires { cell < length heads.old }
+    ensures { heads.new ≡ with_first heads.old cell previous next }
+{
+    if previous.is_none() {
+        heads[cell] = next;
+    }
+}
+
+// Marks the cell where it has a first slot, and only there.
+fn mark_held(marks: &mut Marks, cell: usize, first: Option<usize>)
+    requires { cell < CELLS }
+    ensures here { mark_at marks.new cell ≡ mark_of first }
+    ensures elsewhere { (other : ℕ) → other ≢ cell → mark_at marks.new other ≡ mark_at marks.old other }
+{
+    match first {
+        Some(_) => marks.insert(cell),
+        None => marks.remove(cell),
     }
 }

@@ -1,20 +1,16 @@
 -- The slot's link comes first, and the one that was first knows it.
-use Rattle.std.proofs.Common.{◌≡◌, ◌<◌, ◌≤◌, ℕ, ◌++◌, length, set, take, drop, Option, Some, None, IfSome, sym, ap, ◌∙◌, refl, subst, arith, length-set}
+use Rattle.std.proofs.Common.{◌≡◌, ◌<◌, ◌≤◌, ℕ, ◌++◌, length, set, take, drop, Option, Some, None, IfSome, sym, ap, ◌∙◌, refl, subst, arith, length-set, get_or-set_same, get_or-set_other}
 use Rattle.std.proofs.lemmas.List.{get_or_read}
 use Rattle.rb_wheel.specs.declared.lists.Link.{Link}
 use Rattle.rb_wheel.specs.Written.{with_previous}
 use Rattle.rb_wheel.specs.Links.{head_at, cell_in, cells_of, AreLinked}
 use Rattle.rb_wheel.proofs.Linked.{rank_below}
-use Rattle.rb_wheel.proofs.Insertions.{with_first, first_link, AreLinked-insert, cells_of-insert, length-insert, marks-insert}
-use Rattle.rb_wheel.proofs.Viewed.{length-viewed, cell_at-viewed, written_back}
+use Rattle.rb_wheel.proofs.Insertions.{with_put, first_link, AreLinked-insert, cells_of-insert, length-insert, marks_again}
+use Rattle.rb_wheel.proofs.Viewed.{length-viewed, cell_at-viewed, if_some, written_back}
 use Rattle.rb_wheel.proofs.WrittenLinks.{in_room, length-with_previous}
 use Rattle.rb_wheel.proofs.lists.Lists.insert.Goals as goal
-use Rattle.rb_wheel.proofs.lists.Lists.insert.Goals.{After-insert}
-use Rattle.rb_wheel.specs.Marks.{mark_at}
-
-if_some : (o : Option ℕ) (P : ℕ → Type 0) → ((k : ℕ) → o ≡ Some k → P k) → IfSome o P
-if_some None P each = tt
-if_some (Some k) P each = each k refl
+use Rattle.rb_wheel.proofs.lists.Lists.insert.Goals.{After-mark_held}
+use Rattle.rb_wheel.specs.Marks.{mark_at, mark_of}
 
 pub set_previous-requires : goal.set_previous-requires
 set_previous-requires c =
@@ -27,7 +23,7 @@ set_previous-requires c =
     (λ next is. subst (λ links. next < length links) (sym c.deref_mut.ensures.value)
     (in_room lists.links.items next c.args.cell (sound.linked.1.head_cell c.args.cell next (sym next_is ∙ is))))
 
-module _ (c : After-insert) where
+module _ (c : After-mark_held) where
   in_heads : c.args.cell < length c.self.inside.heads.items
   in_heads =
       let room = length-viewed c.self.inside.links.items c.args.self.now c.self.view_is in
@@ -45,7 +41,7 @@ module _ (c : After-insert) where
       ∙ c.requires.free
 
   links_are : set (take c.self.inside.links.len (c.set_previous.new.links ++ drop (length c.set_previous.new.links) c.self.inside.links.items)) c.args.slot (record { cell = Some c.args.cell; next = c.index-next.result.now; previous = None })
-      ≡ with_first c.self.inside.heads.items c.self.inside.links.items c.args.cell c.args.slot
+      ≡ with_put c.self.inside.heads.items c.self.inside.links.items c.args.cell c.args.slot
   links_are =
       let heads = c.self.inside.heads.items in
       let links = c.self.inside.links.items in
@@ -75,8 +71,10 @@ invariant_of-self c =
     record {
       linked = (rank_below slot rank, subst (λ ls. AreLinked (set heads at (Some slot)) ls (rank_below slot rank)) (sym (links_are c))
           (AreLinked-insert heads links at slot rank sound.linked.1 (in_heads c) some (free c)));
-      marked = marks-insert heads at slot (mark_at c.self.inside.marks) (mark_at c.insert.new.self) (in_heads c)
-          sound.marked c.insert.ensures.here c.insert.ensures.elsewhere;
+      marked = marks_again (head_at heads) (head_at (set heads at (Some slot))) (mark_at c.self.inside.marks) (mark_at c.mark_held.new.marks) at
+          sound.marked (λ other apart. get_or-set_other heads at other (Some slot) None apart)
+          (c.mark_held.ensures.here ∙ ap mark_of (sym (get_or-set_same heads at (Some slot) None (in_heads c))))
+          c.mark_held.ensures.elsewhere;
       few_heads = let few = sound.few_heads in omega arith;
       all_heads = λ _. let enough = all (omega arith) in omega arith;
     }
