@@ -1,9 +1,12 @@
+pub mod HeldCells
 pub mod HighestBit
 pub mod Insertions
+pub mod LeastOnWay
 pub mod Linked
 pub mod MarkedCells
 pub mod Members
 pub mod Order
 pub mod Removals
+pub mod Rooms
 pub mod Viewed
 pub mod WrittenLinks

@@ -1,4 +1,4 @@
-ghost use Rattle.std.specs.Prelude.{◌≡◌, ◌≢◌, ◌<◌, ◌≤◌, ◌-◌, ◌++◌, ℕ, List, [], Option, Some, None, IsSome, OnOk, OnErr, IfSome, MatchOption, length, replicate, slice_set};
+ghost use Rattle.std.specs.Prelude.{◌≡◌, ◌≢◌, ◌⊎◌, ◌<◌, ◌≤◌, ◌-◌, ◌++◌, ℕ, List, [], Option, Some, None, IsSome, OnOk, OnErr, IfSome, MatchOption, length, replicate, slice_set, slice_index_or};
 ghost use Rattle.rb_wheel.specs.Written.{with_next, with_previous, with_first};
 ghost use Rattle.rb_wheel.specs.Marks.{mark_at, mark_of};
 ghost use Rattle.rb_wheel.specs.Lists.{cell_at, expiry_at, IsVacant, IsFirstCell, IsLeastIn, HasExpiries};
@@ -112,7 +112,7 @@ impl Lists {
     pub(crate) fn first_in(&self, cell: usize) -> Option<usize>
         ensures { MatchOption result (IsVacant self.now cell) (λ slot. cell_at self.now slot ≡ Some cell) }
     {
-        self.heads.get(cell).copied().flatten()
+        head_of(&self.heads, cell)
     }
 
     /// A slot of the cell whose expiry is least among them, with its expiry.
@@ -121,12 +121,10 @@ impl Lists {
         ensures { MatchOption result (IsVacant self.now cell) (λ entry. IsLeastIn self.now expiries.now cell entry.0 entry.1) }
     {
         let mut least: Option<(usize, u64)> = None;
-        let mut cursor = self.first_in(cell);
+        let mut cursor = head_of(&self.heads, cell);
         while let Some(slot) = cursor {
             let expiry = expiries[slot].unwrap();
-            if least.is_none_or(|(_, best)| expiry < best) {
-                least = Some((slot, expiry));
-            }
+            least = Some(earlier_of(least, (slot, expiry)));
             cursor = self.links[slot].next;
         }
         least
@@ -139,6 +137,25 @@ impl Lists {
         self.heads.fill(None);
         self.links.fill(UNLINKED);
         self.marks = Marks::new();
+    }
+}
+
+// The first slot of the cell's list.
+fn head_of(heads: &[Option<usize>], cell: usize) -> Option<usize>
+    ensures { result ≡ slice_index_or heads.now cell None }
+{
+    heads.get(cell).copied().flatten()
+}
+
+// The entry that expires first, of the best so far and another.
+fn earlier_of(best: Option<(usize, u64)>, entry: (usize, u64)) -> (usize, u64)
+    ensures no_later { result.1 ≤ entry.1 }
+    ensures no_worse { IfSome best (λ best. result.1 ≤ best.1) }
+    ensures either { (result ≡ entry) ⊎ (best ≡ Some result) }
+{
+    match best {
+        Some(best) if best.1 <= entry.1 => best,
+        _ => entry,
     }
 }
 
