@@ -8,5 +8,6 @@ pub mod Members
 pub mod Order
 pub mod Removals
 pub mod Rooms
+pub mod Spreads
 pub mod Viewed
 pub mod WrittenLinks

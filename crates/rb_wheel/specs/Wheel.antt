@@ -1,9 +1,46 @@
 -- How the entries of a wheel lie, seen from its base.
-use Rattle.std.specs.Prelude.{◌≡◌, ℕ, ◌<◌, ◌≤◌, Option, Some, None}
+use Rattle.std.specs.Prelude.{◌≡◌, ◌≢◌, ℕ, ◌<◌, ◌≤◌, List, length, Option, Some, None, IsSome, IfSome, IsSomeAnd, is_some, count_by}
+use Rattle.std.specs.FinMap as map
+use Rattle.rb_timer.specs.Content.{Content}
 use Rattle.rb_wheel.specs.Cells.{IsCellOf}
+use Rattle.rb_wheel.specs.Lists.{cell_at, expiry_at}
 
--- an expiry lies right: in its cell, or in no cell where it is before the base
+-- an entry lies right: in the cell of its expiry, or in none where it expires before the base
 abbrev pub LiesRight : ℕ → Option ℕ → Option ℕ → Type 0
 LiesRight base None cell = cell ≡ None
 LiesRight base (Some expiry) None = expiry < base
 LiesRight base (Some expiry) (Some cell) = (base ≤ expiry) × IsCellOf base expiry cell
+
+-- each entry lies right
+pub record LieRight (base : ℕ) (expiries cells : List (Option ℕ)) : Type 0 where
+  pub each : (slot : ℕ) → LiesRight base (expiry_at expiries slot) (cell_at cells slot)
+
+-- each entry lies right but those of one cell, and these belong in cells before it
+pub record MaySpread (base cell : ℕ) (expiries cells : List (Option ℕ)) : Type 0 where
+  pub others : (slot : ℕ) → cell_at cells slot ≢ Some cell → LiesRight base (expiry_at expiries slot) (cell_at cells slot)
+  pub inside : (slot : ℕ) → cell_at cells slot ≡ Some cell
+      → IsSomeAnd (expiry_at expiries slot) (λ expiry. (base ≤ expiry) × ((lower : ℕ) → IsCellOf base expiry lower → lower < cell))
+
+-- the slots that lie in some cell are the same
+pub record SameInCells (cells new_cells : List (Option ℕ)) : Type 0 where
+  pub room : length new_cells ≡ length cells
+  pub each : (slot : ℕ) → is_some (cell_at new_cells slot) ≡ is_some (cell_at cells slot)
+
+-- the slots of the cell now lie in cells before it
+abbrev pub LieLower : ℕ → List (Option ℕ) → List (Option ℕ) → Type 0
+LieLower cell cells new_cells = (slot : ℕ) → cell_at cells slot ≡ Some cell → IsSomeAnd (cell_at new_cells slot) (λ lower. lower < cell)
+
+-- no entry of the wheel is due
+abbrev pub IsNoneDue : ℕ → List (Option ℕ) → List (Option ℕ) → Type 0
+IsNoneDue now expiries cells = (slot : ℕ) → IsSome (cell_at cells slot) → IfSome (expiry_at expiries slot) (λ expiry. now < expiry)
+
+-- the cell holds a slot, and its entries all expire at the base
+pub record IsDueCell (base now cell : ℕ) (expiries cells : List (Option ℕ)) : Type 0 where
+  pub due : base ≤ now
+  pub held : (slot : ℕ) × (cell_at cells slot ≡ Some cell)
+  pub expires : (slot : ℕ) → cell_at cells slot ≡ Some cell → expiry_at expiries slot ≡ Some base
+
+-- the expiry of an entry that lies in no cell
+abbrev pub early_of : Option ℕ → Option ℕ → Option ℕ
+early_of expiry None = expiry
+early_of expiry (Some cell) = None

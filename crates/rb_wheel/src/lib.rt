@@ -1,6 +1,7 @@
 //! The timer for far moments: a hierarchical wheel of cells, each a list of the slots in it.
 #![tactic(auto)]
 
+mod advance;
 mod cells;
 mod lists;
 mod marks;

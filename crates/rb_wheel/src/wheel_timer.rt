@@ -1,4 +1,5 @@
-use crate::cells::{DIGITS, cell_of, start_of};
+use crate::advance::advance;
+use crate::cells::cell_of;
 use crate::lists::Lists;
 use rb_binary::BinaryTimer as EarlyTimer;
 use rb_timer::Timer;
@@ -117,34 +118,5 @@ impl<E: Timer> Timer for Wheel<E> {
         self.lists.clear();
         self.early.clear();
         self.len = 0;
-    }
-}
-
-// Moves the base up to `now`, or to the least expiry where that is not later. Then it gives the
-// cell of that expiry, which is on the lowest level.
-fn advance(lists: &mut Lists, expiries: &[Option<u64>], base: &mut u64, now: u64) -> Option<usize> {
-    let mut first = lists.first_cell();
-    while let Some(cell) = first {
-        let start = start_of(*base, cell);
-        if now < start {
-            break;
-        }
-        *base = start;
-        if cell < DIGITS {
-            return Some(cell);
-        }
-        cascade(lists, expiries, start, cell);
-        first = lists.first_cell();
-    }
-    *base = now.max(*base);
-    None
-}
-
-// Spreads a cell over the lower levels, now that the base is its first moment.
-fn cascade(lists: &mut Lists, expiries: &[Option<u64>], base: u64, cell: usize) {
-    while let Some(slot) = lists.first_in(cell) {
-        let expiry = expiries[slot].unwrap();
-        lists.remove(slot);
-        lists.insert(slot, cell_of(base, expiry));
     }
 }

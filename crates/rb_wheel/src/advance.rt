@@ -1,0 +1,55 @@
+ghost use Rattle.std.specs.Prelude.{◌≡◌, ◌<◌, ◌≤◌, ℕ, MatchOption, max};
+ghost use Rattle.rb_wheel.specs.Wheel.{LieRight, MaySpread, SameInCells, LieLower, IsNoneDue, IsDueCell};
+
+use crate::cells::{DIGITS, cell_of, start_of};
+use crate::lists::Lists;
+
+/// Moves the base up to `now`, or to the least expiry of the wheel where that is no later. Then it
+/// gives the cell of that expiry, which is on the lowest level.
+///
+/// The base enters one first cell after another, and each that is above the lowest level is spread
+/// over lower levels.
+pub(crate) fn advance(
+    lists: &mut Lists,
+    expiries: &[Option<u64>],
+    base: &mut u64,
+    now: u64,
+) -> Option<usize>
+    requires { LieRight base.old expiries.now lists.old }
+    ensures right { LieRight base.new expiries.now lists.new }
+    ensures same { SameInCells lists.old lists.new }
+    ensures not_back { base.old ≤ base.new }
+    ensures not_past { base.new ≤ max base.old now }
+    ensures due { MatchOption result (IsNoneDue now expiries.now lists.new) (λ cell. IsDueCell base.new now cell expiries.now lists.new) }
+{
+    let mut first = lists.first_cell();
+    while let Some(cell) = first {
+        let start = start_of(*base, cell);
+        if now < start {
+            *base = now.max(*base);
+            return None;
+        }
+        *base = start;
+        if cell < DIGITS {
+            return Some(cell);
+        }
+        spread(lists, expiries, start, cell);
+        first = lists.first_cell();
+    }
+    *base = now.max(*base);
+    None
+}
+
+// Puts the slots of a cell into the lower cells where they belong from the base, which has entered it.
+fn spread(lists: &mut Lists, expiries: &[Option<u64>], base: u64, cell: usize)
+    requires { MaySpread base cell expiries.now lists.old }
+    ensures right { LieRight base expiries.now lists.new }
+    ensures same { SameInCells lists.old lists.new }
+    ensures lower { LieLower cell lists.old lists.new }
+{
+    while let Some(slot) = lists.first_in(cell) {
+        let expiry = expiries[slot].unwrap();
+        lists.remove(slot);
+        lists.insert(slot, cell_of(base, expiry));
+    }
+}
