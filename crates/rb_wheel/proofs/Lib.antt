@@ -5,6 +5,7 @@ pub mod LeastOnWay
 pub mod Linked
 pub mod MarkedCells
 pub mod Members
+pub mod Moves
 pub mod Order
 pub mod Removals
 pub mod Rooms

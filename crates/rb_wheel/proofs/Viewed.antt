@@ -9,7 +9,8 @@ use Rattle.rb_wheel.specs.Lists.{cell_at}
 use Rattle.rb_wheel.specs.Links.{head_at, cell_in, cells_of}
 use Rattle.std.proofs.lemmas.Option.{none-some}
 
-is_some-none : IsSome {T = ℕ} None → ⊥
+-- none is not some number
+pub is_some-none : IsSome {T = ℕ} None → ⊥
 is_some-none h = cc
 
 module _ (links : List Link) (cells : List (Option ℕ)) (view : cells_of links ≡ cells) where

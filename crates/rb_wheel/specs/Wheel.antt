@@ -1,9 +1,13 @@
 -- How the entries of a wheel lie, seen from its base.
-use Rattle.std.specs.Prelude.{◌≡◌, ◌≢◌, ℕ, ◌<◌, ◌≤◌, List, length, Option, Some, None, IsSome, IfSome, IsSomeAnd, is_some, count_by}
+use Rattle.std.specs.Prelude.{◌≡◌, ◌≢◌, ◌^◌, ℕ, ◌<◌, ◌≤◌, List, length, Option, Some, None, IsSome, IfSome, IsSomeAnd, is_some, count_by}
 use Rattle.std.specs.FinMap as map
 use Rattle.rb_timer.specs.Content.{Content}
 use Rattle.rb_wheel.specs.Cells.{IsCellOf}
 use Rattle.rb_wheel.specs.Lists.{cell_at, expiry_at}
+
+-- each expiry is a moment
+abbrev pub AreMoments : List (Option ℕ) → Type 0
+AreMoments expiries = (slot : ℕ) → IfSome (expiry_at expiries slot) (λ expiry. expiry < 2 ^ 64)
 
 -- an entry lies right: in the cell of its expiry, or in none where it expires before the base
 abbrev pub LiesRight : ℕ → Option ℕ → Option ℕ → Type 0

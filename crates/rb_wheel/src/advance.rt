@@ -1,5 +1,5 @@
 ghost use Rattle.std.specs.Prelude.{◌≡◌, ◌<◌, ◌≤◌, ℕ, MatchOption, max};
-ghost use Rattle.rb_wheel.specs.Wheel.{LieRight, MaySpread, SameInCells, LieLower, IsNoneDue, IsDueCell};
+ghost use Rattle.rb_wheel.specs.Wheel.{AreMoments, LieRight, MaySpread, SameInCells, LieLower, IsNoneDue, IsDueCell};
 
 use crate::cells::{DIGITS, cell_of, start_of};
 use crate::lists::Lists;
@@ -15,7 +15,8 @@ pub(crate) fn advance(
     base: &mut u64,
     now: u64,
 ) -> Option<usize>
-    requires { LieRight base.old expiries.now lists.old }
+    requires moments { AreMoments expiries.now }
+    requires right { LieRight base.old expiries.now lists.old }
     ensures right { LieRight base.new expiries.now lists.new }
     ensures same { SameInCells lists.old lists.new }
     ensures not_back { base.old ≤ base.new }
