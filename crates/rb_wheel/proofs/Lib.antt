@@ -1,3 +1,4 @@
+pub mod Entries
 pub mod HeldCells
 pub mod HighestBit
 pub mod Insertions

@@ -48,3 +48,13 @@ pub record IsDueCell (base now cell : ℕ) (expiries cells : List (Option ℕ)) 
 abbrev pub early_of : Option ℕ → Option ℕ → Option ℕ
 early_of expiry None = expiry
 early_of expiry (Some cell) = None
+
+-- the wheel's parts agree: each entry lies right, in its cell or among the early ones, and there
+-- is room for each in both
+pub record IsWheel (expiries cells : List (Option ℕ)) (early : Content) (room base len : ℕ) : Type 0 where
+  pub right : LieRight base expiries cells
+  pub moments : AreMoments expiries
+  pub early_entries : (slot : ℕ) → map.get early slot ≡ early_of (expiry_at expiries slot) (cell_at cells slot)
+  pub in_lists : length expiries ≤ length cells
+  pub in_early : length expiries ≤ room
+  pub counted : len ≡ count_by is_some expiries

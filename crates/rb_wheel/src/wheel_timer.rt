@@ -31,7 +31,11 @@ impl<E: Timer> Model for Wheel<E> {
 
     ghost Value = { List (Option ℕ) };
 
+    ghost use Rattle.rb_wheel.specs.Wheel.{IsWheel};
+
     ghost view = { λ wheel. wheel.expiries.items };
+
+    ghost invariant = { λ wheel. IsWheel wheel.expiries.items wheel.lists (E.content wheel.early) (E.room wheel.early) wheel.base wheel.len };
 }
 
 impl<E: Timer> Timer for Wheel<E> {

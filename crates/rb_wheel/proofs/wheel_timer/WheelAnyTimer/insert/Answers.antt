@@ -1,0 +1,70 @@
+-- The entry goes to the early ones, or into its cell.
+use Rattle.std.proofs.Common.{◌≡◌, ◌<◌, ◌≤◌, ◌∙◌, ℕ, List, Option, Some, None, length, set, sym, ap, subst, arith}
+use Rattle.std.specs.FinMap as map
+use Rattle.rb_timer.specs.Slots.{content_of, get-content_of, content_of-insert}
+use Rattle.rb_wheel.specs.Lists.{expiry_at}
+use Rattle.rb_wheel.proofs.Entries.{fewer, free, not_early, insert_early, insert_late}
+use Rattle.rb_wheel.proofs.wheel_timer.WheelAnyTimer.insert.Goals as goal
+
+-- a slot with no entry has no expiry
+absent_in : (expiries value : List (Option ℕ)) (slot : ℕ) → expiries ≡ value → map.get (content_of value) slot ≡ None → expiry_at expiries slot ≡ None
+absent_in expiries value slot same absent = ap (λ es. expiry_at es slot) same ∙ sym (get-content_of value slot) ∙ absent
+
+-- such a slot of the room is one of the wheel's
+within : (expiries value : List (Option ℕ)) (slot : ℕ) → expiries ≡ value → slot < length value → slot < length expiries
+within expiries value slot same low = subst (λ (es : List (Option ℕ)). slot < length es) (sym same) low
+
+pub overflow_add-self : goal.overflow_add-self
+overflow_add-self g c =
+    let wheel = c.self.inside in
+    let few = fewer wheel.expiries.items wheel.lists _ _ wheel.base wheel.len c.self.invariant c.args.slot
+    (within wheel.expiries.items c.args.self.now c.args.slot c.self.view_is c.requires.in_room)
+    (absent_in wheel.expiries.items c.args.self.now c.args.slot c.self.view_is c.requires.absent) in
+    let small = wheel.expiries.small in
+    let ok = wheel.expiries.ok in
+    omega arith
+
+pub insert-requires-clause-absent : goal.insert-requires-clause-absent
+insert-requires-clause-absent g c =
+    let wheel = c.self.inside in
+    not_early wheel.expiries.items wheel.lists _ _ wheel.base wheel.len c.self.invariant c.args.slot
+    (within wheel.expiries.items c.args.self.now c.args.slot c.self.view_is c.requires.in_room)
+    (absent_in wheel.expiries.items c.args.self.now c.args.slot c.self.view_is c.requires.absent)
+
+pub invariant_of-self : goal.invariant_of-self
+invariant_of-self g c =
+    let wheel = c.self.inside in
+    insert_early wheel.expiries.items wheel.lists _ _ wheel.base wheel.len c.self.invariant c.args.slot
+    (within wheel.expiries.items c.args.self.now c.args.slot c.self.view_is c.requires.in_room)
+    (absent_in wheel.expiries.items c.args.self.now c.args.slot c.self.view_is c.requires.absent)
+    c.args.expiry _ _ (omega arith) c.if-expiry-self.true c.insert.ensures.content c.insert.ensures.room
+
+pub insert-requires-else-expiry-self-clause-free : goal.insert-requires-else-expiry-self-clause-free
+insert-requires-else-expiry-self-clause-free g c =
+    let wheel = c.self.inside in
+    free wheel.expiries.items wheel.lists _ _ wheel.base wheel.len c.self.invariant c.args.slot
+    (within wheel.expiries.items c.args.self.now c.args.slot c.self.view_is c.requires.in_room)
+    (absent_in wheel.expiries.items c.args.self.now c.args.slot c.self.view_is c.requires.absent)
+
+pub invariant_of-self-else-expiry-self : goal.invariant_of-self-else-expiry-self
+invariant_of-self-else-expiry-self g c =
+    let wheel = c.self.inside in
+    insert_late wheel.expiries.items wheel.lists _ _ wheel.base wheel.len c.self.invariant c.args.slot
+    (within wheel.expiries.items c.args.self.now c.args.slot c.self.view_is c.requires.in_room)
+    (absent_in wheel.expiries.items c.args.self.now c.args.slot c.self.view_is c.requires.absent)
+    c.args.expiry c.cell_of.result c.insert-else-expiry-self.new.self (omega arith) c.if-expiry-self.false
+    c.cell_of.ensures.cell c.insert-else-expiry-self.ensures
+
+-- the content has the entry
+added : (expiries value : List (Option ℕ)) (slot expiry : ℕ) → expiries ≡ value → slot < length value
+    → content_of (set expiries slot (Some expiry)) ≡ map.insert (content_of value) slot expiry
+added expiries value slot expiry same low =
+    ap (λ es. content_of (set es slot (Some expiry))) same ∙ content_of-insert value slot expiry low
+
+pub returns-then-expiry-self-clause-content : goal.returns-then-expiry-self-clause-content
+returns-then-expiry-self-clause-content g c =
+    added c.self.inside.expiries.items c.args.self.now c.args.slot c.args.expiry c.self.view_is c.requires.in_room
+
+pub returns-else-expiry-self-clause-content : goal.returns-else-expiry-self-clause-content
+returns-else-expiry-self-clause-content g c =
+    added c.self.inside.expiries.items c.args.self.now c.args.slot c.args.expiry c.self.view_is c.requires.in_room
