@@ -8,11 +8,13 @@ use Rattle.std.proofs.lemmas.Bool.{cases_eq, cases_lt, eq-eqb, ne_eqb}
 use Rattle.std.proofs.lemmas.List.Sums.{sum_by-set, count_by-le-length}
 use Rattle.std.proofs.lemmas.Option.{none-some, same_Some}
 use Rattle.rb_timer.specs.Content.{Content, IsLeast, IsLeastEntry, IsDueEntry}
-use Rattle.rb_timer.specs.Slots.{content_of, get-content_of}
+use Rattle.rb_timer.specs.Slots.{content_of, get-content_of, len-content_of, same_content, content_of-none}
 use Rattle.rb_wheel.specs.Cells.{IsCellOf}
 use Rattle.rb_wheel.specs.Lists.{cell_at, expiry_at, IsVacant, IsFirstCell, IsLeastIn, HasExpiries}
 use Rattle.rb_wheel.specs.Wheel.{LiesRight, LieRight, AreMoments, SameInCells, IsNoneDue, IsDueCell, early_of, IsWheel}
 use Rattle.rb_wheel.proofs.Linked.{cases_option}
+use Rattle.rb_wheel.proofs.Rooms.{get_or-padded}
+use Rattle.std.proofs.lemmas.List.{length-replicate}
 use Rattle.rb_wheel.proofs.Viewed.{is_some-none}
 
 -- after an insert or a removal: what the map has at its own slot, and at another
@@ -213,3 +215,44 @@ module _ (expiries cells : List (Option ℕ)) (early : Content) (room base len :
         (λ other apart. ap (λ cs. cell_at cs other) is ∙ get_or-set_other cells slot other None None apart)
         (λ other apart. refl)
         count_less
+
+-- the wheel has more room, and the same entries
+pub IsWheel-reserved : (expiries new_expiries cells new_cells : List (Option ℕ)) (early new_early : Content) (room new_room base len : ℕ)
+    → ((slot : ℕ) → expiry_at new_expiries slot ≡ expiry_at expiries slot) → ((slot : ℕ) → cell_at new_cells slot ≡ cell_at cells slot)
+    → new_early ≡ early → length new_expiries ≤ length new_cells → length new_expiries ≤ new_room
+    → IsWheel expiries cells early room base len → IsWheel new_expiries new_cells new_early new_room base len
+IsWheel-reserved expiries new_expiries cells new_cells early new_early room new_room base len same_expiries same_cells same_early lists_fit early_fit wheel = record {
+  right = record {
+    each = λ slot. LiesRight-same base (expiry_at expiries slot) (expiry_at new_expiries slot) (cell_at cells slot) (cell_at new_cells slot)
+        (same_expiries slot) (same_cells slot) (wheel.right.each slot);
+  };
+  moments = λ slot. subst (λ e. IfSome e (λ x. x < 2 ^ 64)) (sym (same_expiries slot)) (wheel.moments slot);
+  early_entries = λ slot. ap (λ m. map.get m slot) same_early ∙ wheel.early_entries slot
+      ∙ early_of-same (expiry_at expiries slot) (expiry_at new_expiries slot) (cell_at cells slot) (cell_at new_cells slot) (same_expiries slot) (same_cells slot);
+  in_lists = lists_fit;
+  in_early = early_fit;
+  counted =
+      wheel.counted ∙ sym (len-content_of expiries) ∙ ap map.len (sym (same_content new_expiries expiries same_expiries))
+      ∙ len-content_of new_expiries;
+}
+
+-- no slot has an entry
+pub IsWheel-none : (expiries new_expiries cells new_cells : List (Option ℕ)) (early new_early : Content) (room new_room base len : ℕ)
+    → new_expiries ≡ replicate (length expiries) None → new_cells ≡ replicate (length cells) None → new_early ≡ map.empty → new_room ≡ room
+    → IsWheel expiries cells early room base len → IsWheel new_expiries new_cells new_early new_room base 0
+IsWheel-none expiries new_expiries cells new_cells early new_early room new_room base len no_expiries no_cells no_early same_room wheel =
+    let no_expiry = λ (slot : ℕ). ap (λ es. expiry_at es slot) no_expiries ∙ get_or-padded [] (length expiries) slot None in
+    let no_cell = λ (slot : ℕ). ap (λ cs. cell_at cs slot) no_cells ∙ get_or-padded [] (length cells) slot None in
+    let long_expiries : length new_expiries ≡ length expiries = ap length no_expiries ∙ length-replicate (length expiries) None in
+    let long_cells : length new_cells ≡ length cells = ap length no_cells ∙ length-replicate (length cells) None in
+    let lists_fit = wheel.in_lists in
+    let early_fit = wheel.in_early in
+    record {
+      right = record { each = λ slot. LiesRight-same base None (expiry_at new_expiries slot) None (cell_at new_cells slot) (no_expiry slot) (no_cell slot) refl };
+      moments = λ slot. subst (λ e. IfSome e (λ x. x < 2 ^ 64)) (sym (no_expiry slot)) tt;
+      early_entries = λ slot. ap (λ m. map.get m slot) no_early ∙ map.get-empty nat_cmp slot
+          ∙ early_of-same None (expiry_at new_expiries slot) None (cell_at new_cells slot) (no_expiry slot) (no_cell slot);
+      in_lists = omega arith;
+      in_early = omega arith;
+      counted = sym (map.len-empty nat_cmp ℕ) ∙ ap map.len (sym (content_of-none (length expiries)) ∙ ap content_of (sym no_expiries)) ∙ len-content_of new_expiries;
+    }
