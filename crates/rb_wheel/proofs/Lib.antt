@@ -2,6 +2,7 @@ pub mod Entries
 pub mod HeldCells
 pub mod HighestBit
 pub mod Insertions
+pub mod LeastEntries
 pub mod LeastOnWay
 pub mod Linked
 pub mod MarkedCells
