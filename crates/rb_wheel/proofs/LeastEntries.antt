@@ -127,13 +127,16 @@ module _ (expiries value cells : List (Option ℕ)) (early : Content) (room base
     pub due_from_cell : (now new_base cell slot : ℕ) (new_cells : List (Option ℕ)) → SameInCells cells new_cells → LieRight new_base expiries new_cells
         → IsDueCell new_base now cell expiries new_cells → cell_at new_cells slot ≡ Some cell
         → IsLeast (content_of value) slot new_base × (new_base ≤ now)
-    due_from_cell now new_base cell slot new_cells moved right due lies = (record {
-      present = at_slot slot ∙ due.expires slot lies;
-      least = each_entry (λ x. new_base ≤ x) (λ other x is. cases_option (new_base ≤ x) (cell_at new_cells other)
-          (λ none. absurd (is_some-none (subst (λ o. IsSome o) none (in_new_cell new_cells moved other x is))))
-          (λ at in_it.
-          let it = entry_at new_base (expiry_at expiries other) (cell_at new_cells other) at in_it (right.each other) in
-          let same_expiry : it.at ≡ x = same_Some it.at x (sym it.is ∙ is) in
-          let after = it.after in
-          omega arith));
-    }, due.due)
+    due_from_cell now new_base cell slot new_cells moved right due lies = (
+      record {
+        present = at_slot slot ∙ due.expires slot lies;
+        least = each_entry (λ x. new_base ≤ x) (λ other x is. cases_option (new_base ≤ x) (cell_at new_cells other)
+            (λ none. absurd (is_some-none (subst (λ o. IsSome o) none (in_new_cell new_cells moved other x is))))
+            (λ at in_it.
+            let it = entry_at new_base (expiry_at expiries other) (cell_at new_cells other) at in_it (right.each other) in
+            let same_expiry : it.at ≡ x = same_Some it.at x (sym it.is ∙ is) in
+            let after = it.after in
+            omega arith));
+      },
+      due.due,
+    )

@@ -52,9 +52,10 @@ module _ (head cell next previous : ℕ → Option ℕ) (rank : ℕ → ℕ) (li
         → AllByRecursion (λ slot. below < rank slot) (walk next fuel from)
     above_all zero below from above = tt
     above_all (suc fuel) below None above = tt
-    above_all (suc fuel) below (Some slot) above =
-        (above slot refl,
-        above_all fuel below (next slot) (λ other is. let rises = linked.next_rank slot other is in let more = above slot refl in omega arith))
+    above_all (suc fuel) below (Some slot) above = (
+      above slot refl,
+      above_all fuel below (next slot) (λ other is. let rises = linked.next_rank slot other is in let more = above slot refl in omega arith),
+    )
 
     apart_all : (slot : ℕ) (others : List ℕ) → AllByRecursion (λ other. rank slot < rank other) others
         → AllByRecursion (λ other. eqb slot other ≡ false) others
@@ -66,9 +67,10 @@ module _ (head cell next previous : ℕ → Option ℕ) (rank : ℕ → ℕ) (li
     unfolding IsDistinct
     distinct zero from = tt
     distinct (suc fuel) None = tt
-    distinct (suc fuel) (Some slot) =
-        (apart_all slot (walk next fuel (next slot)) (above_all fuel (rank slot) (next slot) (linked.next_rank slot)),
-        distinct fuel (next slot))
+    distinct (suc fuel) (Some slot) = (
+      apart_all slot (walk next fuel (next slot)) (above_all fuel (rank slot) (next slot) (linked.next_rank slot)),
+      distinct fuel (next slot),
+    )
 
     next_low : (slot other : ℕ) → next slot ≡ Some other → other < room
     next_low slot other is = cases_option (other < room) (cell other)

@@ -77,8 +77,11 @@ IsSound-none heads new_heads marks new_marks links new_links no_heads no_links n
     let few = sound.few_heads in
     let all = sound.all_heads in
     record {
-      linked = (λ slot. 0, AreLinked-none new_heads new_links none
-          (λ slot. ap (λ ls. link_at ls slot) no_links ∙ get_or-padded [] (length links) slot unlinked));
+      linked = (
+        λ slot. 0,
+        AreLinked-none new_heads new_links none
+            (λ slot. ap (λ ls. link_at ls slot) no_links ∙ get_or-padded [] (length links) slot unlinked),
+      );
       marked = λ at. no_marks at ∙ sym (ap mark_of (none at));
       few_heads = omega arith;
       all_heads = λ some. let enough = all (omega arith) in omega arith;

@@ -27,9 +27,6 @@ in_row cells slot cell lies = ⊎_elim (λ within. within)
     (λ past. absurd (none-some cell (sym (get_or_past cells slot None past) ∙ lies)))
     (cases_lt slot (length cells))
 
-
-
-
 -- a cell holds one slot less once that lies in a lower one
 pub count_in-lower : (cells : List (Option ℕ)) (slot cell lower : ℕ) → cell_at cells slot ≡ Some cell → lower < cell
     → count_in cell (set (set cells slot None) slot (Some lower)) < count_in cell cells

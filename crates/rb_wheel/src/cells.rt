@@ -7,6 +7,7 @@ pub(crate) const LEVELS: usize = 11;
 pub(crate) const DIGITS: usize = 64;
 /// How many cells there are: that of a digit on a level is `level * DIGITS + digit`.
 pub(crate) const CELLS: usize = LEVELS * DIGITS;
+
 const DIGIT_BITS: u32 = 6;
 
 /// The cell of an expiry: the highest level on which its digit differs from that of the base (the

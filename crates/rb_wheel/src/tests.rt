@@ -51,7 +51,11 @@ static BOUNDARIES: [[u64; 3]; 10] = [
     [4398046511103, 4398046511104, 4398046511105],
     [281474976710655, 281474976710656, 281474976710657],
     [18014398509481983, 18014398509481984, 18014398509481985],
-    [1152921504606846975, 1152921504606846976, 1152921504606846977],
+    [
+        1152921504606846975,
+        1152921504606846976,
+        1152921504606846977,
+    ],
 ];
 
 // Whether an entry that expires at `moment` is found due then, and not one nanosecond before, by
@@ -94,9 +98,15 @@ fn finds_each_boundary_from_zero(rt: HostRuntime) -> Result<(), Fail> {
 fn finds_each_boundary_from_each(rt: HostRuntime) -> Result<(), Fail> {
     for from in BOUNDARIES.iter().flatten() {
         for moment in BOUNDARIES.iter().flatten() {
-            assert!(rt; finds_due(rt.alloc(), *from, *moment)?, "{moment} from {from}");
+            assert!(rt;
+                finds_due(rt.alloc(), *from, *moment)?,
+                "{moment} from {from}"
+            );
         }
-        assert!(rt; finds_due(rt.alloc(), *from, u64::MAX)?, "the last from {from}");
+        assert!(rt;
+            finds_due(rt.alloc(), *from, u64::MAX)?,
+            "the last from {from}"
+        );
     }
     Ok(())
 }
@@ -169,7 +179,9 @@ fn agree(one: &TimerAnswer, other: &TimerAnswer) -> bool {
 // 100 runs of 1,000 commands each. In a run the time goes on by steps of any size, from 0 to its end.
 #[test]
 fn agrees_with_the_plain_timer(rt: HostRuntime) -> Result<(), Fail> {
-    let mut random = Random { state: 88172645463325252 };
+    let mut random = Random {
+        state: 88172645463325252,
+    };
     for run in 0..100u32 {
         let mut plain = ListTimer::new(rt.alloc());
         let mut wheel = WheelTimer::new(rt.alloc());
@@ -184,7 +196,13 @@ fn agrees_with_the_plain_timer(rt: HostRuntime) -> Result<(), Fail> {
         let expected = run_timer(rt.alloc(), &mut plain, &commands)?;
         let answers = run_timer(rt.alloc(), &mut wheel, &commands)?;
         assert_eq!(rt; answers.len(), expected.len());
-        assert!(rt; answers.iter().zip(expected.iter()).all(|(one, other)| agree(one, other)), "run {run}");
+        assert!(rt;
+            answers
+                .iter()
+                .zip(expected.iter())
+                .all(|(one, other)| agree(one, other)),
+            "run {run}"
+        );
     }
     Ok(())
 }

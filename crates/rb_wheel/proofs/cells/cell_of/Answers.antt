@@ -13,9 +13,9 @@ returns-clause-cell c =
     let level = c.match-checked_ilog2.level in
     let parts = of_parts level (digit level c.args.expiry) (level * 64 + digit level c.args.expiry) (omega arith) refl in
     elim c.match-checked_ilog2.branch [
-      in-Some w ↦ IsCellOf-from_bit c.args.base c.args.expiry w.in-Some.highest_bit
+      | in-Some w ↦ IsCellOf-from_bit c.args.base c.args.expiry w.in-Some.highest_bit
           w.in-Some.ensures.power_le w.in-Some.ensures.next_power_gt _
           (parts.0 ∙ w.level-is) (parts.1 ∙ ap (λ l. digit l c.args.expiry) w.level-is)
-    | in-None w ↦ IsCellOf-from_none c.args.base c.args.expiry _ w.in-None.ensures.none
+      | in-None w ↦ IsCellOf-from_none c.args.base c.args.expiry _ w.in-None.ensures.none
           (parts.0 ∙ w.level-is) (parts.1 ∙ ap (λ l. digit l c.args.expiry) w.level-is)
     ]

@@ -69,8 +69,11 @@ invariant_of-self c =
     let all = sound.all_heads in
     let some = in_links c in
     record {
-      linked = (rank_below slot rank, subst (λ ls. AreLinked (set heads at (Some slot)) ls (rank_below slot rank)) (sym (links_are c))
-          (AreLinked-insert heads links at slot rank sound.linked.1 (in_heads c) some (free c)));
+      linked = (
+        rank_below slot rank,
+        subst (λ ls. AreLinked (set heads at (Some slot)) ls (rank_below slot rank)) (sym (links_are c))
+            (AreLinked-insert heads links at slot rank sound.linked.1 (in_heads c) some (free c)),
+      );
       marked = marks_again (head_at heads) (head_at (set heads at (Some slot))) (mark_at c.self.inside.marks) (mark_at c.mark_held.new.marks) at
           sound.marked (λ other apart. get_or-set_other heads at other (Some slot) None apart)
           (c.mark_held.ensures.here ∙ ap mark_of (sym (get_or-set_same heads at (Some slot) None (in_heads c))))

@@ -9,8 +9,11 @@ pub invariant_of-result : goal.invariant_of-result
 invariant_of-result c =
     let no_heads = λ (at : ℕ). ap (λ hs. get_or hs at None) c.new.ensures.items in
     record {
-      linked = (λ slot. 0, AreLinked-none c.new.result.items c.new-3.result.items no_heads
-          (λ slot. ap (λ ls. get_or ls slot unlinked) c.new-3.ensures.items));
+      linked = (
+        λ slot. 0,
+        AreLinked-none c.new.result.items c.new-3.result.items no_heads
+            (λ slot. ap (λ ls. get_or ls slot unlinked) c.new-3.ensures.items),
+      );
       marked = λ at. c.new-2.ensures at ∙ sym (ap mark_of (no_heads at));
       few_heads = rw c.new.ensures.items (omega arith);
       all_heads = λ some. let none = ap length c.new-3.ensures.items in absurd (omega arith);

@@ -7,6 +7,7 @@ returns-then-word-ne0 c =
     let words = c.args.self.now.words in
     let level = c.loop-level.level in
     let low = c.loop-level.invariant in
-    let fits : get_or words level 0 < 2 ^ 64 = omega arith in
-    (first_marked words level low (get_or words level 0) refl (omega arith) fits,
-    first_least words level low (get_or words level 0) refl (omega arith) fits)
+    let fits : get_or words level 0 < 2 ^ 64 = omega arith in (
+      first_marked words level low (get_or words level 0) refl (omega arith) fits,
+      first_least words level low (get_or words level 0) refl (omega arith) fits,
+    )
