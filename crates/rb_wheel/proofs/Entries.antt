@@ -1,18 +1,16 @@
 -- The entries of a wheel, as they come and go.
-use Rattle.std.proofs.Common.{◌≡◌, ℕ, zero, suc, ◌+◌, ◌-◌, ◌<◌, ◌≤◌, ◌≢◌, ◌^◌, ◌++◌, true, false, cond, List, [], ◌∷◌, length, set, replicate, Option, Some, None, IsSome, IfSome, is_some, sym, ap, ◌∙◌, refl, subst, arith, ⊎_elim, ◌⊎◌, inl, inr, get_or-set_same, get_or-set_other, length-set}
-use Rattle.std.specs.Prelude.{count_by, MatchOption}
+use Rattle.std.proofs.Common.{◌≡◌, ℕ, ◌+◌, ◌-◌, ◌<◌, ◌≤◌, ◌≢◌, ◌^◌, cond, List, [], length, set, replicate, Option, Some, None, IsSome, IfSome, is_some, sym, ap, ◌∙◌, refl, subst, arith, ⊎_elim, get_or-set_same, get_or-set_other, length-set}
 use Rattle.std.specs.FinMap as map
 use Rattle.std.specs.Ordering.{nat_cmp}
 use Rattle.std.specs.Cmp.{unsigned_tied, nat_cmp_total}
-use Rattle.std.proofs.lemmas.Bool.{cases_eq, cases_lt, eq-eqb, ne_eqb}
+use Rattle.std.proofs.lemmas.Bool.{cases_eq, eq-eqb, ne_eqb}
 use Rattle.std.proofs.lemmas.List.Sums.{sum_by-set, count_by-le-length}
 use Rattle.std.proofs.lemmas.Option.{none-some, same_Some}
-use Rattle.rb_timer.specs.Content.{Content, IsLeast, IsLeastEntry, IsDueEntry}
-use Rattle.rb_timer.specs.Slots.{content_of, get-content_of, len-content_of, same_content, content_of-none}
+use Rattle.rb_timer.specs.Content.{Content}
+use Rattle.rb_timer.specs.Slots.{content_of, len-content_of, same_content, content_of-none}
 use Rattle.rb_wheel.specs.Cells.{IsCellOf}
-use Rattle.rb_wheel.specs.Lists.{cell_at, expiry_at, IsVacant, IsFirstCell, IsLeastIn, HasExpiries}
-use Rattle.rb_wheel.specs.Wheel.{LiesRight, LieRight, AreMoments, SameInCells, IsNoneDue, IsDueCell, early_of, IsWheel}
-use Rattle.rb_wheel.proofs.Linked.{cases_option}
+use Rattle.rb_wheel.specs.Lists.{cell_at, expiry_at}
+use Rattle.rb_wheel.specs.Wheel.{LiesRight, early_of, IsWheel}
 use Rattle.rb_wheel.proofs.Rooms.{get_or-padded}
 use Rattle.std.proofs.lemmas.List.{length-replicate}
 use Rattle.rb_wheel.proofs.Viewed.{is_some-none}

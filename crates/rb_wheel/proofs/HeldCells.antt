@@ -1,11 +1,11 @@
 -- Which cells hold a slot, by their heads and their marks.
-use Rattle.std.proofs.Common.{◌≡◌, ℕ, ◌<◌, ◌≤◌, ◌≢◌, List, length, Option, Some, None, IfSome, MatchOption, sym, ap, ◌∙◌, refl, subst, arith}
+use Rattle.std.proofs.Common.{◌≡◌, ℕ, ◌≤◌, ◌≢◌, List, Option, Some, None, MatchOption, sym, ◌∙◌, refl}
 use Rattle.std.proofs.lemmas.Option.{none-some}
 use Rattle.rb_wheel.specs.declared.lists.Link.{Link}
 use Rattle.rb_wheel.specs.declared.marks.Marks.{Marks}
-use Rattle.rb_wheel.specs.Marks.{mark_at, mark_of, IsFirstMarked}
+use Rattle.rb_wheel.specs.Marks.{mark_of, IsFirstMarked}
 use Rattle.rb_wheel.specs.Lists.{cell_at, IsVacant, IsFirstCell}
-use Rattle.rb_wheel.specs.Links.{head_at, cell_in, cells_of, IsSound}
+use Rattle.rb_wheel.specs.Links.{head_at, cells_of, IsSound}
 use Rattle.rb_wheel.proofs.Linked.{cases_option}
 use Rattle.rb_wheel.proofs.Members.{met}
 use Rattle.rb_wheel.proofs.Viewed.{cell_at-viewed, if_some}

@@ -1,5 +1,5 @@
 -- Which entries of a wheel are least, and which are due.
-use Rattle.std.proofs.Common.{◌≡◌, ℕ, ◌+◌, ◌<◌, ◌≤◌, ◌≢◌, true, false, List, Option, Some, None, IsSome, IfSome, MatchOption, is_some, sym, ap, ◌∙◌, refl, subst, arith, ⊎_elim, ◌⊎◌, inl, inr}
+use Rattle.std.proofs.Common.{◌≡◌, ℕ, ◌<◌, ◌≤◌, true, false, List, Option, Some, None, IsSome, IfSome, MatchOption, is_some, sym, ap, ◌∙◌, refl, subst, arith, ⊎_elim, ◌⊎◌, inl, inr}
 use Rattle.std.specs.FinMap as map
 use Rattle.std.specs.Ordering.{nat_cmp}
 use Rattle.std.proofs.lemmas.Bool.{cases_lt}
@@ -10,7 +10,7 @@ use Rattle.rb_wheel.specs.Cells.{IsCellOf}
 use Rattle.rb_wheel.specs.Lists.{cell_at, expiry_at, IsVacant, IsFirstCell, IsLeastIn}
 use Rattle.rb_wheel.specs.Wheel.{LiesRight, LieRight, SameInCells, IsNoneDue, IsDueCell, early_of, IsWheel}
 use Rattle.rb_wheel.proofs.Linked.{cases_option}
-use Rattle.rb_wheel.proofs.Moves.{IsEntryAt, entry_at}
+use Rattle.rb_wheel.proofs.Moves.{entry_at}
 use Rattle.rb_wheel.proofs.Order.{earlier_from_cells}
 use Rattle.rb_wheel.proofs.Viewed.{if_some, is_some-none}
 

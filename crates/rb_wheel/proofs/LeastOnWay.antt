@@ -1,10 +1,10 @@
 -- The least expiry of a cell, as far as a walk over it has come.
-use Rattle.std.proofs.Common.{◌≡◌, ℕ, ◌<◌, ◌≤◌, List, length, Option, Some, None, IfSome, IsSome, MatchOption, sym, ap, ◌∙◌, refl, subst, arith, ⊎_elim, ◌⊎◌, inl, inr}
+use Rattle.std.proofs.Common.{◌≡◌, ℕ, ◌<◌, ◌≤◌, List, length, Option, Some, None, IfSome, MatchOption, sym, ◌∙◌, subst, arith, ⊎_elim, ◌⊎◌, inl, inr}
 use Rattle.rb_wheel.specs.Lists.{cell_at, expiry_at, IsVacant, IsLeastIn}
 use Rattle.std.proofs.lemmas.Option.{IfSome_then}
 use Rattle.rb_wheel.specs.declared.lists.Link.{Link}
 use Rattle.rb_wheel.specs.declared.marks.Marks.{Marks}
-use Rattle.rb_wheel.specs.Links.{head_at, cell_in, next_in, cells_of, IsSound}
+use Rattle.rb_wheel.specs.Links.{head_at, next_in, cells_of, IsSound}
 use Rattle.rb_wheel.proofs.HeldCells.{holds}
 use Rattle.rb_wheel.proofs.Members.{Reaches, met, left, left-next}
 use Rattle.rb_wheel.proofs.Members.Reaches.{here, later}

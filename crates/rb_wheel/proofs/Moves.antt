@@ -1,12 +1,12 @@
 -- The base moves up, and the entries still lie right, or may be spread.
-use Rattle.std.proofs.Common.{◌≡◌, ℕ, ◌+◌, ◌<◌, ◌≤◌, ◌≢◌, List, length, Option, Some, None, IsSome, IfSome, MatchOption, is_some, max, sym, ap, ◌∙◌, refl, subst, arith, ⊎_elim, ◌⊎◌, inl, inr}
+use Rattle.std.proofs.Common.{◌≡◌, ℕ, ◌+◌, ◌<◌, ◌≤◌, List, Option, Some, None, IsSome, IfSome, MatchOption, max, sym, ap, ◌∙◌, refl, subst, arith, ⊎_elim, ◌⊎◌, inl, inr}
 use Rattle.std.specs.Prelude.{IsSomeAnd}
 use Rattle.std.proofs.lemmas.Bool.{cases_lt}
 use Rattle.std.proofs.lemmas.Option.{none-some, same_Some}
 use Rattle.rb_wheel.specs.Cells.{IsCellOf, start, level_of}
 use Rattle.rb_wheel.specs.Lists.{cell_at, expiry_at, IsVacant, IsFirstCell}
 use Rattle.rb_wheel.specs.Wheel.{LiesRight, LieRight, MaySpread, SameInCells, LieLower, IsNoneDue, IsDueCell}
-use Rattle.rb_wheel.proofs.Order.{start_le, start_lowest, base_le_start, lower_from_start, earlier_from_cells, next_le, IsCellOf-next}
+use Rattle.rb_wheel.proofs.Order.{start_le, start_lowest, base_le_start, lower_from_start, next_le, IsCellOf-next}
 use Rattle.rb_wheel.proofs.Linked.{cases_option}
 use Rattle.rb_wheel.proofs.Viewed.{is_some-none}
 

@@ -1,6 +1,5 @@
 -- The lists after a slot was taken out of one.
-use Rattle.std.proofs.Common.{◌≡◌, ℕ, ◌<◌, ◌≤◌, ◌≢◌, List, length, get_or, set, Option, Some, None, IsSome, IfSome, sym, ap, ◌∙◌, refl, subst, arith, ⊎_elim, get_or-set_same, get_or-set_other, length-set}
-use Rattle.std.proofs.lemmas.Bool.{cases_eq}
+use Rattle.std.proofs.Common.{◌≡◌, ℕ, ◌<◌, ◌≢◌, List, length, get_or, set, Option, Some, None, IsSome, IfSome, sym, ap, ◌∙◌, refl, subst, arith, ⊎_elim, get_or-set_same, get_or-set_other, length-set}
 use Rattle.std.proofs.lemmas.List.{map-set, get_or_read}
 use Rattle.std.proofs.lemmas.Option.{none-some}
 use Rattle.rb_wheel.specs.declared.lists.Link.{Link}

@@ -1,13 +1,11 @@
 -- The entries of a cell, spread over lower ones one after another.
-use Rattle.std.proofs.Common.{◌≡◌, ℕ, ◌+◌, ◌<◌, ◌≤◌, ◌≢◌, Bool, true, false, cond, eqb, List, length, set, Option, Some, None, IsSome, IfSome, is_some, sym, ap, ◌∙◌, refl, subst, arith, ⊎_elim, ◌⊎◌, inl, inr, get_or-set_same, get_or-set_other, length-set}
+use Rattle.std.proofs.Common.{◌≡◌, ℕ, ◌<◌, Bool, false, cond, eqb, List, length, set, Option, Some, None, sym, ap, ◌∙◌, refl, arith, ⊎_elim, ◌⊎◌, get_or-set_same, length-set}
 use Rattle.std.specs.Prelude.{IsSomeAnd, count_by}
 use Rattle.std.proofs.lemmas.Bool.{cases_lt, eq-eqb, ne_eqb}
 use Rattle.std.proofs.lemmas.List.{get_or_past}
 use Rattle.std.proofs.lemmas.List.Sums.{sum_by-set}
-use Rattle.std.proofs.lemmas.Option.{none-some, same_Some}
-use Rattle.rb_wheel.specs.Cells.{IsCellOf}
-use Rattle.rb_wheel.specs.Lists.{cell_at, expiry_at, IsVacant}
-use Rattle.rb_wheel.specs.Wheel.{LiesRight, LieRight, MaySpread, SameInCells, LieLower}
+use Rattle.std.proofs.lemmas.Option.{none-some}
+use Rattle.rb_wheel.specs.Lists.{cell_at}
 
 -- the slots of the cell lie in it, or in cells before it
 abbrev pub LieLowerSoFar : ℕ → List (Option ℕ) → List (Option ℕ) → Type 0

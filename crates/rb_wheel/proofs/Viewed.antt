@@ -1,5 +1,5 @@
 -- What callers know of the cells, as the links have it.
-use Rattle.std.proofs.Common.{◌≡◌, ℕ, ◌<◌, ◌≤◌, ◌++◌, List, length, get_or, take, drop, Option, Some, None, IsSome, IfSome, sym, ap, ◌∙◌, subst, refl, arith, ⊎_elim}
+use Rattle.std.proofs.Common.{◌≡◌, ℕ, ◌<◌, ◌++◌, List, length, take, drop, Option, Some, None, IsSome, IfSome, sym, ap, ◌∙◌, subst, refl, ⊎_elim}
 use Rattle.std.proofs.lemmas.Bool.{cases_lt}
 use Rattle.std.proofs.lemmas.List.{length-map, take_at, get_or_past}
 use Rattle.std.proofs.Math.ListN.{get_or-map}

@@ -1,13 +1,12 @@
 -- What the links are after one neighbour was written, or one slot's link.
-use Rattle.std.proofs.Common.{◌≡◌, ℕ, ◌<◌, ◌≤◌, ◌≢◌, List, length, get_or, set, Option, Some, None, sym, ap, ◌∙◌, refl, subst, arith, ⊎_elim, get_or-set_same, get_or-set_other, length-set}
-use Rattle.std.specs.Prelude.{map}
+use Rattle.std.proofs.Common.{◌≡◌, ℕ, ◌<◌, ◌≢◌, List, length, Option, Some, None, sym, ap, ◌∙◌, refl, ⊎_elim, get_or-set_same, get_or-set_other, length-set}
 use Rattle.std.proofs.lemmas.Bool.{cases_lt}
 use Rattle.std.proofs.lemmas.List.{get_or_past}
 use Rattle.std.proofs.Math.Seq.{map-set_same}
 use Rattle.std.proofs.lemmas.Option.{none-some, same_Some}
 use Rattle.rb_wheel.specs.declared.lists.Link.{Link}
 use Rattle.rb_wheel.specs.Written.{unlinked, link_at, with_next, with_previous}
-use Rattle.rb_wheel.specs.Links.{cell_in, next_in, previous_in, cells_of, AreLinked}
+use Rattle.rb_wheel.specs.Links.{cell_in, cells_of}
 
 -- a slot that lies in a cell has a link
 pub in_room : (links : List Link) (slot at : ℕ) → cell_in links slot ≡ Some at → slot < length links

@@ -1,5 +1,5 @@
 -- Lists of slots, one for each cell, as callers see them: at each slot the cell that it lies in, or none.
-use Rattle.std.specs.Prelude.{◌≡◌, ℕ, ◌<◌, ◌≤◌, ◌≢◌, List, Option, Some, None, IfSome, IsSome, slice_index_or}
+use Rattle.std.specs.Prelude.{◌≡◌, ℕ, ◌≤◌, ◌≢◌, List, Option, Some, None, IfSome, IsSome, slice_index_or}
 
 -- the cell that a slot lies in
 abbrev pub cell_at : List (Option ℕ) → ℕ → Option ℕ

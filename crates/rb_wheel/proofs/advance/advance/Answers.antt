@@ -1,9 +1,8 @@
 -- The base enters the first cell, or stays before it.
-use Rattle.std.proofs.Common.{◌≡◌, ◌<◌, ◌≤◌, ◌^◌, ℕ, List, Option, Some, IfSome, MatchOption, max, ap, subst, sym, arith}
-use Rattle.rb_wheel.specs.Cells.{start}
+use Rattle.std.proofs.Common.{◌<◌, ◌≤◌, ◌^◌, ℕ, IfSome, MatchOption, subst, sym, arith}
 use Rattle.rb_wheel.specs.Lists.{IsVacant, IsFirstCell}
 use Rattle.rb_wheel.specs.Wheel.{LieRight, MaySpread, IsDueCell}
-use Rattle.rb_wheel.proofs.Moves.{number_of, right_at_now, right_none, none_before, right_lowest, due_lowest, may_spread, start_fits, up_to_start, held, first_before, SameInCells-then}
+use Rattle.rb_wheel.proofs.Moves.{number_of, right_at_now, none_before, right_lowest, due_lowest, may_spread, start_fits, up_to_start, held, first_before, SameInCells-then}
 use Rattle.rb_wheel.proofs.advance.advance.Goals as goal
 use Rattle.rb_wheel.proofs.advance.advance.Goals.{In-Some}
 

@@ -1,5 +1,5 @@
 -- All lies right from the base, which has come no further than it may, and `first` is the first cell.
-use Rattle.std.proofs.Common.{ℕ, ◌+◌, ◌<◌, ◌≤◌, Option, Some, None, IfSome, MatchOption, max}
+use Rattle.std.proofs.Common.{ℕ, ◌<◌, ◌≤◌, IfSome, MatchOption, max}
 use Rattle.rb_wheel.specs.declared.cells.TheConstants.{CELLS}
 use Rattle.rb_wheel.specs.Lists.{IsVacant, IsFirstCell}
 use Rattle.rb_wheel.specs.Wheel.{LieRight, SameInCells}

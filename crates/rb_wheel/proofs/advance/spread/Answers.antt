@@ -1,5 +1,5 @@
 -- The slot that was spread lies in a lower cell, so that its own has one less.
-use Rattle.std.proofs.Common.{◌≡◌, ◌<◌, ◌≤◌, ℕ, ◌∙◌, ap, sym, subst, set, Some, None}
+use Rattle.std.proofs.Common.{◌<◌, ◌≤◌, ℕ, ◌∙◌, ap, sym, subst, set, Some}
 use Rattle.std.specs.Prelude.{IsSomeAnd}
 use Rattle.rb_wheel.specs.Cells.{IsCellOf}
 use Rattle.rb_wheel.proofs.Spreads.{count_in, count_in-lower}

@@ -1,5 +1,4 @@
 -- What is left in the cell is still to be spread, and what was in it lies lower.
-use Rattle.std.proofs.Common.{ℕ}
 use Rattle.rb_wheel.specs.Wheel.{MaySpread, SameInCells}
 use Rattle.rb_wheel.proofs.Spreads.{LieLowerSoFar, count_in}
 use Rattle.rb_wheel.proofs.advance.spread.Given as goal

@@ -1,4 +1,4 @@
-use Rattle.std.proofs.Common.{◌≡◌, ℕ, ◌+◌, ◌*◌, ◌/◌, ◌%◌, ap, sym, ◌∙◌, refl, ◌<◌, arith}
+use Rattle.std.proofs.Common.{◌≡◌, ℕ, ◌+◌, ◌*◌, ◌/◌, ◌%◌, ap, ◌∙◌, refl, ◌<◌, arith}
 use Rattle.rb_wheel.specs.Cells.{digit}
 use Rattle.rb_wheel.proofs.HighestBit.{IsCellOf-from_bit, IsCellOf-from_none}
 use Rattle.rb_wheel.proofs.cells.cell_of.Goals as goal

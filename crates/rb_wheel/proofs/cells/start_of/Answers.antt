@@ -1,5 +1,4 @@
 use Rattle.std.proofs.Math.Nat.{mod-eq_of_lt}
-use Rattle.rb_wheel.proofs.Order.{earlier_from_cells}
 use Rattle.rb_wheel.proofs.cells.start_of.Goals as goal
 
 pub returns : goal.returns

@@ -1,5 +1,5 @@
 -- Rows of none have no slot in them.
-use Rattle.std.proofs.Common.{◌≡◌, ℕ, Option, None, length, replicate, sym, ap, ◌∙◌, rules, arith}
+use Rattle.std.proofs.Common.{◌≡◌, ℕ, Option, None, length, replicate, ap, ◌∙◌, rules, arith}
 use Rattle.rb_wheel.specs.Written.{unlinked}
 use Rattle.rb_wheel.specs.Links.{cells_of}
 use Rattle.rb_wheel.proofs.Rooms.{IsSound-none, cells_of-free}

@@ -1,5 +1,5 @@
 -- Each slot of the cell has been looked at, or is still to come.
-use Rattle.std.proofs.Common.{◌≡◌, ℕ, ◌+◌, length, Some}
+use Rattle.std.proofs.Common.{length}
 use Rattle.rb_wheel.specs.Links.{next_in}
 use Rattle.rb_wheel.proofs.Members.{left}
 use Rattle.rb_wheel.proofs.LeastOnWay.{IsLeastSoFar}

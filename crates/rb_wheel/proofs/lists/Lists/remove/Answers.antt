@@ -1,9 +1,9 @@
 -- The slot's neighbours are joined before its own link goes.
-use Rattle.std.proofs.Common.{◌≡◌, get_or, ◌<◌, ℕ, ◌++◌, List, length, set, take, drop, Option, None, IfSome, sym, ap, ◌∙◌, subst, arith, length-set}
+use Rattle.std.proofs.Common.{◌≡◌, get_or, ◌<◌, ℕ, ◌++◌, List, length, set, take, drop, Option, None, IfSome, sym, ap, ◌∙◌, subst, arith}
 use Rattle.std.proofs.lemmas.List.{get_or_read}
 use Rattle.rb_wheel.specs.declared.lists.Link.{Link}
 use Rattle.rb_wheel.specs.Written.{unlinked, with_next, with_previous, with_first}
-use Rattle.rb_wheel.specs.Links.{head_at, cells_of, AreLinked, IsSound}
+use Rattle.rb_wheel.specs.Links.{head_at, cells_of, IsSound}
 use Rattle.rb_wheel.specs.Marks.{mark_at, mark_of}
 use Rattle.rb_wheel.specs.declared.marks.Marks.{Marks}
 use Rattle.rb_wheel.proofs.Insertions.{marks_again}

@@ -1,5 +1,5 @@
 -- There are heads for all cells, and links that lie nowhere behind the others.
-use Rattle.std.proofs.Common.{◌≡◌, ◌-◌, ◌+◌, ◌++◌, ℕ, Option, None, length, take, replicate, sym, ap, ◌∙◌, arith, rules}
+use Rattle.std.proofs.Common.{◌≡◌, ◌-◌, ◌++◌, ℕ, Option, None, length, take, replicate, ap, ◌∙◌, arith}
 use Rattle.std.proofs.lemmas.List.{take_all, map-append}
 use Rattle.rb_wheel.specs.declared.lists.Link.{Link}
 use Rattle.rb_wheel.specs.Written.{unlinked, link_at}

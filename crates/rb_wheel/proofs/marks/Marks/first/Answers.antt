@@ -1,5 +1,5 @@
 use Rattle.std.proofs.Common.{◌<◌, ◌^◌, get_or, refl, arith}
-use Rattle.rb_wheel.proofs.MarkedCells.{first_marked, first_least, no_mark}
+use Rattle.rb_wheel.proofs.MarkedCells.{first_marked, first_least}
 use Rattle.rb_wheel.proofs.marks.Marks.first.Goals as goal
 
 pub returns-then-word-ne0 : goal.returns-then-word-ne0

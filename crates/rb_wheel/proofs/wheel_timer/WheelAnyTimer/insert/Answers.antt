@@ -1,5 +1,5 @@
 -- The entry goes to the early ones, or into its cell.
-use Rattle.std.proofs.Common.{◌≡◌, ◌<◌, ◌≤◌, ◌∙◌, ℕ, List, Option, Some, None, length, set, sym, ap, subst, arith}
+use Rattle.std.proofs.Common.{◌≡◌, ◌<◌, ◌∙◌, ℕ, List, Option, Some, None, length, set, sym, ap, subst, arith}
 use Rattle.std.specs.FinMap as map
 use Rattle.rb_timer.specs.Slots.{content_of, get-content_of, content_of-insert}
 use Rattle.rb_wheel.specs.Lists.{expiry_at}

@@ -1,5 +1,5 @@
 -- The row stays, with empty slots behind it, and there is room for them in both places.
-use Rattle.std.proofs.Common.{◌≡◌, ◌+◌, ◌-◌, ◌≤◌, ◌++◌, ℕ, List, Option, None, length, take, replicate, sym, ap, ◌∙◌, refl, arith, length-append}
+use Rattle.std.proofs.Common.{◌≡◌, ◌+◌, ◌-◌, ◌++◌, ℕ, List, Option, None, length, take, replicate, ap, ◌∙◌, arith, length-append}
 use Rattle.std.proofs.lemmas.List.{take_all, length-replicate}
 use Rattle.rb_timer.specs.Slots.{content_of, content_of-more}
 use Rattle.rb_wheel.specs.Lists.{cell_at, expiry_at}
