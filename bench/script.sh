@@ -5,9 +5,13 @@
 #   LIST_CALLS  calls of the list run (default: CALLS)
 #   RUNS        runs of each kind, of which the median counts (default 3)
 #
-# An input offers S elements with delays from 0 to 1,000,000,000 ns. Then, again and again, AT moves time on
-# to the least expiry, an element with a random delay is offered, and POLL takes one: so S elements stand all
-# the time. AT is no call, but its line is read and answered in the times below.
+# Three kinds of input, in each of which S elements stand all the time:
+#   random    delays from 0 to 1,000,000,000 ns; AT moves time on to the least expiry, an element is offered,
+#             and POLL takes one
+#   timeouts  each element expires later than those before it; of twenty that leave, nineteen are removed by
+#             REMOVE before they expire, and one is taken by POLL after AT
+#   equal     all elements expire at once; one is offered, and POLL takes one
+# AT is no call, but its line is read and answered in the times below.
 set -euo pipefail
 export LC_ALL=C
 
@@ -22,37 +26,70 @@ program=$top/crates/rb_broker/out/rb_broker
 "$top/broker" --help > /dev/null # builds it where it has to
 room=$(mktemp -d) && trap 'rm -rf -- "$room"' EXIT
 
-# Prints an input: how many elements stand, how many calls. The seed is fixed.
+# Prints an input: its kind, how many elements stand, how many calls. The seed is fixed.
 make_input() {
-    python3 - "$1" "$2" << 'PYTHON'
+    python3 - "$1" "$2" "$3" << 'PYTHON'
 import heapq, random, sys
-size, calls = int(sys.argv[1]), int(sys.argv[2])
+kind, size, calls = sys.argv[1], int(sys.argv[2]), int(sys.argv[3])
 rng = random.Random(20261122)
-standing, now, lines = [], 0, []
+lines = []
 
-def offer(at):
-    delay = rng.randint(0, 1_000_000_000)
-    heapq.heappush(standing, now + delay)
-    lines.append(f"OFFER {delay} p{at}")
+def random_delays():
+    standing, now = [], 0
+    for at in range(size + (calls - size) // 2):
+        if at >= size:
+            now = max(now, standing[0])
+            lines.append(f"AT {now}")
+        delay = rng.randint(0, 1_000_000_000)
+        heapq.heappush(standing, now + delay)
+        lines.append(f"OFFER {delay} p{at}")
+        if at >= size:
+            heapq.heappop(standing)
+            lines.append("POLL")
 
-for at in range(size):
-    offer(at)
-for at in range(size, size + (calls - size) // 2):
-    now = max(now, standing[0])
-    lines.append(f"AT {now}")
-    offer(at)
-    heapq.heappop(standing)
-    lines.append("POLL")
+def timeouts():
+    standing, place, first, now = list(range(size)), list(range(size)), 0, 0
+    gone = set()
+    for at in range(size):
+        lines.append(f"OFFERAT {1_000_000 + at} p{at}")
+    for at in range(size, size + (calls - size) // 2):
+        if at % 20 == 0:
+            while first in gone:
+                gone.discard(first)
+                first += 1
+            lines.append(f"AT {1_000_000 + first}")
+            lines.append("POLL")
+            leaves = first
+        else:
+            leaves = standing[rng.randrange(len(standing))]
+            lines.append(f"REMOVE {leaves}")
+        where = place[leaves]
+        standing[where] = standing[-1]
+        place[standing[where]] = where
+        standing.pop()
+        gone.add(leaves)
+        place.append(len(standing))
+        standing.append(at)
+        lines.append(f"OFFERAT {1_000_000 + at} p{at}")
+
+def equal():
+    for at in range(size + (calls - size) // 2):
+        lines.append(f"OFFERAT 0 p{at}")
+        if at >= size:
+            lines.append("POLL")
+
+{"random": random_delays, "timeouts": timeouts, "equal": equal}[kind]()
 lines += ["SIZE"] * ((calls - size) % 2) + ["QUIT"]
 print("\n".join(lines))
 PYTHON
 }
 
-# Runs one kind and keeps its median's nanoseconds per call under its name: kind, timer, S, calls, output.
+# Runs one kind of input and keeps its median's nanoseconds per call under its name: name, timer, kind, S,
+# calls, output.
 declare -A per_call
 measure() {
-    local kind=$1 timer=$2 calls=$4 output=$5 input="$room/$3-$4" begun ended median
-    [[ -e $input ]] || make_input "$3" "$calls" > "$input"
+    local name=$1 timer=$2 calls=$5 output=$6 input="$room/$3-$4-$5" begun ended median
+    [[ -e $input ]] || make_input "$3" "$4" "$calls" > "$input"
     for ((run = 0; run < RUNS; run++)); do
         begun=$EPOCHREALTIME
         "$program" script --timer "$timer" --calls "$calls" < "$input" > "$output"
@@ -60,19 +97,32 @@ measure() {
         echo $((${ended/./} - ${begun/./}))
     done | sort -n > "$room/times"
     median=$(sed -n "$(((RUNS + 1) / 2))p" "$room/times")
-    per_call[$kind]=$(awk "BEGIN { printf \"%.1f\", $median * 1000 / $calls }")
-    if [[ $output != /dev/null ]] && grep -m 1 -E '^(ERR|NONE)' "$output" >&2; then
+    per_call[$name]=$(awk "BEGIN { printf \"%.1f\", $median * 1000 / $calls }")
+    if [[ $output != /dev/null ]] && grep -m 1 -E '^(ERR|NONE|REMOVED no)' "$output" >&2; then
         echo "bench: this input has no such reply" >&2 && exit 1
     fi
-    printf '%-5s %7d %8d  %-9s %9.3f %9.1f   %s\n' "$timer" "$3" "$calls" "${output##*/}" \
-        "$(awk "BEGIN { print $median / 1e6 }")" "${per_call[$kind]}" "$(awk '{ printf "%.3f ", $1 / 1e6 }' "$room/times")"
+    printf '%-8s %-9s %7d %8d  %-9s %9.3f %9.1f   %s\n' "$timer" "$3" "$4" "$calls" "${output##*/}" \
+        "$(awk "BEGIN { print $median / 1e6 }")" "${per_call[$name]}" "$(awk '{ printf "%.3f ", $1 / 1e6 }' "$room/times")"
 }
 
-printf '%-5s %7s %8s  %-9s %9s %9s   %s\n' timer S calls output 'median s' ns/call 'each run, s'
+ratio() { awk "BEGIN { printf \"%.2f\", ${per_call[$1]} / ${per_call[$2]} }"; }
+
+printf '%-8s %-9s %7s %8s  %-9s %9s %9s   %s\n' timer input S calls output 'median s' ns/call 'each run, s'
 for output in /dev/null "$room/file"; do
-    measure small heap $SMALL "$CALLS" "$output"
-    measure large heap $LARGE "$CALLS" "$output"
-    measure list list $SMALL "$LIST_CALLS" "$output"
-    awk "BEGIN { printf \"ratios per call: heap($LARGE)/heap($SMALL) %.2f, list/heap at $SMALL %.2f\\n\",
-        ${per_call[large]} / ${per_call[small]}, ${per_call[list]} / ${per_call[small]} }"
+    measure list list random $SMALL "$LIST_CALLS" "$output"
+    for timer in heap pairing wheel; do
+        for kind in random timeouts equal; do
+            measure "$timer-$kind-small" "$timer" "$kind" $SMALL "$CALLS" "$output"
+            measure "$timer-$kind-large" "$timer" "$kind" $LARGE "$CALLS" "$output"
+        done
+    done
+    echo "list to heap, random, at $SMALL: $(ratio list heap-random-small)"
+    for kind in random timeouts equal; do
+        for size in small large; do
+            echo "to heap, $kind, $size: pairing $(ratio "pairing-$kind-$size" "heap-$kind-$size"), wheel $(ratio "wheel-$kind-$size" "heap-$kind-$size")"
+        done
+        for timer in heap pairing wheel; do
+            echo "$timer, $kind, at $LARGE to at $SMALL: $(ratio "$timer-$kind-large" "$timer-$kind-small")"
+        done
+    done
 done

@@ -41,7 +41,8 @@ program names =
 
 -- the names that `--timer` takes
 abbrev pub AreTimerNames : Bor (List (Bor Text)) → Type 0
-AreTimerNames names = map (λ name. name.now) names.now ≡ codes "list" ∷ codes "heap" ∷ []
+AreTimerNames names = map (λ name. name.now) names.now
+    ≡ codes "list" ∷ codes "heap" ∷ codes "pairing" ∷ codes "wheel" ∷ []
 
 -- the number that the digits of an option's value spell
 abbrev pub number_in : Option Text → Option ℕ

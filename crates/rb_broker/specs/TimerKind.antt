@@ -7,3 +7,5 @@ use Rattle.rb_broker.specs.declared.timer_kind.TimerKind.TheVariants as Kind
 abbrev pub name_of : TimerKind → List ℕ
 name_of Kind.List = codes "list"
 name_of Kind.Heap = codes "heap"
+name_of Kind.Pairing = codes "pairing"
+name_of Kind.Wheel = codes "wheel"

@@ -39,6 +39,10 @@ fn takes_a_script_and_its_options(rt: HostRuntime) {
     assert_eq!(rt; list, options(TimerKind::List, 10_000));
     let heap = options_of(alloc, &["rb_broker", "script", "--timer=heap"]);
     assert_eq!(rt; heap, options(TimerKind::Heap, 10_000));
+    let pairing = options_of(alloc, &["rb_broker", "script", "--timer", "pairing"]);
+    assert_eq!(rt; pairing, options(TimerKind::Pairing, 10_000));
+    let wheel = options_of(alloc, &["rb_broker", "script", "--timer", "wheel"]);
+    assert_eq!(rt; wheel, options(TimerKind::Wheel, 10_000));
     let both = options_of(
         alloc,
         &["rb_broker", "script", "--timer", "list", "--calls=7"],
@@ -125,7 +129,7 @@ fn shows_help_with_status_0(rt: HostRuntime) -> Result<(), Fail> {
         "10000",
         "--timer <T>",
         "which timer the queue uses",
-        "list, heap",
+        "list, heap, pairing, wheel",
     ] {
         assert!(rt; text.as_str().contains(part), "{part}");
     }

@@ -1,6 +1,7 @@
 use crate::ended::Ended;
 use crate::script::run_script;
 use crate::script_options::ScriptOptions;
+use crate::script_rows::KINDS;
 use crate::timer_kind::TimerKind;
 use std::alloc::{AllocError, Global};
 use std::process::Abort;
@@ -113,7 +114,7 @@ fn answers_with_ample_memory(rt: HostRuntime) -> Result<(), Fail> {
     let alloc = rt.alloc();
     let dialogue = long_dialogue(alloc)?;
     let (script, replies) = (&dialogue.script, &dialogue.replies);
-    for timer in [TimerKind::List, TimerKind::Heap] {
+    for timer in KINDS {
         let options = ScriptOptions {
             timer,
             calls: CALLS,
@@ -125,7 +126,7 @@ fn answers_with_ample_memory(rt: HostRuntime) -> Result<(), Fail> {
 
 #[test]
 fn the_most_calls_find_ample_memory(rt: HostRuntime) {
-    for timer in [TimerKind::List, TimerKind::Heap] {
+    for timer in KINDS {
         let options = ScriptOptions {
             timer,
             calls: 1_000_000,
@@ -135,20 +136,35 @@ fn the_most_calls_find_ample_memory(rt: HostRuntime) {
     }
 }
 
-// Which of equals comes first is open to clients. Here it tells which timer is used: the list gives
-// the least slot. The heap puts its last entry in the place of the one that it gives.
+// Which of equals comes first is open to clients. Here it tells which timer is used. The list gives the
+// least slot. The heap puts its last entry in the place of the one that it gives. The pairing heap joins
+// the last two that it got, and then their tree with the one before. The wheel gives the one it got last.
 #[test]
 fn the_named_timer_is_used(rt: HostRuntime) {
-    let script = b"OFFER 0 a\nOFFER 0 b\nOFFER 0 c\nPOLL\nPOLL\nPOLL\n";
-    let by_list =
-        b"OFFERED 0 0\nOFFERED 1 0\nOFFERED 2 0\nITEM 0 0 1 a\nITEM 1 0 1 b\nITEM 2 0 1 c\n";
-    let by_heap =
-        b"OFFERED 0 0\nOFFERED 1 0\nOFFERED 2 0\nITEM 0 0 1 a\nITEM 2 0 1 c\nITEM 1 0 1 b\n";
-    for (timer, replies) in [
-        (TimerKind::List, by_list.as_slice()),
-        (TimerKind::Heap, by_heap.as_slice()),
+    let script = b"OFFER 0 a\nOFFER 0 b\nOFFER 0 c\nOFFER 0 d\nPOLL\nPOLL\nPOLL\nPOLL\n";
+    let offered = b"OFFERED 0 0\nOFFERED 1 0\nOFFERED 2 0\nOFFERED 3 0\n";
+    let by_list = b"ITEM 0 0 1 a\nITEM 1 0 1 b\nITEM 2 0 1 c\nITEM 3 0 1 d\n";
+    let by_heap = b"ITEM 0 0 1 a\nITEM 3 0 1 d\nITEM 2 0 1 c\nITEM 1 0 1 b\n";
+    let by_pairing = b"ITEM 0 0 1 a\nITEM 3 0 1 d\nITEM 1 0 1 b\nITEM 2 0 1 c\n";
+    let by_wheel = b"ITEM 3 0 1 d\nITEM 2 0 1 c\nITEM 1 0 1 b\nITEM 0 0 1 a\n";
+    for (timer, items) in [
+        (TimerKind::List, by_list),
+        (TimerKind::Heap, by_heap),
+        (TimerKind::Pairing, by_pairing),
+        (TimerKind::Wheel, by_wheel),
     ] {
-        let options = ScriptOptions { timer, calls: 6 };
-        expect_replies(&rt, rt.alloc(), options, script, replies, Ended::EndOfInput);
+        let mut replies = Vec::from_slice(rt.alloc(), offered)
+            .ok()
+            .expect(&rt, "memory");
+        replies.extend_from_slice(items).ok().expect(&rt, "memory");
+        let options = ScriptOptions { timer, calls: 8 };
+        expect_replies(
+            &rt,
+            rt.alloc(),
+            options,
+            script,
+            &replies,
+            Ended::EndOfInput,
+        );
     }
 }

@@ -9,7 +9,9 @@ use crate::session::run_session;
 use crate::timer_kind::TimerKind;
 use rb_binary::BinaryTimer;
 use rb_kept::Kept;
+use rb_pairing::PairingTimer;
 use rb_timer::{ListTimer, Timer};
+use rb_wheel::WheelTimer;
 use std::alloc::Global;
 use std::io::{Read, Write};
 
@@ -30,6 +32,8 @@ pub fn run_script<R: Read, W: Write>(
     match options.timer {
         TimerKind::List => run_on::<ListTimer, R, W>(alloc, calls, reader, writer),
         TimerKind::Heap => run_on::<BinaryTimer, R, W>(alloc, calls, reader, writer),
+        TimerKind::Pairing => run_on::<PairingTimer, R, W>(alloc, calls, reader, writer),
+        TimerKind::Wheel => run_on::<WheelTimer, R, W>(alloc, calls, reader, writer),
     }
 }
 

@@ -11,7 +11,13 @@ use std::io::{self, ErrorKind, Read, Write};
 use std::process::Abort;
 use std::test::Fail;
 
-const KINDS: [TimerKind; 2] = [TimerKind::List, TimerKind::Heap];
+/// Each kind of timer: every script runs over it.
+pub const KINDS: [TimerKind; 4] = [
+    TimerKind::List,
+    TimerKind::Heap,
+    TimerKind::Pairing,
+    TimerKind::Wheel,
+];
 
 /// A script, and its first replies line by line.
 const FIRST_SCRIPT: &[u8] = b"AT 100\nOFFER 50 a\nSIZE\nPOLL\nPEEK\n";
@@ -215,6 +221,41 @@ fn each_script_has_its_replies(rt: HostRuntime) -> Result<(), Fail> {
 }
 
 #[test]
+fn each_call_has_its_reply(rt: HostRuntime) {
+    let alloc = rt.alloc();
+    for (script, replies) in [
+        // An expiry in the past comes before one that is later.
+        (
+            b"AT 500\nOFFERAT 7 y\nPOLL\nOFFERAT 5 z\nOFFERAT 9 w\nPOLL\nPOLL\n".as_slice(),
+            b"NOW 500\nOFFERED 0 7\nITEM 0 7 1 y\nOFFERED 1 5\nOFFERED 2 9\nITEM 1 5 1 z\nITEM 2 9 1 w\n".as_slice(),
+        ),
+        (
+            b"OFFERAT 4096 a\nOFFERAT 4095 b\nOFFERAT 64 c\nOFFERAT 63 d\nPEEK\nAT 4096\nPOLL\nPOLL\nPOLL\nPOLL\n".as_slice(),
+            b"OFFERED 0 4096\nOFFERED 1 4095\nOFFERED 2 64\nOFFERED 3 63\nHEAD 3 63 1 d\nNOW 4096\nITEM 3 63 1 d\nITEM 2 64 1 c\nITEM 1 4095 1 b\nITEM 0 4096 1 a\n".as_slice(),
+        ),
+        (
+            b"OFFER 10 a\nREMOVE 0\nREMOVE 0\nREMOVE 7\n".as_slice(),
+            b"OFFERED 0 10\nREMOVED yes\nREMOVED no\nREMOVED no\n".as_slice(),
+        ),
+        (
+            b"OFFER 10 p\nOFFER 20 r\nCLEAR\nSIZE\nOFFER 0 q\n".as_slice(),
+            b"OFFERED 0 10\nOFFERED 1 20\nCLEARED\nSIZE 0\nOFFERED 2 0\n".as_slice(),
+        ),
+        (
+            b"TAKE\nOFFER 10 a\nTAKE\nPOLLFOR 5\nPOLLFOR 0\nAT 10\nTAKE\nPOLLFOR 5\n".as_slice(),
+            b"STOPPED\nOFFERED 0 10\nSTOPPED\nSTOPPED\nNONE\nNOW 10\nITEM 0 10 1 a\nSTOPPED\n".as_slice(),
+        ),
+        // Nothing is held, and no line drains.
+        (
+            b"OFFER 0 a\nPOLL\nDONE 0\nFAIL 0\nDRAIN 1\nDRAIN 01\nSIZE\n".as_slice(),
+            b"OFFERED 0 0\nITEM 0 0 1 a\nERR 5 not-held\nERR 5 not-held\nERR 1 syntax\nERR 2 number\nSIZE 0\n".as_slice(),
+        ),
+    ] {
+        expect_replies(&rt, alloc, 10_000, script, replies, Ended::EndOfInput);
+    }
+}
+
+#[test]
 fn refusals_come_in_their_order(rt: HostRuntime) -> Result<(), Fail> {
     let alloc = rt.alloc();
     let mut script = Vec::new(alloc);
@@ -233,7 +274,7 @@ fn refusals_come_in_their_order(rt: HostRuntime) -> Result<(), Fail> {
 fn a_line_of_several_faults_gets_the_first(rt: HostRuntime) -> Result<(), Fail> {
     let alloc = rt.alloc();
     let script =
-        b"\n OFFER 1 a\nOFFER  1 a\nOFFER 1\nOFFER 1 a b\nOFFER +1 \x7F\nOFFER 1 \x7F\nOFFER 18446744073709551616 a\nAT\nAT 1 2\nAT x\nTAKE\nSIZE \nSIZE\r\r\n\xFF\n\0\nOFFER \n";
+        b"\n OFFER 1 a\nOFFER  1 a\nOFFER 1\nOFFER 1 a b\nOFFER +1 \x7F\nOFFER 1 \x7F\nOFFER 18446744073709551616 a\nAT\nAT 1 2\nAT x\nTAKE 1\nSIZE \nSIZE\r\r\n\xFF\n\0\nOFFER \n";
     let replies =
         b"ERR 1 syntax\nERR 1 syntax\nERR 1 syntax\nERR 1 syntax\nERR 1 syntax\nERR 2 number\nERR 4 payload\nERR 2 number\nERR 1 syntax\nERR 1 syntax\nERR 2 number\nERR 1 syntax\nERR 1 syntax\nERR 1 syntax\nERR 1 syntax\nERR 1 syntax\nERR 1 syntax\n";
     expect_replies(&rt, alloc, 1, script, replies, Ended::EndOfInput);

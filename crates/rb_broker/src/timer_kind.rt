@@ -7,11 +7,15 @@ pub enum TimerKind {
     List,
     /// The binary heap: `heap` on the command line.
     Heap,
+    /// The pairing heap: `pairing` on the command line.
+    Pairing,
+    /// The hierarchical wheel: `wheel` on the command line.
+    Wheel,
 }
 
 impl TimerKind {
     /// The names that the command line takes.
-    pub const NAMES: [&'static str; 2] = ["list", "heap"];
+    pub const NAMES: [&'static str; 4] = ["list", "heap", "pairing", "wheel"];
 
     /// The name of the kind that is used where none is named.
     pub const DEFAULT_NAME: &'static str = "heap";
@@ -20,10 +24,14 @@ impl TimerKind {
     pub fn named(name: &str) -> Option<TimerKind>
         ensures list { result ≡ Some TimerKind.List ↔ name.now ≡ codes "list" }
         ensures heap { result ≡ Some TimerKind.Heap ↔ name.now ≡ codes "heap" }
+        ensures pairing { result ≡ Some TimerKind.Pairing ↔ name.now ≡ codes "pairing" }
+        ensures wheel { result ≡ Some TimerKind.Wheel ↔ name.now ≡ codes "wheel" }
     {
         match name {
             "list" => Some(TimerKind::List),
             "heap" => Some(TimerKind::Heap),
+            "pairing" => Some(TimerKind::Pairing),
+            "wheel" => Some(TimerKind::Wheel),
             _ => None,
         }
     }

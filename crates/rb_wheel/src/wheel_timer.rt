@@ -1,13 +1,13 @@
 use crate::advance::advance;
 use crate::cells::cell_of;
 use crate::lists::Lists;
-use rb_binary::BinaryTimer as EarlyTimer;
+use rb_pairing::PairingTimer;
 use rb_timer::Timer;
 use std::alloc::{AllocError, Global};
 use std::marker::Model;
 
-/// A hierarchical wheel over the timer that the program runs with for early entries.
-pub type WheelTimer = Wheel<EarlyTimer>;
+/// A hierarchical wheel whose early entries stand in a pairing heap.
+pub type WheelTimer = Wheel<PairingTimer>;
 
 /// A hierarchical timing wheel: a moment has 11 digits in base 64, and each level of the wheel has
 /// a cell for each value of its digit. An entry lies in the cell of its digit on the highest level

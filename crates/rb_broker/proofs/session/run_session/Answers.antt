@@ -14,16 +14,15 @@ use Rattle.rb_broker.proofs.session.run_session.Goals as goal
 pub loop-init : goal.loop-init
 unfolding stands_first
 loop-init g c = record {
-  stands = λ stream before readable writable.
-      (
-        stream,
-        [],
-        readable,
-        refl,
-        rw c.opening.ensures (stands_first (point_of c.args.kept.now c.args.kept.now.opening.last_at) [] before (g.W.Write.contents c.args.writer.now) writable),
-        tt,
-        c.in-Ok.ensures,
-      );
+  stands = λ stream before readable writable. (
+    stream,
+    [],
+    readable,
+    refl,
+    rw c.opening.ensures (stands_first (point_of c.args.kept.now c.args.kept.now.opening.last_at) [] before (g.W.Write.contents c.args.writer.now) writable),
+    tt,
+    c.in-Ok.ensures,
+  );
   room = c.in-Ok-with_capacity.ensures.capacity;
   capacity = refl;
   opening = refl;
