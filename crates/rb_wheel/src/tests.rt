@@ -11,30 +11,36 @@ fn passes_the_trials(rt: HostRuntime) -> Result<(), Fail> {
     Ok(())
 }
 
-// With ample memory each call does its work, which no contract can say of `reserve`.
+// With ample memory each growth is made, which no contract can say of `reserve`.
 #[test]
-fn works_with_ample_memory(rt: HostRuntime) -> Result<(), Fail> {
+fn makes_room_with_ample_memory(rt: HostRuntime) -> Result<(), Fail> {
     let mut timer = WheelTimer::new(rt.alloc());
     assert_eq!(rt; (timer.room(), timer.len()), (0, 0));
     timer.reserve(3)?;
     timer.reserve(2)?;
     assert_eq!(rt; timer.room(), 3);
+    for wanted in [10usize, 100, 1000] {
+        timer.reserve(wanted)?;
+        assert_eq!(rt; (timer.room(), timer.len()), (wanted, 0));
+    }
+    Ok(())
+}
 
-    assert!(rt; timer.get(0).is_none());
-    timer.insert(0, 70);
-    assert!(rt; timer.get(2).is_none());
-    timer.insert(2, 50);
-    assert_eq!(rt;
-        (timer.len(), timer.get(2), timer.get(1)),
-        (2, Some(50), None)
-    );
-    assert_eq!(rt; timer.least(), Some((2, 50)));
-    assert_eq!(rt; (timer.due(49), timer.due(50)), (None, Some((2, 50))));
-
+// What stands in the wheel stays where room is made, and goes where it is cleared.
+#[test]
+fn keeps_its_entries(rt: HostRuntime) -> Result<(), Fail> {
+    let mut timer = WheelTimer::new(rt.alloc());
+    timer.reserve(3)?;
+    let commands = [Insert(0, 70), Insert(2, 50), Least, Due(49), Due(50)];
+    let least = Entry(Some((2, 50)));
+    let expected = [Inserted, Inserted, least, Entry(None), least];
+    let answers = run_timer(rt.alloc(), &mut timer, &commands)?;
+    assert_eq!(rt; answers.as_slice(), expected.as_slice());
     timer.reserve(5)?;
-    assert_eq!(rt; (timer.room(), timer.get(2)), (5, Some(50)));
-    assert_eq!(rt; timer.remove(2), 50);
-    assert_eq!(rt; timer.least(), Some((0, 70)));
+    assert_eq!(rt;
+        (timer.room(), timer.get(2), timer.get(1)),
+        (5, Some(50), None)
+    );
     timer.clear();
     assert_eq!(rt; (timer.room(), timer.len(), timer.least()), (5, 0, None));
     Ok(())
