@@ -113,3 +113,11 @@ fn moments_end(rt: HostRuntime) {
     assert_eq!(rt; add_capped(GREATEST_MOMENT - 1, 1), GREATEST_MOMENT);
     assert_eq!(rt; add_capped(5, GREATEST_MOMENT), GREATEST_MOMENT);
 }
+
+#[test]
+fn limits_have_their_values(rt: HostRuntime) {
+    assert_eq!(rt; MOST_PAYLOAD_BYTES, 64);
+    assert_eq!(rt; (LEAST_PAYLOAD_BYTE, GREATEST_PAYLOAD_BYTE), (0x21, 0x7E));
+    assert_eq!(rt; GREATEST_ATTEMPT, 1_000);
+    assert_eq!(rt; GREATEST_MOMENT, 18_446_744_073_709_551_615);
+}

@@ -1,0 +1,88 @@
+use super::*;
+use std::test::Fail;
+
+#[test]
+fn an_empty_opening_begins_at_zero(rt: HostRuntime) -> Result<(), Fail> {
+    let empty = Opening::empty(rt.alloc());
+    assert_eq!(rt; (empty.next_id, empty.last_at), (0, 0));
+    assert!(rt; empty.elements.as_slice().is_empty());
+    let items = Items::new(Vec::new(rt.alloc()));
+    assert_eq!(rt; Opening::new(items, 0, 0), Some(empty));
+    let queue = ListQueue::new_from(rt.alloc(), &Opening::empty(rt.alloc()))?;
+    assert_eq!(rt; (queue.size(), queue.next_id()), (0, 0));
+    Ok(())
+}
+
+#[test]
+fn limits_have_their_values(rt: HostRuntime) {
+    assert_eq!(rt; MOST_OPENING_ELEMENTS, 1_000_000);
+    assert_eq!(rt; GREATEST_OPENING_ID, 1_099_511_627_776);
+}
+
+#[test]
+fn an_opening_has_rising_ids_below_the_next(rt: HostRuntime) -> Result<(), Fail> {
+    let alloc = rt.alloc();
+    for (entries, next_id, is_opening) in [
+        ([(0, 9), (2, 3)].as_slice(), 3, true),
+        ([(0, 9), (2, 3)].as_slice(), 2, false),
+        ([(0, 9), (2, 3)].as_slice(), 0, false),
+        ([(1, 3), (0, 9)].as_slice(), 2, false),
+        ([(1, 3), (1, 9)].as_slice(), 2, false),
+        ([(0, 1), (2, 1), (1, 1)].as_slice(), 9, false),
+        ([].as_slice(), 7, true),
+        ([].as_slice(), 1_099_511_627_776, true),
+        ([].as_slice(), 1_099_511_627_777, false),
+        ([].as_slice(), u64::MAX, false),
+        ([(1_099_511_627_775, 1)].as_slice(), 1_099_511_627_776, true),
+        (
+            [(1_099_511_627_776, 1)].as_slice(),
+            1_099_511_627_777,
+            false,
+        ),
+    ] {
+        let items = standing(&rt, alloc, entries)?;
+        let opening = Opening::new(items, next_id, 40);
+        assert_eq!(rt; opening.is_some(), is_opening, "{entries:?} {next_id}");
+        if let Some(opening) = opening {
+            assert_eq!(rt; opening.elements, standing(&rt, alloc, entries)?);
+            assert_eq!(rt; (opening.next_id, opening.last_at), (next_id, 40));
+        }
+    }
+    Ok(())
+}
+
+#[test]
+fn an_opening_has_at_most_a_million_elements(rt: HostRuntime) -> Result<(), Fail> {
+    let mut elements = Vec::with_capacity(rt.alloc(), 1_000_001)?;
+    for id in 0..1_000_000 {
+        elements.push(element(&rt, id, 5))?;
+    }
+    let opening = Opening::new(Items::new(elements), 1_000_001, 0).ok_or("no opening")?;
+    let mut elements = opening.elements.into_vec();
+    assert_eq!(rt; elements.len(), 1_000_000);
+    elements.push(element(&rt, 1_000_000, 5))?;
+    assert_eq!(rt; Opening::new(Items::new(elements), 1_000_001, 0), None);
+    Ok(())
+}
+
+#[test]
+fn a_queue_begins_with_its_opening(rt: HostRuntime) -> Result<(), Fail> {
+    let alloc = rt.alloc();
+    let items = standing(&rt, alloc, &[(3, 30), (5, 10), (9, 20)])?;
+    let opening = Opening::new(items, 12, 25).ok_or("no opening")?;
+    // The opening stays, and serves again.
+    for _ in 0..2 {
+        let mut queue = ListQueue::new_from(alloc, &opening)?;
+        assert_eq!(rt; (queue.size(), queue.next_id()), (3, 12));
+        assert_eq!(rt; queue.peek(), Some(element(&rt, 5, 10)));
+        assert!(rt; !queue.remove(0));
+        assert_eq!(rt; offered(&rt, &mut queue, 40)?.id, 12);
+        assert!(rt; queue.remove(9));
+        for (id, expiry) in [(5, 10), (3, 30), (12, 40)] {
+            assert_eq!(rt; queue.poll(expiry - 1), None);
+            assert_eq!(rt; queue.poll(expiry), Some(element(&rt, id, expiry)));
+        }
+        assert_eq!(rt; (queue.size(), queue.next_id()), (0, 13));
+    }
+    Ok(())
+}
