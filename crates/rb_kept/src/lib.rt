@@ -8,6 +8,8 @@ mod fault;
 mod kept;
 mod outcome;
 mod perform;
+#[cfg(test)]
+mod tests;
 mod tries;
 
 pub use fault::{CallFault, NewFault};

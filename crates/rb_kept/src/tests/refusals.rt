@@ -1,0 +1,196 @@
+use super::{element, offer, offered};
+use crate::{CallFault, Kept, NewFault, Outcome, Try};
+use rb_delayed::Element;
+use rb_ledger::{Tally, Totals};
+use rb_queue::{Act, Ask, Audit, Items, Opening, Reply};
+use rb_timer::{ListTimer, Timer};
+use std::alloc::{AllocError, Global};
+use std::process::Abort;
+use std::test::Fail;
+
+// How many refusals the run meets. `tools/refuse_allocations` sets 1, and refuses each allocation of
+// the run in turn.
+const REFUSALS: u32 = 0;
+
+// Past several growths of slots, timer and directory.
+const MANY: u64 = 20;
+
+// The later the offer, the sooner it expires. At 95 elements 5 to 19 are expired.
+fn expiry_of(id: u64) -> u64 {
+    100 - id % 100
+}
+
+fn numbered(rt: &impl Abort, id: u64) -> Element {
+    element(rt, id, expiry_of(id), b"a")
+}
+
+// What a refused call must leave. The elements are shown by the calls after it.
+fn standing<T: Timer>(kept: &Kept<T>, tally: &Tally) -> (Audit, usize, Totals) {
+    (kept.audit(), kept.history().len(), tally.totals())
+}
+
+// The opening of the first elements.
+pub(super) fn opening(rt: &impl Abort, alloc: Global, count: u64) -> Result<Opening, AllocError> {
+    let mut elements = match Vec::with_capacity(alloc, MANY as usize) {
+        Ok(elements) => elements,
+        Err(_) => Vec::with_capacity(alloc, MANY as usize)?,
+    };
+    for id in 0..count {
+        elements.push(numbered(rt, id))?;
+    }
+    Ok(Opening::new(Items::new(elements), count, 0).expect(rt, "an opening"))
+}
+
+// A new queue, asked for once more where it was refused.
+fn made<T: Timer>(
+    rt: &impl Abort,
+    alloc: Global,
+    met: &mut u32,
+) -> Result<(Kept<T>, Tally), NewFault> {
+    match Kept::new(alloc, 30) {
+        Ok(made) => Ok(made),
+        Err(fault) => {
+            assert_eq!(rt; fault, NewFault::Memory);
+            *met = met.saturating_add(1);
+            Kept::new(alloc, 30)
+        }
+    }
+}
+
+// The same from an opening, which a refusal hands back.
+fn begun<T: Timer>(
+    rt: &impl Abort,
+    alloc: Global,
+    met: &mut u32,
+) -> Result<(Kept<T>, Tally), Fail> {
+    match Kept::new_from(alloc, 30, opening(rt, alloc, MANY)?) {
+        Ok(begun) => Ok(begun),
+        Err((back, fault)) => {
+            assert_eq!(rt; fault, NewFault::Memory);
+            assert_eq!(rt; back, opening(rt, alloc, MANY)?);
+            *met = met.saturating_add(1);
+            let begun = Kept::new_from(alloc, 30, back).map_err(|refused| refused.1)?;
+            Ok(begun)
+        }
+    }
+}
+
+// Asks at 95, and once more where that was refused.
+fn answered<T: Timer>(
+    rt: &impl Abort,
+    kept: &mut Kept<T>,
+    tally: &mut Tally,
+    ask: Ask,
+    met: &mut u32,
+) -> Result<Outcome, CallFault> {
+    let before = standing(kept, tally);
+    match kept.act(tally, 0, 95, ask) {
+        Ok(outcome) => Ok(outcome),
+        Err(fault) => {
+            assert_eq!(rt; fault, CallFault::Memory);
+            assert_eq!(rt; standing(kept, tally), before);
+            *met = met.saturating_add(1);
+            kept.act(tally, 0, 95, ask)
+        }
+    }
+}
+
+// Drains elements 19 to 5.
+fn drains<T: Timer>(
+    rt: &impl Abort,
+    kept: &mut Kept<T>,
+    tally: &mut Tally,
+    met: &mut u32,
+) -> Result<(), Fail> {
+    let outcome = answered(rt, kept, tally, Ask::Drain(MANY), met)?;
+    let Outcome::Done(Reply::Drained(items)) = outcome else {
+        return Err(Fail::from("the drain gave nothing"));
+    };
+    let Some(Act::Drain { ids, .. }) = kept.history().last().map(|event| &event.act) else {
+        return Err(Fail::from("the drain is not recorded"));
+    };
+    assert_eq!(rt; (items.as_slice().len(), ids.as_slice().len()), (15, 15));
+    let drained = (5..MANY).rev();
+    for ((expected, item), &id) in drained.zip(items.as_slice()).zip(ids.as_slice()) {
+        assert_eq!(rt; *item, numbered(rt, expected));
+        assert_eq!(rt; id, item.id);
+    }
+    let next = answered(rt, kept, tally, Ask::Take, met)?;
+    assert_eq!(rt; next, Outcome::Later(Some(96)));
+    Ok(())
+}
+
+// Offers element 20 in a run. A refused offer is a step of the run, and gives no id away.
+fn runs<T: Timer>(
+    rt: &impl Abort,
+    alloc: Global,
+    kept: &mut Kept<T>,
+    tally: &mut Tally,
+    met: &mut u32,
+) -> Result<(), Fail> {
+    for _ in 0..2 {
+        let before = standing(kept, tally);
+        let one = Try {
+            seat: 0,
+            asked: 95,
+            ask: offer(rt, expiry_of(20), b"a"),
+        };
+        let tries = match vec![in alloc; one] {
+            Ok(tries) => tries,
+            Err(_) => vec![in alloc; one]?,
+        };
+        if let Ok(steps) = kept.run_tries(tally, tries) {
+            assert_eq!(rt; steps.len(), 1);
+            if let Some(Ok(outcome)) = steps.first() {
+                assert_eq!(rt; *outcome, Outcome::Done(offered(rt, 20, 80, b"a")));
+                return Ok(());
+            }
+            assert_eq!(rt; steps.first(), Some(&Err(CallFault::Memory)));
+        }
+        assert_eq!(rt; standing(kept, tally), before);
+        *met = met.saturating_add(1);
+    }
+    Err(Fail::from("no memory for a run"))
+}
+
+// Makes each call that may want memory, and answers how often it was refused.
+pub(super) fn run_through<T: Timer>(rt: &impl Abort, alloc: Global) -> Result<u32, Fail> {
+    let mut met = 0;
+    let (mut kept, mut tally) = made::<T>(rt, alloc, &mut met)?;
+    for id in 0..MANY {
+        let ask = offer(rt, expiry_of(id), b"a");
+        let outcome = answered(rt, &mut kept, &mut tally, ask, &mut met)?;
+        let reply = offered(rt, id, expiry_of(id), b"a");
+        assert_eq!(rt; outcome, Outcome::Done(reply));
+    }
+    drains(rt, &mut kept, &mut tally, &mut met)?;
+    for (id, event) in (0..MANY).zip(kept.history()) {
+        assert_eq!(rt; (event.seat, event.asked, event.at), (0, 95, 95));
+        assert_eq!(rt; event.act, Act::Offer(numbered(rt, id)));
+    }
+    runs(rt, alloc, &mut kept, &mut tally, &mut met)?;
+    let audit = kept.audit();
+    assert_eq!(rt; (audit.calls, audit.offered, audit.given), (22, 21, 15));
+    assert_eq!(rt;
+        (tally.calls(), tally.offered(), tally.given()),
+        (22, 21, 15)
+    );
+    Ok(met)
+}
+
+// The same for a queue that begins with an opening.
+fn run_on(rt: &impl Abort, alloc: Global) -> Result<u32, Fail> {
+    let mut met = 0;
+    let (mut kept, mut tally) = begun::<ListTimer>(rt, alloc, &mut met)?;
+    drains(rt, &mut kept, &mut tally, &mut met)?;
+    runs(rt, alloc, &mut kept, &mut tally, &mut met)?;
+    Ok(met)
+}
+
+#[test]
+fn a_refusal_changes_nothing(rt: HostRuntime) -> Result<(), Fail> {
+    let begun_empty = run_through::<ListTimer>(&rt, rt.alloc())?;
+    let begun_with_elements = run_on(&rt, rt.alloc())?;
+    assert_eq!(rt; begun_empty.saturating_add(begun_with_elements), REFUSALS);
+    Ok(())
+}
