@@ -84,13 +84,14 @@ fn answered<T: Timer>(
     met: &mut u32,
 ) -> Result<Outcome, CallFault> {
     let before = standing(kept, tally);
+    let again = ask;
     match kept.act(tally, 0, 95, ask) {
         Ok(outcome) => Ok(outcome),
         Err(fault) => {
             assert_eq!(rt; fault, CallFault::Memory);
             assert_eq!(rt; standing(kept, tally), before);
             *met = met.saturating_add(1);
-            kept.act(tally, 0, 95, ask)
+            kept.act(tally, 0, 95, again)
         }
     }
 }
