@@ -121,6 +121,17 @@ fn drains<T: Timer>(
     Ok(())
 }
 
+// A run of one try, which offers element 20.
+fn offers_one(rt: &impl Abort, alloc: Global) -> Result<Vec<Try>, AllocError> {
+    let mut tries = Vec::new(alloc);
+    tries.push(Try {
+        seat: 0,
+        asked: 95,
+        ask: offer(rt, expiry_of(20), b"a"),
+    })?;
+    Ok(tries)
+}
+
 // Offers element 20 in a run. A refused offer is a step of the run, and gives no id away.
 fn runs<T: Timer>(
     rt: &impl Abort,
@@ -131,14 +142,9 @@ fn runs<T: Timer>(
 ) -> Result<(), Fail> {
     for _ in 0..2 {
         let before = standing(kept, tally);
-        let one = Try {
-            seat: 0,
-            asked: 95,
-            ask: offer(rt, expiry_of(20), b"a"),
-        };
-        let tries = match vec![in alloc; one] {
+        let tries = match offers_one(rt, alloc) {
             Ok(tries) => tries,
-            Err(_) => vec![in alloc; one]?,
+            Err(_) => offers_one(rt, alloc)?,
         };
         if let Ok(steps) = kept.run_tries(tally, tries) {
             assert_eq!(rt; steps.len(), 1);
