@@ -1,0 +1,2 @@
+pub mod MadeCounts
+pub mod RunSteps

@@ -1,0 +1,14 @@
+pub use Rattle.rb_delayed.specs.Moment
+pub use Rattle.rb_queue.specs.Draft
+pub use Rattle.rb_queue.specs.History
+pub use Rattle.rb_queue.specs.Replies
+pub use Rattle.rb_kept.specs.Log
+pub use Rattle.rb_kept.specs.Tries
+pub use Rattle.rb_kept.specs.Shares
+pub mod Retry
+pub mod Made
+pub mod Asked
+pub mod KeptSteps
+pub mod KeptLaws
+pub mod Jobs
+pub mod Runs

@@ -1,0 +1,69 @@
+ghost use Rattle.std.specs.Prelude.{◌≡◌, ℕ, ◌≤◌, List, length, Option, Result, Ok, Err};
+ghost use Rattle.rb_queue.specs.declared.ask.Ask.{Ask};
+ghost use Rattle.rb_queue.specs.declared.reply.Reply.{Reply};
+ghost use Rattle.rb_kept.specs.declared.kept.TheConstants.{MOST_CALLS};
+ghost use Rattle.rb_retry.specs.Made.{Made};
+ghost use Rattle.rb_retry.specs.Asked.{Makes, MayGet};
+ghost use Rattle.rb_retry.specs.declared.desk_fault.DeskFault.{DeskFault};
+
+use crate::desk_fault::DeskFault;
+use rb_queue::{Ask, Reply};
+
+/// A caller's way to a delay queue, with a clock of its own.
+///
+/// What desks of all kinds share is that an answered call makes exactly one event, which has this
+/// reply, and that a refused one makes none. What a call does besides is each desk's own relation.
+pub trait Desk {
+    /// What a contract sees of a desk.
+    ghost State: { Type 0 };
+
+    /// The state of this desk.
+    ghost state: { Self → State };
+
+    /// Which reference to its queue the desk holds.
+    ghost name: { State → ℕ };
+
+    /// What was made through the desk: each event with its reply.
+    ghost mine: { State → List Made };
+
+    /// The numbers that are readings of the desk's clock.
+    ghost gives: { State → ℕ → Type 0 };
+
+    /// What setting the clock does, from one state to the next.
+    ghost Sets: { State → ℕ → Option ℕ → State → Type 0 };
+
+    /// What a call does, from one state to the next.
+    ghost Steps: { State → ℕ → Ask → Result Reply DeskFault → State → Type 0 };
+
+    /// The moment of the desk's clock, in nanoseconds.
+    fn now(&self) -> u64
+        ensures { gives (state self.now) result };
+
+    /// Lets it be this moment, or the clock's own where that is later, and answers which. `None` where
+    /// the clock of such a desk can't be set.
+    fn set(&mut self, moment: u64) -> Option<u64>
+        ensures sets { Sets (state self.old) moment result (state self.new) }
+        ensures name { name (state self.new) ≡ name (state self.old) };
+
+    /// Makes one call. A take and a timed poll are made at readings of the desk's clock, and any other
+    /// call at the moment `asked`, which those two do not use.
+    ///
+    /// `Full` where there is no room for an event, `Memory` for an offer and a drain alone, `Stopped`
+    /// for a take and a timed poll alone.
+    fn call(&mut self, asked: u64, ask: Ask) -> Result<Reply, DeskFault>
+        ensures step { Steps (state self.old) asked ask result (state self.new) }
+        ensures name { name (state self.new) ≡ name (state self.old) }
+        ensures few { length (mine (state self.new)) ≤ MOST_CALLS };
+
+    /// An answered call makes exactly one event, which has this reply.
+    ghost makes: { (old new : State) (asked : ℕ) (ask : Ask) (reply : Reply) → Steps old asked ask (Ok reply) new
+        → Makes (gives old) asked ask reply (mine old) (mine new) };
+
+    /// A refused call makes no event.
+    ghost refuses: { (old new : State) (asked : ℕ) (ask : Ask) (fault : DeskFault) → Steps old asked ask (Err fault) new
+        → MayGet ask fault × (mine new ≡ mine old) };
+
+    /// Setting the clock makes no event.
+    ghost stays: { (old new : State) (moment : ℕ) (result : Option ℕ) → Sets old moment result new
+        → mine new ≡ mine old };
+}

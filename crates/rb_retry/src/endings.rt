@@ -1,0 +1,59 @@
+ghost use Rattle.std.specs.Prelude.{◌≡◌};
+ghost use Rattle.rb_queue.specs.declared.ask.Ask.TheVariants as asks;
+ghost use Rattle.rb_retry.specs.Jobs.{FailsTo, offer_answer};
+
+use crate::desk::Desk;
+use crate::desk_fault::DeskFault;
+use crate::job::Job;
+use crate::policy::Policy;
+use crate::verdict::Verdict;
+use rb_delayed::Element;
+use rb_kept::CallFault;
+use rb_queue::{Ask, Draft, Reply};
+
+/// The job failed at `now`: the policy's next attempt is offered, at this very moment.
+///
+/// Where this was the last attempt the job is dead, no call is made, and nothing can refuse it. A
+/// refused offer gives the job back, and no event was made: `Full` where there is no room for one,
+/// `Memory` where there is none for the element.
+pub fn fail<D: Desk>(
+    desk: &mut D,
+    policy: &Policy,
+    job: Job,
+    now: u64,
+) -> Result<Verdict, (Job, CallFault)>
+    ensures fails { FailsTo D.Steps policy.now job now (D.state desk.old) result (D.state desk.new) }
+    ensures name { D.name (D.state desk.new) ≡ D.name (D.state desk.old) }
+{
+    match policy.retry_of(job.element(), now) {
+        Some(draft) => match offer(desk, draft, now) {
+            Ok(again) => Ok(Verdict::Again(again)),
+            Err(fault) => Err((job, fault)),
+        },
+        None => Ok(Verdict::Dead(done(job))),
+    }
+}
+
+// Offers a draft.
+fn offer<D: Desk>(desk: &mut D, draft: Draft, now: u64) -> Result<Element, CallFault>
+    ensures step { D.Steps (D.state desk.old) now (asks.Offer draft) (offer_answer result) (D.state desk.new) }
+    ensures name { D.name (D.state desk.new) ≡ D.name (D.state desk.old) }
+{
+    let reply = match desk.call(now, Ask::Offer(draft)) {
+        Ok(reply) => reply,
+        Err(DeskFault::Full) => return Err(CallFault::Full),
+        Err(DeskFault::Memory) => return Err(CallFault::Memory),
+        Err(DeskFault::Stopped) => unreachable!(),
+    };
+    match reply {
+        Reply::Offered(element) => Ok(element),
+        _ => unreachable!(),
+    }
+}
+
+/// The job is done. No call is made.
+pub fn done(job: Job) -> Element
+    ensures { result ≡ job }
+{
+    job.into_element()
+}

@@ -1,0 +1,93 @@
+ghost use Rattle.std.specs.Prelude.{◌≡◌, ℕ, ◌+◌, ◌≤◌, List, ◌++◌, length, MatchResult, vec_len, vec_capacity, Ok, Err};
+ghost use Rattle.rb_delayed.specs.declared.element.Element.{Element};
+ghost use Rattle.rb_queue.specs.declared.ask.Ask.TheVariants as asks;
+ghost use Rattle.rb_queue.specs.declared.reply.Reply.TheVariants as replies;
+ghost use Rattle.rb_kept.specs.declared.kept.TheConstants.{MOST_CALLS};
+ghost use Rattle.rb_retry.specs.Jobs.{answer_with, answer_with_one};
+
+use crate::desk::Desk;
+use crate::desk_fault::DeskFault;
+use crate::job::Job;
+use rb_delayed::Element;
+use rb_queue::{Ask, Reply};
+
+/// Fetches the head, if there is one at the moment `asked`.
+///
+/// A fault is the desk's: no event was made, and nothing is fetched.
+pub fn poll<D: Desk>(desk: &mut D, asked: u64) -> Result<Option<Job>, DeskFault>
+    ensures step { D.Steps (D.state desk.old) asked asks.Poll (answer_with result) (D.state desk.new) }
+    ensures name { D.name (D.state desk.new) ≡ D.name (D.state desk.old) }
+{
+    match desk.call(asked, Ask::Poll)? {
+        Reply::Item(element) => Ok(Some(Job::new(element))),
+        Reply::Nothing => Ok(None),
+        _ => unreachable!(),
+    }
+}
+
+/// Fetches the head, and waits for it by the desk's clock.
+///
+/// A fault is the desk's: no event was made, and nothing is fetched.
+pub fn take<D: Desk>(desk: &mut D) -> Result<Job, DeskFault>
+    ensures step { D.Steps (D.state desk.old) 0 asks.Take (answer_with_one result) (D.state desk.new) }
+    ensures few { length (D.mine (D.state desk.new)) ≤ MOST_CALLS }
+    ensures name { D.name (D.state desk.new) ≡ D.name (D.state desk.old) }
+{
+    match desk.call(0, Ask::Take)? {
+        Reply::Item(element) => Ok(Job::new(element)),
+        _ => unreachable!(),
+    }
+}
+
+/// Fetches the head, and waits for it by the desk's clock until `timeout` nanoseconds after `start`.
+///
+/// A fault is the desk's: no event was made, and nothing is fetched.
+pub fn poll_for<D: Desk>(desk: &mut D, start: u64, timeout: u64) -> Result<Option<Job>, DeskFault>
+    ensures step { D.Steps (D.state desk.old) start (asks.PollFor start timeout) (answer_with result) (D.state desk.new) }
+    ensures name { D.name (D.state desk.new) ≡ D.name (D.state desk.old) }
+{
+    match desk.call(start, Ask::PollFor { start, timeout })? {
+        Reply::Item(element) => Ok(Some(Job::new(element))),
+        Reply::Nothing => Ok(None),
+        _ => unreachable!(),
+    }
+}
+
+/// Fetches at most `max` expired elements, head after head, behind the jobs that are there.
+///
+/// The jobs have room for so many more. A fault is the desk's: no event was made, and nothing is
+/// fetched.
+pub fn drain<D: Desk>(
+    desk: &mut D,
+    asked: u64,
+    max: u64,
+    jobs: &mut Vec<Job>,
+) -> Result<(), DeskFault>
+    requires { vec_len jobs.old + max ≤ vec_capacity jobs.old }
+    ensures drained { MatchResult result
+        (λ _. (items : List Element) × (jobs.new.items ≡ jobs.old.items ++ items)
+        × D.Steps (D.state desk.old) asked (asks.Drain max) (Ok (replies.Drained items)) (D.state desk.new))
+        (λ fault. (jobs.new.items ≡ jobs.old.items)
+        × D.Steps (D.state desk.old) asked (asks.Drain max) (Err fault) (D.state desk.new)) }
+    ensures capacity { vec_capacity jobs.new ≡ vec_capacity jobs.old }
+    ensures name { D.name (D.state desk.new) ≡ D.name (D.state desk.old) }
+{
+    match desk.call(asked, Ask::Drain(max))? {
+        Reply::Drained(items) => {
+            append(items.as_slice(), jobs);
+            Ok(())
+        }
+        _ => unreachable!(),
+    }
+}
+
+// Makes jobs of the elements, behind those that are there.
+fn append(elements: &[Element], jobs: &mut Vec<Job>)
+    requires { vec_len jobs.old + length elements.now ≤ vec_capacity jobs.old }
+    ensures items { jobs.new.items ≡ jobs.old.items ++ elements.now }
+    ensures capacity { vec_capacity jobs.new ≡ vec_capacity jobs.old }
+{
+    for element in elements {
+        jobs.push_reserved(Job::new(*element));
+    }
+}

@@ -1,0 +1,106 @@
+ghost use Rattle.std.specs.Prelude.{◌≡◌, ℕ, ◌≤◌, length};
+ghost use Rattle.rb_kept.specs.declared.kept.TheConstants.{MOST_CALLS};
+ghost use Rattle.rb_retry.specs.KeptSteps.{KeptState, KeptSteps, SetsKept, made_at, answer_of, asked_at};
+ghost use Rattle.rb_retry.specs.KeptLaws.{kept_makes, kept_refuses, kept_stays};
+
+use crate::desk::Desk;
+use crate::desk_fault::DeskFault;
+use rb_kept::{Kept, Outcome, Step};
+use rb_ledger::Tally;
+use rb_queue::{Ask, Reply};
+use rb_timer::Timer;
+
+/// The one seat of a kept queue that nobody shares.
+const SEAT: u64 = 0;
+
+/// A desk over a kept queue that nobody shares, whose clock stands still until it is set.
+///
+/// Its calls are those of seat 0. Nobody else can offer what a call would wait for, so waiting is given
+/// up at once.
+#[derive(Drop)]
+pub struct KeptDesk<'a, T: Timer> {
+    kept: &'a mut Kept<T>,
+    tally: &'a mut Tally,
+    moment: u64,
+    // How many events there were when the desk was made.
+    before: usize,
+    ghost earlier: { before ≤ length kept.now.history },
+    ghost few: { length kept.now.history ≤ kept.now.capacity },
+    ghost most: { kept.now.capacity ≤ MOST_CALLS },
+}
+
+impl<'a, T: Timer> KeptDesk<'a, T> {
+    /// A desk whose moment is that of the opening's last event, and whose calls the tally counts.
+    pub fn new(kept: &'a mut Kept<T>, tally: &'a mut Tally) -> KeptDesk<'a, T>
+        ensures state { ⟦<KeptDesk<'a, T> as Desk>⟧.state result
+            ≡ record { name = kept.entry.ghost_name; log = kept.old; share = tally.old; moment = kept.old.opening.last_at; before = length kept.old.history } }
+    {
+        // The proof reads here how long the history may get.
+        let _ = kept.capacity();
+        let moment = kept.opening().last_at;
+        let before = kept.history().len();
+        KeptDesk {
+            kept,
+            tally,
+            moment,
+            before,
+        }
+    }
+}
+
+impl<'a, T: Timer> Desk for KeptDesk<'a, T> {
+    ghost State = { KeptState };
+
+    ghost state = { λ desk. record { name = desk.kept.ghost_name; log = desk.kept.now; share = desk.tally.now; moment = desk.moment; before = desk.before } };
+
+    ghost name = { λ state. state.name };
+
+    ghost mine = { made_at };
+
+    ghost gives = { λ state moment. moment ≡ state.moment };
+
+    ghost Sets = { SetsKept };
+
+    ghost Steps = { KeptSteps };
+
+    fn now(&self) -> u64 {
+        self.moment
+    }
+
+    fn set(&mut self, moment: u64) -> Option<u64> {
+        self.moment = moment.max(self.moment);
+        Some(self.moment)
+    }
+
+    fn call(&mut self, asked: u64, ask: Ask) -> Result<Reply, DeskFault> {
+        let asked = asked_at(self.moment, &ask, asked);
+        answer_of(self.kept.act(self.tally, SEAT, asked, ask))
+    }
+
+    ghost makes = { kept_makes };
+
+    ghost refuses = { kept_refuses };
+
+    ghost stays = { kept_stays };
+}
+
+// The moment at which an ask is made.
+fn asked_at(moment: u64, ask: &Ask, handed: u64) -> u64
+    ensures { result ≡ asked_at moment ask.now handed }
+{
+    match ask {
+        Ask::Take | Ask::PollFor { .. } => moment,
+        _ => handed,
+    }
+}
+
+// What the queue answered. Nobody else could end a wait.
+fn answer_of(step: Step) -> Result<Reply, DeskFault>
+    ensures { result ≡ answer_of step }
+{
+    match step {
+        Ok(Outcome::Done(reply)) => Ok(reply),
+        Ok(Outcome::Later(_)) => Err(DeskFault::Stopped),
+        Err(fault) => Err(DeskFault::from(fault)),
+    }
+}

@@ -1,0 +1,27 @@
+//! Jobs of a delay queue: what takes them, and what a failed one offers again.
+//!
+//! A desk is a caller's way to a queue. A job is fetched at a desk, and then it is done or it fails;
+//! what fails is offered again by a policy, until its attempts are used up. Moments are nanoseconds.
+#![tactic(auto)]
+
+mod desk;
+mod desk_fault;
+mod endings;
+mod fetches;
+mod job;
+mod kept_desk;
+mod policy;
+mod verdict;
+mod work_report;
+mod worker;
+
+pub use desk::Desk;
+pub use desk_fault::DeskFault;
+pub use endings::{done, fail};
+pub use fetches::{drain, poll, poll_for, take};
+pub use job::Job;
+pub use kept_desk::KeptDesk;
+pub use policy::{Pace, Policy};
+pub use verdict::Verdict;
+pub use work_report::WorkReport;
+pub use worker::{Work, work_off};
