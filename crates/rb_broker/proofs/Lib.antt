@@ -1,5 +1,1 @@
-pub mod Sending
-pub mod Buffers
-pub mod Turns
-pub mod StreamRuns
 pub mod CommandLines

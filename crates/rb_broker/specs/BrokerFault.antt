@@ -2,8 +2,8 @@
 use Rattle.std.specs.Prelude.{ℕ}
 use Rattle.rb_broker.specs.declared.broker_fault.BrokerFault.{BrokerFault}
 use Rattle.rb_broker.specs.declared.broker_fault.BrokerFault.TheVariants as Broker
-use Rattle.rb_broker.specs.declared.session_fault.SessionFault.{SessionFault}
-use Rattle.rb_broker.specs.declared.session_fault.SessionFault.TheVariants as Session
+use Rattle.rb_session.specs.declared.session_fault.SessionFault.{SessionFault}
+use Rattle.rb_session.specs.declared.session_fault.SessionFault.TheVariants as Session
 
 -- 4 for want of memory, 3 for input and output
 abbrev pub status_of : BrokerFault → ℕ
@@ -15,6 +15,6 @@ status_of Broker.Memory = 4
 -- each fault of a session is the program's fault of the same name
 abbrev pub fault_of_session : SessionFault → BrokerFault
 fault_of_session Session.Memory = Broker.Memory
-fault_of_session Session.Read = Broker.Read
-fault_of_session Session.Write = Broker.Write
-fault_of_session Session.ReadTurns = Broker.ReadTurns
+fault_of_session (Session.Read lost) = Broker.Read
+fault_of_session (Session.Write lost) = Broker.Write
+fault_of_session (Session.ReadTurns lost) = Broker.ReadTurns

@@ -2,7 +2,7 @@
 use Rattle.std.specs.Prelude.{◌≡◌, ℕ, Result, Ok, Err, ◌⊎◌}
 use Rattle.clap.specs.declared.error.kind.ErrorKind.{ErrorKind}
 use Rattle.clap.specs.declared.error.kind.ErrorKind.TheVariants as kinds
-use Rattle.rb_broker.specs.declared.ended.Ended.{Ended}
+use Rattle.rb_session.specs.declared.ended.Ended.{Ended}
 use Rattle.rb_broker.specs.declared.broker_fault.BrokerFault.{BrokerFault}
 use Rattle.rb_broker.specs.BrokerFault.{status_of}
 

@@ -1,9 +1,8 @@
-pub use Rattle.rb_protocol.specs.Reading
-pub use Rattle.rb_protocol.specs.ReplyText
-pub mod Lines
-pub mod Buffer
-pub mod Session
-pub mod Progress
+pub use Rattle.rb_retry.specs.Retry
+pub use Rattle.rb_retry.specs.KeptSteps
+pub use Rattle.rb_session.specs.Turn
+pub use Rattle.rb_session.specs.Session
+pub use Rattle.rb_session.specs.Ran
 pub mod BrokerFault
 pub mod TimerKind
 pub mod Script

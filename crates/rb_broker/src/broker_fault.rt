@@ -1,6 +1,6 @@
 ghost use Rattle.std.specs.Prelude.{◌≡◌};
 
-use crate::session_fault::SessionFault;
+use rb_session::SessionFault;
 use thiserror::Error;
 
 /// Why a run of the program ended early.
@@ -42,9 +42,9 @@ impl From<SessionFault> for BrokerFault {
     fn from(fault: SessionFault) -> BrokerFault {
         match fault {
             SessionFault::Memory => BrokerFault::Memory,
-            SessionFault::Read => BrokerFault::Read,
-            SessionFault::Write => BrokerFault::Write,
-            SessionFault::ReadTurns => BrokerFault::ReadTurns,
+            SessionFault::Read { .. } => BrokerFault::Read,
+            SessionFault::Write { .. } => BrokerFault::Write,
+            SessionFault::ReadTurns { .. } => BrokerFault::ReadTurns,
         }
     }
 }

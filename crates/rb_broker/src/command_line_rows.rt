@@ -4,10 +4,11 @@ ghost use Rattle.rb_kept.specs.declared.kept.TheConstants.{MOST_CALLS};
 use crate::broker_fault::BrokerFault;
 use crate::command_line::read_words;
 use crate::script_options::ScriptOptions;
-use crate::session_fault::SessionFault;
 use crate::timer_kind::TimerKind;
 use crate::words::Words;
 use clap::error::ErrorKind;
+use rb_retry::Policy;
+use rb_session::SessionFault;
 use std::alloc::Global;
 use std::process::Abort;
 use std::test::Fail;
@@ -23,7 +24,48 @@ fn options(timer: TimerKind, calls: u64) -> Option<ScriptOptions>
     requires from_one { 1 ≤ calls }
     requires in_range { calls ≤ MOST_CALLS }
 {
-    Some(ScriptOptions { timer, calls })
+    let policy = Policy::fixed(1_000, 3)?;
+    Some(ScriptOptions {
+        timer,
+        calls,
+        policy,
+    })
+}
+
+fn policy_of(alloc: Global, words: &[&str]) -> Option<Policy> {
+    Some(options_of(alloc, words)?.policy)
+}
+
+#[test]
+fn takes_a_policy(rt: HostRuntime) {
+    let alloc = rt.alloc();
+    for (words, policy) in [
+        (
+            ["rb_broker", "script", "--delay", "0"].as_slice(),
+            Policy::fixed(0, 3),
+        ),
+        (
+            [
+                "rb_broker",
+                "script",
+                "--delay=18446744073709551615",
+                "--attempts=1000",
+            ]
+            .as_slice(),
+            Policy::fixed(u64::MAX, 1_000),
+        ),
+        (
+            ["rb_broker", "script", "--rate", "100"].as_slice(),
+            Policy::fixed_rate(100, 3),
+        ),
+        (
+            ["rb_broker", "script", "--attempts", "1", "--rate=0"].as_slice(),
+            Policy::fixed_rate(0, 1),
+        ),
+    ] {
+        assert!(rt; policy.is_some());
+        assert_eq!(rt; policy_of(alloc, words), policy, "{words:?}");
+    }
 }
 
 #[test]
@@ -92,12 +134,19 @@ fn refuses_other_values_with_status_2(rt: HostRuntime) {
         ("--calls=-1", ErrorKind::ValueValidation),
         ("--calls=18446744073709551617", ErrorKind::ValueValidation),
         ("--timer=tree", ErrorKind::InvalidValue),
+        ("--delay=-1", ErrorKind::ValueValidation),
+        ("--delay=18446744073709551616", ErrorKind::ValueValidation),
+        ("--rate=x", ErrorKind::ValueValidation),
+        ("--attempts=0", ErrorKind::ValueValidation),
+        ("--attempts=1001", ErrorKind::ValueValidation),
         ("--timer=Heap", ErrorKind::InvalidValue),
     ] {
         refuses(&rt, rt.alloc(), &["rb_broker", "script", option], kind);
     }
     let twice = ["rb_broker", "script", "--calls=1", "--calls=2"];
     refuses(&rt, rt.alloc(), &twice, ErrorKind::ArgumentConflict);
+    let both = ["rb_broker", "script", "--delay=5", "--rate=5"];
+    refuses(&rt, rt.alloc(), &both, ErrorKind::ArgumentConflict);
     let apart = ["rb_broker", "script", "--calls", "0"];
     refuses(&rt, rt.alloc(), &apart, ErrorKind::ValueValidation);
 }
@@ -130,6 +179,9 @@ fn shows_help_with_status_0(rt: HostRuntime) -> Result<(), Fail> {
         "--timer <T>",
         "which timer the queue uses",
         "list, heap, pairing, wheel",
+        "--delay <N>",
+        "--rate <N>",
+        "--attempts <N>",
     ] {
         assert!(rt; text.as_str().contains(part), "{part}");
     }
@@ -141,19 +193,19 @@ fn faults_have_a_status_and_a_text(rt: HostRuntime) -> Result<(), Fail> {
     let alloc = rt.alloc();
     for (session, fault, status, text) in [
         (
-            SessionFault::Read,
+            SessionFault::Read { lost: 1 },
             BrokerFault::Read,
             3,
             "cannot read input",
         ),
         (
-            SessionFault::Write,
+            SessionFault::Write { lost: 1 },
             BrokerFault::Write,
             3,
             "cannot write output",
         ),
         (
-            SessionFault::ReadTurns,
+            SessionFault::ReadTurns { lost: 1 },
             BrokerFault::ReadTurns,
             3,
             "too many reads",

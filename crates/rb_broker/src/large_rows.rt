@@ -1,8 +1,8 @@
-use crate::ended::Ended;
 use crate::script::run_script;
 use crate::script_options::ScriptOptions;
-use crate::script_rows::KINDS;
+use crate::script_rows::{AT_END, AT_QUIT, DEFAULT, KINDS, options};
 use crate::timer_kind::TimerKind;
+use rb_session::Ended;
 use std::alloc::{AllocError, Global};
 use std::process::Abort;
 use std::test::Fail;
@@ -69,6 +69,8 @@ impl Dialogue {
             let (id, expiry) = (id_of(rank), expiry_at(rank));
             let reply = format!(in alloc; "ITEM {id} {expiry} 1 {rank:064}")?;
             self.push("POLL", &reply)?;
+            let done = format!(in alloc; "DONE {id}")?;
+            self.push(&done, &done)?;
         }
         Ok(())
     }
@@ -115,11 +117,8 @@ fn answers_with_ample_memory(rt: HostRuntime) -> Result<(), Fail> {
     let dialogue = long_dialogue(alloc)?;
     let (script, replies) = (&dialogue.script, &dialogue.replies);
     for timer in KINDS {
-        let options = ScriptOptions {
-            timer,
-            calls: CALLS,
-        };
-        expect_replies(&rt, alloc, options, script, replies, Ended::Quit);
+        let options = options(&rt, timer, CALLS, DEFAULT);
+        expect_replies(&rt, alloc, options, script, replies, AT_QUIT);
     }
     Ok(())
 }
@@ -127,12 +126,9 @@ fn answers_with_ample_memory(rt: HostRuntime) -> Result<(), Fail> {
 #[test]
 fn the_most_calls_find_ample_memory(rt: HostRuntime) {
     for timer in KINDS {
-        let options = ScriptOptions {
-            timer,
-            calls: 1_000_000,
-        };
+        let options = options(&rt, timer, 1_000_000, DEFAULT);
         let (script, replies) = (b"SIZE\n", b"SIZE 0\n");
-        expect_replies(&rt, rt.alloc(), options, script, replies, Ended::EndOfInput);
+        expect_replies(&rt, rt.alloc(), options, script, replies, AT_END);
     }
 }
 
@@ -157,14 +153,7 @@ fn the_named_timer_is_used(rt: HostRuntime) {
             .ok()
             .expect(&rt, "memory");
         replies.extend_from_slice(items).ok().expect(&rt, "memory");
-        let options = ScriptOptions { timer, calls: 8 };
-        expect_replies(
-            &rt,
-            rt.alloc(),
-            options,
-            script,
-            &replies,
-            Ended::EndOfInput,
-        );
+        let options = options(&rt, timer, 12, DEFAULT);
+        expect_replies(&rt, rt.alloc(), options, script, &replies, AT_END);
     }
 }

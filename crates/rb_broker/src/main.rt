@@ -5,25 +5,18 @@
 //! input or output fails, and 4 for want of memory.
 #![tactic(auto)]
 
-mod answer;
 mod broker_fault;
 mod command_line;
 #[cfg(test)]
 mod command_line_rows;
-mod ended;
 #[cfg(test)]
 mod large_rows;
-mod line_buffer;
+#[cfg(test)]
+mod retry_rows;
 mod script;
 mod script_options;
 #[cfg(test)]
 mod script_rows;
-mod send;
-mod served;
-mod session;
-mod session_fault;
-#[cfg(test)]
-mod session_rows;
 mod timer_kind;
 mod words;
 
@@ -37,7 +30,7 @@ use broker_fault::BrokerFault;
 use clap::Error;
 use clap::error::ErrorKind;
 use command_line::read_words;
-use ended::Ended;
+use rb_session::Ended;
 use script::run_script;
 use std::alloc::{AllocError, Global};
 use std::process::ExitCode;

@@ -3,13 +3,13 @@ ghost use Rattle.rb_kept.specs.declared.kept.TheConstants.{MOST_CALLS};
 ghost use Rattle.rb_broker.specs.Script.{RanScript};
 
 use crate::broker_fault::BrokerFault;
-use crate::ended::Ended;
 use crate::script_options::ScriptOptions;
-use crate::session::run_session;
 use crate::timer_kind::TimerKind;
 use rb_binary::BinaryTimer;
 use rb_kept::Kept;
 use rb_pairing::PairingTimer;
+use rb_retry::{KeptDesk, Policy};
+use rb_session::{Ended, run_session};
 use rb_timer::{ListTimer, Timer};
 use rb_wheel::WheelTimer;
 use std::alloc::Global;
@@ -26,33 +26,36 @@ pub fn run_script<R: Read, W: Write>(
     writer: &mut W,
 ) -> Result<Ended, BrokerFault>
     ensures { (stream before : List ℕ) → R.remaining reader.old ≡ Some stream → W.contents writer.old ≡ Some before
-        → RanScript options.now.calls stream before result (R.remaining reader.new) (W.contents writer.new) }
+        → RanScript options.now.policy options.now.calls stream before result (R.remaining reader.new) (W.contents writer.new) }
 {
     let calls = options.calls;
+    let policy = &options.policy;
     match options.timer {
-        TimerKind::List => run_on::<ListTimer, R, W>(alloc, calls, reader, writer),
-        TimerKind::Heap => run_on::<BinaryTimer, R, W>(alloc, calls, reader, writer),
-        TimerKind::Pairing => run_on::<PairingTimer, R, W>(alloc, calls, reader, writer),
-        TimerKind::Wheel => run_on::<WheelTimer, R, W>(alloc, calls, reader, writer),
+        TimerKind::List => run_on::<ListTimer, R, W>(alloc, calls, policy, reader, writer),
+        TimerKind::Heap => run_on::<BinaryTimer, R, W>(alloc, calls, policy, reader, writer),
+        TimerKind::Pairing => run_on::<PairingTimer, R, W>(alloc, calls, policy, reader, writer),
+        TimerKind::Wheel => run_on::<WheelTimer, R, W>(alloc, calls, policy, reader, writer),
     }
 }
 
 fn run_on<T: Timer, R: Read, W: Write>(
     alloc: Global,
     calls: u64,
+    policy: &Policy,
     reader: &mut R,
     writer: &mut W,
 ) -> Result<Ended, BrokerFault>
     requires from_one { 1 ≤ calls }
     requires in_range { calls ≤ MOST_CALLS }
     ensures { (stream before : List ℕ) → R.remaining reader.old ≡ Some stream → W.contents writer.old ≡ Some before
-        → RanScript calls stream before result (R.remaining reader.new) (W.contents writer.new) }
+        → RanScript policy.now calls stream before result (R.remaining reader.new) (W.contents writer.new) }
 {
     // The number of calls is in range, so that memory alone can be missing.
     let Ok((mut kept, mut tally)) = Kept::<T>::new(alloc, calls) else {
         return Err(BrokerFault::Memory);
     };
-    match run_session(alloc, reader, writer, &mut kept, &mut tally) {
+    let mut desk = KeptDesk::new(&mut kept, &mut tally);
+    match run_session(alloc, reader, writer, &mut desk, policy) {
         Ok(ended) => Ok(ended),
         Err(fault) => Err(BrokerFault::from(fault)),
     }

@@ -1,11 +1,9 @@
-ghost use Rattle.std.specs.Prelude.{◌≤◌};
-ghost use Rattle.rb_kept.specs.declared.kept.TheConstants.{MOST_CALLS};
-
 use crate::broker_fault::BrokerFault;
-use crate::ended::Ended;
 use crate::script::run_script;
 use crate::script_options::ScriptOptions;
 use crate::timer_kind::TimerKind;
+use rb_retry::{Pace, Policy};
+use rb_session::Ended;
 use std::alloc::{AllocError, Global};
 use std::io::{self, ErrorKind, Read, Write};
 use std::process::Abort;
@@ -18,6 +16,11 @@ pub const KINDS: [TimerKind; 4] = [
     TimerKind::Pairing,
     TimerKind::Wheel,
 ];
+
+/// The ends of a session that lost no job.
+pub const AT_END: Ended = Ended::EndOfInput { lost: 0 };
+
+pub const AT_QUIT: Ended = Ended::Quit { lost: 0 };
 
 /// A script, and its first replies line by line.
 const FIRST_SCRIPT: &[u8] = b"AT 100\nOFFER 50 a\nSIZE\nPOLL\nPEEK\n";
@@ -136,9 +139,26 @@ fn run(
     reader: &mut Pieces<'_>,
     writer: &mut Held,
 ) -> Result<Ended, BrokerFault> {
+    let options = options(rt, timer, calls, DEFAULT);
+    run_script(alloc, &options, reader, writer)
+}
+
+/// The policy where none is named: three attempts, each 1,000 nanoseconds after the failure.
+pub const DEFAULT: Pace = Pace::Delay(1_000);
+
+/// The options of a run with three attempts a job.
+pub fn options(rt: &impl Abort, timer: TimerKind, calls: u64, pace: Pace) -> ScriptOptions {
     assert!(rt; calls >= 1);
     assert!(rt; calls <= 1_000_000);
-    run_script(alloc, &ScriptOptions { timer, calls }, reader, writer)
+    let policy = match pace {
+        Pace::Delay(delay) => Policy::fixed(delay, 3),
+        Pace::Rate(period) => Policy::fixed_rate(period, 3),
+    };
+    ScriptOptions {
+        timer,
+        calls,
+        policy: policy.expect(rt, "a policy"),
+    }
 }
 
 // Runs the script for both timers, whole and cut byte by byte, and compares what is written.
@@ -213,9 +233,9 @@ fn each_script_has_its_replies(rt: HostRuntime) -> Result<(), Fail> {
             b"OFFERED 0 30\nOFFERED 1 10\nOFFERED 2 20\nNOW 20\nITEM 1 10 1 a\nITEM 2 20 1 b\nNONE\nSIZE 1\nNOW 30\nITEM 0 30 1 c\nNONE\n".as_slice(),
         ),
     ] {
-        expect_replies(&rt, alloc, 10_000, script, replies, Ended::EndOfInput);
+        expect_replies(&rt, alloc, 10_000, script, replies, AT_END);
         let script = with_returns(alloc, script)?;
-        expect_replies(&rt, alloc, 10_000, &script, replies, Ended::EndOfInput);
+        expect_replies(&rt, alloc, 10_000, &script, replies, AT_END);
     }
     Ok(())
 }
@@ -230,12 +250,16 @@ fn each_call_has_its_reply(rt: HostRuntime) {
             b"NOW 500\nOFFERED 0 7\nITEM 0 7 1 y\nOFFERED 1 5\nOFFERED 2 9\nITEM 1 5 1 z\nITEM 2 9 1 w\n".as_slice(),
         ),
         (
-            b"OFFERAT 4096 a\nOFFERAT 4095 b\nOFFERAT 64 c\nOFFERAT 63 d\nPEEK\nAT 4096\nPOLL\nPOLL\nPOLL\nPOLL\n".as_slice(),
-            b"OFFERED 0 4096\nOFFERED 1 4095\nOFFERED 2 64\nOFFERED 3 63\nHEAD 3 63 1 d\nNOW 4096\nITEM 3 63 1 d\nITEM 2 64 1 c\nITEM 1 4095 1 b\nITEM 0 4096 1 a\n".as_slice(),
+            b"OFFERAT 4096 a\nOFFERAT 4095 b\nOFFERAT 64 c\nOFFERAT 63 d\nPEEK\nAT 4096\nDRAIN 9\n".as_slice(),
+            b"OFFERED 0 4096\nOFFERED 1 4095\nOFFERED 2 64\nOFFERED 3 63\nHEAD 3 63 1 d\nNOW 4096\nDRAINED 4\nITEM 3 63 1 d\nITEM 2 64 1 c\nITEM 1 4095 1 b\nITEM 0 4096 1 a\n".as_slice(),
         ),
         (
             b"OFFER 10 a\nREMOVE 0\nREMOVE 0\nREMOVE 7\n".as_slice(),
             b"OFFERED 0 10\nREMOVED yes\nREMOVED no\nREMOVED no\n".as_slice(),
+        ),
+        (
+            b"OFFERAT 1 a\nOFFERAT 2 b\nOFFERAT 3 c\nOFFERAT 9 d\nAT 3\nDRAIN 2\nDRAIN 0\nDRAIN 5\nSIZE\n".as_slice(),
+            b"OFFERED 0 1\nOFFERED 1 2\nOFFERED 2 3\nOFFERED 3 9\nNOW 3\nDRAINED 2\nITEM 0 1 1 a\nITEM 1 2 1 b\nDRAINED 0\nDRAINED 1\nITEM 2 3 1 c\nSIZE 1\n".as_slice(),
         ),
         (
             b"OFFER 10 p\nOFFER 20 r\nCLEAR\nSIZE\nOFFER 0 q\n".as_slice(),
@@ -245,13 +269,13 @@ fn each_call_has_its_reply(rt: HostRuntime) {
             b"TAKE\nOFFER 10 a\nTAKE\nPOLLFOR 5\nPOLLFOR 0\nAT 10\nTAKE\nPOLLFOR 5\n".as_slice(),
             b"STOPPED\nOFFERED 0 10\nSTOPPED\nSTOPPED\nNONE\nNOW 10\nITEM 0 10 1 a\nSTOPPED\n".as_slice(),
         ),
-        // Nothing is held, and no line drains.
+        // What is done is not held any more.
         (
-            b"OFFER 0 a\nPOLL\nDONE 0\nFAIL 0\nDRAIN 1\nDRAIN 01\nSIZE\n".as_slice(),
-            b"OFFERED 0 0\nITEM 0 0 1 a\nERR 5 not-held\nERR 5 not-held\nERR 1 syntax\nERR 2 number\nSIZE 0\n".as_slice(),
+            b"OFFER 0 a\nPOLL\nDONE 0\nFAIL 0\nDONE 0\nDRAIN 01\nSIZE\n".as_slice(),
+            b"OFFERED 0 0\nITEM 0 0 1 a\nDONE 0\nERR 5 not-held\nERR 5 not-held\nERR 2 number\nSIZE 0\n".as_slice(),
         ),
     ] {
-        expect_replies(&rt, alloc, 10_000, script, replies, Ended::EndOfInput);
+        expect_replies(&rt, alloc, 10_000, script, replies, AT_END);
     }
 }
 
@@ -266,7 +290,7 @@ fn refusals_come_in_their_order(rt: HostRuntime) -> Result<(), Fail> {
     script.extend_from_slice(b"\nSIZE")?;
     let replies =
         b"SIZE 0\nSIZE 0\nERR 6 full\nERR 1 syntax\nERR 2 number\nERR 4 payload\nERR 8 line\nERR 8 line\n";
-    expect_replies(&rt, alloc, 2, &script, replies, Ended::EndOfInput);
+    expect_replies(&rt, alloc, 2, &script, replies, AT_END);
     Ok(())
 }
 
@@ -277,12 +301,12 @@ fn a_line_of_several_faults_gets_the_first(rt: HostRuntime) -> Result<(), Fail> 
         b"\n OFFER 1 a\nOFFER  1 a\nOFFER 1\nOFFER 1 a b\nOFFER +1 \x7F\nOFFER 1 \x7F\nOFFER 18446744073709551616 a\nAT\nAT 1 2\nAT x\nTAKE 1\nSIZE \nSIZE\r\r\n\xFF\n\0\nOFFER \n";
     let replies =
         b"ERR 1 syntax\nERR 1 syntax\nERR 1 syntax\nERR 1 syntax\nERR 1 syntax\nERR 2 number\nERR 4 payload\nERR 2 number\nERR 1 syntax\nERR 1 syntax\nERR 2 number\nERR 1 syntax\nERR 1 syntax\nERR 1 syntax\nERR 1 syntax\nERR 1 syntax\nERR 1 syntax\n";
-    expect_replies(&rt, alloc, 1, script, replies, Ended::EndOfInput);
+    expect_replies(&rt, alloc, 1, script, replies, AT_END);
 
     // A refusal takes no call, and a range is tested before the room.
     let script = b"AT 1\nSIZE\nOFFER 18446744073709551615 a\nOFFER 1 a\nPOLL\nPEEK\nAT 2\nQUIT\n";
     let replies = b"NOW 1\nSIZE 0\nERR 3 range\nERR 6 full\nERR 6 full\nERR 6 full\nNOW 2\nBYE\n";
-    expect_replies(&rt, alloc, 1, script, replies, Ended::Quit);
+    expect_replies(&rt, alloc, 1, script, replies, AT_QUIT);
     Ok(())
 }
 
@@ -297,9 +321,9 @@ fn the_longest_payload_and_line_are_taken(rt: HostRuntime) -> Result<(), Fail> {
     let mut replies = Vec::from_slice(alloc, b"OFFERED 0 0\nITEM 0 0 1 ")?;
     replies.extend_from_slice(&[b'a'; 64])?;
     replies.extend_from_slice(b"\nERR 1 syntax\n")?;
-    expect_replies(&rt, alloc, 2, &script, &replies, Ended::EndOfInput);
+    expect_replies(&rt, alloc, 3, &script, &replies, AT_END);
     let script = with_returns(alloc, &script)?;
-    expect_replies(&rt, alloc, 2, &script, &replies, Ended::EndOfInput);
+    expect_replies(&rt, alloc, 3, &script, &replies, AT_END);
     Ok(())
 }
 
@@ -311,10 +335,10 @@ fn a_line_of_any_length_is_answered_once(rt: HostRuntime) -> Result<(), Fail> {
         for _ in 0..len {
             script.push(b'x')?;
         }
-        expect_replies(&rt, alloc, 1, &script, b"ERR 8 line\n", Ended::EndOfInput);
+        expect_replies(&rt, alloc, 1, &script, b"ERR 8 line\n", AT_END);
         script.extend_from_slice(b"\nSIZE\n")?;
         let replies = b"ERR 8 line\nSIZE 0\n";
-        expect_replies(&rt, alloc, 1, &script, replies, Ended::EndOfInput);
+        expect_replies(&rt, alloc, 1, &script, replies, AT_END);
     }
     Ok(())
 }
@@ -323,10 +347,10 @@ fn a_line_of_any_length_is_answered_once(rt: HostRuntime) -> Result<(), Fail> {
 fn quit_ends_a_session(rt: HostRuntime) {
     let alloc = rt.alloc();
     let replies = b"SIZE 0\nBYE\n";
-    expect_replies(&rt, alloc, 9, b"SIZE\nQUIT\nSIZE\n", replies, Ended::Quit);
-    expect_replies(&rt, alloc, 9, b"SIZE\nQUIT\nxx", replies, Ended::Quit);
+    expect_replies(&rt, alloc, 9, b"SIZE\nQUIT\nSIZE\n", replies, AT_QUIT);
+    expect_replies(&rt, alloc, 9, b"SIZE\nQUIT\nxx", replies, AT_QUIT);
     let replies = b"ERR 1 syntax\nERR 8 line\n";
-    expect_replies(&rt, alloc, 9, b"QUIT 1\nQUIT", replies, Ended::EndOfInput);
+    expect_replies(&rt, alloc, 9, b"QUIT 1\nQUIT", replies, AT_END);
 }
 
 #[test]
@@ -360,7 +384,7 @@ fn an_interrupted_read_is_made_again(rt: HostRuntime) {
         let fault = Fault::IsInterrupted;
         reader.fault = Some(FaultAt { call, fault });
         let result = run(&rt, alloc, TimerKind::Heap, 10, &mut reader, &mut writer);
-        assert_eq!(rt; result, Ok(Ended::EndOfInput), "{call}");
+        assert_eq!(rt; result, Ok(AT_END), "{call}");
         assert_eq!(rt; writer.bytes.as_slice(), FIRST_REPLIES, "{call}");
     }
 }
@@ -439,7 +463,7 @@ fn an_interrupted_write_is_made_again(rt: HostRuntime) {
     writer.fault = Some(FaultAt { call: 2, fault });
     let mut reader = Pieces::of(FIRST_SCRIPT, usize::MAX);
     let result = run(&rt, alloc, TimerKind::Heap, 10, &mut reader, &mut writer);
-    assert_eq!(rt; result, Ok(Ended::EndOfInput));
+    assert_eq!(rt; result, Ok(AT_END));
     assert_eq!(rt; writer.bytes.as_slice(), FIRST_REPLIES);
     assert_eq!(rt; writer.calls, 11);
 }
@@ -456,7 +480,7 @@ fn no_whole_session_needs_more_writes_than_replies(rt: HostRuntime) {
         &mut reader,
         &mut writer,
     );
-    assert_eq!(rt; result, Ok(Ended::EndOfInput));
+    assert_eq!(rt; result, Ok(AT_END));
     assert_eq!(rt; writer.calls, 10);
     assert_eq!(rt; reader.calls, 2);
 }
@@ -473,7 +497,7 @@ fn a_read_takes_64_kib(rt: HostRuntime) -> Result<(), Fail> {
     let mut writer = Held::new(alloc);
     let mut reader = Pieces::of(&script, usize::MAX);
     let result = run(&rt, alloc, TimerKind::Heap, 1, &mut reader, &mut writer);
-    assert_eq!(rt; result, Ok(Ended::EndOfInput));
+    assert_eq!(rt; result, Ok(AT_END));
     assert!(rt; writer.bytes.as_slice() == replies.as_slice());
     assert_eq!(rt; reader.calls, 3);
     Ok(())
@@ -502,10 +526,7 @@ impl Read for Endless {
 fn an_input_without_an_end_is_given_up(rt: HostRuntime) {
     let mut writer = Held::new(rt.alloc());
     let mut reader = Endless { calls: 0 };
-    let options = ScriptOptions {
-        timer: TimerKind::Heap,
-        calls: 1,
-    };
+    let options = options(&rt, TimerKind::Heap, 1, DEFAULT);
     let result = run_script(rt.alloc(), &options, &mut reader, &mut writer);
     assert_eq!(rt; result, Err(BrokerFault::ReadTurns));
     assert_eq!(rt; reader.calls, 10_000_000);

@@ -11,6 +11,8 @@ mod fetches;
 mod job;
 mod kept_desk;
 mod policy;
+#[cfg(test)]
+mod tests;
 mod verdict;
 mod work_report;
 mod worker;

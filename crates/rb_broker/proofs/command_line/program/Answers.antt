@@ -6,15 +6,18 @@ use Rattle.rb_broker.proofs.command_line.program.Goals as goal
 
 pub returns : goal.returns
 returns c =
-    let (names, names_are, timer_is) = c.timer_option-timer.ensures.rule in
-    let begun : app_of c.about.result ≡ new_app (codes "script") = rw c.about.ensures c.new.ensures.app in
-    let named : app_of c.about-2.result ≡ new_app (codes "rb_broker") = rw c.about-2.ensures c.new-2.ensures.app in
-    let required : app_of c.subcommand_required.result ≡ with_required_subcommand (app_of c.about-2.result) =
+    let (names, names_are, timer_is) = c.timer_option.ensures.rule in
+    let begun : app_of c.about-plain.result ≡ new_app (codes "script") = rw c.about-plain.ensures c.new.ensures.app in
+    let calls = c.in_ok-calls.ensures.shape c.calls_option.ensures.local ∙ ap₂ with_rule begun c.calls_option.ensures.rule in
+    let timer = c.in_ok-timer.ensures.shape c.timer_option.ensures.local ∙ ap₂ with_rule calls timer_is in
+    let delay = c.in_ok-delay.ensures.shape c.delay_option.ensures.local ∙ ap₂ with_rule timer c.delay_option.ensures.rule in
+    let rate = c.in_ok-rate.ensures.shape c.in_ok-rate_option.ensures.local ∙ ap₂ with_rule delay c.in_ok-rate_option.ensures.rule in
+    let script_is : app_of c.in_ok-script.script ≡ script_command names =
+    c.in_ok-script.ensures.shape c.attempts_option.ensures.local ∙ ap₂ with_rule rate c.attempts_option.ensures.rule in
+    let named : app_of c.about.result ≡ new_app (codes "rb_broker") = rw c.about.ensures c.new-2.ensures.app in
+    let required : app_of c.subcommand_required.result ≡ with_required_subcommand (app_of c.about.result) =
     rw c.subcommand_required.ensures refl in
     let alone = required ∙ ap with_required_subcommand named in
-    let script_is : app_of c.in_ok-script.script ≡ script_command names =
-    c.in_ok-script.ensures.shape c.timer_option-timer.ensures.local
-    ∙ ap₂ with_rule (c.in_ok-arg.ensures.shape c.calls_option-calls.ensures.local ∙ ap₂ with_rule begun c.calls_option-calls.ensures.rule) timer_is in
     IfOk-weaker c.subcommand.result _ _ (λ command added. (
       names,
       names_are,

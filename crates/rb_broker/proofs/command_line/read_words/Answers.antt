@@ -1,8 +1,8 @@
-use Rattle.std.proofs.Common.{◌≡◌, ◌∙◌, refl, sym, ap, subst, true, Some, map, codes}
+use Rattle.std.proofs.Common.{◌≡◌, ◌∙◌, refl, sym, ap, ap₂, subst, true, Some, map, codes}
 use Rattle.clap.specs.Words.{is_simple, found_of, rows_of, subcommand_of, subcommand_rows_of}
 use Rattle.clap.proofs.WalkLemmas.{first_value-rows, one_text-rows}
-use Rattle.rb_broker.specs.CommandLine.{GivesScript, program, number_in}
-use Rattle.rb_broker.proofs.CommandLines.{number_is, name_with_rows}
+use Rattle.rb_broker.specs.CommandLine.{GivesScript, program, number_in, pace_in}
+use Rattle.rb_broker.proofs.CommandLines.{name_with_rows}
 use Rattle.rb_broker.proofs.command_line.read_words.Goals as goal
 
 pub returns-clause-given : goal.returns-clause-given
@@ -22,8 +22,9 @@ returns-clause-given c options is =
       script = ap (λ app. subcommand_of app (map (λ word. word.now) c.args.words.now)) (sym program_is) ∙ sym read ∙ entered
           ∙ ap (λ name. Some (name, rows_of found)) named;
       timer = sym (first_value-rows found (codes "timer")) ∙ c.in-Some.ensures.timer;
-      calls = ap number_in (sym (one_text-rows found (codes "calls")))
-          ∙ number_is _ _ c.in-Some.ensures.has_calls c.in-Some.ensures.calls;
+      calls = ap number_in (sym (one_text-rows found (codes "calls"))) ∙ c.in-Some.ensures.calls;
+      attempts = ap number_in (sym (one_text-rows found (codes "attempts"))) ∙ c.in-Some.ensures.attempts;
+      pace = ap₂ pace_in (sym (one_text-rows found (codes "delay"))) (sym (one_text-rows found (codes "rate"))) ∙ c.in-Some.ensures.pace;
     } in
     let same : c.in-Some.options ≡ options = cc in
     subst (GivesScript (map (λ word. word.now) c.args.words.now)) same gives

@@ -1,13 +1,16 @@
-use Rattle.std.proofs.Common.{◌≡◌, ℕ, ◌<◌, List, [], Option, Ok, Err, refl, subst, arith, lit≤}
+use Rattle.std.proofs.Common.{◌≡◌, ℕ, ◌<◌, List, [], Option, Ok, Err, refl, sym, subst, ap, ◌∙◌, arith, lit≤, length}
 use Rattle.std.specs.Prelude.{Result}
-use Rattle.rb_queue.specs.declared.event.Event.{Event}
+use Rattle.rb_ledger.specs.Totals.{nothing}
+use Rattle.rb_ledger.specs.declared.totals.Totals.{Totals}
 use Rattle.rb_queue.specs.declared.opening.Opening.{Opening}
 use Rattle.rb_kept.specs.Log.{Log}
-use Rattle.rb_broker.specs.declared.ended.Ended.{Ended}
-use Rattle.rb_broker.specs.declared.session_fault.SessionFault.{SessionFault}
-use Rattle.rb_broker.specs.declared.session_fault.SessionFault.TheVariants.{Memory}
-use Rattle.rb_broker.specs.Progress.{point_of, Ran}
-use Rattle.rb_broker.specs.Script.{IsFresh, RanScript, ends_as}
+use Rattle.rb_retry.specs.KeptSteps.{KeptState, KeptSteps, SetsKept}
+use Rattle.rb_retry.specs.declared.policy.Policy.{Policy}
+use Rattle.rb_session.specs.Ran.{Ran}
+use Rattle.rb_session.specs.declared.ended.Ended.{Ended}
+use Rattle.rb_session.specs.declared.session_fault.SessionFault.{SessionFault}
+use Rattle.rb_session.specs.declared.session_fault.SessionFault.TheVariants.{Memory}
+use Rattle.rb_broker.specs.Script.{IsFresh, IsNew, RanScript, ends_as}
 use Rattle.rb_broker.proofs.script.run_on.Goals as goal
 
 -- the opening with no element
@@ -23,45 +26,54 @@ empty = record {
   };
 }
 
--- a log that nothing has happened to
-fresh_log : ℕ → Log
-fresh_log calls = record { opening = empty; history = []; capacity = calls }
+-- a desk that nothing has happened at
+new_desk : ℕ → KeptState
+new_desk calls = record { name = 0; log = record { opening = empty; history = []; capacity = calls }; share = nothing; moment = 0; before = 0 }
 
-fresh : (calls : ℕ) → IsFresh (fresh_log calls) calls
-unfolding fresh_log empty
-fresh calls = record { elements = refl; next_id = refl; last_at = refl; history = refl; capacity = refl }
+is_new : (calls : ℕ) → IsNew (new_desk calls) calls
+unfolding new_desk empty
+is_new calls = record { log = record { elements = refl; next_id = refl; last_at = refl; history = refl; capacity = refl }; share = refl; moment = refl; before = refl }
 
-ran_script : (log : Log) (calls : ℕ) (stream before : List ℕ) (ended : Result Ended SessionFault) (history : List Event) (left written : Option (List ℕ))
-    → IsFresh log calls → Ran (point_of log log.opening.last_at) stream before ended history left written → RanScript calls stream before (ends_as ended) left written
-ran_script log calls stream before ended history left written fresh ran = record {
-  log = log;
-  fresh = fresh;
-  history = history;
-  ended = ended;
-  result_is = refl;
-  ran = subst (λ moment. Ran (point_of log moment) stream before ended history left written) fresh.last_at ran;
-}
+-- the desk over a log that nothing has happened to
+desk_over : (name calls : ℕ) (log : Log) (share : Totals) → IsFresh log calls → share ≡ nothing
+    → IsNew (record { name = name; log = log; share = share; moment = log.opening.last_at; before = length log.history }) calls
+desk_over name calls log share fresh none = record { log = fresh; share = none; moment = fresh.last_at; before = ap length fresh.history }
 
 pub returns-in_default : goal.returns-in_default
-unfolding fresh_log
+unfolding new_desk
 returns-in_default g c stream before readable writable = record {
-  log = fresh_log c.args.calls;
-  fresh = fresh c.args.calls;
-  history = [];
+  from = new_desk c.args.calls;
+  new = is_new c.args.calls;
+  to = new_desk c.args.calls;
   ended = Err Memory;
   result_is = refl;
   ran = (refl, readable, writable);
 }
 
+-- what a session at a new desk does
+ran_script : (policy : Policy) (calls name : ℕ) (log : Log) (share : Totals) (from to : KeptState) (stream before : List ℕ) (ended : Result Ended SessionFault) (left written : Option (List ℕ))
+    → IsFresh log calls → share ≡ nothing → from ≡ record { name = name; log = log; share = share; moment = log.opening.last_at; before = length log.history }
+    → Ran (λ desk moment. moment ≡ desk.moment) SetsKept KeptSteps policy from stream before ended to left written
+    → RanScript policy calls stream before (ends_as ended) left written
+ran_script policy calls name log share from to stream before ended left written fresh none is ran = record {
+  from = from;
+  new = subst (λ desk. IsNew desk calls) (sym is) (desk_over name calls log share fresh none);
+  to = to;
+  ended = ended;
+  result_is = refl;
+  ran = ran;
+}
+
 pub returns-in-Ok-run_session : goal.returns-in-Ok-run_session
 returns-in-Ok-run_session g c stream before readable writable =
     let made = c.in-Ok.ensures in
-    let fresh : IsFresh c.in-Ok.kept c.args.calls = rw c.in-Ok.kept-is (record { elements = made.elements; next_id = made.next_id; last_at = made.last_at; history = made.history; capacity = made.capacity }) in
-    ran_script c.in-Ok.kept c.args.calls stream before (Ok c.in-Ok-run_session.ended) c.run_session.new.kept.history _ _ fresh
-    (c.in-Ok-run_session.ensures stream before readable writable)
+    ran_script c.args.policy.now c.args.calls _ c.in-Ok.kept c.in-Ok.tally _ _ stream before (Ok c.in-Ok-run_session.ended) _ _
+    (record { elements = made.elements; next_id = made.next_id; last_at = made.last_at; history = made.history; capacity = made.capacity })
+    made.tally c.new-desk.ensures.state (c.in-Ok-run_session.ensures.ran stream before readable writable)
 
 pub returns : goal.returns
 returns g c stream before readable writable =
     let made = c.in-Ok.ensures in
-    let fresh : IsFresh c.in-Ok.kept c.args.calls = rw c.in-Ok.kept-is (record { elements = made.elements; next_id = made.next_id; last_at = made.last_at; history = made.history; capacity = made.capacity }) in
-    rw c.from.ensures (ran_script c.in-Ok.kept c.args.calls stream before (Err c.in-Err.fault) c.run_session.new.kept.history _ _ fresh (c.in-Err.ensures stream before readable writable))
+    rw c.from.ensures (ran_script c.args.policy.now c.args.calls _ c.in-Ok.kept c.in-Ok.tally _ _ stream before (Err c.in-Err.fault) _ _
+    (record { elements = made.elements; next_id = made.next_id; last_at = made.last_at; history = made.history; capacity = made.capacity })
+    made.tally c.new-desk.ensures.state (c.in-Err.ensures.ran stream before readable writable))

@@ -1,0 +1,4 @@
+mod desks;
+mod jobs;
+mod policies;
+mod works;

@@ -1,0 +1,39 @@
+-- Jobs that fail: one that is held on at its place, and those that a session ends with.
+use Rattle.std.proofs.Common.{◌≡◌, ℕ, zero, suc, ◌+◌, List, [], ◌∷◌, ◌++◌, Some, Result, Ok, Err, refl, sym, ap, subst, arith}
+use Rattle.std.proofs.lemmas.Option.{same_Some}
+use Rattle.std.specs.Prelude.{slice_get, insert, remove, true, false, is_err}
+use Rattle.rb_delayed.specs.declared.element.Element.{Element}
+use Rattle.rb_queue.specs.declared.ask.Ask.{Ask}
+use Rattle.rb_queue.specs.declared.reply.Reply.{Reply}
+use Rattle.rb_kept.specs.declared.fault.CallFault.{CallFault}
+use Rattle.rb_retry.specs.Jobs.{FailsTo}
+use Rattle.rb_retry.specs.declared.desk_fault.DeskFault.{DeskFault}
+use Rattle.rb_retry.specs.declared.policy.Policy.{Policy}
+use Rattle.rb_retry.specs.declared.verdict.Verdict.{Verdict}
+use Rattle.rb_session.specs.Closing.{Closes, lost_by}
+
+-- what was taken out and is put back stands where it stood
+pub insert_removed : (held : List Element) (place : ℕ) (element : Element) → slice_get held place ≡ Some element → insert (remove held place) place element ≡ held
+insert_removed [] place element at = absurd (cc)
+insert_removed (first ∷ held) zero element at = ap (λ e. e ∷ held) (sym (same_Some first element at))
+insert_removed (first ∷ held) (suc place) element at = ap (λ l. first ∷ l) (insert_removed held place element at)
+
+-- a refused retry is one that is lost
+pub lost_one : (result : Result Verdict (Element × CallFault)) → is_err result ≡ true → lost_by result ≡ 1
+lost_one (Ok verdict) failed = absurd (cc)
+lost_one (Err refused) failed = refl
+
+pub lost_none : (result : Result Verdict (Element × CallFault)) → is_err result ≡ false → lost_by result ≡ 0
+lost_none (Ok verdict) went = refl
+lost_none (Err refused) went = absurd (cc)
+
+module _ {S : Type 0} (gives : S → ℕ → Type 0) (Steps : S → ℕ → Ask → Result Reply DeskFault → S → Type 0) (policy : Policy) where
+  -- one more fails behind those that did
+  pub closes_more : (old last new : S) (held : List Element) (element : Element) (lost now : ℕ) (result : Result Verdict (Element × CallFault)) → Closes gives Steps policy old held lost last
+      → gives last now → FailsTo Steps policy element now last result new → Closes gives Steps policy old (held ++ element ∷ []) (lost + lost_by result) new
+  closes_more old last new [] element lost now result (none, same) given fails =
+      let from : FailsTo Steps policy element now old result new = subst (λ s. FailsTo Steps policy element now s result new) same fails in
+      let at : gives old now = subst (λ s. gives s now) same given in
+      (now, at, result, new, from, 0, (refl, refl), omega (arith, none))
+  closes_more old last new (first ∷ held) element lost now result (then, given_first, ended, between, failed, more, rest, sum) given fails =
+      (then, given_first, ended, between, failed, more + lost_by result, closes_more between last new held element more now result rest given fails, omega (arith, sum))

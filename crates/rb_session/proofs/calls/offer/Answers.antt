@@ -1,0 +1,25 @@
+use Rattle.std.proofs.Common.{◌≡◌, ℕ, ◌+◌, ◌≤◌, sym, subst, arith, true}
+use Rattle.std.proofs.lemmas.Bool.Decides.{nat_tests}
+use Rattle.std.specs.Prelude.{MatchBool, nat_le, Result}
+use Rattle.rb_delayed.specs.declared.moment.TheConstants.{GREATEST_MOMENT}
+use Rattle.rb_queue.specs.declared.draft.Draft.{Draft}
+use Rattle.rb_queue.specs.declared.ask.Ask.TheVariants as asks
+use Rattle.rb_queue.specs.declared.reply.Reply.{Reply}
+use Rattle.rb_retry.specs.declared.desk_fault.DeskFault.{DeskFault}
+use Rattle.rb_session.specs.Turn.{IsFirst}
+use Rattle.rb_session.specs.Progress.{answer_line}
+use Rattle.rb_session.proofs.calls.offer.Goals as goal
+
+-- a test that is passed leaves its first case
+within_range : (moment : ℕ) (Then Else : Type 0) → moment ≤ GREATEST_MOMENT → Then → MatchBool (nat_le moment GREATEST_MOMENT) Then Else
+within_range moment Then Else within holds =
+    let test : nat_le moment GREATEST_MOMENT ≡ true = grind (arith, nat_tests, within) in
+    subst (λ b. MatchBool b Then Else) (sym test) holds
+
+pub returns-in-Some-clause-offered : goal.returns-in-Some-clause-offered
+returns-in-Some-clause-offered g c =
+    within_range (c.args.now + c.args.delay) _ _ c.in-Some.ensures.0
+    (subst
+    (λ expiry. (draft : Draft) × IsFirst draft expiry c.args.payload
+    × (answer : Result Reply DeskFault) × g.D.Desk.Steps (g.D.Desk.state c.args.desk.now) c.args.now (asks.Offer draft) answer (g.D.Desk.state c.offer_at.new.desk) × (c.offer_at.result ≡ answer_line answer))
+    c.in-Some.ensures.1 c.offer_at.ensures.offered)

@@ -1,0 +1,54 @@
+use Rattle.std.proofs.Common.{◌≡◌, ℕ, ◌+◌, ◌<◌, List, [], ◌∷◌, ◌++◌, Some, sym, ap, subst, ◌∙◌, map, take, drop, length, get_or, append_assoc}
+use Rattle.std.proofs.lemmas.List.{take_more, take-append-drop, map-append, append-nil}
+use Rattle.rb_delayed.specs.declared.element.Element.{Element}
+use Rattle.rb_protocol.specs.ReplyText.{text_of}
+use Rattle.rb_protocol.specs.declared.line_reply.LineReply.TheVariants as lines
+use Rattle.rb_session.specs.Session.{texts_of}
+use Rattle.rb_session.proofs.ReplyTexts.{sends_then, sends_part, texts_of-append}
+use Rattle.rb_session.proofs.replies.send_items.Goals as goal
+
+abbrev items_text : List Element → List ℕ
+items_text elements = texts_of (map lines.Item elements)
+
+items_text-append : (one two : List Element) → items_text (one ++ two) ≡ items_text one ++ items_text two
+items_text-append one two = ap texts_of (map-append lines.Item one two) ∙ texts_of-append (map lines.Item one) (map lines.Item two)
+
+-- the text of the first elements, and of one more
+text_more : (elements : List Element) (place : ℕ) (element : Element) → place < length elements → element ≡ get_or elements place element
+    → items_text (take (place + 1) elements) ≡ items_text (take place elements) ++ text_of (lines.Item element)
+text_more elements place element within is =
+    ap items_text (take_more elements place element within ∙ ap (λ (e : Element). take place elements ++ e ∷ []) (sym is))
+    ∙ items_text-append (take place elements) (element ∷ [])
+    ∙ ap (λ t. items_text (take place elements) ++ t) (append-nil (text_of (lines.Item element)))
+
+-- all text is that of the first elements and what follows
+text_split : (elements : List Element) (place : ℕ) (element : Element) → place < length elements → element ≡ get_or elements place element
+    → items_text elements ≡ items_text (take place elements) ++ (text_of (lines.Item element) ++ items_text (drop (place + 1) elements))
+text_split elements place element within is =
+    sym (ap items_text (take-append-drop (place + 1) elements))
+    ∙ items_text-append (take (place + 1) elements) (drop (place + 1) elements)
+    ∙ ap (λ t. t ++ items_text (drop (place + 1) elements)) (text_more elements place element within is)
+    ∙ append_assoc (items_text (take place elements)) (text_of (lines.Item element)) (items_text (drop (place + 1) elements))
+
+pub returns-in_err-send_reply-clause-sent : goal.returns-in_err-send_reply-clause-sent
+returns-in_err-send_reply-clause-sent g c before known =
+    let elements = c.args.jobs.now in
+    let place = c.loop-job.job-index in
+    let sent = c.loop-job.invariant.wrote before known in
+    let failed = subst (λ (e : Element). (some : List ℕ) × (unsent : List ℕ) × (text_of (lines.Item e) ≡ some ++ unsent) × (g.W.Write.contents c.send_reply.new.writer ≡ Some ((before ++ items_text (take place elements)) ++ some)))
+    c.element.ensures (c.in_err-send_reply.ensures.sent (before ++ items_text (take place elements)) sent) in
+    rw (text_split elements place c.job-item.result c.loop-job-test.true c.job-item.is)
+    (sends_then c.from_residual.result before (items_text (take place elements)) _ _
+    (sends_part c.from_residual.result (before ++ items_text (take place elements)) (text_of (lines.Item c.job-item.result)) _ _ c.from_residual.ensures.0 failed))
+
+pub loop-job-preserved : goal.loop-job-preserved
+loop-job-preserved g c = record {
+  wrote = λ before known.
+      let elements = c.args.jobs.now in
+      let place = c.loop-job.job-index in
+      let sent = c.loop-job.invariant.wrote before known in
+      let more = c.in_ok-send_reply.ensures.sent (before ++ items_text (take place elements)) sent in
+      more ∙ ap (λ (e : Element). Some ((before ++ items_text (take place elements)) ++ text_of (lines.Item e))) c.element.ensures
+      ∙ ap Some (append_assoc before (items_text (take place elements)) (text_of (lines.Item c.job-item.result)) ∙ ap (λ t. before ++ t) (sym (text_more elements place c.job-item.result c.loop-job-test.true c.job-item.is)));
+  room = c.in_ok-send_reply.ensures.room;
+}

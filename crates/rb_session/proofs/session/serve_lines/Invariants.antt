@@ -1,0 +1,20 @@
+use Rattle.std.proofs.Common.{◌≡◌, ℕ, ◌-◌, ◌≤◌, List, Some}
+use Rattle.std.specs.Prelude.{vec_capacity}
+use Rattle.rb_protocol.specs.declared.line_reply.TheConstants.{REPLY_ROOM}
+use Rattle.rb_session.specs.Buffer.{IsUnserved}
+use Rattle.rb_session.specs.Turn.{point}
+use Rattle.rb_session.specs.Progress.{Stands}
+use Rattle.rb_session.proofs.session.serve_lines.Given as goal
+
+-- the lines that were taken out of the buffer are served
+abbrev pub invariant-loop-reading : goal.invariant-loop-reading
+invariant-loop-reading g l = record {
+  stands : (bytes before : List ℕ) → IsUnserved l.fn.buffer bytes → g.W.Write.contents l.fn.writer ≡ Some before
+      → (stands : Stands g.D.Desk.gives g.D.Desk.Sets g.D.Desk.Steps l.policy (point (g.D.Desk.state l.fn.desk) l.fn.held) bytes before (point (g.D.Desk.state l.desk) l.held) (g.W.Write.contents l.writer))
+      × IsUnserved l.buffer stands.rest;
+  room : REPLY_ROOM ≤ vec_capacity l.text;
+  name : g.D.Desk.name (g.D.Desk.state l.desk) ≡ g.D.Desk.name (g.D.Desk.state l.fn.desk);
+}
+
+abbrev pub decreases-loop-reading : goal.decreases-loop-reading
+decreases-loop-reading g l = l.buffer.end - l.buffer.start

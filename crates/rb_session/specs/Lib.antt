@@ -1,0 +1,14 @@
+pub use Rattle.rb_delayed.specs.Moment
+pub use Rattle.rb_protocol.specs.Reading
+pub use Rattle.rb_protocol.specs.ReplyText
+pub use Rattle.rb_retry.specs.Retry
+pub use Rattle.rb_retry.specs.Asked
+pub use Rattle.rb_retry.specs.Jobs
+pub mod Lines
+pub mod Held
+pub mod Turn
+pub mod Session
+pub mod Closing
+pub mod Ran
+pub mod Buffer
+pub mod Progress

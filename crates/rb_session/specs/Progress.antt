@@ -1,0 +1,117 @@
+-- How far a session has come. No public clause cites this module.
+use Rattle.std.specs.Prelude.{◌≡◌, ℕ, ◌-◌, ◌<◌, List, [], ◌∷◌, ◌++◌, length, map, drop, Option, Some, None, Result, Ok, Err}
+use Rattle.rb_delayed.specs.declared.element.Element.{Element}
+use Rattle.rb_queue.specs.declared.ask.Ask.{Ask}
+use Rattle.rb_queue.specs.declared.ask.Ask.TheVariants as asks
+use Rattle.rb_queue.specs.declared.reply.Reply.{Reply}
+use Rattle.rb_retry.specs.declared.desk_fault.DeskFault.{DeskFault}
+use Rattle.rb_retry.specs.declared.policy.Policy.{Policy}
+use Rattle.rb_protocol.specs.declared.line_reply.LineReply.{LineReply}
+use Rattle.rb_protocol.specs.declared.line_reply.LineReply.TheVariants as lines
+use Rattle.rb_session.specs.Lines.{HasNoFeed}
+use Rattle.rb_session.specs.Buffer.{IsUnserved}
+use Rattle.rb_protocol.specs.declared.format.TheConstants.{LINE_FEED}
+use Rattle.rb_protocol.specs.declared.request.Request.{Request}
+use Rattle.rb_protocol.specs.declared.line_fault.LineFault.{LineFault}
+use Rattle.rb_session.specs.Turn.{Point, IsTurn, fault_line, reply_line, lines_for, fetched_by}
+use Rattle.rb_session.specs.Session.{Turn, IsLine, Serves, ServesToEnd, ServesToQuit, bytes_of, answers_of, texts_of, rest_text}
+use Rattle.rb_session.specs.Ran.{IsWhole, BreaksOff, FailsToWrite}
+use Rattle.rb_session.specs.declared.line_buffer.LineBuffer.{LineBuffer}
+use Rattle.rb_session.specs.declared.ended.Ended.{Ended}
+use Rattle.rb_session.specs.declared.ended.Ended.TheVariants as ends
+use Rattle.rb_session.specs.declared.session_fault.SessionFault.{SessionFault}
+use Rattle.rb_session.specs.declared.session_fault.SessionFault.TheVariants as faults
+use Rattle.rb_session.specs.declared.send.WriteFault.{WriteFault}
+use Rattle.rb_session.specs.declared.stop.Stop.{Stop}
+use Rattle.rb_session.specs.declared.stop.Stop.TheVariants.{Quit, EndOfInput, Read, Write, ReadTurns}
+
+-- an ask that fetches nothing
+abbrev pub IsPlain : Ask → Type 0
+IsPlain asks.Poll = ⊥
+IsPlain asks.Take = ⊥
+IsPlain (asks.PollFor start timeout) = ⊥
+IsPlain (asks.Drain most) = ⊥
+IsPlain _ = Unit {0}
+
+-- the first line for an answer
+abbrev pub answer_line : Result Reply DeskFault → LineReply
+answer_line (Ok reply) = reply_line reply
+answer_line (Err fault) = fault_line fault
+
+-- all lines of a reply: behind a drain's come the last elements that are held
+abbrev pub replies_of : LineReply → List Element → List LineReply
+replies_of (lines.Drained count) held = lines.Drained count ∷ map lines.Item (drop (length held - count) held)
+replies_of reply held = reply ∷ []
+
+-- what an answer hands out is held, and this is its line
+pub record IsHolding (old : List Element) (answer : Result Reply DeskFault) (reply : LineReply) (new : List Element) : Type 0 where
+  pub lines : replies_of reply new ≡ lines_for answer
+  pub held : new ≡ old ++ fetched_by answer
+
+-- a text is written whole, or its first part
+abbrev pub Sends : {T : Type 0} → Result T WriteFault → List ℕ → List ℕ → Option (List ℕ) → Type 0
+Sends (Ok _) before text written = written ≡ Some (before ++ text)
+Sends (Err fault) before text written =
+    (sent : List ℕ) × (unsent : List ℕ) × (text ≡ sent ++ unsent) × (written ≡ Some (before ++ sent))
+
+-- the end of the input is answered, or its answer could not be written whole
+abbrev pub Ends : Stop → List ℕ → List ℕ → Option (List ℕ) → Type 0
+Ends EndOfInput before bytes written = written ≡ Some (before ++ rest_text bytes)
+Ends Write before bytes written =
+    (0 < length bytes) × (sent : List ℕ) × (unsent : List ℕ) × (rest_text bytes ≡ sent ++ unsent) × (written ≡ Some (before ++ sent))
+Ends _ before bytes written = ⊥
+
+-- how a session ends that stopped so
+abbrev pub end_of : Stop → ℕ → Result Ended SessionFault
+end_of Quit lost = Ok (ends.Quit lost)
+end_of EndOfInput lost = Ok (ends.EndOfInput lost)
+end_of Read lost = Err (faults.Read lost)
+end_of Write lost = Err (faults.Write lost)
+end_of ReadTurns lost = Err (faults.ReadTurns lost)
+
+module _ {S : Type 0} (gives : S → ℕ → Type 0) (Sets : S → ℕ → Option ℕ → S → Type 0)
+    (Steps : S → ℕ → Ask → Result Reply DeskFault → S → Type 0) (policy : Policy) where
+  -- of these bytes some lines are served and answered, and the rest is not
+  pub record Stands (from : Point S) (bytes before : List ℕ) (to : Point S) (written : Option (List ℕ)) : Type 0 where
+    pub turns : List Turn
+    pub rest : List ℕ
+    pub split : bytes ≡ bytes_of turns ++ rest
+    pub serves : Serves gives Sets Steps policy from turns to
+    pub wrote : written ≡ Some (before ++ answers_of turns)
+
+  -- the reply of a whole line could not be written
+  pub record FailsAtLine (from : Point S) (bytes before : List ℕ) (to : Point S) (written : Option (List ℕ)) : Type 0 where
+    pub turns : List Turn
+    pub raw : List ℕ
+    pub rest : List ℕ
+    pub split : bytes ≡ bytes_of turns ++ (raw ++ LINE_FEED ∷ rest)
+    pub before_last : Point S
+    pub serves : Serves gives Sets Steps policy from turns before_last
+    pub reading : Result Request LineFault
+    pub line : IsLine raw reading
+    pub replies : List LineReply
+    pub turn : IsTurn gives Sets Steps policy before_last reading replies to
+    pub sent : List ℕ
+    pub unsent : List ℕ
+    pub parts : texts_of replies ≡ sent ++ unsent
+    pub wrote : written ≡ Some (before ++ (answers_of turns ++ sent))
+
+  -- what serving the whole lines of a buffer comes to
+  abbrev pub ServesLines : Point S → List ℕ → List ℕ → Option Stop → LineBuffer → Point S → Option (List ℕ) → Type 0
+  ServesLines from bytes before None buffer to written =
+      (stands : Stands from bytes before to written) × HasNoFeed stands.rest × IsUnserved buffer stands.rest
+  ServesLines from bytes before (Some Quit) buffer to written =
+      IsWhole gives Sets Steps policy (ServesToQuit gives Sets Steps policy from bytes) before to written
+  ServesLines from bytes before (Some Write) buffer to written =
+      FailsAtLine from bytes before to written
+  ServesLines from bytes before (Some _) buffer to written = ⊥
+
+  -- what serving a stream comes to
+  abbrev pub Stops : Point S → List ℕ → List ℕ → Stop → Point S → Option (List ℕ) → Option (List ℕ) → Type 0
+  Stops from stream before Quit to left written =
+      IsWhole gives Sets Steps policy (ServesToQuit gives Sets Steps policy from stream) before to written
+  Stops from stream before EndOfInput to left written =
+      IsWhole gives Sets Steps policy (ServesToEnd gives Sets Steps policy from stream) before to written
+  Stops from stream before Read to left written = BreaksOff gives Sets Steps policy from stream before to left written
+  Stops from stream before ReadTurns to left written = BreaksOff gives Sets Steps policy from stream before to left written
+  Stops from stream before Write to left written = FailsToWrite gives Sets Steps policy from stream before to written

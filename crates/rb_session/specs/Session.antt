@@ -1,0 +1,75 @@
+-- What a session answers to the bytes that it reads.
+use Rattle.std.specs.Prelude.{◌≡◌, ◌≢◌, ℕ, List, [], ◌∷◌, ◌++◌, Option, Result, Ok}
+use Rattle.rb_queue.specs.declared.ask.Ask.{Ask}
+use Rattle.rb_queue.specs.declared.reply.Reply.{Reply}
+use Rattle.rb_retry.specs.declared.desk_fault.DeskFault.{DeskFault}
+use Rattle.rb_retry.specs.declared.policy.Policy.{Policy}
+use Rattle.rb_protocol.specs.Reading.{IsReading}
+use Rattle.rb_protocol.specs.ReplyText.{text_of}
+use Rattle.rb_protocol.specs.declared.format.TheConstants.{LINE_FEED}
+use Rattle.rb_protocol.specs.declared.request.Request.{Request}
+use Rattle.rb_protocol.specs.declared.request.Request.TheVariants.{Quit}
+use Rattle.rb_protocol.specs.declared.line_fault.LineFault.{LineFault}
+use Rattle.rb_protocol.specs.declared.line_reply.LineReply.{LineReply}
+use Rattle.rb_protocol.specs.declared.line_reply.LineReply.TheVariants as lines
+use Rattle.rb_protocol.specs.declared.error_word.ErrorWord.TheVariants as words
+use Rattle.rb_session.specs.Lines.{HasNoFeed, line_of}
+use Rattle.rb_session.specs.Turn.{Point, IsTurn}
+
+-- A line that was served: its bytes before the line feed, what they were read as, and its replies.
+pub record Turn : Type 0 where
+  pub raw : List ℕ
+  pub reading : Result Request LineFault
+  pub replies : List LineReply
+
+-- the text of these replies
+abbrev pub texts_of : List LineReply → List ℕ
+texts_of [] = []
+texts_of (reply ∷ replies) = text_of reply ++ texts_of replies
+
+-- the bytes of these lines, with their ends
+abbrev pub bytes_of : List Turn → List ℕ
+bytes_of [] = []
+bytes_of (turn ∷ turns) = turn.raw ++ LINE_FEED ∷ bytes_of turns
+
+-- the text that answers these lines
+abbrev pub answers_of : List Turn → List ℕ
+answers_of [] = []
+answers_of (turn ∷ turns) = texts_of turn.replies ++ answers_of turns
+
+-- the bytes before a line feed are a line that is read so
+abbrev pub IsLine : List ℕ → Result Request LineFault → Type 0
+IsLine raw reading = HasNoFeed raw × IsReading (line_of raw) reading
+
+-- what the bytes behind the last line feed get: one line, where there are any
+abbrev pub rest_text : List ℕ → List ℕ
+rest_text [] = []
+rest_text (byte ∷ rest) = text_of (lines.Error words.Line)
+
+module _ {S : Type 0} (gives : S → ℕ → Type 0) (Sets : S → ℕ → Option ℕ → S → Type 0)
+    (Steps : S → ℕ → Ask → Result Reply DeskFault → S → Type 0) (policy : Policy) where
+  -- These lines are served one after the other. None of them ends the session.
+  abbrev pub Serves : Point S → List Turn → Point S → Type 0
+  Serves old [] new = new ≡ old
+  Serves old (turn ∷ turns) new =
+      (between : Point S) × IsLine turn.raw turn.reading × (turn.reading ≢ Ok Quit)
+      × IsTurn gives Sets Steps policy old turn.reading turn.replies between × Serves between turns new
+
+  -- The stream is served to its end. What stands behind its last line feed is a truncated line.
+  pub record ServesToEnd (from : Point S) (stream text : List ℕ) (to : Point S) : Type 0 where
+    pub turns : List Turn
+    pub rest : List ℕ
+    pub split : stream ≡ bytes_of turns ++ rest
+    pub no_line : HasNoFeed rest
+    pub serves : Serves from turns to
+    pub answers : text ≡ answers_of turns ++ rest_text rest
+
+  -- The stream is served to a line that ends the session. What stands behind that one is not served.
+  pub record ServesToQuit (from : Point S) (stream text : List ℕ) (to : Point S) : Type 0 where
+    pub turns : List Turn
+    pub raw : List ℕ
+    pub unserved : List ℕ
+    pub split : stream ≡ bytes_of turns ++ (raw ++ LINE_FEED ∷ unserved)
+    pub quit : IsLine raw (Ok Quit)
+    pub serves : Serves from turns to
+    pub answers : text ≡ answers_of turns ++ text_of lines.Bye

@@ -1,0 +1,85 @@
+ghost use Rattle.std.specs.Prelude.{◌≡◌, ℕ, ◌<◌, ◌≤◌, ◌++◌, [], ◌∷◌, List, length, Option, Result};
+ghost use Rattle.rb_queue.specs.declared.reply.Reply.{Reply};
+ghost use Rattle.rb_session.specs.Turn.{word_for, point, moment_line, IsTurn, IsServed};
+ghost use Rattle.rb_session.specs.Progress.{replies_of};
+
+use crate::calls::{call, offer, offer_at};
+use crate::endings::{fail_job, finish_job};
+use crate::fetches::{drain_jobs, poll_job, poll_job_for, take_job};
+use crate::held_jobs::HeldJobs;
+use rb_protocol::{ErrorWord, LineFault, LineReply, Request};
+use rb_queue::Ask;
+use rb_retry::{Desk, Policy};
+
+/// Answers one line: the first line of its reply. Where that is a drain's, the elements that it took
+/// are the last that are held.
+///
+/// The desk's clock is read once for each request.
+pub(crate) fn answer<D: Desk>(
+    desk: &mut D,
+    held: &mut HeldJobs,
+    policy: &Policy,
+    reading: Result<Request, LineFault>,
+) -> LineReply
+    ensures turn { IsTurn D.gives D.Sets D.Steps policy.now (point (D.state desk.old) held.old) reading (replies_of result held.new) (point (D.state desk.new) held.new) }
+    ensures name { D.name (D.state desk.new) ≡ D.name (D.state desk.old) }
+{
+    match reading {
+        Ok(request) => {
+            let now = desk.now();
+            serve(desk, held, policy, now, request)
+        }
+        Err(fault) => LineReply::Error(word_for(fault)),
+    }
+}
+
+fn serve<D: Desk>(
+    desk: &mut D,
+    held: &mut HeldJobs,
+    policy: &Policy,
+    now: u64,
+    request: Request,
+) -> LineReply
+    ensures served { IsServed D.gives D.Sets D.Steps policy.now (point (D.state desk.old) held.old) now request (replies_of result held.new) (point (D.state desk.new) held.new) }
+    ensures name { D.name (D.state desk.new) ≡ D.name (D.state desk.old) }
+{
+    match request {
+        Request::Offer { delay, payload } => offer(desk, now, delay, payload),
+        Request::OfferAt { expiry, payload } => offer_at(desk, now, expiry, payload),
+        Request::Poll => poll_job(desk, held, now),
+        Request::PollFor(timeout) => poll_job_for(desk, held, now, timeout),
+        Request::Take => take_job(desk, held),
+        Request::Peek => call(desk, now, Ask::Peek),
+        Request::Remove(id) => call(desk, now, Ask::Remove(id)),
+        Request::Drain(most) => drain_jobs(desk, held, now, most),
+        Request::Clear => call(desk, now, Ask::Clear),
+        Request::Size => call(desk, now, Ask::Size),
+        Request::Done(id) => finish_job(held, id),
+        Request::Fail(id) => fail_job(desk, held, policy, now, id),
+        Request::At(moment) => set_moment(desk, moment),
+        Request::Quit => LineReply::Bye,
+    }
+}
+
+// Sets the desk's clock, where it can be set.
+fn set_moment<D: Desk>(desk: &mut D, moment: u64) -> LineReply
+    ensures set { (set_to : Option ℕ) × D.Sets (D.state desk.old) moment set_to (D.state desk.new) × (result ≡ moment_line set_to) }
+    ensures name { D.name (D.state desk.new) ≡ D.name (D.state desk.old) }
+{
+    match desk.set(moment) {
+        Some(now) => LineReply::Now(now),
+        None => LineReply::Error(ErrorWord::Syntax),
+    }
+}
+
+// The word for a line that is no request.
+fn word_for(fault: LineFault) -> ErrorWord
+    ensures { result ≡ word_for fault }
+{
+    match fault {
+        LineFault::Line => ErrorWord::Line,
+        LineFault::Syntax => ErrorWord::Syntax,
+        LineFault::Number => ErrorWord::Number,
+        LineFault::Payload => ErrorWord::Payload,
+    }
+}

@@ -1,0 +1,79 @@
+ghost use Rattle.std.specs.Prelude.{◌≡◌, ℕ, ◌+◌, List, [], ◌∷◌, Result, MatchBool, nat_le};
+ghost use Rattle.rb_delayed.specs.declared.moment.TheConstants.{GREATEST_MOMENT};
+ghost use Rattle.rb_queue.specs.declared.ask.Ask.TheVariants as asks;
+ghost use Rattle.rb_queue.specs.declared.draft.Draft.{Draft};
+ghost use Rattle.rb_queue.specs.declared.reply.Reply.{Reply};
+ghost use Rattle.rb_retry.specs.declared.desk_fault.DeskFault.{DeskFault};
+ghost use Rattle.rb_protocol.specs.declared.line_reply.LineReply.TheVariants as lines;
+ghost use Rattle.rb_protocol.specs.declared.error_word.ErrorWord.TheVariants as words;
+ghost use Rattle.rb_session.specs.Turn.{IsFirst, fault_line, reply_line};
+ghost use Rattle.rb_session.specs.Progress.{IsPlain, answer_line};
+
+use rb_delayed::{Payload, add_delay};
+use rb_protocol::{ErrorWord, LineReply};
+use rb_queue::{Ask, Draft, Reply};
+use rb_retry::{Desk, DeskFault};
+
+/// Makes one call that fetches nothing, and gives its line.
+pub(crate) fn call<D: Desk>(desk: &mut D, now: u64, ask: Ask) -> LineReply
+    ensures call { (answer : Result Reply DeskFault) × D.Steps (D.state desk.old) now ask answer (D.state desk.new) × (result ≡ answer_line answer) }
+    ensures name { D.name (D.state desk.new) ≡ D.name (D.state desk.old) }
+{
+    match desk.call(now, ask) {
+        Ok(reply) => reply_line(reply),
+        Err(fault) => fault_line(fault),
+    }
+}
+
+/// An offer that expires `delay` nanoseconds from now, unless that passes the greatest moment.
+pub(crate) fn offer<D: Desk>(desk: &mut D, now: u64, delay: u64, payload: Payload) -> LineReply
+    ensures offered { MatchBool (nat_le (now + delay) GREATEST_MOMENT)
+        ((draft : Draft) × IsFirst draft (now + delay) payload
+        × (answer : Result Reply DeskFault) × D.Steps (D.state desk.old) now (asks.Offer draft) answer (D.state desk.new) × (result ≡ answer_line answer))
+        ((result ≡ lines.Error words.Range) × (D.state desk.new ≡ D.state desk.old)) }
+    ensures name { D.name (D.state desk.new) ≡ D.name (D.state desk.old) }
+{
+    match add_delay(now, delay) {
+        Some(expiry) => offer_at(desk, now, expiry, payload),
+        None => LineReply::Error(ErrorWord::Range),
+    }
+}
+
+/// An offer that expires at this moment.
+pub(crate) fn offer_at<D: Desk>(desk: &mut D, now: u64, expiry: u64, payload: Payload) -> LineReply
+    ensures offered { (draft : Draft) × IsFirst draft expiry payload
+        × (answer : Result Reply DeskFault) × D.Steps (D.state desk.old) now (asks.Offer draft) answer (D.state desk.new) × (result ≡ answer_line answer) }
+    ensures name { D.name (D.state desk.new) ≡ D.name (D.state desk.old) }
+{
+    call(desk, now, Ask::Offer(Draft::first(expiry, payload)))
+}
+
+/// The line for a fault of the desk.
+pub(crate) fn fault_line(fault: DeskFault) -> LineReply
+    ensures { result ≡ fault_line fault }
+{
+    match fault {
+        DeskFault::Full => LineReply::Error(ErrorWord::Full),
+        DeskFault::Memory => LineReply::Error(ErrorWord::Memory),
+        DeskFault::Stopped => LineReply::Stopped,
+    }
+}
+
+// The line for a reply.
+fn reply_line(reply: Reply) -> LineReply
+    ensures { result ≡ reply_line reply }
+{
+    match reply {
+        Reply::Offered(element) => LineReply::Offered {
+            id: element.id,
+            expiry: element.expiry,
+        },
+        Reply::Item(element) => LineReply::Item(element),
+        Reply::Nothing => LineReply::Nothing,
+        Reply::Head(element) => LineReply::Head(element),
+        Reply::Removed(found) => LineReply::Removed(found),
+        Reply::Drained(items) => LineReply::Drained(items.as_slice().len() as u64),
+        Reply::Cleared => LineReply::Cleared,
+        Reply::Size(count) => LineReply::Size(count),
+    }
+}

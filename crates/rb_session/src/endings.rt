@@ -1,0 +1,74 @@
+ghost use Rattle.std.specs.Prelude.{◌≡◌, ◌∷◌, [], MatchOption, remove};
+ghost use Rattle.rb_protocol.specs.declared.line_reply.LineReply.TheVariants as lines;
+ghost use Rattle.rb_protocol.specs.declared.error_word.ErrorWord.TheVariants as words;
+ghost use Rattle.rb_session.specs.Held.{place_of};
+ghost use Rattle.rb_session.specs.Turn.{point, IsAnswered, IsFailure};
+ghost use Rattle.rb_session.specs.Closing.{Closes};
+ghost use Rattle.rb_session.specs.Progress.{replies_of};
+
+use crate::calls::fault_line;
+use crate::held_jobs::HeldJobs;
+use rb_protocol::{ErrorWord, LineReply};
+use rb_retry::{Desk, DeskFault, Policy, Verdict, done, fail};
+
+/// The job of this id is done, if it is held.
+pub(crate) fn finish_job(held: &mut HeldJobs, id: u64) -> LineReply
+    ensures { MatchOption (place_of held.old id)
+        ((result ≡ lines.Error words.NotHeld) × (held.new ≡ held.old))
+        (λ place. (result ≡ lines.Done id) × (held.new ≡ remove held.old place)) }
+{
+    match held.place_of(id) {
+        Some(place) => {
+            done(held.take_out(place));
+            LineReply::Done(id)
+        }
+        None => LineReply::Error(ErrorWord::NotHeld),
+    }
+}
+
+/// The job of this id fails now, if it is held. Where its next attempt is refused it is held on, at its
+/// place.
+pub(crate) fn fail_job<D: Desk>(
+    desk: &mut D,
+    held: &mut HeldJobs,
+    policy: &Policy,
+    now: u64,
+    id: u64,
+) -> LineReply
+    ensures failed { MatchOption (place_of held.old id)
+        (IsAnswered (lines.Error words.NotHeld) (point (D.state desk.old) held.old) (replies_of result held.new) (point (D.state desk.new) held.new))
+        (λ place. IsFailure D.Steps policy.now (point (D.state desk.old) held.old) now place (replies_of result held.new) (point (D.state desk.new) held.new)) }
+    ensures name { D.name (D.state desk.new) ≡ D.name (D.state desk.old) }
+{
+    let Some(place) = held.place_of(id) else {
+        return LineReply::Error(ErrorWord::NotHeld);
+    };
+    let job = held.take_out(place);
+    match fail(desk, policy, job, now) {
+        Ok(Verdict::Again(again)) => LineReply::Again {
+            id: again.id,
+            expiry: again.expiry,
+        },
+        Ok(Verdict::Dead(dead)) => LineReply::Dead(dead.id),
+        Err((job, fault)) => {
+            held.put_back(place, job);
+            fault_line(DeskFault::from(fault))
+        }
+    }
+}
+
+/// All that is held fails, in the order of the fetches, at the desk's moment. The number of those that
+/// are lost, since their next attempt was refused.
+pub(crate) fn fail_all<D: Desk>(desk: &mut D, policy: &Policy, held: HeldJobs) -> u64
+    ensures closes { Closes D.gives D.Steps policy.now (D.state desk.old) held result (D.state desk.new) }
+    ensures name { D.name (D.state desk.new) ≡ D.name (D.state desk.old) }
+{
+    let mut lost = 0;
+    for job in held.into_vec() {
+        let now = desk.now();
+        if fail(desk, policy, job, now).is_err() {
+            lost += 1;
+        }
+    }
+    lost
+}

@@ -1,0 +1,25 @@
+//! A client's session: lines of requests are read, served at a desk, and answered by lines.
+//!
+//! A session holds what it fetched until that is done or fails. However it ends, what it still holds
+//! fails then. The desk may be of any kind.
+#![tactic(auto)]
+
+mod answer;
+mod calls;
+mod ended;
+mod endings;
+mod fetches;
+mod held_jobs;
+mod line_buffer;
+mod replies;
+mod send;
+mod session;
+mod session_fault;
+mod stop;
+#[cfg(test)]
+mod tests;
+
+pub use ended::Ended;
+pub use held_jobs::MOST_HELD;
+pub use session::run_session;
+pub use session_fault::SessionFault;

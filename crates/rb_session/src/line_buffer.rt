@@ -1,0 +1,124 @@
+ghost use Rattle.std.specs.Prelude.{◌≡◌, ℕ, ◌+◌, ◌<◌, ◌≤◌, List, [], ◌∷◌, ◌++◌, ◌↔◌, length, take, slice_index, ◌-◌, Some, IfOk, IfSome, IsTrue, MatchOption, vec_len};
+ghost use Rattle.rb_session.specs.Lines.{HasNoFeed, line_of};
+ghost use Rattle.rb_protocol.specs.Reading.{IsReading};
+ghost use Rattle.rb_session.specs.declared.line_buffer.TheConstants.{MOST_RAW_BYTES};
+
+use rb_protocol::{LINE_FEED, LineFault, MOST_LINE_BYTES, Request, read_request};
+use std::alloc::{AllocError, Global};
+use std::io;
+use std::io::Read;
+
+/// How many bytes are read at once at most.
+const BUFFER_BYTES: usize = 64 * 1024;
+
+/// How many bytes before a line feed may still be a request: the longest line, and a carriage return.
+const MOST_RAW_BYTES: usize = MOST_LINE_BYTES + 1;
+
+/// Bytes that were read and are not served yet.
+///
+/// What stands before the first line feed is kept until its end comes. Where it is too long to be a
+/// request it is dropped, and only that is remembered: so no line needs more room than the buffer.
+#[derive(Drop)]
+pub struct LineBuffer {
+    bytes: Vec<u8>,
+    start: usize,
+    end: usize,
+    // Bytes of the first line were dropped.
+    is_long: bool,
+    ghost ordered: { start ≤ end },
+    ghost within: { end ≤ vec_len bytes },
+    ghost roomy: { MOST_RAW_BYTES < vec_len bytes },
+}
+
+impl LineBuffer {
+    ghost use Rattle.rb_session.specs.Buffer.{IsUnserved, TakesLine, TakesMore};
+
+    /// An empty buffer, whose memory is taken at once.
+    pub fn new(alloc: Global) -> Result<Self, AllocError>
+        ensures { IfOk result (λ buffer. IsUnserved buffer []) }
+    {
+        Ok(LineBuffer {
+            bytes: vec![in alloc; 0; BUFFER_BYTES]?,
+            start: 0,
+            end: 0,
+            is_long: false,
+        })
+    }
+
+    /// Takes the first whole line out and reads it, or `None` exactly where there is no line feed.
+    pub fn next_request(&mut self) -> Option<Result<Request, LineFault>>
+        ensures line { (bytes : List ℕ) → IsUnserved self.old bytes → TakesLine bytes result self.new }
+        ensures shorter { IfSome result (λ _. self.new.end - self.new.start < self.old.end - self.old.start) }
+    {
+        let held = &self.bytes[self.start..self.end];
+        let len = find_feed(held)?;
+        let reading = if self.is_long {
+            Err(LineFault::Line)
+        } else {
+            read_request(without_return(&held[..len]))
+        };
+        self.start += len + 1;
+        self.is_long = false;
+        Some(reading)
+    }
+
+    /// Reads once, after the bytes that are held. The number of bytes is 0 at the end of the input.
+    pub fn read_from<R: Read>(&mut self, reader: &mut R) -> io::Result<usize>
+        ensures { (bytes stream : List ℕ) → IsUnserved self.old bytes → HasNoFeed bytes → R.remaining reader.old ≡ Some stream
+            → TakesMore bytes stream result self.new (R.remaining reader.new) }
+    {
+        self.make_room();
+        let end = self.end;
+        match reader.read(&mut self.bytes[end..]) {
+            Ok(count) => {
+                self.end += count;
+                Ok(count)
+            }
+            Err(error) => Err(error),
+        }
+    }
+
+    /// Whether there are bytes that no line feed ends.
+    pub fn has_rest(&self) -> bool
+        ensures { (bytes : List ℕ) → IsUnserved self.now bytes → IsTrue result ↔ (0 < length bytes) }
+    {
+        self.is_long || self.start < self.end
+    }
+
+    // Puts the bytes that are held to the front, or drops them where they are too long already.
+    fn make_room(&mut self)
+        ensures kept { (bytes : List ℕ) → IsUnserved self.old bytes → HasNoFeed bytes → IsUnserved self.new bytes }
+        ensures room { self.new.end < vec_len self.new.bytes }
+    {
+        let held = self.end - self.start;
+        if self.is_long || held > MOST_RAW_BYTES {
+            self.is_long = true;
+            self.start = 0;
+            self.end = 0;
+        } else {
+            self.bytes.copy_within(self.start..self.end, 0);
+            self.start = 0;
+            self.end = held;
+        }
+    }
+}
+
+// How many bytes stand before the first line feed.
+fn find_feed(held: &[u8]) -> Option<usize>
+    ensures { MatchOption result (HasNoFeed held.now) (λ len.
+        (len < length held.now) × HasNoFeed (take len held.now) × (slice_index held.now len ≡ 10)) }
+{
+    held.iter().position(|&byte| byte == LINE_FEED)
+}
+
+// The line, without a carriage return that belongs to its end.
+fn without_return(raw: &[u8]) -> &[u8]
+    ensures { result.now ≡ line_of raw.now }
+{
+    let len = raw.len();
+    if len > 0 && raw[len - 1] == b'\r' {
+        &raw[..len - 1]
+    } else {
+        raw
+    }
+}

@@ -1,0 +1,14 @@
+/// Why no more lines of a stream are served.
+#[derive(Clone, Copy, Debug, PartialEq, Eq)]
+pub(crate) enum Stop {
+    /// A line ended the session.
+    Quit,
+    /// There is nothing more to read.
+    EndOfInput,
+    /// A read failed.
+    Read,
+    /// A write or a flush failed, or a write took no byte.
+    Write,
+    /// The input had no end within the reads that a session makes.
+    ReadTurns,
+}
