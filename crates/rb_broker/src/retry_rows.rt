@@ -1,8 +1,6 @@
-ghost use Rattle.std.specs.Prelude.{◌≤◌, length};
-
 use crate::broker_fault::BrokerFault;
 use crate::script::run_script;
-use crate::script_rows::{AT_END, DEFAULT, KINDS, options};
+use crate::script_rows::{AT_END, DEFAULT, KINDS, feeds_of, first_lines, options};
 use rb_retry::Pace;
 use rb_session::Ended;
 use std::alloc::{AllocError, Global};
@@ -126,39 +124,19 @@ fn a_refused_retry_leaves_the_order(rt: HostRuntime) {
 #[test]
 fn each_part_of_a_script_gets_its_part_of_the_replies(rt: HostRuntime) -> Result<(), Fail> {
     let alloc = rt.alloc();
-    let mut lines = 0;
-    let mut answered = 0;
     for len in 0..JOB.len() {
-        let mut replies = Vec::from_slice(alloc, &JOB_REPLIES[..answered])?;
-        if len > 0 && JOB[len - 1] != b'\n' {
+        let part = JOB.get(..len).unwrap_or(JOB);
+        let answered = first_lines(JOB_REPLIES, feeds_of(part));
+        let mut replies = Vec::from_slice(alloc, answered)?;
+        if len > 0 && part.last() != Some(&b'\n') {
             replies.extend_from_slice(b"ERR 8 line\n")?;
         }
-        let mut reader = &JOB[..len];
+        let mut reader = part;
         let mut writer = Vec::new(alloc);
         let options = options(&rt, KINDS[1], 100, DEFAULT);
         let result = run_script(alloc, &options, &mut reader, &mut writer);
         assert_eq!(rt; result, Ok::<Ended, BrokerFault>(AT_END), "{len}");
         assert_eq!(rt; writer.as_slice(), replies.as_slice(), "{len}");
-        if JOB[len] == b'\n' {
-            lines += 1;
-            answered = end_of_line(JOB_REPLIES, lines);
-        }
     }
     Ok(())
-}
-
-// How many bytes the first lines of the text have, with their ends.
-fn end_of_line(text: &[u8], lines: usize) -> usize
-    ensures { result ≤ length text.now }
-{
-    let mut seen = 0;
-    for (at, &byte) in text.iter().enumerate() {
-        if byte == b'\n' {
-            seen += 1;
-            if seen == lines {
-                return at + 1;
-            }
-        }
-    }
-    text.len()
 }

@@ -193,12 +193,13 @@ fn with_returns(alloc: Global, script: &[u8]) -> Result<Vec<u8>, AllocError> {
     Ok(lines)
 }
 
-fn feeds_of(text: &[u8]) -> usize {
+/// How many line feeds the text has.
+pub fn feeds_of(text: &[u8]) -> usize {
     text.iter().filter(|&&byte| byte == b'\n').count()
 }
 
-// The first lines of the text.
-fn first_lines(text: &[u8], count: usize) -> &[u8] {
+/// The first lines of the text.
+pub fn first_lines(text: &[u8], count: usize) -> &[u8] {
     let mut len = 0;
     let mut lines = 0;
     for (at, &byte) in text.iter().enumerate() {

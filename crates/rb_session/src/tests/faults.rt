@@ -13,11 +13,11 @@ const REPLIES: &[u8] =
 
 // How many bytes the first lines of the replies have, with their ends.
 fn end_of_line(lines: usize) -> usize {
-    let mut seen = 0;
+    let mut seen = 0_usize;
     let mut end = 0;
     for (at, &byte) in REPLIES.iter().enumerate() {
         if byte == b'\n' && seen < lines {
-            seen += 1;
+            seen = seen.saturating_add(1);
             end = at.saturating_add(1);
         }
     }
@@ -28,7 +28,7 @@ fn end_of_line(lines: usize) -> usize {
 #[test]
 fn a_read_may_fail_anywhere(rt: HostRuntime) -> Result<(), Fail> {
     let alloc = rt.alloc();
-    let mut lines = 0;
+    let mut lines = 0_usize;
     for call in 0..=JOB.len() {
         let (mut kept, mut tally) = Kept::<BinaryTimer>::new(alloc, 100)?;
         let (mut reader, mut writer) = (Bytes::of(JOB, call), Sheet::new(alloc, NEVER));
@@ -37,7 +37,7 @@ fn a_read_may_fail_anywhere(rt: HostRuntime) -> Result<(), Fail> {
         let replies = REPLIES.get(..end_of_line(lines)).unwrap_or(REPLIES);
         assert_eq!(rt; writer.bytes.as_slice(), replies, "{call}");
         if JOB.get(call) == Some(&b'\n') {
-            lines += 1;
+            lines = lines.saturating_add(1);
         }
     }
     Ok(())
