@@ -1,0 +1,5 @@
+pub mod Sums
+pub mod Beginnings
+pub mod Growing
+pub mod Takings
+pub mod Returns

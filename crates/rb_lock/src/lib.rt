@@ -1,0 +1,11 @@
+//! One kept queue for many threads, and one legal history for all of them.
+//!
+//! Each thread calls through a pass of its own. A pass stores no event: what it has seen and made is known
+//! to the proofs alone, and so is that the histories of all passes are beginnings of one.
+#![tactic(auto)]
+
+mod home;
+mod law;
+mod record;
+mod stage;
+mod view;
