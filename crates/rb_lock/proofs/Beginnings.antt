@@ -17,3 +17,14 @@ prefix_trans xs ys zs p q = (p.0 ++ q.0, sym (append_assoc xs p.0 q.0) ∙ (ap (
 -- a longer list still begins so
 pub prefix_more : {A : Type 0} (xs ys more : List A) → IsPrefix xs ys → IsPrefix xs (ys ++ more)
 prefix_more xs ys more p = (p.0 ++ more, sym (append_assoc xs p.0 more) ∙ ap (λ w. w ++ more) p.1)
+
+-- what follows one beginning is determined
+pub append_same : {A : Type 0} (xs ys zs : List A) → xs ++ ys ≡ xs ++ zs → ys ≡ zs
+append_same [] ys zs same = same
+append_same (x ∷ xs) ys zs same = append_same xs ys zs (cc same)
+
+-- the last of a list of one is that one
+pub last_of_one : {A : Type 0} (items left : List A) (last only : A) → items ≡ left ++ last ∷ [] → items ≡ only ∷ [] → items ≡ last ∷ []
+last_of_one items [] last only is one = is
+last_of_one items (first ∷ left) last only is one =
+    let long : length (first ∷ left ++ last ∷ []) ≡ 1 = ap length (sym is ∙ one) in absurd (omega (arith, length-append left (last ∷ []), long))

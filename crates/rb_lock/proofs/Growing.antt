@@ -16,7 +16,7 @@ events_of-append xs ys name = filter-append (λ (e : Event). e.seat == name) xs 
 
 -- nothing was added
 pub grown_none : (name : ℕ) (found : List Event) → Grown name found found
-grown_none name found = record { more = []; is = sym (append-nil found); others = λ other apart. refl }
+grown_none name found = record { more = []; is = sym (append-nil found); own = refl; others = λ other apart. refl }
 
 module _ (name : ℕ) (found new : List Event) (grown : Grown name found new) where
   -- another name has the events that it had
@@ -33,8 +33,7 @@ module _ (name : ℕ) (found new : List Event) (grown : Grown name found new) wh
   pub records_stay : (records : List Record) → times name (names_of records) ≡ 0 → AreRecords found records → AreRecords new records
   records_stay [] none all = tt
   records_stay (one ∷ records) none (first, rest) =
-      let apart : bit (one.name == name) ≡ 0 = omega arith in
-      (
+      let apart : bit (one.name == name) ≡ 0 = omega arith in (
         record {
           begins = begins_stay one.seen first.begins;
           known = first.known;

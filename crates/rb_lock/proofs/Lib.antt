@@ -1,5 +1,9 @@
 pub mod Sums
 pub mod Beginnings
 pub mod Growing
+pub mod Hands
+pub mod CallTotals
+pub mod MadeCalls
+pub mod Openings
 pub mod Takings
 pub mod Returns

@@ -15,7 +15,7 @@ use Rattle.rb_lock.specs.Records.{bit, times, names_of, IsRecord, AreRecords}
 use Rattle.rb_lock.specs.Passes.{Seen}
 use Rattle.rb_lock.specs.Views.{idle, records_of, weight, holders, is_held, drawn, total, holder_of, settled}
 use Rattle.rb_lock.specs.Rule.{AtStage, Fits, Locked, IsFree, IsHeld, home_of}
-use Rattle.rb_lock.specs.LockSteps.{Sat, Grown, gave, drew}
+use Rattle.rb_lock.specs.LockSteps.{Sat, MayGive, Grown, gave, drew}
 use Rattle.rb_lock.specs.declared.home.Home.{Home}
 use Rattle.rb_lock.specs.declared.home.TheConstants.{MOST_NAMES}
 use Rattle.rb_lock.specs.declared.stage.Stage.{Stage}
@@ -193,11 +193,11 @@ next_drew name names history few = record {
 }
 
 -- the lock is given back, at any history that only this pass's events made longer
-pub gives_lock : {T : Type 0} (id : ℕ) (pass : Seen) (found new : Log) (names : ℕ) → new.capacity ≡ pass.capacity → new.opening ≡ pass.opening
+pub gives_lock : {T : Type 0} (slots id : ℕ) (pass : Seen) (found new : Log) (names : ℕ) → new.capacity ≡ pass.capacity → new.opening ≡ pass.opening
     → Grown pass.name found.history new.history → names ≤ MOST_NAMES
-    → Allows (Locked {T = T}) 1 id (before pass found.history names, (0, Some (home_of new names)) ∷ []) 0 (λ _. 0)
+    → Allows (Locked {T = T}) slots id (before pass found.history names, (0, Some (home_of new names)) ∷ []) 0 (λ _. 0)
     (gave {T = T} (step 0 0 0 0 none) (before pass found.history names, (0, Some (home_of new names)) ∷ []))
-gives_lock id pass found new names capacity opening grown few s law slots at small = (
+gives_lock slots id pass found new names capacity opening grown few s law many at small = (
   after_it pass found.history names new.history Idle,
   gives,
   tt,
@@ -206,13 +206,19 @@ gives_lock id pass found new names capacity opening grown few s law slots at sma
 )
 
 -- and with the next name drawn
-pub draws_name : {T : Type 0} (id : ℕ) (pass : Seen) (found : Log) (names : ℕ) → found.capacity ≡ pass.capacity → found.opening ≡ pass.opening → names < MOST_NAMES
-    → Allows (Locked {T = T}) 1 id (before pass found.history names, (0, Some (home_of found (names + 1))) ∷ []) 0 (λ _. 0)
+pub draws_name : {T : Type 0} (slots id : ℕ) (pass : Seen) (found : Log) (names : ℕ) → found.capacity ≡ pass.capacity → found.opening ≡ pass.opening → names < MOST_NAMES
+    → Allows (Locked {T = T}) slots id (before pass found.history names, (0, Some (home_of found (names + 1))) ∷ []) 0 (λ _. 0)
     (drew {T = T} (step 0 0 0 0 none) (before pass found.history names, (0, Some (home_of found (names + 1))) ∷ []))
-draws_name id pass found names capacity opening few s law slots at small = (
+draws_name slots id pass found names capacity opening few s law many at small = (
   after_it pass found.history names found.history (Drew names),
   gives,
   tt,
   given pass found found names (names + 1) (Drew names) capacity opening (grown_none pass.name found.history) (next_drew pass.name names found.history few) s law id at,
   refl,
 )
+
+-- the same at a seat that may give it back
+pub gives_at : {T : Type 0} (slots id : ℕ) (seat : Sat T) → MayGive seat → Allows (Locked {T = T}) slots id seat 0 (λ _. 0) (gave {T = T} (step 0 0 0 0 none) seat)
+gives_at {T} slots id seat may =
+    subst (λ (m : Sat T). Allows (Locked {T = T}) slots id m 0 (λ _. 0) (gave {T = T} (step 0 0 0 0 none) m)) (sym may.is)
+    (gives_lock slots id may.pass may.found may.new may.names may.capacity may.opening may.grown may.few)

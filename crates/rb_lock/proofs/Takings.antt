@@ -1,17 +1,19 @@
 -- The step that takes the lock, or finds it taken, keeps the rule.
-use Rattle.std.proofs.Common.{◌≡◌, ◌≢◌, ℕ, ◌+◌, ◌<◌, ◌≤◌, List, [], ◌∷◌, ◌++◌, length, get_or, set, refl, ap, sym, subst, ◌∙◌, arith, ◌⊎◌, ⊎_elim, inl, inr}
+use Rattle.std.proofs.Common.{◌≡◌, ◌≢◌, ℕ, ◌+◌, ◌<◌, ◌≤◌, ◌==◌, List, [], ◌∷◌, ◌++◌, length, get_or, set, refl, ap, sym, subst, ◌∙◌, arith, ◌⊎◌, ⊎_elim, inl, inr}
 use Rattle.std.specs.Prelude.{Option, Some, slice_index, slice_set}
 use mathlib.Core.Option as maybe
 use mathlib.Core.Option.{none, some}
 use lib.ListN.{get_elem?}
+use prog.Atomic.{either}
 use Rattle.atomic_table.specs.Table.{State, Act, Me, step, stepped, carried_after, Valid, keeps, takes, Allows}
-use Rattle.atomic_table.proofs.Lists.{at_set}
+use Rattle.atomic_table.proofs.Lists.{at_set, exchanged}
+use Rattle.atomic_table.specs.Seated.{TableId}
 use Rattle.rb_queue.specs.declared.event.Event.{Event}
 use Rattle.rb_kept.specs.Log.{Log}
 use Rattle.rb_lock.specs.Passes.{Seen}
-use Rattle.rb_lock.specs.Views.{idle, weight, holders, total, holder_of}
+use Rattle.rb_lock.specs.Views.{idle, pass_of, weight, holders, total, holder_of}
 use Rattle.rb_lock.specs.Rule.{Fits, Locked, IsFree, IsHeld, home_of}
-use Rattle.rb_lock.specs.LockSteps.{Sat, Found, Got, taken}
+use Rattle.rb_lock.specs.LockSteps.{Sat, AtRest, Found, Got, taken}
 use Rattle.rb_lock.specs.declared.home.Home.{Home}
 use Rattle.rb_lock.specs.declared.view.View.{View}
 use Rattle.rb_lock.proofs.Sums.{total_set, total_at}
@@ -56,8 +58,7 @@ module _ {T : Type 0} (s : State (Option (Home T)) View) (law : Locked s) (id : 
       let home : Option (Home T) = Some (home_of law.log law.names) in
       let fits = law.fits id (idle pass) at in
       let zero_found : n ≡ 0 = ap (λ ws. slice_index ws 0) free.words in
-      let moved : total holders (set s.views id w) + 0 ≡ total holders s.views + 1 = total_set holders s.views id (idle pass) w at in
-      (
+      let moved : total holders (set s.views id w) + 0 ≡ total holders s.views + 1 = total_set holders s.views id (idle pass) w at in (
         w,
         takes 0 home,
         ap (λ (hs : List (maybe.Option (Option (Home T)))). get_elem? hs 0) free.homes,
@@ -81,8 +82,7 @@ module _ {T : Type 0} (s : State (Option (Home T)) View) (law : Locked s) (id : 
   waits held =
       let n : ℕ = slice_index s.words 0 in
       let found : n ≡ held.word = ap (λ ws. slice_index ws 0) held.words in
-      let same : total holders (set s.views id (idle pass)) + 0 ≡ total holders s.views + 0 = total_set holders s.views id (idle pass) (idle pass) at in
-      (
+      let same : total holders (set s.views id (idle pass)) + 0 ≡ total holders s.views + 0 = total_set holders s.views id (idle pass) (idle pass) at in (
         idle pass,
         keeps,
         tt,
@@ -98,6 +98,26 @@ module _ {T : Type 0} (s : State (Option (Home T)) View) (law : Locked s) (id : 
       )
 
 -- A step that makes a word that is not 0 takes the lock where it finds 0, and changes nothing else.
-pub takes_lock : {T : Type 0} (id : ℕ) (pass : Seen) (f : ℕ → ℕ) → ((n : ℕ) → 0 < f n)
-    → Allows (Locked {T = T}) 1 id (idle pass, []) 0 f (taken {T = T} (step 0 0 0 0 none) (idle pass, []))
-takes_lock id pass f busy s law slots at small = ⊎_elim (wins s law id pass at f busy) (waits s law id pass at f busy) law.place
+pub takes_lock : {T : Type 0} (slots id : ℕ) (pass : Seen) (f : ℕ → ℕ) → ((n : ℕ) → 0 < f n)
+    → Allows (Locked {T = T}) slots id (idle pass, []) 0 f (taken {T = T} (step 0 0 0 0 none) (idle pass, []))
+takes_lock slots id pass f busy s law many at small = ⊎_elim (wins s law id pass at f busy) (waits s law id pass at f busy) law.place
+
+-- the same at the seat of a pass
+pub takes_at : {T : Type 0} (slots id : ℕ) (table : TableId) (seat : Sat T) → AtRest table seat → (f : ℕ → ℕ) → ((n : ℕ) → 0 < f n)
+    → Allows (Locked {T = T}) slots id seat 0 f (taken {T = T} (step 0 0 0 0 none) seat)
+takes_at {T} slots id table seat rest f busy =
+    subst (λ (m : Sat T). Allows (Locked {T = T}) slots id m 0 f (taken {T = T} (step 0 0 0 0 none) m)) (sym rest) (takes_lock slots id (pass_of table seat.0) f busy)
+
+-- a word that was 0 and becomes 1, or stays, is not 0
+pub one_or_more : (n : ℕ) → 0 < either (n == 0) 1 n
+one_or_more n = exchanged n 0 1 (λ (k : ℕ). 0 < k) (λ hit. omega arith) (λ miss. omega arith)
+
+-- what a try that found 0 told
+pub got_at : {T : Type 0} (seat before after : Sat T) (found : ℕ) → before ≡ seat → taken {T = T} (step 0 0 0 0 none) before found after → found ≡ 0 → Got seat after
+got_at seat before after found same told is = subst (λ (m : Sat _). Got m after) same (told.0 is)
+
+-- the same at a seat that a lost try left as it was
+pub takes_again : {T : Type 0} (slots id : ℕ) (table : TableId) (seat now : Sat T) → now ≡ seat → AtRest table seat → (f : ℕ → ℕ) → ((n : ℕ) → 0 < f n)
+    → Allows (Locked {T = T}) slots id now 0 f (taken {T = T} (step 0 0 0 0 none) now)
+takes_again {T} slots id table seat now same rest f busy =
+    takes_at {T = T} slots id table now (subst (λ (m : Sat T). AtRest table m) (sym same) rest) f busy

@@ -6,3 +6,4 @@ pub mod Passes
 pub mod Views
 pub mod Rule
 pub mod LockSteps
+pub mod SharedCalls

@@ -1,10 +1,19 @@
 -- What each step of the lock tells the seat that makes it.
-use Rattle.std.specs.Prelude.{◌≡◌, ◌≢◌, ℕ, ◌≤◌, List, [], ◌∷◌, ◌++◌, Option, Some, None}
+use Rattle.std.specs.Prelude.{◌≡◌, ◌≢◌, ℕ, ◌≤◌, List, [], ◌∷◌, ◌++◌, Option, Some, None, Result}
 use Rattle.atomic_table.specs.Table.{Me, Step, rest}
+use Rattle.atomic_table.specs.Seated.{TableId}
+use Rattle.rb_ledger.specs.declared.totals.Totals.{Totals}
+use Rattle.rb_queue.specs.History.{IsLegal}
 use Rattle.rb_queue.specs.Counts.{events_of}
 use Rattle.rb_queue.specs.declared.event.Event.{Event}
 use Rattle.rb_kept.specs.Log.{Log}
-use Rattle.rb_lock.specs.Views.{weight, holder_of, settled}
+use Rattle.rb_kept.specs.Tries.{StepsTo}
+use Rattle.rb_kept.specs.Shares.{Grows}
+use Rattle.rb_kept.specs.declared.tries.Try.{Try}
+use Rattle.rb_kept.specs.declared.outcome.Outcome.{Outcome}
+use Rattle.rb_kept.specs.declared.fault.CallFault.{CallFault}
+use Rattle.rb_lock.specs.Passes.{Seen, IsSound, tally_of}
+use Rattle.rb_lock.specs.Views.{weight, idle, pass_of, holder_of, settled}
 use Rattle.rb_lock.specs.Rule.{Fits, home_of}
 use Rattle.rb_lock.specs.declared.home.Home.{Home}
 use Rattle.rb_lock.specs.declared.home.TheConstants.{MOST_NAMES}
@@ -23,7 +32,13 @@ pub record Found (log : Log) (names : ℕ) (v : View) : Type 0 where
 pub record Grown (name : ℕ) (found new : List Event) : Type 0 where
   pub more : List Event
   pub is : new ≡ found ++ more
+  pub own : events_of more name ≡ more
   pub others : (other : ℕ) → other ≢ name → events_of more other ≡ []
+
+-- the table has one word and one slot
+pub record HasOneWord (table : TableId) : Type 0 where
+  pub words : table.words ≡ 1
+  pub slots : table.slots ≡ 1
 
 -- a seat's view, and the slots that are out with it
 abbrev pub Sat : Type 0 → Type 0
@@ -55,3 +70,45 @@ module _ {T : Type 0} where
   -- the same, and the seat has drawn the name that it noted
   abbrev pub drew : Step (Option (Home T)) → Sat T → ℕ → Sat T → Type 0
   drew step before found after = after ≡ (settled before.0 (in_hand before.1) (Drew before.0.noted), rest before.1)
+
+  -- the seat is that of a pass which is in no step
+  abbrev pub AtRest : TableId → Sat T → Type 0
+  AtRest table seat = seat ≡ (idle (pass_of table seat.0), [])
+
+  -- the seat is at rest, and the pass's own number and share are those of its view
+  pub record IsPass (table : TableId) (seat : Sat T) (name : ℕ) (tally : Totals) : Type 0 where
+    pub rest : AtRest table seat
+    pub name_is : name ≡ seat.0.name
+    pub counted : tally ≡ tally_of (pass_of table seat.0)
+    pub sound : IsSound (pass_of table seat.0)
+
+  -- the seat holds the lock, and has in hand the pair that it found, or one that has grown by its events
+  pub record MayGive (seat : Sat T) : Type 0 where
+    pub pass : Seen
+    pub found : Log
+    pub new : Log
+    pub names : ℕ
+    pub is : seat ≡ (holder_of (idle pass) found.history names, (0, Some (home_of new names)) ∷ [])
+    pub capacity : new.capacity ≡ pass.capacity
+    pub opening : new.opening ≡ pass.opening
+    pub grown : Grown pass.name found.history new.history
+    pub few : names ≤ MOST_NAMES
+
+  -- the kept queue of the pair in a slot was called
+  pub record ActsOn (try : Try) (step : Result Outcome CallFault) (share share' : Totals) (old new : Option (Home T)) : Type 0 where
+    pub before : Home T
+    pub after : Home T
+    pub was : old ≡ Some before
+    pub is : new ≡ Some after
+    pub names : after.names ≡ before.names
+    pub legal : IsLegal before.kept.opening before.kept.history
+    pub steps : StepsTo before.kept try step after.kept
+    pub grows : Grows before.kept after.kept share share'
+
+  -- the same in the slot that a seat has in hand
+  pub record ActsIn (try : Try) (step : Result Outcome CallFault) (share share' : Totals) (old new : Sat T) : Type 0 where
+    pub slot : Option (Home T)
+    pub slot' : Option (Home T)
+    pub was : old.1 ≡ (0, slot) ∷ []
+    pub is : new ≡ (old.0, (0, slot') ∷ [])
+    pub acts : ActsOn try step share share' slot slot'

@@ -13,6 +13,7 @@ use Rattle.rb_queue.specs.contracts.event.Event as event
 use Rattle.rb_queue.specs.contracts.opening.Opening as opening
 use Rattle.rb_kept.specs.Log.{Log}
 use Rattle.rb_kept.specs.Shares.{totals_of}
+use Rattle.rb_kept.specs.declared.kept.TheConstants.{MOST_CALLS}
 use Rattle.rb_lock.specs.Records.{calls_of}
 use Rattle.rb_lock.specs.declared.record.Record.{Record}
 use Rattle.rb_lock.specs.contracts.record.Record as entry
@@ -80,8 +81,16 @@ capped totals = record {
 abbrev pub tally_of : Seen → Totals
 tally_of pass = capped (totals_of (calls_of (gathered pass)))
 
--- The pass has seen a legal history, which begins with all that it had seen, and in which its events are
--- exactly its calls. Its name, its queue and what was folded into it are as before.
+-- What every pass keeps true: it has seen a legal history with room for it, in which its events are exactly
+-- its calls.
+pub record IsSound (pass : Seen) : Type 0 where
+  pub legal : IsLegal pass.opening pass.seen
+  pub few : length pass.seen ≤ pass.capacity
+  pub most : pass.capacity ≤ MOST_CALLS
+  pub own : events_of pass.seen pass.name ≡ pass.mine
+
+-- The pass has seen a history that begins with all that it had seen. Its queue, its name and what was folded
+-- into it are as before.
 pub record Learns (old new : Seen) : Type 0 where
   pub table : new.table ≡ old.table
   pub name : new.name ≡ old.name
@@ -89,6 +98,17 @@ pub record Learns (old new : Seen) : Type 0 where
   pub opening : new.opening ≡ old.opening
   pub folded : new.folded ≡ old.folded
   pub begins : IsPrefix old.seen new.seen
-  pub legal : IsLegal new.opening new.seen
-  pub few : length new.seen ≤ new.capacity
-  pub own : events_of new.seen new.name ≡ new.mine
+  pub sound : IsSound new
+
+-- the first pass of a queue: it has name 0, and has seen nothing
+abbrev pub first_pass : TableId → Log → Seen
+first_pass table start = record {
+  table = table;
+  name = 0;
+  capacity = start.capacity;
+  opening = start.opening;
+  noted = 1;
+  seen = [];
+  mine = [];
+  folded = [];
+}

@@ -4,8 +4,18 @@
 //! to the proofs alone, and so is that the histories of all passes are beginnings of one.
 #![tactic(auto)]
 
+mod fault;
 mod home;
 mod law;
+mod lock;
+mod pass;
+mod plays;
 mod record;
+mod shared;
 mod stage;
 mod view;
+
+pub use fault::{CloseFault, OpenFault, SplitFault};
+pub use home::MOST_NAMES;
+pub use pass::Pass;
+pub use shared::Shared;

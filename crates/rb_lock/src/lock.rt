@@ -1,0 +1,99 @@
+//! The lock: its word, and how the pair in its slot is taken, used and given back.
+ghost use Rattle.std.specs.Prelude.{◌≡◌, [], ◌∷◌, Some};
+ghost use Rattle.rb_lock.specs.LockSteps.{HasOneWord, AtRest, Got, MayGive, ActsIn, ActsOn, in_hand};
+ghost use Rattle.rb_lock.specs.Views.{settled};
+ghost use Rattle.rb_lock.specs.declared.stage.Stage.TheVariants.{Idle};
+
+use crate::home::Home;
+use crate::law::{PassSeat, Words};
+use crate::plays::{Give, Take};
+use rb_kept::{CallFault, Outcome};
+use rb_ledger::Tally;
+use rb_queue::Ask;
+use rb_timer::Timer;
+use std::sync::Wait;
+
+// No seat holds the lock.
+pub(crate) const FREE: u64 = 0;
+
+// A seat holds the lock.
+const HELD: u64 = 1;
+
+// A seat holds the lock, and another may sleep until it is given back.
+const SLEPT_ON: u64 = 2;
+
+/// Takes the lock, and with it the pair in its slot. A lost try sleeps until the lock is given back.
+pub(crate) fn take<T: Timer, R: Wait>(words: &Words<T>, rt: &R, seat: &mut PassSeat<T>)
+    requires lock { HasOneWord words.now.table_id }
+    requires table { seat.old.table_id ≡ words.now.table_id }
+    requires rest { AtRest seat.old.table_id seat.old.me }
+    ensures table { seat.new.table_id ≡ seat.old.table_id }
+    ensures got { Got seat.old.me seat.new.me }
+{
+    if words.compare_exchange::<Take>(seat, 0, FREE, HELD) == FREE {
+        return;
+    }
+    for _ in rt.forever() {
+        // The word says from now on that somebody may sleep, whoever holds the lock.
+        if words.swap::<Take>(seat, 0, SLEPT_ON) == FREE {
+            return;
+        }
+        words.park(rt, 0, SLEPT_ON as u32);
+    }
+    unreachable!()
+}
+
+/// Gives the lock back, and with it the pair. It wakes a sleeper, if there may be one.
+pub(crate) fn give<T: Timer>(words: &Words<T>, seat: &mut PassSeat<T>)
+    requires lock { HasOneWord words.now.table_id }
+    requires table { seat.old.table_id ≡ words.now.table_id }
+    requires holds { MayGive seat.old.me }
+    ensures table { seat.new.table_id ≡ seat.old.table_id }
+    ensures seen { seat.new.me ≡ (settled seat.old.me.0 (in_hand seat.old.me.1) Idle, []) }
+{
+    let found = words.swap::<Give>(seat, 0, FREE);
+    wake(words, found);
+}
+
+// A thread that found the word so when it gave the lock back wakes a sleeper where there may be one.
+pub(crate) fn wake<T: Timer>(words: &Words<T>, found: u64)
+    requires lock { HasOneWord words.now.table_id }
+{
+    if found == SLEPT_ON {
+        words.wake_one(0);
+    }
+}
+
+/// Calls the kept queue where it lies, in the slot that the seat has in hand.
+pub(crate) fn act<T: Timer>(
+    words: &Words<T>,
+    seat: &mut PassSeat<T>,
+    tally: &mut Tally,
+    name: u64,
+    asked: u64,
+    ask: Ask,
+) -> Result<Outcome, CallFault>
+    requires table { seat.old.table_id ≡ words.now.table_id }
+    requires hand { (home : Home T) × (seat.old.me.1 ≡ (0, Some home) ∷ []) }
+    ensures table { seat.new.table_id ≡ seat.old.table_id }
+    ensures acts { ActsIn (record { seat = name; asked = asked; ask = ask }) result tally.old tally.new seat.old.me seat.new.me }
+{
+    let slot = seat.slot_mut(words, 0);
+    act_on(slot, tally, name, asked, ask)
+}
+
+fn act_on<T: Timer>(
+    slot: &mut Option<Home<T>>,
+    tally: &mut Tally,
+    name: u64,
+    asked: u64,
+    ask: Ask,
+) -> Result<Outcome, CallFault>
+    requires { (home : Home T) × (slot.old ≡ Some home) }
+    ensures { ActsOn (record { seat = name; asked = asked; ask = ask }) result tally.old tally.new slot.old slot.new }
+{
+    let Some(home) = slot else { unreachable!() };
+    // The proof reads here that the history is legal.
+    let _ = home.kept.history();
+    home.kept.act(tally, name, asked, ask)
+}
