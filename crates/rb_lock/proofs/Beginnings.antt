@@ -28,3 +28,8 @@ pub last_of_one : {A : Type 0} (items left : List A) (last only : A) → items �
 last_of_one items [] last only is one = is
 last_of_one items (first ∷ left) last only is one =
     let long : length (first ∷ left ++ last ∷ []) ≡ 1 = ap length (sym is ∙ one) in absurd (omega (arith, length-append left (last ∷ []), long))
+
+-- of two lists that make none, the first is empty
+pub append_none : {A : Type 0} (xs ys : List A) → xs ++ ys ≡ [] → xs ≡ []
+append_none [] ys none = refl
+append_none (x ∷ xs) ys none = absurd (cc none)

@@ -5,5 +5,7 @@ pub mod Hands
 pub mod CallTotals
 pub mod MadeCalls
 pub mod Openings
+pub mod SharedViews
+pub mod Sharings
 pub mod Takings
 pub mod Returns

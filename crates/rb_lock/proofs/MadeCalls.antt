@@ -118,7 +118,7 @@ module _ (pass : Seen) (try : Try) (step : Result Outcome CallFault) (share shar
     (made : IsMade pass try step share share' names log new) (named : try.seat ≡ pass.name) where
   -- the log that was found is one of the pass's queue
   found_log : log ≡ log_at pass log.history
-  found_log i = record { opening = sym (made.found.fits.opening refl) i; history = log.history; capacity = sym (made.found.fits.capacity refl) i }
+  found_log i = record { opening = sym (made.found.fits.opening tt) i; history = log.history; capacity = sym (made.found.fits.capacity tt) i }
 
   pub more_of : IsOf pass.name made.grows.more
   more_of = subst (λ (seat : ℕ). IsOf seat made.grows.more) named (is_of_step log new try step made.grows.more made.steps made.grows.log)
@@ -127,10 +127,10 @@ module _ (pass : Seen) (try : Try) (step : Result Outcome CallFault) (share shar
   grown = record { more = made.grows.more; is = ap (λ (l : Log). l.history) made.grows.log; own = more_of.own; others = more_of.others }
 
   pub same_capacity : new.capacity ≡ pass.capacity
-  same_capacity = ap (λ (l : Log). l.capacity) made.grows.log ∙ sym (made.found.fits.capacity refl)
+  same_capacity = ap (λ (l : Log). l.capacity) made.grows.log ∙ sym (made.found.fits.capacity tt)
 
   pub same_opening : new.opening ≡ pass.opening
-  same_opening = ap (λ (l : Log). l.opening) made.grows.log ∙ sym (made.found.fits.opening refl)
+  same_opening = ap (λ (l : Log). l.opening) made.grows.log ∙ sym (made.found.fits.opening tt)
 
   -- the pass's calls are those that it had, and what the step added
   mine_more : events_of new.history pass.name ≡ pass.mine ++ made.grows.more

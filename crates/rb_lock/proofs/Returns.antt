@@ -14,26 +14,27 @@ use Rattle.rb_kept.specs.Log.{Log}
 use Rattle.rb_lock.specs.Records.{bit, times, names_of, IsRecord, AreRecords}
 use Rattle.rb_lock.specs.Passes.{Seen}
 use Rattle.rb_lock.specs.Views.{idle, records_of, weight, holders, is_held, drawn, total, holder_of, settled}
-use Rattle.rb_lock.specs.Rule.{AtStage, Fits, Locked, IsFree, IsHeld, home_of}
+use Rattle.rb_lock.specs.Rule.{AtStage, IsThere, Fits, Locked, IsFree, IsHeld, home_of}
 use Rattle.rb_lock.specs.LockSteps.{Sat, MayGive, Grown, gave, drew}
 use Rattle.rb_lock.specs.declared.home.Home.{Home}
 use Rattle.rb_lock.specs.declared.home.TheConstants.{MOST_NAMES}
 use Rattle.rb_lock.specs.declared.stage.Stage.{Stage}
-use Rattle.rb_lock.specs.declared.stage.Stage.TheVariants.{Idle, Holds, Drew, Meets}
+use Rattle.rb_lock.specs.declared.stage.Stage.TheVariants.{Idle, Holds, Drew, Meets, Gone}
 use Rattle.rb_lock.specs.declared.view.View.{View}
 use Rattle.rb_lock.proofs.Sums.{total_set, total_at, total_two, bit_same, bit_other, bit_small, bit_apart, times-append}
 use Rattle.rb_lock.proofs.Beginnings.{prefix_self}
 use Rattle.rb_lock.proofs.Growing.{grown_none, others_stay, begins_stay, records_stay, events_of-append}
 
 -- what the seat may be about to do, where the names go on from `names` to `after`
-pub record IsNext (name names after : ℕ) (history : List Event) (next : Stage) : Type 0 where
+pub record IsNext (names after : ℕ) (log : Log) (next : Stage) : Type 0 where
   pub more : names ≤ after
   pub few : after ≤ MOST_NAMES
   pub free : is_held next ≡ 0
   pub once : (n : ℕ) → times n (drawn next) ≤ 1
   pub old : (n : ℕ) → n < names → times n (drawn next) ≡ 0
   pub below : (n : ℕ) → after ≤ n → times n (drawn next) ≡ 0
-  pub stage : ((n : ℕ) → names ≤ n → events_of history n ≡ []) → AtStage history after names next
+  pub there : IsThere next
+  pub stage : ((n : ℕ) → names ≤ n → events_of log.history n ≡ []) → AtStage log after names next
 
 -- the view of the seat that holds the lock
 abbrev pub before : Seen → List Event → ℕ → View
@@ -45,7 +46,7 @@ after_it pass found names new next = settled (before pass found names) new next
 
 module _ {T : Type 0} (pass : Seen) (found new : Log) (names after : ℕ) (next : Stage)
     (capacity : new.capacity ≡ pass.capacity) (opening : new.opening ≡ pass.opening)
-    (grown : Grown pass.name found.history new.history) (goes : IsNext pass.name names after new.history next)
+    (grown : Grown pass.name found.history new.history) (goes : IsNext names after new next)
     (s : State (Option (Home T)) View) (law : Locked s) (id : ℕ) (at : get_elem? s.views id ≡ some (before pass found.history names)) where
   old_weight : ℕ → ℕ
   old_weight n = weight n (before pass found.history names)
@@ -79,9 +80,16 @@ module _ {T : Type 0} (pass : Seen) (found new : Log) (names after : ℕ) (next 
   not_held by u other there =
       omega (arith, total_two holders s.views by id u (before pass found.history names) other there at, is_out.one)
 
+  -- the run is the same
+  same_room : law.log.capacity ≡ new.capacity
+  same_room = sym (own.capacity tt) ∙ sym capacity
+
+  same_start : law.log.opening ≡ new.opening
+  same_start = sym (own.opening tt) ∙ sym opening
+
   -- what another seat is about to do still fits
   stage_stays : (noted : ℕ) (stage : Stage) → is_held stage ≡ 0 → times pass.name (drawn stage) ≡ 0
-      → AtStage law.log.history law.names noted stage → AtStage new.history after noted stage
+      → AtStage law.log law.names noted stage → AtStage new after noted stage
   stage_stays noted Idle quiet other fits = tt
   stage_stays noted (Holds h) quiet other fits = absurd (omega arith)
   stage_stays noted (Drew name) quiet other fits =
@@ -89,8 +97,13 @@ module _ {T : Type 0} (pass : Seen) (found new : Log) (names after : ℕ) (next 
       let less : name < law.names = fits.0 in
       let names_is : names ≡ law.names = own.stage.1 in
       (omega (arith, goes.more, names_is, less), others_stay pass.name law.log.history new.history grown_now name (bit_other name pass.name apart_from) ∙ fits.1)
-  stage_stays noted (Meets one two) quiet other fits =
-      (begins_stay pass.name law.log.history new.history grown_now one fits.0, begins_stay pass.name law.log.history new.history grown_now two fits.1)
+  stage_stays noted (Meets one two room start) quiet other fits = (
+    begins_stay pass.name law.log.history new.history grown_now one fits.0,
+    begins_stay pass.name law.log.history new.history grown_now two fits.1,
+    fits.2 ∙ same_room,
+    fits.3 ∙ same_start,
+  )
+  stage_stays noted Gone quiet other fits = tt
 
   -- the views of other seats still fit
   fits_stay : (by : ℕ) (u : View) → by ≢ id → get_elem? s.views by ≡ some u → Fits new after u
@@ -99,8 +112,8 @@ module _ {T : Type 0} (pass : Seen) (found new : Log) (names after : ℕ) (next 
       let away : times pass.name (names_of (records_of u) ++ drawn u.stage) ≡ 0 = apart by u other there in
       let split = times-append pass.name (names_of (records_of u)) (drawn u.stage) in
       record {
-        capacity = λ live. fits.capacity live ∙ sym (own.capacity refl) ∙ sym capacity;
-        opening = λ live. fits.opening live ∙ sym (own.opening refl) ∙ sym opening;
+        capacity = λ live. fits.capacity live ∙ same_room;
+        opening = λ live. fits.opening live ∙ same_start;
         begins = begins_stay pass.name law.log.history new.history grown_now u.seen fits.begins;
         records = records_stay pass.name law.log.history new.history grown_now (records_of u) (omega (arith, split, away)) fits.records;
         stage = stage_stays u.noted u.stage (not_held by u other there) (omega (arith, split, away)) fits.stage;
@@ -129,7 +142,7 @@ module _ {T : Type 0} (pass : Seen) (found new : Log) (names after : ℕ) (next 
           record { begins = prefix_self new.history; known = refl; all = refl },
           records_stay pass.name law.log.history new.history grown_now pass.folded folded_none own.records.1,
         );
-        stage = subst (λ (n : ℕ). AtStage new.history after n next) refl (goes.stage (λ n above. strangers_stay n (subst (λ (m : ℕ). m ≤ n) names_is above)));
+        stage = (goes.stage (λ n above. strangers_stay n (subst (λ (m : ℕ). m ≤ n) names_is above)));
       }
 
   -- how often a name stands in the view now
@@ -169,26 +182,28 @@ module _ {T : Type 0} (pass : Seen) (found new : Log) (names after : ℕ) (next 
   }
 
 -- a seat that is about to do nothing
-pub next_idle : (name names : ℕ) (history : List Event) → names ≤ MOST_NAMES → IsNext name names names history Idle
-next_idle name names history few = record {
+pub next_idle : (names : ℕ) (log : Log) → names ≤ MOST_NAMES → IsNext names names log Idle
+next_idle names log few = record {
   more = omega arith;
   few = few;
   free = refl;
   once = λ n. omega arith;
   old = λ n less. refl;
   below = λ n above. refl;
+  there = tt;
   stage = λ strangers. tt;
 }
 
 -- a seat that has drawn the next name
-pub next_drew : (name names : ℕ) (history : List Event) → names < MOST_NAMES → IsNext name names (names + 1) history (Drew names)
-next_drew name names history few = record {
+pub next_drew : (names : ℕ) (log : Log) → names < MOST_NAMES → IsNext names (names + 1) log (Drew names)
+next_drew names log few = record {
   more = omega arith;
   few = omega (arith, few);
   free = refl;
   once = λ n. omega (arith, bit_small (names == n));
   old = λ n less. omega (arith, bit_apart names n (λ e. omega arith));
   below = λ n above. omega (arith, bit_apart names n (λ e. omega arith));
+  there = tt;
   stage = λ strangers. (omega arith, strangers names (omega arith));
 }
 
@@ -201,7 +216,7 @@ gives_lock slots id pass found new names capacity opening grown few s law many a
   after_it pass found.history names new.history Idle,
   gives,
   tt,
-  given pass found new names names Idle capacity opening grown (next_idle pass.name names new.history few) s law id at,
+  given pass found new names names Idle capacity opening grown (next_idle names new few) s law id at,
   refl,
 )
 
@@ -213,7 +228,7 @@ draws_name slots id pass found names capacity opening few s law many at small = 
   after_it pass found.history names found.history (Drew names),
   gives,
   tt,
-  given pass found found names (names + 1) (Drew names) capacity opening (grown_none pass.name found.history) (next_drew pass.name names found.history few) s law id at,
+  given pass found found names (names + 1) (Drew names) capacity opening (grown_none pass.name found.history) (next_drew names found few) s law id at,
   refl,
 )
 

@@ -1,11 +1,13 @@
 -- What each step of the lock tells the seat that makes it.
-use Rattle.std.specs.Prelude.{◌≡◌, ◌≢◌, ℕ, ◌≤◌, List, [], ◌∷◌, ◌++◌, Option, Some, None, Result}
+use Rattle.std.specs.Prelude.{◌≡◌, ◌≢◌, ℕ, ◌+◌, ◌<◌, ◌≤◌, ◌⊎◌, length, List, [], ◌∷◌, ◌++◌, Option, Some, None, Result}
+use mathlib.Core.List.{IsPrefix}
 use Rattle.atomic_table.specs.Table.{Me, Step, rest}
 use Rattle.atomic_table.specs.Seated.{TableId}
 use Rattle.rb_ledger.specs.declared.totals.Totals.{Totals}
 use Rattle.rb_queue.specs.History.{IsLegal}
 use Rattle.rb_queue.specs.Counts.{events_of}
 use Rattle.rb_queue.specs.declared.event.Event.{Event}
+use Rattle.rb_queue.specs.declared.opening.Opening.{Opening}
 use Rattle.rb_kept.specs.Log.{Log}
 use Rattle.rb_kept.specs.Tries.{StepsTo}
 use Rattle.rb_kept.specs.Shares.{Grows}
@@ -13,11 +15,12 @@ use Rattle.rb_kept.specs.declared.tries.Try.{Try}
 use Rattle.rb_kept.specs.declared.outcome.Outcome.{Outcome}
 use Rattle.rb_kept.specs.declared.fault.CallFault.{CallFault}
 use Rattle.rb_lock.specs.Passes.{Seen, IsSound, tally_of}
-use Rattle.rb_lock.specs.Views.{weight, idle, pass_of, holder_of, settled}
+use Rattle.rb_lock.specs.Views.{weight, idle, pass_of, holder_of, settled, rested, longer}
 use Rattle.rb_lock.specs.Rule.{Fits, home_of}
 use Rattle.rb_lock.specs.declared.home.Home.{Home}
 use Rattle.rb_lock.specs.declared.home.TheConstants.{MOST_NAMES}
-use Rattle.rb_lock.specs.declared.stage.Stage.TheVariants.{Idle, Drew}
+use Rattle.rb_lock.specs.declared.stage.Stage.{Stage}
+use Rattle.rb_lock.specs.declared.stage.Stage.TheVariants.{Idle, Holds, Drew, Meets, Gone}
 use Rattle.rb_lock.specs.declared.view.View.{View}
 
 -- what the rule tells of one view
@@ -34,6 +37,24 @@ pub record Grown (name : ℕ) (found new : List Event) : Type 0 where
   pub is : new ≡ found ++ more
   pub own : events_of more name ≡ more
   pub others : (other : ℕ) → other ≢ name → events_of more other ≡ []
+
+-- A seat has compared two lists: both begin what it has seen, which is one of them, and its own events stay.
+-- The other was of a run like its own.
+pub record HasCompared (one other : List Event) (room : ℕ) (start : Opening) (v : View) : Type 0 where
+  pub first : IsPrefix one v.seen
+  pub second : IsPrefix other v.seen
+  pub which : (v.seen ≡ one) ⊎ (v.seen ≡ other)
+  pub own : events_of v.seen v.name ≡ v.mine
+  pub capacity : room ≡ v.capacity
+  pub opening : start ≡ v.opening
+
+-- what a seat has compared by what it was about to do
+abbrev pub Compared : View → Stage → Type 0
+Compared v (Meets one other room start) = HasCompared one other room start v
+Compared v Idle = Unit {0}
+Compared v (Holds found) = Unit {0}
+Compared v (Drew name) = Unit {0}
+Compared v Gone = Unit {0}
 
 -- the table has one word and one slot
 pub record HasOneWord (table : TableId) : Type 0 where
@@ -71,6 +92,10 @@ module _ {T : Type 0} where
   abbrev pub drew : Step (Option (Home T)) → Sat T → ℕ → Sat T → Type 0
   drew step before found after = after ≡ (settled before.0 (in_hand before.1) (Drew before.0.noted), rest before.1)
 
+  -- the word was read, and the seat has learned how the two lists compare
+  abbrev pub learned : Step (Option (Home T)) → Sat T → ℕ → Sat T → Type 0
+  learned step before found after = (after ≡ (rested before.0, before.1)) × Compared (rested before.0) before.0.stage
+
   -- the seat is that of a pass which is in no step
   abbrev pub AtRest : TableId → Sat T → Type 0
   AtRest table seat = seat ≡ (idle (pass_of table seat.0), [])
@@ -93,6 +118,43 @@ module _ {T : Type 0} where
     pub opening : new.opening ≡ pass.opening
     pub grown : Grown pass.name found.history new.history
     pub few : names ≤ MOST_NAMES
+
+  -- the seat holds the lock, and has in hand the pair that it found, with one name more given
+  pub record MayDraw (seat : Sat T) : Type 0 where
+    pub pass : Seen
+    pub found : Log
+    pub names : ℕ
+    pub is : seat ≡ (holder_of (idle pass) found.history names, (0, Some (home_of found (names + 1))) ∷ [])
+    pub capacity : found.capacity ≡ pass.capacity
+    pub opening : found.opening ≡ pass.opening
+    pub few : names < MOST_NAMES
+
+  -- the next name of the pair in a slot was given, or all are
+  abbrev pub GivesName : Home T → Option ℕ → Home T → Type 0
+  GivesName before None after = (MOST_NAMES ≤ before.names) × (after ≡ before)
+  GivesName before (Some name) after = (name ≡ before.names) × (before.names < MOST_NAMES) × (after ≡ home_of before.kept (before.names + 1))
+
+  pub record NamesOn (given : Option ℕ) (old new : Option (Home T)) : Type 0 where
+    pub before : Home T
+    pub after : Home T
+    pub was : old ≡ Some before
+    pub is : new ≡ Some after
+    pub legal : IsLegal before.kept.opening before.kept.history
+    pub fits : length before.kept.history ≤ before.kept.capacity
+    pub gives : GivesName before given after
+
+  -- the same in the slot that a seat has in hand
+  pub record NamesIn (given : Option ℕ) (old new : Sat T) : Type 0 where
+    pub slot : Option (Home T)
+    pub slot' : Option (Home T)
+    pub was : old.1 ≡ (0, slot) ∷ []
+    pub is : new ≡ (old.0, (0, slot') ∷ [])
+    pub names : NamesOn given slot slot'
+
+  -- a seat at rest has seen what another has, beside what it had
+  pub record HasLearned (one other : View) (seat : Sat T) : Type 0 where
+    pub rest : seat ≡ (record one { seen = longer one.seen other.seen }, [])
+    pub compared : HasCompared one.seen other.seen other.capacity other.opening (record one { seen = longer one.seen other.seen })
 
   -- the kept queue of the pair in a slot was called
   pub record ActsOn (try : Try) (step : Result Outcome CallFault) (share share' : Totals) (old new : Option (Home T)) : Type 0 where

@@ -1,5 +1,5 @@
 -- The rule of the lock: what holds of the word, of the pair at home and of all views, between any two steps.
-use Rattle.std.specs.Prelude.{◌≡◌, ℕ, ◌<◌, ◌≤◌, ◌⊎◌, IsTrue, List, [], ◌∷◌, Option, Some}
+use Rattle.std.specs.Prelude.{◌≡◌, ℕ, ◌<◌, ◌≤◌, ◌⊎◌, List, [], ◌∷◌, Option, Some}
 use mathlib.Core.Option.{none, some}
 use mathlib.Core.List.{IsPrefix}
 use lib.ListN.{get_elem?}
@@ -12,24 +12,34 @@ use Rattle.rb_lock.specs.Views.{records_of, weight, holders, total}
 use Rattle.rb_lock.specs.declared.home.Home.{Home}
 use Rattle.rb_lock.specs.declared.home.TheConstants.{MOST_NAMES}
 use Rattle.rb_lock.specs.declared.stage.Stage.{Stage}
-use Rattle.rb_lock.specs.declared.stage.Stage.TheVariants.{Idle, Holds, Drew, Meets}
+use Rattle.rb_lock.specs.declared.stage.Stage.TheVariants.{Idle, Holds, Drew, Meets, Gone}
 use Rattle.rb_lock.specs.declared.view.View.{View}
 
 -- what a seat knows by what it is about to do
-abbrev pub AtStage : List Event → ℕ → ℕ → Stage → Type 0
-AtStage history names noted Idle = Unit {0}
-AtStage history names noted (Holds found) = (found ≡ history) × (noted ≡ names)
-AtStage history names noted (Drew name) = (name < names) × (events_of history name ≡ [])
-AtStage history names noted (Meets one other) = IsPrefix one history × IsPrefix other history
+abbrev pub AtStage : Log → ℕ → ℕ → Stage → Type 0
+AtStage log names noted Idle = Unit {0}
+AtStage log names noted (Holds found) = (found ≡ log.history) × (noted ≡ names)
+AtStage log names noted (Drew name) = (name < names) × (events_of log.history name ≡ [])
+AtStage log names noted (Meets one other room start) =
+    IsPrefix one log.history × IsPrefix other log.history × (room ≡ log.capacity) × (start ≡ log.opening)
+AtStage log names noted Gone = Unit {0}
 
--- A view fits the current log and the number of names: a live one has this run's capacity and opening, the
--- history begins with what it has seen, and all its records are of this history.
+-- the seat is not spent
+abbrev pub IsThere : Stage → Type 0
+IsThere Idle = Unit {0}
+IsThere (Holds found) = Unit {0}
+IsThere (Drew name) = Unit {0}
+IsThere (Meets one other room start) = Unit {0}
+IsThere Gone = ⊥
+
+-- A view fits the current log and the number of names: one that is not spent has this run's capacity and
+-- opening, the history begins with what it has seen, and all its records are of this history.
 pub record Fits (log : Log) (names : ℕ) (v : View) : Type 0 where
-  pub capacity : IsTrue v.live → v.capacity ≡ log.capacity
-  pub opening : IsTrue v.live → v.opening ≡ log.opening
+  pub capacity : IsThere v.stage → v.capacity ≡ log.capacity
+  pub opening : IsThere v.stage → v.opening ≡ log.opening
   pub begins : IsPrefix v.seen log.history
   pub records : AreRecords log.history (records_of v)
-  pub stage : AtStage log.history names v.noted v.stage
+  pub stage : AtStage log names v.noted v.stage
 
 module _ {T : Type 0} where
   abbrev pub home_of : Log → ℕ → Home T
