@@ -7,5 +7,8 @@ pub mod MadeCalls
 pub mod Openings
 pub mod SharedViews
 pub mod Sharings
+pub mod RestingPasses
+pub mod SplitPasses
+pub mod FoldedPasses
 pub mod Takings
 pub mod Returns

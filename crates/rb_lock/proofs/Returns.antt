@@ -15,7 +15,7 @@ use Rattle.rb_lock.specs.Records.{bit, times, names_of, IsRecord, AreRecords}
 use Rattle.rb_lock.specs.Passes.{Seen}
 use Rattle.rb_lock.specs.Views.{idle, records_of, weight, holders, is_held, drawn, total, holder_of, settled}
 use Rattle.rb_lock.specs.Rule.{AtStage, IsThere, Fits, Locked, IsFree, IsHeld, home_of}
-use Rattle.rb_lock.specs.LockSteps.{Sat, MayGive, Grown, gave, drew}
+use Rattle.rb_lock.specs.LockSteps.{Sat, MayGive, MayDraw, Grown, gave, drew}
 use Rattle.rb_lock.specs.declared.home.Home.{Home}
 use Rattle.rb_lock.specs.declared.home.TheConstants.{MOST_NAMES}
 use Rattle.rb_lock.specs.declared.stage.Stage.{Stage}
@@ -237,3 +237,8 @@ pub gives_at : {T : Type 0} (slots id : ℕ) (seat : Sat T) → MayGive seat →
 gives_at {T} slots id seat may =
     subst (λ (m : Sat T). Allows (Locked {T = T}) slots id m 0 (λ _. 0) (gave {T = T} (step 0 0 0 0 none) m)) (sym may.is)
     (gives_lock slots id may.pass may.found may.new may.names may.capacity may.opening may.grown may.few)
+
+pub draws_at : {T : Type 0} (slots id : ℕ) (seat : Sat T) → MayDraw seat → Allows (Locked {T = T}) slots id seat 0 (λ _. 0) (drew {T = T} (step 0 0 0 0 none) seat)
+draws_at {T} slots id seat may =
+    subst (λ (m : Sat T). Allows (Locked {T = T}) slots id m 0 (λ _. 0) (drew {T = T} (step 0 0 0 0 none) m)) (sym may.is)
+    (draws_name slots id may.pass may.found may.names may.capacity may.opening may.few)

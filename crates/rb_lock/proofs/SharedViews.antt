@@ -37,10 +37,10 @@ module _ {T : Type 0} (s : State (Option (Home T)) View) (law : Locked s) where
         (λ name. omega (arith, total_snoc (weight name) (set s.views id left) right, total_set (weight name) s.views id v left at, weighs name))
         (omega (arith, total_snoc holders (set s.views id left) right, total_set holders s.views id v left at, held))
         (λ by u there.
-            ⊎_elim (λ (old : get_elem? (set s.views id left) by ≡ some u).
-                ⊎_elim (λ (here : (by ≡ id) × (left ≡ u)). subst (Fits law.log law.names) here.1 fits_left)
-                (λ (else : (by ≢ id) × (get_elem? s.views by ≡ some u)). law.fits by u else.1) (at_set s.views id by left u old))
-            (λ (new : right ≡ u). subst (Fits law.log law.names) new fits_right) (at_snoc (set s.views id left) right u by there))
+        ⊎_elim (λ (old : get_elem? (set s.views id left) by ≡ some u).
+        ⊎_elim (λ (here : (by ≡ id) × (left ≡ u)). subst (Fits law.log law.names) here.1 fits_left)
+        (λ (else : (by ≢ id) × (get_elem? s.views by ≡ some u)). law.fits by u else.1) (at_set s.views id by left u old))
+        (λ (new : right ≡ u). subst (Fits law.log law.names) new fits_right) (at_snoc (set s.views id left) right u by there))
 
     -- two views are made one, and the other is spent
     pub made_one : (other : ℕ) (w both spent : View) → ¬ (other ≡ id) → get_elem? (set s.views id both) other ≡ some w
@@ -54,8 +54,8 @@ module _ {T : Type 0} (s : State (Option (Home T)) View) (law : Locked s) where
         (λ name. omega (arith, total_set (weight name) (set s.views id both) other w spent there, total_set (weight name) s.views id v both at, weighs name))
         (omega (arith, total_set holders (set s.views id both) other w spent there, total_set holders s.views id v both at, held))
         (λ by u now.
-            ⊎_elim (λ (gone : (by ≡ other) × (spent ≡ u)). subst (Fits law.log law.names) gone.1 fits_spent)
-            (λ (still : (by ≢ other) × (get_elem? (set s.views id both) by ≡ some u)).
-                ⊎_elim (λ (here : (by ≡ id) × (both ≡ u)). subst (Fits law.log law.names) here.1 (fits_both (law.fits id v at) (law.fits other w was)))
-                (λ (else : (by ≢ id) × (get_elem? s.views by ≡ some u)). law.fits by u else.1) (at_set s.views id by both u still.1))
-            (at_set (set s.views id both) other by spent u now))
+        ⊎_elim (λ (gone : (by ≡ other) × (spent ≡ u)). subst (Fits law.log law.names) gone.1 fits_spent)
+        (λ (still : (by ≢ other) × (get_elem? (set s.views id both) by ≡ some u)).
+        ⊎_elim (λ (here : (by ≡ id) × (both ≡ u)). subst (Fits law.log law.names) here.1 (fits_both (law.fits id v at) (law.fits other w was)))
+        (λ (else : (by ≢ id) × (get_elem? s.views by ≡ some u)). law.fits by u else.1) (at_set s.views id by both u still.1))
+        (at_set (set s.views id both) other by spent u now))

@@ -112,3 +112,11 @@ first_pass table start = record {
   mine = [];
   folded = [];
 }
+
+-- a pass split off: it has seen the same, under the name that was next, and made no call
+abbrev pub child_of : Seen → Seen
+child_of pass = record pass { name = pass.noted; mine = []; folded = [] }
+
+-- a pass with another folded into it: the other's record and those folded into that follow its own
+abbrev pub folded_with : Seen → Seen → Seen
+folded_with pass other = record pass { folded = pass.folded ++ gathered other }

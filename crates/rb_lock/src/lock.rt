@@ -1,12 +1,12 @@
 //! The lock: its word, and how the pair in its slot is taken, used and given back.
 ghost use Rattle.std.specs.Prelude.{◌≡◌, [], ◌∷◌, Some};
-ghost use Rattle.rb_lock.specs.LockSteps.{HasOneWord, AtRest, Got, MayGive, ActsIn, ActsOn, in_hand};
+ghost use Rattle.rb_lock.specs.LockSteps.{HasOneWord, AtRest, Got, MayGive, MayDraw, ActsIn, ActsOn, NamesIn, NamesOn, HasLearned, in_hand};
 ghost use Rattle.rb_lock.specs.Views.{settled};
-ghost use Rattle.rb_lock.specs.declared.stage.Stage.TheVariants.{Idle};
+ghost use Rattle.rb_lock.specs.declared.stage.Stage.TheVariants.{Idle, Drew};
 
 use crate::home::Home;
 use crate::law::{PassSeat, Words};
-use crate::plays::{Give, Take};
+use crate::plays::{Draw, Give, Take};
 use rb_kept::{CallFault, Outcome};
 use rb_ledger::Tally;
 use rb_queue::Ask;
@@ -55,6 +55,18 @@ pub(crate) fn give<T: Timer>(words: &Words<T>, seat: &mut PassSeat<T>)
     wake(words, found);
 }
 
+/// Gives the lock back, and draws the name that was noted when it was taken.
+pub(crate) fn give_and_draw<T: Timer>(words: &Words<T>, seat: &mut PassSeat<T>)
+    requires lock { HasOneWord words.now.table_id }
+    requires table { seat.old.table_id ≡ words.now.table_id }
+    requires holds { MayDraw seat.old.me }
+    ensures table { seat.new.table_id ≡ seat.old.table_id }
+    ensures drawn { seat.new.me ≡ (settled seat.old.me.0 (in_hand seat.old.me.1) (Drew seat.old.me.0.noted), []) }
+{
+    let found = words.swap::<Draw>(seat, 0, FREE);
+    wake(words, found);
+}
+
 // A thread that found the word so when it gave the lock back wakes a sleeper where there may be one.
 pub(crate) fn wake<T: Timer>(words: &Words<T>, found: u64)
     requires lock { HasOneWord words.now.table_id }
@@ -96,4 +108,24 @@ fn act_on<T: Timer>(
     // The proof reads here that the history is legal.
     let _ = home.kept.history();
     home.kept.act(tally, name, asked, ask)
+}
+
+/// The next name of the pair in the slot that the seat has in hand, which is given with this. `None` where
+/// all are given.
+pub(crate) fn next_name<T: Timer>(words: &Words<T>, seat: &mut PassSeat<T>) -> Option<u64>
+    requires table { seat.old.table_id ≡ words.now.table_id }
+    requires hand { (home : Home T) × (seat.old.me.1 ≡ (0, Some home) ∷ []) }
+    ensures table { seat.new.table_id ≡ seat.old.table_id }
+    ensures names { NamesIn result seat.old.me seat.new.me }
+{
+    let slot = seat.slot_mut(words, 0);
+    next_name_of(slot)
+}
+
+fn next_name_of<T: Timer>(slot: &mut Option<Home<T>>) -> Option<u64>
+    requires { (home : Home T) × (slot.old ≡ Some home) }
+    ensures { NamesOn result slot.old slot.new }
+{
+    let Some(home) = slot else { unreachable!() };
+    home.next_name()
 }

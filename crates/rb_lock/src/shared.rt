@@ -1,13 +1,15 @@
-ghost use Rattle.std.specs.Prelude.{◌≡◌, [], ◌∷◌, ℕ, Some, IfOk, IfErr};
+ghost use Rattle.std.specs.Prelude.{◌≡◌, [], ◌∷◌, ℕ, Some, IfOk, IfErr, OnErr};
 ghost use Rattle.rb_ledger.specs.Totals.{nothing};
-ghost use Rattle.rb_lock.specs.Passes.{first_pass, Learns};
+ghost use Rattle.rb_queue.specs.Counts.{events_of};
+ghost use Rattle.rb_lock.specs.Passes.{first_pass, child_of, folded_with, Learns};
 ghost use Rattle.rb_lock.specs.SharedCalls.{Answered};
 
-use crate::fault::OpenFault;
-use crate::home::Home;
+use crate::fault::{OpenFault, SplitFault};
+use crate::home::{Home, MOST_NAMES};
 use crate::law::Law;
-use crate::lock::{FREE, act, give, take};
+use crate::lock::{FREE, act, give, give_and_draw, next_name, take};
 use crate::pass::Pass;
+use crate::plays::{Cut, Fold};
 use crate::view::View;
 use atomic_table::{Refused, Table};
 use rb_kept::{CallFault, Kept, Outcome};
@@ -75,6 +77,47 @@ impl<T: Timer> Shared<T> {
             }
             Err(Refused { slots }) => Err((only_kept(slots), tally, OpenFault::Memory)),
         }
+    }
+
+    /// Splits a new pass off, under the next name, which was never given before. It waits while another pass
+    /// calls.
+    ///
+    /// The new pass has seen what this one has, and has made no call. `Names` is answered only where all
+    /// 65,536 names are given. Either way this pass may have seen more of the history.
+    pub fn split<R: Wait>(&self, rt: &R, pass: &mut Pass<T>) -> Result<Pass<T>, SplitFault>
+        requires pass { pass.old.table ≡ self.now }
+        ensures learns { Learns pass.old pass.new }
+        ensures mine { pass.new.mine ≡ pass.old.mine }
+        ensures child { IfOk result (λ child. child ≡ child_of pass.new) }
+        ensures unheard { IfOk result (λ child. events_of child.seen child.name ≡ []) }
+        ensures names { OnErr result (pass.new.noted ≡ MOST_NAMES) }
+    {
+        let words = &self.table.shared;
+        take(words, rt, &mut pass.seat);
+        let Some(name) = next_name(words, &mut pass.seat) else {
+            give(words, &mut pass.seat);
+            return Err(SplitFault::Names);
+        };
+        give_and_draw(words, &mut pass.seat);
+        let seat = words.split_seat::<Cut>(&mut pass.seat);
+        let tally = pass.tally.split();
+        Ok(Pass { seat, name, tally })
+    }
+
+    /// Folds another pass into this one, with all that were folded into it: their calls are counted here
+    /// from now on. It waits for nobody.
+    pub fn fold(&self, pass: &mut Pass<T>, other: Pass<T>)
+        requires pass { pass.old.table ≡ self.now }
+        requires other { other.table ≡ self.now }
+        ensures { pass.new ≡ folded_with pass.old other }
+    {
+        let Pass {
+            seat,
+            name: _,
+            tally,
+        } = other;
+        self.table.shared.join_seat::<Fold>(&mut pass.seat, seat);
+        pass.tally.join(tally);
     }
 
     /// Makes one call, as `Kept::act`, with the pass's name as seat. It waits while another pass calls.
