@@ -10,5 +10,6 @@ pub mod Sharings
 pub mod RestingPasses
 pub mod SplitPasses
 pub mod FoldedPasses
+pub mod Meetings
 pub mod Takings
 pub mod Returns

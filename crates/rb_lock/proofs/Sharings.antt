@@ -46,7 +46,7 @@ AreRecords-append : (history : List Event) (xs ys : List Record) → AreRecords 
 AreRecords-append history [] ys none all = all
 AreRecords-append history (x ∷ xs) ys (one, rest) all = (one, AreRecords-append history xs ys rest all)
 
-spent_fits : (log : Log) (names : ℕ) → Fits log names nobody
+pub spent_fits : (log : Log) (names : ℕ) → Fits log names nobody
 spent_fits log names = record { capacity = λ there. absurd there; opening = λ there. absurd there; begins = prefix_none log.history; records = tt; stage = tt }
 
 -- the records of one pass follow those of another

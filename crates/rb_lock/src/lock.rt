@@ -6,7 +6,7 @@ ghost use Rattle.rb_lock.specs.declared.stage.Stage.TheVariants.{Idle, Drew};
 
 use crate::home::Home;
 use crate::law::{PassSeat, Words};
-use crate::plays::{Draw, Give, Take};
+use crate::plays::{Compare, Draw, Give, Learn, Note, Take};
 use rb_kept::{CallFault, Outcome};
 use rb_ledger::Tally;
 use rb_queue::Ask;
@@ -128,4 +128,21 @@ fn next_name_of<T: Timer>(slot: &mut Option<Home<T>>) -> Option<u64>
 {
     let Some(home) = slot else { unreachable!() };
     home.next_name()
+}
+
+/// A seat learns what another has seen. Both are at rest.
+pub(crate) fn learn<T: Timer>(words: &Words<T>, seat: &mut PassSeat<T>, other: &mut PassSeat<T>)
+    requires lock { HasOneWord words.now.table_id }
+    requires table { seat.old.table_id ≡ words.now.table_id }
+    requires rest { AtRest seat.old.table_id seat.old.me }
+    requires other_table { other.old.table_id ≡ words.now.table_id }
+    requires other_rest { AtRest other.old.table_id other.old.me }
+    ensures table { seat.new.table_id ≡ seat.old.table_id }
+    ensures learned { HasLearned seat.old.me.0 other.old.me.0 seat.new.me }
+    ensures other_table { other.new.table_id ≡ other.old.table_id }
+    ensures other { other.new.me ≡ other.old.me }
+{
+    let note = words.split_seat::<Note>(other);
+    words.join_seat::<Compare>(seat, note);
+    words.load::<Learn>(seat, 0);
 }

@@ -7,7 +7,7 @@ ghost use Rattle.rb_lock.specs.SharedCalls.{Answered};
 use crate::fault::{OpenFault, SplitFault};
 use crate::home::{Home, MOST_NAMES};
 use crate::law::Law;
-use crate::lock::{FREE, act, give, give_and_draw, next_name, take};
+use crate::lock::{FREE, act, give, give_and_draw, learn, next_name, take};
 use crate::pass::Pass;
 use crate::plays::{Cut, Fold};
 use crate::view::View;
@@ -118,6 +118,23 @@ impl<T: Timer> Shared<T> {
         } = other;
         self.table.shared.join_seat::<Fold>(&mut pass.seat, seat);
         pass.tally.join(tally);
+    }
+
+    /// Two passes tell each other what they have seen. It waits for nobody.
+    ///
+    /// Afterwards both have seen one history, which begins with what each had seen.
+    pub fn meet(&self, first: &mut Pass<T>, second: &mut Pass<T>)
+        requires first { first.old.table ≡ self.now }
+        requires second { second.old.table ≡ self.now }
+        ensures same { first.new.seen ≡ second.new.seen }
+        ensures first { Learns first.old first.new }
+        ensures first_mine { first.new.mine ≡ first.old.mine }
+        ensures second { Learns second.old second.new }
+        ensures second_mine { second.new.mine ≡ second.old.mine }
+    {
+        let words = &self.table.shared;
+        learn(words, &mut first.seat, &mut second.seat);
+        learn(words, &mut second.seat, &mut first.seat);
     }
 
     /// Makes one call, as `Kept::act`, with the pass's name as seat. It waits while another pass calls.
