@@ -11,5 +11,8 @@ pub mod RestingPasses
 pub mod SplitPasses
 pub mod FoldedPasses
 pub mod Meetings
+pub mod Gathering
+pub mod Closings
+pub mod EqualTotals
 pub mod Takings
 pub mod Returns

@@ -1,5 +1,6 @@
 //! The lock: its word, and how the pair in its slot is taken, used and given back.
-ghost use Rattle.std.specs.Prelude.{◌≡◌, [], ◌∷◌, Some};
+ghost use Rattle.std.specs.Prelude.{◌≡◌, ◌≤◌, [], ◌∷◌, Some, None, length};
+ghost use Rattle.rb_queue.specs.History.{IsLegal};
 ghost use Rattle.rb_lock.specs.LockSteps.{HasOneWord, AtRest, Got, MayGive, MayDraw, ActsIn, ActsOn, NamesIn, NamesOn, HasLearned, in_hand};
 ghost use Rattle.rb_lock.specs.Views.{settled};
 ghost use Rattle.rb_lock.specs.declared.stage.Stage.TheVariants.{Idle, Drew};
@@ -145,4 +146,31 @@ pub(crate) fn learn<T: Timer>(words: &Words<T>, seat: &mut PassSeat<T>, other: &
     let note = words.split_seat::<Note>(other);
     words.join_seat::<Compare>(seat, note);
     words.load::<Learn>(seat, 0);
+}
+
+/// Moves the pair out of the slot that the seat has in hand.
+pub(crate) fn take_out<T: Timer>(words: &Words<T>, seat: &mut PassSeat<T>) -> Home<T>
+    requires table { seat.old.table_id ≡ words.now.table_id }
+    requires hand { (home : Home T) × (seat.old.me.1 ≡ (0, Some home) ∷ []) }
+    ensures table { seat.new.table_id ≡ seat.old.table_id }
+    ensures out { seat.old.me.1 ≡ (0, Some result) ∷ [] }
+    ensures empty { seat.new.me ≡ (seat.old.me.0, (0, None) ∷ []) }
+    ensures legal { IsLegal result.kept.opening result.kept.history }
+    ensures fits { length result.kept.history ≤ result.kept.capacity }
+{
+    let home = words.exchange(seat, 0, None).unwrap();
+    // The proof reads here that the history is legal and has room.
+    let _ = home.kept.history();
+    let _ = home.kept.capacity();
+    home
+}
+
+/// Moves a pair into the slot that the seat has in hand, which is empty.
+pub(crate) fn put_back<T: Timer>(words: &Words<T>, seat: &mut PassSeat<T>, home: Home<T>)
+    requires table { seat.old.table_id ≡ words.now.table_id }
+    requires empty { seat.old.me.1 ≡ (0, None) ∷ [] }
+    ensures table { seat.new.table_id ≡ seat.old.table_id }
+    ensures back { seat.new.me ≡ (seat.old.me.0, (0, Some home) ∷ []) }
+{
+    drop(words.exchange(seat, 0, Some(home)));
 }

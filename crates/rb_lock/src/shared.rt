@@ -1,20 +1,22 @@
 ghost use Rattle.std.specs.Prelude.{◌≡◌, [], ◌∷◌, ℕ, Some, IfOk, IfErr, OnErr};
 ghost use Rattle.rb_ledger.specs.Totals.{nothing};
-ghost use Rattle.rb_queue.specs.Counts.{events_of};
-ghost use Rattle.rb_lock.specs.Passes.{first_pass, child_of, folded_with, Learns};
+ghost use Rattle.rb_queue.specs.Counts.{events_of, audit_of};
+ghost use Rattle.rb_lock.specs.Passes.{first_pass, child_of, folded_with, gathered, tally_of, Learns};
+ghost use Rattle.rb_kept.specs.Shares.{totals_of};
 ghost use Rattle.rb_lock.specs.SharedCalls.{Answered};
+ghost use Rattle.rb_lock.specs.Gatherings.{IsGathered, IsRefused, AreCounts};
 
-use crate::fault::{OpenFault, SplitFault};
+use crate::fault::{CloseFault, OpenFault, SplitFault};
 use crate::home::{Home, MOST_NAMES};
 use crate::law::Law;
-use crate::lock::{FREE, act, give, give_and_draw, learn, next_name, take};
+use crate::lock::{FREE, act, give, give_and_draw, learn, next_name, put_back, take, take_out};
 use crate::pass::Pass;
 use crate::plays::{Cut, Fold};
 use crate::view::View;
 use atomic_table::{Refused, Table};
 use rb_kept::{CallFault, Kept, Outcome};
-use rb_ledger::Tally;
-use rb_queue::Ask;
+use rb_ledger::{Tally, Totals};
+use rb_queue::{Ask, Audit};
 use rb_timer::Timer;
 use std::alloc::Global;
 use std::marker::Model;
@@ -166,6 +168,58 @@ impl<T: Timer> Shared<T> {
         );
         give(words, &mut pass.seat);
         outcome
+    }
+
+    /// Ends the sharing, where all passes with calls are gathered in this one: itself, or folded into it. It
+    /// waits while another pass calls, and takes no memory.
+    ///
+    /// The history that comes back has the calls of these passes and no other. `NotAll` is answered exactly
+    /// where the pass's totals are not those of the whole history, and all is handed back.
+    pub fn close<R: Wait>(
+        self,
+        rt: &R,
+        pass: Pass<T>,
+    ) -> Result<(Kept<T>, Tally, Audit), (Shared<T>, Pass<T>, CloseFault)>
+        requires pass { pass.table ≡ self }
+        ensures capacity { IfOk result (λ closed. closed.0.capacity ≡ pass.capacity) }
+        ensures opening { IfOk result (λ closed. closed.0.opening ≡ pass.opening) }
+        ensures gathered { IfOk result (λ closed. IsGathered closed.0 (gathered pass)) }
+        ensures tally { IfOk result (λ closed. closed.1 ≡ tally_of pass) }
+        ensures totals { IfOk result (λ closed. closed.1 ≡ totals_of closed.0.history) }
+        ensures audit { IfOk result (λ closed. closed.2 ≡ audit_of closed.0.opening closed.0.history) }
+        ensures handed_back { IfErr result (λ refused. refused.0 ≡ self) }
+        ensures not_all { IfErr result (λ refused. IsRefused pass refused.1 refused.2) }
+    {
+        let Pass {
+            mut seat,
+            name,
+            tally,
+        } = pass;
+        let words = &self.table.shared;
+        take(words, rt, &mut seat);
+        let home = take_out(words, &mut seat);
+        let audit = home.kept.audit();
+        let booked = totals_in(audit);
+        let gathered = tally.totals();
+        if gathered == booked {
+            return Ok((home.kept, tally, audit));
+        }
+        put_back(words, &mut seat, home);
+        give(words, &mut seat);
+        let pass = Pass { seat, name, tally };
+        Err((self, pass, CloseFault::NotAll { gathered, booked }))
+    }
+}
+
+// The totals that an audit has.
+fn totals_in(audit: Audit) -> Totals
+    ensures totals { result ≡ record { calls = audit.calls; offered = audit.offered; given = audit.given } }
+    ensures fits { AreCounts result }
+{
+    Totals {
+        calls: audit.calls,
+        offered: audit.offered,
+        given: audit.given,
     }
 }
 
