@@ -8,7 +8,7 @@ use Rattle.rb_queue.specs.declared.event.Event.{Event}
 use Rattle.rb_kept.specs.Log.{Log}
 use Rattle.rb_kept.specs.Shares.{totals_of}
 use Rattle.rb_lock.specs.Records.{times, names_of, AreDifferent}
-use Rattle.rb_lock.specs.Passes.{Seen, IsSound, gathered, tally_of}
+use Rattle.rb_lock.specs.Passes.{Seen, IsSound, Learns, gathered, tally_of}
 use Rattle.rb_lock.specs.Gatherings.{IsGathered, IsNotAll, AreCounts}
 use Rattle.rb_lock.specs.Views.{idle, pass_of, holder_of, settled}
 use Rattle.rb_lock.specs.Rule.{home_of}
@@ -19,7 +19,7 @@ use Rattle.rb_lock.specs.declared.view.View.{View}
 use Rattle.rb_lock.proofs.Sums.{times-append}
 use Rattle.rb_lock.proofs.Growing.{grown_none}
 use Rattle.rb_lock.proofs.Gathering.{all_gathered, not_gathered}
-use Rattle.rb_lock.proofs.RestingPasses.{learned, seen_as, found_pair, HasLooked, same_mine, looked_learns}
+use Rattle.rb_lock.proofs.RestingPasses.{learned, seen_as, found_pair, HasLooked, same_mine, looked_learns, looked_counted}
 
 module _ {T : Type 0} (pass : Seen) (seat0 seat1 : Sat T) (rest : seat0 ≡ (idle pass, [])) (got : Got seat0 seat1)
     (home : Home T) (out : seat1.1 ≡ (0, Some home) ∷ []) (legal : IsLegal home.kept.opening home.kept.history) (fits : length home.kept.history ≤ home.kept.capacity)
@@ -70,16 +70,26 @@ module _ {T : Type 0} (pass : Seen) (seat0 seat1 : Sat T) (rest : seat0 ≡ (idl
       few = got.found.few;
     }
 
-    pub refused : (table : TableId) (seat3 : Sat T) → table ≡ pass.table → seat3 ≡ (settled seat2.0 (in_hand seat2.1) Idle, []) → IsSound pass
-        → (share books : Totals) → share ≡ tally_of pass → books ≡ totals_of home.kept.history → ¬ (share ≡ books) → IsNotAll pass (pass_of table seat3.0) share books
-    refused table seat3 of_pass gave sound share books share_is books_is other =
-        let here : seat3 ≡ (idle (learned pass got.names home.kept.history), []) = gave ∙ ap (λ (m : Sat T). (settled m.0 (in_hand m.1) Idle, [])) seat2_is in
-        subst (λ (p : Seen). IsNotAll pass p share books) (sym (seen_as table seat3 (learned pass got.names home.kept.history) of_pass here))
-        (record {
-          learns = looked_learns pass got.names home.kept looked sound;
-          mine = same_mine pass got.names home.kept looked;
-          share = share_is;
-          books = books_is;
-          fewer = subst (λ (t : Totals × Totals). t.0.calls < t.1.calls) (λ i. (sym share_is i, sym books_is i))
-              (not_gathered home.kept.history (gathered pass) looked.found.fits.records different counts (λ same. other (share_is ∙ same ∙ sym books_is)));
-        })
+    -- the lock is given back
+    module _ (table : TableId) (seat3 : Sat T) (of_pass : table ≡ pass.table) (gave : seat3 ≡ (settled seat2.0 (in_hand seat2.1) Idle, [])) where
+      seat3_is : seat3 ≡ (idle (learned pass got.names home.kept.history), [])
+      seat3_is = gave ∙ ap (λ (m : Sat T). (settled m.0 (in_hand m.1) Idle, [])) seat2_is
+
+      view_is : pass_of table seat3.0 ≡ learned pass got.names home.kept.history
+      view_is = seen_as table seat3 (learned pass got.names home.kept.history) of_pass seat3_is
+
+      pub refused_learns : IsSound pass → Learns pass (pass_of table seat3.0)
+      refused_learns sound = subst (Learns pass) (sym view_is) (looked_learns pass got.names home.kept looked sound)
+
+      pub refused_mine : (pass_of table seat3.0).mine ≡ pass.mine
+      refused_mine = ap (λ (p : Seen). p.mine) view_is ∙ same_mine pass got.names home.kept looked
+
+      pub refused : (share books : Totals) → share ≡ tally_of pass → books ≡ totals_of home.kept.history → ¬ (share ≡ books) → IsNotAll (pass_of table seat3.0) share books
+      refused share books share_is books_is other =
+          subst (λ (p : Seen). IsNotAll p share books) (sym view_is)
+          (record {
+            share = looked_counted pass got.names home.kept looked share share_is;
+            books = books_is;
+            fewer = subst (λ (t : Totals × Totals). t.0.calls < t.1.calls) (λ i. (sym share_is i, sym books_is i))
+                (not_gathered home.kept.history (gathered pass) looked.found.fits.records different counts (λ same. other (share_is ∙ same ∙ sym books_is)));
+          })

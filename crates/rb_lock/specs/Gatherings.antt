@@ -8,7 +8,7 @@ use Rattle.rb_queue.specs.declared.opening.Opening.{Opening}
 use Rattle.rb_kept.specs.Log.{Log}
 use Rattle.rb_kept.specs.Shares.{totals_of}
 use Rattle.rb_lock.specs.Records.{AreRecords, AreDifferent, names_of, calls_of}
-use Rattle.rb_lock.specs.Passes.{Seen, Learns, tally_of}
+use Rattle.rb_lock.specs.Passes.{Seen, tally_of}
 use Rattle.rb_lock.specs.declared.record.Record.{Record}
 use Rattle.rb_lock.specs.declared.fault.CloseFault.{CloseFault}
 use Rattle.rb_lock.specs.declared.fault.CloseFault.TheVariants.{NotAll}
@@ -21,17 +21,16 @@ pub record IsGathered (log : Log) (records : List Record) : Type 0 where
   pub different : AreDifferent (names_of records)
   pub all : length log.history ≡ length (calls_of records)
 
--- the pass has seen a history with more calls than are gathered
-pub record IsNotAll (old new : Seen) (gathered booked : Totals) : Type 0 where
-  pub learns : Learns old new
-  pub mine : new.mine ≡ old.mine
-  pub share : gathered ≡ tally_of old
-  pub books : booked ≡ totals_of new.seen
+-- What is gathered is the pass's share, and the books count the history that it has seen now, which has more
+-- calls.
+pub record IsNotAll (pass : Seen) (gathered booked : Totals) : Type 0 where
+  pub share : gathered ≡ tally_of pass
+  pub books : booked ≡ totals_of pass.seen
   pub fewer : gathered.calls < booked.calls
 
 -- why the pass did not close the queue
-abbrev pub IsRefused : Seen → Seen → CloseFault → Type 0
-IsRefused old new (NotAll gathered booked) = IsNotAll old new gathered booked
+abbrev pub IsRefused : Seen → CloseFault → Type 0
+IsRefused pass (NotAll gathered booked) = IsNotAll pass gathered booked
 
 -- totals that a count has room for
 pub record AreCounts (totals : Totals) : Type 0 where

@@ -188,7 +188,9 @@ impl<T: Timer> Shared<T> {
         ensures totals { IfOk result (λ closed. closed.1 ≡ totals_of closed.0.history) }
         ensures audit { IfOk result (λ closed. closed.2 ≡ audit_of closed.0.opening closed.0.history) }
         ensures handed_back { IfErr result (λ refused. refused.0 ≡ self) }
-        ensures not_all { IfErr result (λ refused. IsRefused pass refused.1 refused.2) }
+        ensures learns { IfErr result (λ refused. Learns pass refused.1) }
+        ensures mine { IfErr result (λ refused. refused.1.mine ≡ pass.mine) }
+        ensures not_all { IfErr result (λ refused. IsRefused refused.1 refused.2) }
     {
         let Pass {
             mut seat,

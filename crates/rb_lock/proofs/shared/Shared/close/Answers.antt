@@ -51,5 +51,5 @@ returns-clause-not_all g c =
     refused {T = g.row.T.Denot} c.args.pass c.pass.inside.seat.me c.take.new.seat.me
     (c.pass.invariant.rest ∙ ap (λ (p : Seen). (idle p, [])) c.pass.view_is) c.take.ensures.got home.result home.ensures.out home.ensures.legal home.ensures.fits counts
     c.put_back.new.seat.me (c.put_back.ensures.back ∙ ap (λ (m : Sat g.row.T.Denot). (m.0, (0, Some home.result) ∷ [])) home.ensures.empty)
-    c.give.new.seat.table_id c.give.new.seat.me table c.give.ensures.seen (subst IsSound c.pass.view_is c.pass.invariant.sound)
+    c.give.new.seat.table_id c.give.new.seat.me table c.give.ensures.seen
     c.totals-gathered.result c.totals_in-booked.result share books (other_totals c.totals-gathered.result c.totals_in-booked.result c.if-eq.ensures)
