@@ -8,7 +8,7 @@ use Rattle.rb_queue.specs.declared.event.Event.{Event}
 use Rattle.rb_kept.specs.Log.{Log}
 use Rattle.rb_kept.specs.Shares.{totals_of}
 use Rattle.rb_lock.specs.Records.{times, names_of, AreDifferent}
-use Rattle.rb_lock.specs.Passes.{Seen, IsSound, Learns, gathered, tally_of}
+use Rattle.rb_lock.specs.Passes.{Seen, gathered, tally_of}
 use Rattle.rb_lock.specs.Gatherings.{IsGathered, IsNotAll, AreCounts}
 use Rattle.rb_lock.specs.Views.{idle, pass_of, holder_of, settled}
 use Rattle.rb_lock.specs.Rule.{home_of}
@@ -17,9 +17,9 @@ use Rattle.rb_lock.specs.declared.home.Home.{Home}
 use Rattle.rb_lock.specs.declared.stage.Stage.TheVariants.{Idle}
 use Rattle.rb_lock.specs.declared.view.View.{View}
 use Rattle.rb_lock.proofs.Sums.{times-append}
-use Rattle.rb_lock.proofs.Growing.{grown_none}
-use Rattle.rb_lock.proofs.Gathering.{all_gathered, not_gathered}
-use Rattle.rb_lock.proofs.RestingPasses.{learned, seen_as, found_pair, HasLooked, same_mine, looked_learns, looked_counted}
+use Rattle.rb_lock.proofs.LongerHistories.{grown_none}
+use Rattle.rb_lock.proofs.GatheredCalls.{all_gathered, not_gathered}
+use Rattle.rb_lock.proofs.RestingPasses.{learned, seen_as, found_pair, HasLooked, looked_counted}
 
 module _ {T : Type 0} (pass : Seen) (seat0 seat1 : Sat T) (rest : seat0 ≡ (idle pass, [])) (got : Got seat0 seat1)
     (home : Home T) (out : seat1.1 ≡ (0, Some home) ∷ []) (legal : IsLegal home.kept.opening home.kept.history) (fits : length home.kept.history ≤ home.kept.capacity)
@@ -77,12 +77,6 @@ module _ {T : Type 0} (pass : Seen) (seat0 seat1 : Sat T) (rest : seat0 ≡ (idl
 
       view_is : pass_of table seat3.0 ≡ learned pass got.names home.kept.history
       view_is = seen_as table seat3 (learned pass got.names home.kept.history) of_pass seat3_is
-
-      pub refused_learns : IsSound pass → Learns pass (pass_of table seat3.0)
-      refused_learns sound = subst (Learns pass) (sym view_is) (looked_learns pass got.names home.kept looked sound)
-
-      pub refused_mine : (pass_of table seat3.0).mine ≡ pass.mine
-      refused_mine = ap (λ (p : Seen). p.mine) view_is ∙ same_mine pass got.names home.kept looked
 
       pub refused : (share books : Totals) → share ≡ tally_of pass → books ≡ totals_of home.kept.history → ¬ (share ≡ books) → IsNotAll (pass_of table seat3.0) share books
       refused share books share_is books_is other =

@@ -1,7 +1,7 @@
 pub mod Sums
 pub mod Beginnings
-pub mod Growing
-pub mod Hands
+pub mod LongerHistories
+pub mod HeldPairs
 pub mod CallTotals
 pub mod MadeCalls
 pub mod Openings
@@ -11,7 +11,7 @@ pub mod RestingPasses
 pub mod SplitPasses
 pub mod FoldedPasses
 pub mod Meetings
-pub mod Gathering
+pub mod GatheredCalls
 pub mod Closings
 pub mod EqualTotals
 pub mod Takings

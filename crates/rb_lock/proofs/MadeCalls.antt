@@ -27,9 +27,9 @@ use Rattle.rb_lock.specs.LockSteps.{Sat, Found, Got, Grown, MayGive, ActsOn, Act
 use Rattle.rb_lock.specs.declared.home.Home.{Home}
 use Rattle.rb_lock.specs.declared.stage.Stage.TheVariants.{Idle}
 use Rattle.rb_lock.proofs.Beginnings.{prefix_trans, append_same}
-use Rattle.rb_lock.proofs.Growing.{events_of-append}
+use Rattle.rb_lock.proofs.LongerHistories.{events_of-append}
 use Rattle.rb_lock.proofs.CallTotals.{share_with-capped, capped-between}
-use Rattle.rb_lock.proofs.Hands.{same_slot, same_pair}
+use Rattle.rb_lock.proofs.RestingPasses.{learned, found_pair}
 
 -- one event is its seat's alone
 own_event : (event : Event) (seat : ℕ) → event.seat ≡ seat → events_of (event ∷ []) seat ≡ event ∷ []
@@ -70,10 +70,6 @@ few_after old new try (Ok (Done reply)) (room, (event, is, records)) =
 few_after old new try (Ok (Later next)) (room, (waits, is)) = subst (λ (l : Log). length l.history ≤ l.capacity) (sym is) (omega (arith, room))
 few_after old new try (Err Full) (full, is) = subst (λ (l : Log). length l.history ≤ l.capacity) (sym is) (omega (arith, full))
 few_after old new try (Err Memory) (room, takes, is) = subst (λ (l : Log). length l.history ≤ l.capacity) (sym is) (omega (arith, room))
-
--- the pass, once it has seen this history
-abbrev pub learned : Seen → ℕ → List Event → Seen
-learned pass names history = record pass { noted = names; seen = history; mine = events_of history pass.name }
 
 -- where nothing was added, the pass's calls are as before
 no_more : (pass : Seen) (log new : Log) (more : List Event) → new ≡ with_events log more → new ≡ log → events_of new.history pass.name ≡ pass.mine ++ more → events_of new.history pass.name ≡ pass.mine
@@ -171,17 +167,8 @@ module _ (pass : Seen) (try : Try) (step : Result Outcome CallFault) (share shar
 -- From the seat at rest to the seat that has given the lock back.
 module _ {T : Type 0} (pass : Seen) (try : Try) (step : Result Outcome CallFault) (share share' : Totals) (seat0 seat1 seat2 : Sat T)
     (rest : seat0 ≡ (idle pass, [])) (got : Got seat0 seat1) (acts : ActsIn try step share share' seat1 seat2) (named : try.seat ≡ pass.name) where
-  slot_is : acts.slot ≡ Some (home_of got.log got.names)
-  slot_is =
-      same_slot seat1.1 [] (Some (home_of got.log got.names)) acts.slot
-      (got.hand ∙ ap (λ (m : Sat T). (0, Some (home_of {T = T} got.log got.names)) ∷ m.1) rest) acts.was
-
   before_is : acts.acts.before ≡ home_of got.log got.names
-  before_is = same_pair acts.acts.before (home_of got.log got.names) (sym acts.acts.was ∙ slot_is)
-
-  -- the log once it was called
-  abbrev pub new_log : Log
-  new_log = acts.acts.after.kept
+  before_is = found_pair pass seat0 seat1 acts.slot acts.acts.before rest got acts.was acts.acts.was
 
   pub made : IsMade pass try step share share' got.names got.log acts.acts.after.kept
   made = record {

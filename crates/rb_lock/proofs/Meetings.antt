@@ -19,7 +19,7 @@ use Rattle.rb_lock.specs.declared.stage.Stage.TheVariants.{Idle, Meets}
 use Rattle.rb_lock.specs.declared.view.View.{View}
 use Rattle.rb_lock.proofs.Sums.{total_set}
 use Rattle.rb_lock.proofs.Beginnings.{prefix_self, prefix_none}
-use Rattle.rb_lock.proofs.Growing.{same_between}
+use Rattle.rb_lock.proofs.LongerHistories.{same_between}
 use Rattle.rb_lock.proofs.SharedViews.{cut_in_two, made_one}
 use Rattle.rb_lock.proofs.Sharings.{spent_fits}
 use Rattle.rb_lock.proofs.Takings.{unmoved}

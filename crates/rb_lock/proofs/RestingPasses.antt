@@ -7,12 +7,12 @@ use Rattle.rb_queue.specs.Counts.{events_of}
 use Rattle.rb_queue.specs.History.{IsLegal}
 use Rattle.rb_queue.specs.declared.event.Event.{Event}
 use Rattle.rb_kept.specs.Log.{Log}
-use Rattle.rb_lock.specs.Passes.{Seen, IsSound, Learns, tally_of}
+use Rattle.rb_lock.specs.Passes.{Seen, IsSound, tally_of}
 use Rattle.rb_lock.specs.Views.{idle, pass_of, holder_of}
 use Rattle.rb_lock.specs.Rule.{home_of}
 use Rattle.rb_lock.specs.LockSteps.{Sat, AtRest, IsPass, Found, Got}
 use Rattle.rb_lock.specs.declared.home.Home.{Home}
-use Rattle.rb_lock.proofs.Hands.{same_slot, same_pair}
+use Rattle.rb_lock.proofs.HeldPairs.{same_slot, same_pair}
 
 -- the pass, once it has seen this history
 abbrev pub learned : Seen → ℕ → List Event → Seen
@@ -52,25 +52,6 @@ module _ (pass : Seen) (names : ℕ) (log : Log) (looked : HasLooked pass names 
   -- its own calls are those that it had
   pub same_mine : events_of log.history pass.name ≡ pass.mine
   same_mine = looked.found.fits.records.0.all
-
-  pub looked_sound : IsSound pass → IsSound (learned pass names log.history)
-  looked_sound sound = record {
-    legal = subst (λ o. IsLegal o log.history) (sym (looked.found.fits.opening tt)) looked.legal;
-    few = omega (arith, looked.few, looked.found.fits.capacity tt);
-    most = sound.most;
-    own = refl;
-  }
-
-  pub looked_learns : IsSound pass → Learns pass (learned pass names log.history)
-  looked_learns sound = record {
-    table = refl;
-    name = refl;
-    capacity = refl;
-    opening = refl;
-    folded = refl;
-    begins = looked.found.fits.begins;
-    sound = looked_sound sound;
-  }
 
   -- its share is that of its calls still
   pub looked_counted : (tally : Totals) → tally ≡ tally_of pass → tally ≡ tally_of (learned pass names log.history)

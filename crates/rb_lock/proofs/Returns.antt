@@ -23,7 +23,7 @@ use Rattle.rb_lock.specs.declared.stage.Stage.TheVariants.{Idle, Holds, Drew, Me
 use Rattle.rb_lock.specs.declared.view.View.{View}
 use Rattle.rb_lock.proofs.Sums.{total_set, total_at, total_two, bit_same, bit_other, bit_small, bit_apart, times-append}
 use Rattle.rb_lock.proofs.Beginnings.{prefix_self}
-use Rattle.rb_lock.proofs.Growing.{grown_none, others_stay, begins_stay, records_stay, events_of-append}
+use Rattle.rb_lock.proofs.LongerHistories.{grown_none, others_stay, begins_stay, records_stay, events_of-append}
 
 -- what the seat may be about to do, where the names go on from `names` to `after`
 pub record IsNext (names after : ℕ) (log : Log) (next : Stage) : Type 0 where
@@ -48,9 +48,6 @@ module _ {T : Type 0} (pass : Seen) (found new : Log) (names after : ℕ) (next 
     (capacity : new.capacity ≡ pass.capacity) (opening : new.opening ≡ pass.opening)
     (grown : Grown pass.name found.history new.history) (goes : IsNext names after new next)
     (s : State (Option (Home T)) View) (law : Locked s) (id : ℕ) (at : get_elem? s.views id ≡ some (before pass found.history names)) where
-  old_weight : ℕ → ℕ
-  old_weight n = weight n (before pass found.history names)
-
   own : Fits law.log law.names (before pass found.history names)
   own = law.fits id (before pass found.history names) at
 

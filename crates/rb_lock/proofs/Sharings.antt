@@ -16,7 +16,7 @@ use Rattle.rb_lock.specs.declared.stage.Stage.TheVariants.{Drew}
 use Rattle.rb_lock.specs.declared.view.View.{View}
 use Rattle.rb_lock.proofs.Sums.{times-append}
 use Rattle.rb_lock.proofs.Beginnings.{prefix_none}
-use Rattle.rb_lock.proofs.Growing.{none_before}
+use Rattle.rb_lock.proofs.LongerHistories.{none_before}
 use Rattle.rb_lock.proofs.SharedViews.{cut_in_two, made_one}
 
 -- the view of a pass that has drawn a name

@@ -14,9 +14,9 @@ use Rattle.rb_lock.specs.declared.home.Home.{Home}
 use Rattle.rb_lock.specs.declared.home.TheConstants.{MOST_NAMES}
 use Rattle.rb_lock.specs.declared.stage.Stage.TheVariants.{Idle, Drew}
 use Rattle.rb_lock.specs.declared.view.View.{View}
-use Rattle.rb_lock.proofs.Growing.{grown_none}
+use Rattle.rb_lock.proofs.LongerHistories.{grown_none}
 use Rattle.rb_lock.proofs.Sharings.{drawing, cuts}
-use Rattle.rb_lock.proofs.RestingPasses.{learned, found_pair, HasLooked, looked_sound}
+use Rattle.rb_lock.proofs.RestingPasses.{learned, found_pair}
 
 module _ {T : Type 0} (pass : Seen) (seat0 seat1 seat2 : Sat T) (rest : seat0 ≡ (idle pass, [])) (got : Got seat0 seat1) where
   found_idle : Found got.log got.names (idle pass)
@@ -28,13 +28,6 @@ module _ {T : Type 0} (pass : Seen) (seat0 seat1 seat2 : Sat T) (rest : seat0 �
   module _ (given : Option ℕ) (naming : NamesIn given seat1 seat2) where
     before_is : naming.names.before ≡ home_of got.log got.names
     before_is = found_pair pass seat0 seat1 naming.slot naming.names.before rest got naming.was naming.names.was
-
-    pub named_looked : HasLooked pass got.names got.log
-    named_looked = record {
-      found = found_idle;
-      legal = subst (λ (h : Home T). IsLegal h.kept.opening h.kept.history) before_is naming.names.legal;
-      few = subst (λ (h : Home T). length h.kept.history ≤ h.kept.capacity) before_is naming.names.fits;
-    }
 
     seat2_is : seat2 ≡ (holder_of (idle pass) got.log.history got.names, (0, Some naming.names.after) ∷ [])
     seat2_is = naming.is ∙ (λ i. (view_is i, (0, naming.names.is i) ∷ []))
@@ -59,21 +52,10 @@ module _ {T : Type 0} (pass : Seen) (seat0 seat1 seat2 : Sat T) (rest : seat0 �
       few = got.found.few;
     }
 
-    pub none_seat : (seat3 : Sat T) → seat3 ≡ (settled seat2.0 (in_hand seat2.1) Idle, []) → seat3 ≡ (idle (learned pass got.names got.log.history), [])
-    none_seat seat3 gave = gave ∙ ap (λ (m : Sat T). (settled m.0 (in_hand m.1) Idle, [])) none_is
-
-    pub all_given : got.names ≡ MOST_NAMES
-    all_given =
-        let names : naming.names.before.names ≡ got.names = ap (λ (h : Home T). h.names) (before_is None naming) in
-        omega (arith, names, naming.names.gives.0, got.found.few)
-
   -- the next name is given
   module _ (name : ℕ) (naming : NamesIn (Some name) seat1 seat2) where
     same_before : naming.names.before ≡ home_of got.log got.names
     same_before = before_is (Some name) naming
-
-    pub name_is : name ≡ got.names
-    name_is = naming.names.gives.0 ∙ ap (λ (h : Home T). h.names) same_before
 
     some_is : seat2 ≡ (holder_of (idle pass) got.log.history got.names, (0, Some (home_of got.log (got.names + 1))) ∷ [])
     some_is =
@@ -101,18 +83,3 @@ module _ {T : Type 0} (pass : Seen) (seat0 seat1 seat2 : Sat T) (rest : seat0 �
       may_cut id =
           subst (λ (m : Sat T). Splits (Locked {T = T}) id m.0 (rested m.0) (cut_off m.0)) (sym drawn_is)
           (cuts id (learned pass got.names got.log.history) got.names)
-
-      pub parent_seat : (seat4 : Sat T) → seat4 ≡ (rested seat3.0, seat3.1) → seat4 ≡ (idle (learned pass got.names got.log.history), [])
-      parent_seat seat4 cut = cut ∙ ap (λ (m : Sat T). (rested m.0, m.1)) drawn_is
-
-      pub child_seat : (seat5 : Sat T) → seat5 ≡ (cut_off seat3.0, []) → seat5 ≡ (idle (child_of (learned pass got.names got.log.history)), [])
-      child_seat seat5 cut = cut ∙ ap (λ (m : Sat T). (cut_off m.0, [])) drawn_is
-
-    -- no event has the child's name
-    pub unheard : events_of got.log.history got.names ≡ []
-    unheard = got.found.strangers got.names (omega arith)
-
-    pub child_sound : IsSound pass → IsSound (child_of (learned pass got.names got.log.history))
-    child_sound sound =
-        let seen = looked_sound pass got.names got.log (named_looked (Some name) naming) sound in
-        record { legal = seen.legal; few = seen.few; most = seen.most; own = unheard }

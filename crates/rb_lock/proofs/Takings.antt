@@ -112,10 +112,6 @@ takes_at {T} slots id table seat rest f busy =
 pub one_or_more : (n : ℕ) → 0 < either (n == 0) 1 n
 one_or_more n = exchanged n 0 1 (λ (k : ℕ). 0 < k) (λ hit. omega arith) (λ miss. omega arith)
 
--- what a try that found 0 told
-pub got_at : {T : Type 0} (seat before after : Sat T) (found : ℕ) → before ≡ seat → taken {T = T} (step 0 0 0 0 none) before found after → found ≡ 0 → Got seat after
-got_at seat before after found same told is = subst (λ (m : Sat _). Got m after) same (told.0 is)
-
 -- the same at a seat that a lost try left as it was
 pub takes_again : {T : Type 0} (slots id : ℕ) (table : TableId) (seat now : Sat T) → now ≡ seat → AtRest table seat → (f : ℕ → ℕ) → ((n : ℕ) → 0 < f n)
     → Allows (Locked {T = T}) slots id now 0 f (taken {T = T} (step 0 0 0 0 none) now)

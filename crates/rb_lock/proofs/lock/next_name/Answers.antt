@@ -1,5 +1,5 @@
 use Rattle.std.proofs.Common.{Some}
-use Rattle.rb_lock.proofs.Hands.{only_slot, same_slot}
+use Rattle.rb_lock.proofs.HeldPairs.{only_slot, same_slot}
 use Rattle.rb_lock.proofs.lock.next_name.Goals as goal
 
 pub slot_mut-slot-requires : goal.slot_mut-slot-requires

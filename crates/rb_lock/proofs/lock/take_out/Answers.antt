@@ -1,5 +1,5 @@
 use Rattle.std.proofs.Common.{Some}
-use Rattle.rb_lock.proofs.Hands.{only_slot}
+use Rattle.rb_lock.proofs.HeldPairs.{only_slot}
 use Rattle.rb_lock.proofs.lock.take_out.Goals as goal
 
 pub exchange-requires : goal.exchange-requires
