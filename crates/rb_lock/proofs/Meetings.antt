@@ -1,0 +1,156 @@
+-- Two beginnings of one history, and the steps of a meeting.
+use Rattle.std.proofs.Common.{◌≡◌, ◌≢◌, ℕ, ◌+◌, ◌<◌, ◌≤◌, List, [], ◌∷◌, ◌++◌, length, set, refl, ap, sym, subst, ◌∙◌, arith, ◌⊎◌, ⊎_elim, inl, inr}
+use Rattle.std.specs.Prelude.{Option, Some, slice_index, slice_set}
+use mathlib.Core.Option.{none, some}
+use mathlib.Core.List.{IsPrefix}
+use lib.ListN.{get_elem?}
+use Rattle.atomic_table.specs.Table.{State, Act, step, keeps, Allows, Splits, Joins}
+use Rattle.rb_queue.specs.declared.event.Event.{Event}
+use Rattle.rb_queue.specs.declared.opening.Opening.{Opening}
+use Rattle.rb_kept.specs.Log.{Log}
+use Rattle.rb_lock.specs.Records.{IsRecord}
+use Rattle.rb_lock.specs.Passes.{Seen}
+use Rattle.rb_lock.specs.Views.{idle, pass_of, weight, holders, total, rested, note_of, nobody, longer, meeting}
+use Rattle.rb_lock.specs.Rule.{Fits, Locked, IsFree, IsHeld}
+use Rattle.rb_lock.specs.LockSteps.{Sat, AtRest, HasCompared, learned}
+use Rattle.atomic_table.specs.Seated.{TableId}
+use Rattle.rb_lock.specs.declared.home.Home.{Home}
+use Rattle.rb_lock.specs.declared.stage.Stage.TheVariants.{Idle, Meets}
+use Rattle.rb_lock.specs.declared.view.View.{View}
+use Rattle.rb_lock.proofs.Sums.{total_set}
+use Rattle.rb_lock.proofs.Beginnings.{prefix_self, prefix_none}
+use Rattle.rb_lock.proofs.LongerHistories.{same_between}
+use Rattle.rb_lock.proofs.SharedViews.{cut_in_two, made_one}
+use Rattle.rb_lock.proofs.Sharings.{spent_fits}
+use Rattle.rb_lock.proofs.Takings.{unmoved}
+
+-- of two beginnings of one list the longer is one of them, begins the list, and is begun by both
+pub record IsLonger (one other whole : List Event) : Type 0 where
+  pub begins : IsPrefix (longer one other) whole
+  pub first : IsPrefix one (longer one other)
+  pub second : IsPrefix other (longer one other)
+  pub which : (longer one other ≡ one) ⊎ (longer one other ≡ other)
+
+prefix_cons : (event : Event) (xs ys : List Event) → IsPrefix xs ys → IsPrefix (event ∷ xs) (event ∷ ys)
+prefix_cons event xs ys p = (p.0, ap (λ (es : List Event). event ∷ es) p.1)
+
+pub is_longer : (one other whole : List Event) → IsPrefix one whole → IsPrefix other whole → IsLonger one other whole
+is_longer [] other whole p q = record { begins = q; first = prefix_none other; second = prefix_self other; which = inr refl }
+is_longer (x ∷ one) [] whole p q = record { begins = p; first = prefix_self (x ∷ one); second = prefix_none (x ∷ one); which = inl refl }
+is_longer (x ∷ one) (y ∷ other) [] p q = absurd (cc (p.1))
+is_longer (x ∷ one) (y ∷ other) (z ∷ whole) p q =
+    let heads : x ≡ y = cc (p.1, q.1) in
+    let first : x ≡ z = cc (p.1) in
+    let rest = is_longer one other whole (p.0, cc (p.1)) (q.0, cc (q.1)) in
+    record {
+      begins = subst (λ (e : Event). IsPrefix (x ∷ longer one other) (e ∷ whole)) first (prefix_cons x (longer one other) whole rest.begins);
+      first = prefix_cons x one (longer one other) rest.first;
+      second = subst (λ (e : Event). IsPrefix (e ∷ other) (x ∷ longer one other)) heads (prefix_cons x other (longer one other) rest.second);
+      which = ⊎_elim (λ (same : longer one other ≡ one). inl (ap (λ (es : List Event). x ∷ es) same))
+          (λ (same : longer one other ≡ other). inr (λ i. heads i ∷ same i)) rest.which;
+    }
+
+-- a list that begins another is not the longer
+pub longer_whole : (one other : List Event) → IsPrefix one other → longer one other ≡ other
+longer_whole [] other p = refl
+longer_whole (x ∷ one) [] p = absurd (cc (p.1))
+longer_whole (x ∷ one) (y ∷ other) p = let rest = longer_whole one other (p.0, cc (p.1)) in cc (p.1, rest)
+
+-- a note of what a pass has seen
+pub notes : {T : Type 0} (id : ℕ) (pass : Seen) → Splits (Locked {T = T}) id (idle pass) (idle pass) (note_of (idle pass))
+notes id pass s law at =
+    let fits = law.fits id (idle pass) at in
+    cut_in_two s law id (idle pass) at (idle pass) (note_of (idle pass)) (λ n. omega arith) refl fits
+    (record { capacity = fits.capacity; opening = fits.opening; begins = fits.begins; records = tt; stage = tt })
+
+-- a note of another pass is held beside what this one has seen
+pub meets : {T : Type 0} (id other : ℕ) (one two : Seen) → Joins (Locked {T = T}) id (idle one) other (note_of (idle two)) (meeting (idle one) (note_of (idle two))) nobody
+meets id other one two s law at apart there =
+    made_one s law id (idle one) at other (note_of (idle two)) (meeting (idle one) (note_of (idle two))) nobody apart there (λ n. omega arith) refl
+    (λ first second.
+    let lists = is_longer one.seen two.seen law.log.history first.begins second.begins in
+    let own = first.records.0 in
+    record {
+      capacity = first.capacity;
+      opening = first.opening;
+      begins = lists.begins;
+      records = (
+        record {
+          begins = lists.begins;
+          known = same_between one.seen (longer one.seen two.seen) law.log.history one.name one.mine lists.first lists.begins own.known own.all;
+          all = own.all;
+        },
+        first.records.1,
+      );
+      stage = (first.begins, second.begins, second.capacity tt, second.opening tt);
+    }) (spent_fits law.log law.names)
+
+-- the view of a pass that compares what it had seen with what another had, in a run like its own
+abbrev pub comparing : Seen → List Event → ℕ → Opening → View
+comparing pass other room start = record (idle pass) { seen = longer pass.seen other; stage = Meets pass.seen other room start }
+
+-- the word is read, and nothing else changes
+pub compares : {T : Type 0} (slots id : ℕ) (pass : Seen) (other : List Event) (room : ℕ) (start : Opening)
+    → Allows (Locked {T = T}) slots id (comparing pass other room start, []) 0 (λ n. n) (learned {T = T} (step 0 0 0 0 none) (comparing pass other room start, []))
+compares {T} slots id pass other room start s law many at small =
+    let v : View = comparing pass other room start in
+    let w : View = rested v in
+    let n : ℕ = slice_index s.words 0 in
+    let fits = law.fits id v at in
+    let lists = is_longer pass.seen other law.log.history fits.stage.0 fits.stage.1 in
+    let same : total holders (set s.views id w) + 0 ≡ total holders s.views + 0 = total_set holders s.views id v w at in (
+      w,
+      keeps,
+      tt,
+      unmoved s law id v at (slice_set s.words 0 n) s.homes w (λ name. refl)
+          (record { capacity = fits.capacity; opening = fits.opening; begins = fits.begins; records = fits.records; stage = tt })
+          (⊎_elim (λ (free : IsFree law.log law.names s).
+          inl (record {
+            words = (λ i. slice_set (free.words i) 0 (slice_index (free.words i) 0));
+            homes = free.homes;
+            nobody = omega (arith, same, free.nobody);
+          }))
+          (λ (held : IsHeld s).
+          inr (record {
+            word = held.word;
+            words = (λ i. slice_set (held.words i) 0 (slice_index (held.words i) 0));
+            taken = held.taken;
+            homes = held.homes;
+            one = omega (arith, same, held.one);
+          })) law.place),
+      (
+        refl,
+        record {
+          first = lists.first;
+          second = lists.second;
+          which = lists.which;
+          own = fits.records.0.known;
+          capacity = fits.stage.2 ∙ sym (fits.capacity tt);
+          opening = fits.stage.3 ∙ sym (fits.opening tt);
+        },
+      ),
+    )
+
+-- The same at seats that are at rest.
+module _ {T : Type 0} (table table' : TableId) (seat other : Sat T) (rest : AtRest table seat) (rest' : AtRest table' other) where
+  pub notes_at : (id : ℕ) → Splits (Locked {T = T}) id other.0 other.0 (note_of other.0)
+  notes_at id = subst (λ (m : Sat T). Splits (Locked {T = T}) id m.0 m.0 (note_of m.0)) (sym rest') (notes id (pass_of table' other.0))
+
+  module _ (note : Sat T) (noted : note ≡ (note_of other.0, [])) where
+    note_is : note ≡ (note_of (idle (pass_of table' other.0)), [])
+    note_is = noted ∙ ap (λ (m : Sat T). (note_of m.0, [])) rest'
+
+    pub meets_at : (id of_note : ℕ) → Joins (Locked {T = T}) id seat.0 of_note note.0 (meeting seat.0 note.0) nobody
+    meets_at id of_note =
+        subst (λ (m : Sat T). Joins (Locked {T = T}) id m.0 of_note note.0 (meeting m.0 note.0) nobody) (sym rest)
+        (subst (λ (m : Sat T). Joins (Locked {T = T}) id (idle (pass_of table seat.0)) of_note m.0 (meeting (idle (pass_of table seat.0)) m.0) nobody) (sym note_is)
+        (meets id of_note (pass_of table seat.0) (pass_of table' other.0)))
+
+    pub compares_at : (slots id : ℕ) (seat2 : Sat T) → seat2 ≡ (meeting seat.0 note.0, seat.1)
+        → Allows (Locked {T = T}) slots id seat2 0 (λ n. n) (learned {T = T} (step 0 0 0 0 none) seat2)
+    compares_at slots id seat2 met =
+        let one : Seen = pass_of table seat.0 in
+        let two : Seen = pass_of table' other.0 in
+        let is : seat2 ≡ (comparing one two.seen two.capacity two.opening, []) = met ∙ (λ i. (meeting (rest i).0 (note_is i).0, (rest i).1)) in
+        subst (λ (m : Sat T). Allows (Locked {T = T}) slots id m 0 (λ n. n) (learned {T = T} (step 0 0 0 0 none) m)) (sym is)
+        (compares slots id one two.seen two.capacity two.opening)

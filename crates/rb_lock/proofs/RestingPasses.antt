@@ -1,0 +1,58 @@
+-- Seats of passes that are in no step, and what a pass has seen once it took the lock.
+use Rattle.std.proofs.Common.{◌≡◌, ℕ, ◌+◌, ◌≤◌, List, [], ◌∷◌, ◌++◌, length, refl, ap, sym, subst, ◌∙◌, arith}
+use Rattle.std.specs.Prelude.{Option, Some}
+use Rattle.atomic_table.specs.Seated.{TableId}
+use Rattle.rb_ledger.specs.declared.totals.Totals.{Totals}
+use Rattle.rb_queue.specs.Counts.{events_of}
+use Rattle.rb_queue.specs.History.{IsLegal}
+use Rattle.rb_queue.specs.declared.event.Event.{Event}
+use Rattle.rb_kept.specs.Log.{Log}
+use Rattle.rb_lock.specs.Passes.{Seen, IsSound, tally_of}
+use Rattle.rb_lock.specs.Views.{idle, pass_of, holder_of}
+use Rattle.rb_lock.specs.Rule.{home_of}
+use Rattle.rb_lock.specs.LockSteps.{Sat, AtRest, IsPass, Found, Got}
+use Rattle.rb_lock.specs.declared.home.Home.{Home}
+use Rattle.rb_lock.proofs.HeldPairs.{same_slot, same_pair}
+
+-- the pass, once it has seen this history
+abbrev pub learned : Seen → ℕ → List Event → Seen
+learned pass names history = record pass { noted = names; seen = history; mine = events_of history pass.name }
+
+module _ {T : Type 0} (table : TableId) (seat : Sat T) (pass : Seen) (of_pass : table ≡ pass.table) (is : seat ≡ (idle pass, [])) where
+  -- what the seat is seen as
+  pub seen_as : pass_of table seat.0 ≡ pass
+  seen_as i = pass_of (of_pass i) (is i).0
+
+  pub at_rest : AtRest table seat
+  at_rest = is ∙ sym (ap (λ (m : Sat T). (idle (pass_of table m.0), [])) is)
+
+  pub is_pass : (name : ℕ) (tally : Totals) → name ≡ pass.name → tally ≡ tally_of pass → IsSound pass → IsPass table seat name tally
+  is_pass name tally named counted sound = record {
+    rest = at_rest;
+    name_is = named ∙ sym (ap (λ (m : Sat T). m.0.name) is);
+    counted = counted ∙ sym (ap tally_of seen_as);
+    sound = subst IsSound (sym seen_as) sound;
+  }
+
+-- the pair that lies in the slot in hand is the one that was found
+pub found_pair : {T : Type 0} (pass : Seen) (seat0 seat1 : Sat T) (slot : Option (Home T)) (before : Home T) → seat0 ≡ (idle pass, []) → (got : Got seat0 seat1)
+    → seat1.1 ≡ (0, slot) ∷ [] → slot ≡ Some before → before ≡ home_of got.log got.names
+found_pair {T} pass seat0 seat1 slot before rest got was is =
+    let home : Option (Home T) = Some (home_of {T = T} got.log got.names) in
+    let found : slot ≡ home = same_slot seat1.1 [] home slot (got.hand ∙ ap (λ (m : Sat T). (0, home) ∷ m.1) rest) was in
+    same_pair before (home_of got.log got.names) (sym is ∙ found)
+
+-- a pass took the lock, and found a legal history with room
+pub record HasLooked (pass : Seen) (names : ℕ) (log : Log) : Type 0 where
+  pub found : Found log names (idle pass)
+  pub legal : IsLegal log.opening log.history
+  pub few : length log.history ≤ log.capacity
+
+module _ (pass : Seen) (names : ℕ) (log : Log) (looked : HasLooked pass names log) where
+  -- its own calls are those that it had
+  pub same_mine : events_of log.history pass.name ≡ pass.mine
+  same_mine = looked.found.fits.records.0.all
+
+  -- its share is that of its calls still
+  pub looked_counted : (tally : Totals) → tally ≡ tally_of pass → tally ≡ tally_of (learned pass names log.history)
+  looked_counted tally counted = counted ∙ ap (λ (mine : List Event). tally_of (record pass { mine = mine })) (sym same_mine)

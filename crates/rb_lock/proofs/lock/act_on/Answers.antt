@@ -1,0 +1,15 @@
+use Rattle.std.proofs.Common.{refl, rules}
+use Rattle.std.specs.Prelude.{Some}
+use Rattle.rb_lock.proofs.lock.act_on.Goals as goal
+
+pub returns : goal.returns
+returns g c = record {
+  before = c.in-Some.home;
+  after = record { kept = c.act.new.self; names = c.in-Some.home.names };
+  was = search rules;
+  is = refl;
+  names = refl;
+  legal = c.history.ensures.legal;
+  steps = c.act.ensures.step;
+  grows = c.act.ensures.tally;
+}

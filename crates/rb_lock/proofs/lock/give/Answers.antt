@@ -1,0 +1,8 @@
+use Rattle.std.proofs.Common.{rules, arith}
+use Rattle.rb_lock.proofs.Returns.{gives_at}
+use Rattle.rb_lock.proofs.lock.give.Goals as goal
+
+pub swap-found-requires : goal.swap-found-requires
+swap-found-requires g c =
+    let seat = c.args.seat.now in
+    (c.requires.table, omega (arith, c.requires.lock.words), gives_at {T = g.row.T.Denot} c.args.words.now.table_id.slots seat.id seat.me c.requires.holds)

@@ -1,0 +1,34 @@
+use Rattle.std.proofs.Common.{◌≡◌, ℕ, arith, refl, sym, ap, subst, ◌∙◌, [], ◌∷◌}
+use Rattle.std.specs.Prelude.{Some, None}
+use Rattle.rb_lock.specs.LockSteps.{Sat, NamesIn}
+use Rattle.rb_lock.specs.Passes.{Seen, IsSound}
+use Rattle.rb_lock.specs.Views.{idle, pass_of}
+use Rattle.rb_lock.specs.Rule.{home_of}
+use Rattle.rb_lock.proofs.SplitPasses.{none_may_give, may_draw, may_cut}
+use Rattle.rb_lock.proofs.shared.Shared.split.Goals as goal
+
+pub next_name-requires-clause-hand : goal.next_name-requires-clause-hand
+next_name-requires-clause-hand g c =
+    let got = c.take.ensures.got in (
+      home_of {T = g.row.T.Denot} got.log got.names,
+      got.hand ∙ ap (λ (m : Sat g.row.T.Denot). (0, Some (home_of {T = g.row.T.Denot} got.log got.names)) ∷ m.1) c.pass.invariant.rest,
+    )
+
+pub give-requires-clause-holds : goal.give-requires-clause-holds
+give-requires-clause-holds g c =
+    none_may_give {T = g.row.T.Denot} (pass_of c.pass.inside.seat.table_id c.pass.inside.seat.me.0) c.pass.inside.seat.me c.take.new.seat.me c.next_name.new.seat.me
+    c.pass.invariant.rest c.take.ensures.got c.in_default.ensures.names
+
+pub give_and_draw-requires-clause-holds : goal.give_and_draw-requires-clause-holds
+give_and_draw-requires-clause-holds g c =
+    may_draw {T = g.row.T.Denot} (pass_of c.pass.inside.seat.table_id c.pass.inside.seat.me.0) c.pass.inside.seat.me c.take.new.seat.me c.next_name.new.seat.me
+    c.pass.invariant.rest c.take.ensures.got c.in-Some.name c.in-Some.ensures.names
+
+pub split_seat-seat-requires : goal.split_seat-seat-requires
+split_seat-seat-requires g c = (
+  c.give_and_draw.ensures.table
+      ∙ (c.in-Some.ensures.table ∙ (c.take.ensures.table ∙ (ap (λ (p : Seen). p.table) c.pass.view_is ∙ (c.requires.pass ∙ sym c.self.view_is)))),
+  omega (arith, c.self.invariant.words),
+  may_cut {T = g.row.T.Denot} (pass_of c.pass.inside.seat.table_id c.pass.inside.seat.me.0) c.pass.inside.seat.me c.take.new.seat.me c.next_name.new.seat.me
+      c.pass.invariant.rest c.take.ensures.got c.in-Some.name c.in-Some.ensures.names c.give_and_draw.new.seat.me c.give_and_draw.ensures.drawn c.give_and_draw.new.seat.id,
+)

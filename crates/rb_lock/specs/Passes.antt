@@ -1,0 +1,122 @@
+-- What a pass is seen as: whose it is, its name, and what it has seen, made and taken in.
+use Rattle.std.specs.Prelude.{◌≡◌, ℕ, ◌≤◌, min, List, [], ◌∷◌, ◌++◌, length, refl}
+use Rattle.std.specs.Coded.{Coded, code_by, coded×, coded_ℕ, coded_list}
+use mathlib.Core.List.{IsPrefix}
+use Rattle.atomic_table.specs.Seated.{TableId, table_id_coded}
+use Rattle.rb_ledger.specs.declared.totals.Totals.{Totals}
+use Rattle.rb_ledger.specs.declared.totals.TheConstants.{GREATEST_COUNT}
+use Rattle.rb_queue.specs.Counts.{events_of}
+use Rattle.rb_queue.specs.History.{IsLegal}
+use Rattle.rb_queue.specs.declared.event.Event.{Event}
+use Rattle.rb_queue.specs.declared.opening.Opening.{Opening}
+use Rattle.rb_queue.specs.contracts.event.Event as event
+use Rattle.rb_queue.specs.contracts.opening.Opening as opening
+use Rattle.rb_kept.specs.Log.{Log}
+use Rattle.rb_kept.specs.Shares.{totals_of}
+use Rattle.rb_kept.specs.declared.kept.TheConstants.{MOST_CALLS}
+use Rattle.rb_lock.specs.Records.{calls_of}
+use Rattle.rb_lock.specs.declared.record.Record.{Record}
+use Rattle.rb_lock.specs.contracts.record.Record as entry
+
+pub record Seen : Type 0 where
+  -- which shared queue it is of
+  pub table : TableId
+  pub name : ℕ
+  pub capacity : ℕ
+  pub opening : Opening
+  -- how many names had been given when it last took the lock
+  pub noted : ℕ
+  -- the history, as far as it has seen it
+  pub seen : List Event
+  -- the events of its own calls
+  pub mine : List Event
+  -- the passes that were folded into it, directly or through others
+  pub folded : List Record
+
+-- it is stored as the tuple of its fields
+abbrev pub seen_code : Coded Seen
+seen_code =
+    code_by
+    (TableId × (ℕ × (ℕ × (Opening × (ℕ × (List Event × (List Event × List Record)))))))
+    (coded× table_id_coded (coded× coded_ℕ (coded× coded_ℕ (coded× opening.the_row.coded (coded× coded_ℕ
+    (coded× (coded_list event.the_row.coded) (coded× (coded_list event.the_row.coded) (coded_list entry.the_row.coded))))))))
+    (λ pass. (pass.table, (pass.name, (pass.capacity, (pass.opening, (pass.noted, (pass.seen, (pass.mine, pass.folded))))))))
+    (λ p. record {
+      table = p.0;
+      name = p.1.0;
+      capacity = p.1.1.0;
+      opening = p.1.1.1.0;
+      noted = p.1.1.1.1.0;
+      seen = p.1.1.1.1.1.0;
+      mine = p.1.1.1.1.1.1.0;
+      folded = p.1.1.1.1.1.1.1;
+    })
+    (λ _. refl)
+
+-- the log of the pass's queue, at this history
+abbrev pub log_at : Seen → List Event → Log
+log_at pass history = record { opening = pass.opening; history = history; capacity = pass.capacity }
+
+-- the log as far as the pass has seen it
+abbrev pub log_of : Seen → Log
+log_of pass = log_at pass pass.seen
+
+-- the pass's own record
+abbrev pub record_of : Seen → Record
+record_of pass = record { name = pass.name; seen = pass.seen; mine = pass.mine }
+
+-- its own record, and those of all that were folded into it
+abbrev pub gathered : Seen → List Record
+gathered pass = record_of pass ∷ pass.folded
+
+-- each total, or the greatest count where that is less
+abbrev pub capped : Totals → Totals
+capped totals = record {
+  calls = min totals.calls GREATEST_COUNT;
+  offered = min totals.offered GREATEST_COUNT;
+  given = min totals.given GREATEST_COUNT;
+}
+
+-- what the calls of the pass and of all that were folded into it come to
+abbrev pub tally_of : Seen → Totals
+tally_of pass = capped (totals_of (calls_of (gathered pass)))
+
+-- What every pass keeps true: it has seen a legal history with room for it, in which its events are exactly
+-- its calls.
+pub record IsSound (pass : Seen) : Type 0 where
+  pub legal : IsLegal pass.opening pass.seen
+  pub few : length pass.seen ≤ pass.capacity
+  pub most : pass.capacity ≤ MOST_CALLS
+  pub own : events_of pass.seen pass.name ≡ pass.mine
+
+-- The pass has seen a history that begins with all that it had seen. Its queue, its name and what was folded
+-- into it are as before.
+pub record Learns (old new : Seen) : Type 0 where
+  pub table : new.table ≡ old.table
+  pub name : new.name ≡ old.name
+  pub capacity : new.capacity ≡ old.capacity
+  pub opening : new.opening ≡ old.opening
+  pub folded : new.folded ≡ old.folded
+  pub begins : IsPrefix old.seen new.seen
+  pub sound : IsSound new
+
+-- the first pass of a queue: it has name 0, and has seen nothing
+abbrev pub first_pass : TableId → Log → Seen
+first_pass table start = record {
+  table = table;
+  name = 0;
+  capacity = start.capacity;
+  opening = start.opening;
+  noted = 1;
+  seen = [];
+  mine = [];
+  folded = [];
+}
+
+-- a pass split off: it has seen the same, under the name that was next, and made no call
+abbrev pub child_of : Seen → Seen
+child_of pass = record pass { name = pass.noted; mine = []; folded = [] }
+
+-- a pass with another folded into it: the other's record and those folded into that follow its own
+abbrev pub folded_with : Seen → Seen → Seen
+folded_with pass other = record pass { folded = pass.folded ++ gathered other }

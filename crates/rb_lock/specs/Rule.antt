@@ -1,0 +1,73 @@
+-- The rule of the lock: what holds of the word, of the pair at home and of all views, between any two steps.
+use Rattle.std.specs.Prelude.{◌≡◌, ℕ, ◌<◌, ◌≤◌, ◌⊎◌, List, [], ◌∷◌, Option, Some}
+use mathlib.Core.Option.{none, some}
+use mathlib.Core.List.{IsPrefix}
+use lib.ListN.{get_elem?}
+use Rattle.atomic_table.specs.Table.{State}
+use Rattle.rb_queue.specs.Counts.{events_of}
+use Rattle.rb_queue.specs.declared.event.Event.{Event}
+use Rattle.rb_kept.specs.Log.{Log}
+use Rattle.rb_lock.specs.Records.{AreRecords}
+use Rattle.rb_lock.specs.Views.{records_of, weight, holders, total}
+use Rattle.rb_lock.specs.declared.home.Home.{Home}
+use Rattle.rb_lock.specs.declared.home.TheConstants.{MOST_NAMES}
+use Rattle.rb_lock.specs.declared.stage.Stage.{Stage}
+use Rattle.rb_lock.specs.declared.stage.Stage.TheVariants.{Idle, Holds, Drew, Meets, Gone}
+use Rattle.rb_lock.specs.declared.view.View.{View}
+
+-- what a seat knows by what it is about to do
+abbrev pub AtStage : Log → ℕ → ℕ → Stage → Type 0
+AtStage log names noted Idle = Unit {0}
+AtStage log names noted (Holds found) = (found ≡ log.history) × (noted ≡ names)
+AtStage log names noted (Drew name) = (name < names) × (events_of log.history name ≡ [])
+AtStage log names noted (Meets one other room start) =
+    IsPrefix one log.history × IsPrefix other log.history × (room ≡ log.capacity) × (start ≡ log.opening)
+AtStage log names noted Gone = Unit {0}
+
+-- the seat is not spent
+abbrev pub IsThere : Stage → Type 0
+IsThere Idle = Unit {0}
+IsThere (Holds found) = Unit {0}
+IsThere (Drew name) = Unit {0}
+IsThere (Meets one other room start) = Unit {0}
+IsThere Gone = ⊥
+
+-- A view fits the current log and the number of names: one that is not spent has this run's capacity and
+-- opening, the history begins with what it has seen, and all its records are of this history.
+pub record Fits (log : Log) (names : ℕ) (v : View) : Type 0 where
+  pub capacity : IsThere v.stage → v.capacity ≡ log.capacity
+  pub opening : IsThere v.stage → v.opening ≡ log.opening
+  pub begins : IsPrefix v.seen log.history
+  pub records : AreRecords log.history (records_of v)
+  pub stage : AtStage log names v.noted v.stage
+
+module _ {T : Type 0} where
+  abbrev pub home_of : Log → ℕ → Home T
+  home_of log names = record { kept = log; names = names }
+
+  -- the lock is free: the pair is at home, and no seat holds
+  pub record IsFree (log : Log) (names : ℕ) (s : State (Option (Home T)) View) : Type 0 where
+    pub words : s.words ≡ 0 ∷ []
+    pub homes : s.homes ≡ some (Some (home_of log names)) ∷ []
+    pub nobody : total holders s.views ≡ 0
+
+  -- the lock is held: the slot is out, with one seat
+  pub record IsHeld (s : State (Option (Home T)) View) : Type 0 where
+    pub word : ℕ
+    pub words : s.words ≡ word ∷ []
+    pub taken : 0 < word
+    pub homes : s.homes ≡ none ∷ []
+    pub one : total holders s.views ≡ 1
+
+  -- The current log and the number of names are those of the pair at home or, while a seat holds, what that
+  -- seat noted. Each view fits them. No name stands twice among all records and drawn names; each of these
+  -- is below the number, and so is each event's seat.
+  pub record Locked (s : State (Option (Home T)) View) : Type 0 where
+    pub log : Log
+    pub names : ℕ
+    pub few : names ≤ MOST_NAMES
+    pub place : IsFree log names s ⊎ IsHeld s
+    pub fits : (by : ℕ) (v : View) → get_elem? s.views by ≡ some v → Fits log names v
+    pub once : (name : ℕ) → total (weight name) s.views ≤ 1
+    pub below : (name : ℕ) → names ≤ name → total (weight name) s.views ≡ 0
+    pub strangers : (name : ℕ) → names ≤ name → events_of log.history name ≡ []

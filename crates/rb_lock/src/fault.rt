@@ -1,0 +1,31 @@
+use rb_ledger::Totals;
+use thiserror::Error;
+
+/// Why a kept queue could not be shared.
+#[derive(Clone, Copy, Debug, PartialEq, Eq, Error)]
+pub enum OpenFault {
+    /// There is no memory for the lock.
+    #[error("out of memory")]
+    Memory,
+}
+
+/// Why no pass could be split off.
+#[derive(Clone, Copy, Debug, PartialEq, Eq, Error)]
+pub enum SplitFault {
+    /// All 65,536 names are given.
+    #[error("every name of a pass is given")]
+    Names,
+}
+
+/// Why a shared queue was not closed.
+#[derive(Clone, Copy, Debug, PartialEq, Eq, Error)]
+pub enum CloseFault {
+    /// The pass, with all that were folded into it, has fewer calls than the books.
+    #[error("a pass with calls is not gathered")]
+    NotAll {
+        /// What the pass and those folded into it come to.
+        gathered: Totals,
+        /// What the whole history comes to.
+        booked: Totals,
+    },
+}

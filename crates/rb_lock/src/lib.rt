@@ -1,0 +1,23 @@
+//! One kept queue for many threads, and one legal history for all of them.
+//!
+//! Each thread calls through a pass of its own. A pass stores no event: what it has seen and made is known
+//! to the proofs alone, and so is that the histories of all passes are beginnings of one.
+#![tactic(auto)]
+
+mod fault;
+mod home;
+mod law;
+mod lock;
+mod pass;
+mod plays;
+mod record;
+mod shared;
+mod stage;
+#[cfg(test)]
+mod tests;
+mod view;
+
+pub use fault::{CloseFault, OpenFault, SplitFault};
+pub use home::MOST_NAMES;
+pub use pass::Pass;
+pub use shared::Shared;

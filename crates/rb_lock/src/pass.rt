@@ -1,0 +1,50 @@
+ghost use Rattle.std.specs.Prelude.{◌≡◌};
+ghost use Rattle.rb_lock.specs.Passes.{IsSound, tally_of};
+
+use crate::law::PassSeat;
+use rb_ledger::Tally;
+use rb_timer::Timer;
+use std::marker::Model;
+
+/// The right of one thread to call a shared queue, under a name of its own.
+///
+/// It keeps the share of the totals that its calls came to. Contracts see what it has seen of the history,
+/// its own calls, and the passes that were folded into it; none of that is stored.
+#[derive(Drop)]
+pub struct Pass<T: Timer> {
+    pub(crate) seat: PassSeat<T>,
+    pub(crate) name: u64,
+    pub(crate) tally: Tally,
+}
+
+impl<T: Timer> Model for Pass<T> {
+    ghost use Rattle.rb_lock.specs.Passes.{Seen, seen_code};
+
+    ghost Value = { Seen };
+
+    ghost coded = { seen_code };
+
+    ghost use Rattle.rb_lock.specs.Views.{pass_of};
+    ghost use Rattle.rb_lock.specs.LockSteps.{IsPass};
+
+    ghost view = { λ pass. pass_of pass.seat.table_id pass.seat.me.0 };
+
+    ghost invariant = { λ pass. IsPass pass.seat.table_id pass.seat.me pass.name pass.tally };
+}
+
+impl<T: Timer> Pass<T> {
+    /// The seat of its events: 0 for the first pass of a queue, and no name is given twice.
+    pub fn name(&self) -> u64
+        ensures name { result ≡ self.now.name }
+        ensures sound { IsSound self.now }
+    {
+        self.name
+    }
+
+    /// The calls that were answered to it and to the passes folded into it.
+    pub fn calls(&self) -> u64
+        ensures { result ≡ (tally_of self.now).calls }
+    {
+        self.tally.calls()
+    }
+}

@@ -1,0 +1,234 @@
+ghost use Rattle.std.specs.Prelude.{◌≡◌, [], ◌∷◌, ℕ, Some, IfOk, IfErr, OnErr};
+ghost use Rattle.rb_ledger.specs.Totals.{nothing};
+ghost use Rattle.rb_queue.specs.Counts.{events_of, audit_of};
+ghost use Rattle.rb_lock.specs.Passes.{first_pass, child_of, folded_with, gathered, tally_of, Learns};
+ghost use Rattle.rb_kept.specs.Shares.{totals_of};
+ghost use Rattle.rb_lock.specs.SharedCalls.{Answered};
+ghost use Rattle.rb_lock.specs.Gatherings.{IsGathered, IsRefused, AreCounts};
+
+use crate::fault::{CloseFault, OpenFault, SplitFault};
+use crate::home::{Home, MOST_NAMES};
+use crate::law::Law;
+use crate::lock::{FREE, act, give, give_and_draw, learn, next_name, put_back, take, take_out};
+use crate::pass::Pass;
+use crate::plays::{Cut, Fold};
+use crate::view::View;
+use atomic_table::{Refused, Table};
+use rb_kept::{CallFault, Kept, Outcome};
+use rb_ledger::{Tally, Totals};
+use rb_queue::{Ask, Audit};
+use rb_timer::Timer;
+use std::alloc::Global;
+use std::marker::Model;
+use std::snapshot::Snapshot;
+use std::sync::Wait;
+
+/// A kept queue that many threads call, each through a pass of its own.
+///
+/// The queue lies in the one slot of a table, and the table's one word says whether it is at home. It is
+/// taken and given back by single exchanges of the word; only who took it touches the slot.
+#[derive(Drop)]
+pub struct Shared<T: Timer> {
+    table: Table<Option<Home<T>>, View, Snapshot<Kept<T>>, Law, Global>,
+}
+
+impl<T: Timer> Model for Shared<T> {
+    ghost use Rattle.atomic_table.specs.Seated.{TableId, table_id_coded};
+
+    ghost Value = { TableId };
+
+    ghost coded = { table_id_coded };
+
+    ghost use Rattle.rb_lock.specs.LockSteps.{HasOneWord};
+
+    ghost view = { λ shared. shared.table.shared.table_id };
+
+    ghost invariant = { λ shared. HasOneWord shared.table.shared.table_id };
+}
+
+impl<T: Timer> Shared<T> {
+    /// Shares a queue that was not called yet, and gives its first pass, of name 0.
+    ///
+    /// It takes memory for the lock alone. A fault hands both back.
+    pub fn open(
+        alloc: Global,
+        kept: Kept<T>,
+        tally: Tally,
+    ) -> Result<(Shared<T>, Pass<T>), (Kept<T>, Tally, OpenFault)>
+        requires history { kept.history ≡ [] }
+        requires tally { tally ≡ nothing }
+        ensures pass { IfOk result (λ opened. opened.1 ≡ first_pass opened.0 kept) }
+        ensures kept { IfErr result (λ refused. refused.0 ≡ kept) }
+        ensures handed_back { IfErr result (λ refused. refused.1 ≡ tally) }
+    {
+        let start = Snapshot::of(&kept);
+        // The proof reads here how long a history may be.
+        let _ = kept.capacity();
+        let Ok(mut slots) = Vec::with_capacity(alloc, 1) else {
+            return Err((kept, tally, OpenFault::Memory));
+        };
+        slots.push_reserved(Some(Home { kept, names: 1 }));
+        match Table::new(alloc, &[FREE], slots, &start) {
+            Ok((table, seat)) => {
+                let pass = Pass {
+                    seat,
+                    name: 0,
+                    tally,
+                };
+                Ok((Shared { table }, pass))
+            }
+            Err(Refused { slots }) => Err((only_kept(slots), tally, OpenFault::Memory)),
+        }
+    }
+
+    /// Splits a new pass off, under the next name, which was never given before. It waits while another pass
+    /// calls.
+    ///
+    /// The new pass has seen what this one has, and has made no call. `Names` is answered only where all
+    /// 65,536 names are given. Either way this pass may have seen more of the history.
+    pub fn split<R: Wait>(&self, rt: &R, pass: &mut Pass<T>) -> Result<Pass<T>, SplitFault>
+        requires pass { pass.old.table ≡ self.now }
+        ensures learns { Learns pass.old pass.new }
+        ensures mine { pass.new.mine ≡ pass.old.mine }
+        ensures child { IfOk result (λ child. child ≡ child_of pass.new) }
+        ensures unheard { IfOk result (λ child. events_of child.seen child.name ≡ []) }
+        ensures names { OnErr result (pass.new.noted ≡ MOST_NAMES) }
+    {
+        let words = &self.table.shared;
+        take(words, rt, &mut pass.seat);
+        let Some(name) = next_name(words, &mut pass.seat) else {
+            give(words, &mut pass.seat);
+            return Err(SplitFault::Names);
+        };
+        give_and_draw(words, &mut pass.seat);
+        let seat = words.split_seat::<Cut>(&mut pass.seat);
+        let tally = pass.tally.split();
+        Ok(Pass { seat, name, tally })
+    }
+
+    /// Folds another pass into this one, with all that were folded into it: their calls are counted here
+    /// from now on. It waits for nobody.
+    pub fn fold(&self, pass: &mut Pass<T>, other: Pass<T>)
+        requires pass { pass.old.table ≡ self.now }
+        requires other { other.table ≡ self.now }
+        ensures { pass.new ≡ folded_with pass.old other }
+    {
+        let Pass {
+            seat,
+            name: _,
+            tally,
+        } = other;
+        self.table.shared.join_seat::<Fold>(&mut pass.seat, seat);
+        pass.tally.join(tally);
+    }
+
+    /// Two passes tell each other what they have seen. It waits for nobody.
+    ///
+    /// Afterwards both have seen one history, which begins with what each had seen.
+    pub fn meet(&self, first: &mut Pass<T>, second: &mut Pass<T>)
+        requires first { first.old.table ≡ self.now }
+        requires second { second.old.table ≡ self.now }
+        ensures same { first.new.seen ≡ second.new.seen }
+        ensures first { Learns first.old first.new }
+        ensures first_mine { first.new.mine ≡ first.old.mine }
+        ensures second { Learns second.old second.new }
+        ensures second_mine { second.new.mine ≡ second.old.mine }
+    {
+        let words = &self.table.shared;
+        learn(words, &mut first.seat, &mut second.seat);
+        learn(words, &mut second.seat, &mut first.seat);
+    }
+
+    /// Makes one call, as `Kept::act`, with the pass's name as seat. It waits while another pass calls.
+    ///
+    /// After a reply the pass has seen a legal history that begins with all that it had seen and ends with
+    /// this call, whose reply is that of the history. Otherwise no event is made: after `Later` the pass
+    /// has seen a history from which the ask would wait, after `Full` one with `capacity` events; `Memory`
+    /// is answered to an offer and a drain alone.
+    pub fn call<R: Wait>(
+        &self,
+        rt: &R,
+        pass: &mut Pass<T>,
+        asked: u64,
+        ask: Ask,
+    ) -> Result<Outcome, CallFault>
+        requires pass { pass.old.table ≡ self.now }
+        ensures learns { Learns pass.old pass.new }
+        ensures answered { Answered pass.old pass.new (record { seat = pass.old.name; asked = asked; ask = ask }) result }
+    {
+        let words = &self.table.shared;
+        take(words, rt, &mut pass.seat);
+        let outcome = act(
+            words,
+            &mut pass.seat,
+            &mut pass.tally,
+            pass.name,
+            asked,
+            ask,
+        );
+        give(words, &mut pass.seat);
+        outcome
+    }
+
+    /// Ends the sharing, where all passes with calls are gathered in this one: itself, or folded into it. It
+    /// waits while another pass calls, and takes no memory.
+    ///
+    /// The history that comes back has the calls of these passes and no other. `NotAll` is answered exactly
+    /// where the pass's totals are not those of the whole history, and all is handed back.
+    pub fn close<R: Wait>(
+        self,
+        rt: &R,
+        pass: Pass<T>,
+    ) -> Result<(Kept<T>, Tally, Audit), (Shared<T>, Pass<T>, CloseFault)>
+        requires pass { pass.table ≡ self }
+        ensures capacity { IfOk result (λ closed. closed.0.capacity ≡ pass.capacity) }
+        ensures opening { IfOk result (λ closed. closed.0.opening ≡ pass.opening) }
+        ensures gathered { IfOk result (λ closed. IsGathered closed.0 (gathered pass)) }
+        ensures tally { IfOk result (λ closed. closed.1 ≡ tally_of pass) }
+        ensures totals { IfOk result (λ closed. closed.1 ≡ totals_of closed.0.history) }
+        ensures audit { IfOk result (λ closed. closed.2 ≡ audit_of closed.0.opening closed.0.history) }
+        ensures handed_back { IfErr result (λ refused. refused.0 ≡ self) }
+        ensures learns { IfErr result (λ refused. Learns pass refused.1) }
+        ensures mine { IfErr result (λ refused. refused.1.mine ≡ pass.mine) }
+        ensures not_all { IfErr result (λ refused. IsRefused refused.1 refused.2) }
+    {
+        let Pass {
+            mut seat,
+            name,
+            tally,
+        } = pass;
+        let words = &self.table.shared;
+        take(words, rt, &mut seat);
+        let home = take_out(words, &mut seat);
+        let audit = home.kept.audit();
+        let booked = totals_in(audit);
+        let gathered = tally.totals();
+        if gathered == booked {
+            return Ok((home.kept, tally, audit));
+        }
+        put_back(words, &mut seat, home);
+        give(words, &mut seat);
+        let pass = Pass { seat, name, tally };
+        Err((self, pass, CloseFault::NotAll { gathered, booked }))
+    }
+}
+
+// The totals that an audit has.
+fn totals_in(audit: Audit) -> Totals
+    ensures totals { result ≡ record { calls = audit.calls; offered = audit.offered; given = audit.given } }
+    ensures fits { AreCounts result }
+{
+    Totals {
+        calls: audit.calls,
+        offered: audit.offered,
+        given: audit.given,
+    }
+}
+
+// The kept queue of the one pair among these slots.
+fn only_kept<T: Timer>(mut slots: Vec<Option<Home<T>>>) -> Kept<T>
+    requires { (home : Home T) × (slots.items ≡ Some home ∷ []) }
+    ensures { (names : ℕ) × (slots.items ≡ Some (record { kept = result; names = names }) ∷ []) }
+{
+    slots.pop().unwrap().unwrap().kept
+}
