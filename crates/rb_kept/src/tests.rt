@@ -10,8 +10,8 @@ mod shares;
 
 use crate::{Kept, Outcome};
 use rb_delayed::{Element, Payload};
-use rb_ledger::Tally;
-use rb_queue::{Act, Ask, Draft, Event, Ids, Items, Opening, Reply};
+use rb_ledger::{Tally, Totals};
+use rb_queue::{Act, Ask, Audit, Draft, Event, Ids, Items, Opening, Reply};
 use rb_timer::ListTimer;
 use std::alloc::Global;
 use std::process::Abort;
@@ -59,6 +59,19 @@ fn event(seat: u64, asked: u64, at: u64, act: Act) -> Event {
     }
 }
 
+fn timed_poll(start: u64, timeout: u64) -> Ask {
+    Ask::PollFor { start, timeout }
+}
+
+// The act of a timed poll.
+fn timed_act(start: u64, timeout: u64, got: Option<u64>) -> Act {
+    Act::PollFor {
+        start,
+        timeout,
+        got,
+    }
+}
+
 // The act of a drain that gave these.
 fn drained(alloc: Global, max: u64, ids: &[u64]) -> Result<Act, Fail> {
     let mut given = Vec::new(alloc);
@@ -77,6 +90,81 @@ fn answer(kept: &mut ListKept, tally: &mut Tally, asked: u64, ask: Ask) -> Resul
         Outcome::Done(reply) => Ok(reply),
         Outcome::Later(_) => Err(Fail::from("the ask would wait")),
     }
+}
+
+// Asks for seat 0, and expects this reply.
+fn expect(
+    rt: &impl Abort,
+    kept: &mut ListKept,
+    tally: &mut Tally,
+    asked: u64,
+    ask: Ask,
+    reply: Reply,
+) -> Result<(), Fail> {
+    assert_eq!(rt; answer(kept, tally, asked, ask)?, reply, "at {asked}");
+    Ok(())
+}
+
+// Makes first offers of these ids, expiries and payloads of one byte.
+fn offer_each(
+    rt: &impl Abort,
+    kept: &mut ListKept,
+    tally: &mut Tally,
+    asked: u64,
+    entries: &[(u64, u64, u8)],
+) -> Result<(), Fail> {
+    for &(id, expiry, byte) in entries {
+        let reply = offered(rt, id, expiry, &[byte]);
+        expect(rt, kept, tally, asked, offer(rt, expiry, &[byte]), reply)?;
+    }
+    Ok(())
+}
+
+// Asks for seat 0, and expects that the ask would wait, for this expiry.
+fn expect_wait(
+    rt: &impl Abort,
+    kept: &mut ListKept,
+    tally: &mut Tally,
+    asked: u64,
+    ask: Ask,
+    next: Option<u64>,
+) -> Result<(), Fail> {
+    let outcome = kept.act(tally, 0, asked, ask)?;
+    assert_eq!(rt; outcome, Outcome::Later(next), "at {asked}");
+    Ok(())
+}
+
+// Expects this as the last event, of seat 0.
+fn expect_last(rt: &impl Abort, kept: &ListKept, asked: u64, at: u64, act: Act) {
+    assert_eq!(rt; kept.history().last(), Some(&event(0, asked, at, act)));
+}
+
+// Expects these numbers in the audit: calls, elements offered, given, removed and cleared, those that are
+// left, and those of the opening.
+fn expect_audit(rt: &impl Abort, kept: &ListKept, numbers: [u64; 7]) {
+    let [calls, offered, given, removed, cleared, left, opening] = numbers;
+    let audit = Audit {
+        calls,
+        offered,
+        given,
+        removed,
+        cleared,
+        left,
+        opening,
+    };
+    assert_eq!(rt; kept.audit(), audit);
+}
+
+// Expects these totals in a share: calls, offered and given.
+fn expect_share(rt: &impl Abort, tally: &Tally, calls: u64, offered: u64, given: u64) {
+    assert_eq!(rt;
+        tally.totals(),
+        Totals {
+            calls,
+            offered,
+            given,
+        }
+    );
 }
 
 // Element 2 of expiry 50, of an older job, and element 5 of expiry 40. The next id is 7, and the last

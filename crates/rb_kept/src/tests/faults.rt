@@ -1,23 +1,30 @@
-use super::ListKept;
+use super::{ListKept, expect_share};
 use crate::{CallFault, MOST_CALLS, NewFault};
+use rb_ledger::Tally;
+use std::process::Abort;
 use std::test::Fail;
+
+fn expect_new(rt: &impl Abort, kept: &ListKept, tally: &Tally, capacity: u64) {
+    assert_eq!(rt; (kept.capacity(), kept.history().len()), (capacity, 0));
+    expect_share(rt, tally, 0, 0, 0);
+}
 
 #[test]
 fn a_capacity_is_1_to_1_000_000(rt: HostRuntime) -> Result<(), Fail> {
     assert_eq!(rt; MOST_CALLS, 1_000_000);
-    for capacity in [0, 1_000_001, u64::MAX] {
-        assert_eq!(rt;
-            ListKept::new(rt.alloc(), capacity).err(),
-            Some(NewFault::BadCapacity)
-        );
-    }
     for capacity in [1, 1_000_000] {
         let (kept, tally) = ListKept::new(rt.alloc(), capacity)?;
-        assert_eq!(rt; kept.capacity(), capacity);
-        assert!(rt; kept.history().is_empty());
-        assert_eq!(rt; (tally.calls(), tally.offered(), tally.given()), (0, 0, 0));
+        expect_new(&rt, &kept, &tally, capacity);
     }
     Ok(())
+}
+
+#[test]
+fn no_other_capacity_is_taken(rt: HostRuntime) {
+    for capacity in [0, 1_000_001, u64::MAX] {
+        let fault = ListKept::new(rt.alloc(), capacity).err();
+        assert_eq!(rt; fault, Some(NewFault::BadCapacity), "{capacity}");
+    }
 }
 
 #[test]
