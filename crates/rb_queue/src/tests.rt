@@ -49,3 +49,16 @@ fn standing(rt: &impl Abort, alloc: Global, entries: &[(u64, u64)]) -> Result<It
     }
     Ok(Items::new(elements))
 }
+
+// Expects that what a poll gives at this moment, again and again, is elements of these ids.
+fn expect_polled(rt: &impl Abort, queue: &mut ListQueue, now: u64, ids: &[u64]) {
+    for &id in ids {
+        let polled = queue.poll(now).map(|element| element.id);
+        assert_eq!(rt; polled, Some(id));
+    }
+}
+
+// Expects so many elements in the queue, and this next id.
+fn expect_size(rt: &impl Abort, queue: &ListQueue, size: u64, next_id: u64) {
+    assert_eq!(rt; (queue.size(), queue.next_id()), (size, next_id));
+}

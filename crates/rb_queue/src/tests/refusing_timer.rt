@@ -74,15 +74,32 @@ fn an_offer_refused_by_the_timer_changes_nothing(rt: HostRuntime) -> Result<(), 
     Ok(())
 }
 
+fn expect_refused(rt: &impl Abort, alloc: Global, opening: &Opening) {
+    assert!(rt; DelayQueue::<RefusingTimer<ListTimer, 4>>::new_from(alloc, opening).is_err());
+}
+
+fn begin(rt: &impl Abort, alloc: Global, opening: &Opening) -> Result<(), AllocError> {
+    let queue = ListQueue::new_from(alloc, opening)?;
+    expect_size(rt, &queue, 5, 5);
+    Ok(())
+}
+
+fn refuse_and_begin(
+    rt: &impl Abort,
+    alloc: Global,
+    opening: &Opening,
+    entries: &[(u64, u64)],
+) -> Result<(), Fail> {
+    expect_refused(rt, alloc, opening);
+    assert_eq!(rt; opening.elements, standing(rt, alloc, entries)?);
+    begin(rt, alloc, opening)?;
+    Ok(())
+}
+
 #[test]
 fn an_opening_stays_where_the_timer_refuses(rt: HostRuntime) -> Result<(), Fail> {
-    let alloc = rt.alloc();
     let entries = [(0, 9), (1, 8), (2, 7), (3, 6), (4, 5)];
-    let items = standing(&rt, alloc, &entries)?;
+    let items = standing(&rt, rt.alloc(), &entries)?;
     let opening = Opening::new(items, 5, 0).ok_or("no opening")?;
-    assert!(rt; DelayQueue::<RefusingTimer<ListTimer, 4>>::new_from(alloc, &opening).is_err());
-    assert_eq!(rt; opening.elements, standing(&rt, alloc, &entries)?);
-    let queue = ListQueue::new_from(alloc, &opening)?;
-    assert_eq!(rt; (queue.size(), queue.next_id()), (5, 5));
-    Ok(())
+    refuse_and_begin(&rt, rt.alloc(), &opening, &entries)
 }
