@@ -1,10 +1,9 @@
 // Long runs, in which every array has grown many times, find memory.
 
-use super::{ListKept, element, expect, expect_audit, expect_share, offer};
+use super::run::Run;
+use super::{element, offer};
 use crate::{Outcome, Step, Try};
-use rb_delayed::Element;
-use rb_ledger::Tally;
-use rb_queue::{Act, Ask, Reply};
+use rb_queue::{Act, Ask, Ids, Items, Reply};
 use std::alloc::{AllocError, Global};
 use std::process::Abort;
 use std::test::Fail;
@@ -38,65 +37,51 @@ fn reply_of(rt: &impl Abort, n: u64) -> Reply {
     Reply::Offered(element(rt, n, expiry_of(rank_of(n)), &PAYLOAD))
 }
 
-fn offers_all(rt: &impl Abort, kept: &mut ListKept, tally: &mut Tally) -> Result<(), Fail> {
+fn offers_all(rt: &impl Abort, run: &mut Run) {
     for n in 0..OFFERS {
-        expect(rt, kept, tally, n, ask_of(rt, n), reply_of(rt, n))?;
-    }
-    Ok(())
-}
-
-// The elements come in the order of their expiries.
-fn expect_items(rt: &impl Abort, items: &[Element]) {
-    assert_eq!(rt; items.len(), 2_500);
-    for (rank, item) in (0..OFFERS).zip(items) {
-        let expected = element(rt, offer_of(rank), expiry_of(rank), &PAYLOAD);
-        assert_eq!(rt; *item, expected);
+        run.expect(rt, n, ask_of(rt, n), reply_of(rt, n));
     }
 }
 
-// So do the ids that are recorded.
-fn expect_ids(rt: &impl Abort, ids: &[u64]) {
-    assert_eq!(rt; ids.len(), 2_500);
-    for (rank, &id) in (0..OFFERS).zip(ids) {
-        assert_eq!(rt; id, offer_of(rank));
+// All elements, in the order of their expiries.
+fn all_items(rt: &impl Abort, alloc: Global) -> Result<Items, AllocError> {
+    let mut elements = Vec::new(alloc);
+    for rank in 0..OFFERS {
+        let (id, expiry) = (offer_of(rank), expiry_of(rank));
+        elements.push(element(rt, id, expiry, &PAYLOAD))?;
     }
+    Ok(Items::new(elements))
 }
 
-fn drains_all(rt: &impl Abort, kept: &mut ListKept, tally: &mut Tally) -> Result<(), Fail> {
-    let outcome = kept.act(tally, 0, expiry_of(OFFERS), Ask::Drain(u64::MAX))?;
-    let Outcome::Done(Reply::Drained(items)) = outcome else {
-        return Err(Fail::from("the drain gave nothing"));
-    };
-    let Some(Act::Drain { max: u64::MAX, ids }) = kept.history().last().map(|event| &event.act)
-    else {
-        return Err(Fail::from("the drain is not recorded"));
-    };
-    expect_items(rt, items.as_slice());
-    expect_ids(rt, ids.as_slice());
-    Ok(())
-}
-
-fn asks_for_much(rt: &impl Abort, kept: &mut ListKept, tally: &mut Tally) -> Result<(), Fail> {
-    offers_all(rt, kept, tally)?;
-    drains_all(rt, kept, tally)?;
-    expect_audit(rt, kept, [2_501, 2_500, 2_500, 0, 0, 0, 0]);
-    expect_share(rt, tally, 2_501, 2_500, 2_500);
-    Ok(())
+fn all_ids(alloc: Global) -> Result<Ids, AllocError> {
+    let mut ids = Vec::new(alloc);
+    for rank in 0..OFFERS {
+        ids.push(offer_of(rank))?;
+    }
+    Ok(Ids::new(ids))
 }
 
 #[test]
 fn answers_with_ample_memory(rt: HostRuntime) -> Result<(), Fail> {
-    let (mut kept, mut tally) = ListKept::new(rt.alloc(), 1_000_000)?;
-    asks_for_much(&rt, &mut kept, &mut tally)
+    let (items, ids) = (all_items(&rt, rt.alloc())?, all_ids(rt.alloc())?);
+    let mut run = Run::new(&rt, rt.alloc(), 1_000_000);
+    offers_all(&rt, &mut run);
+    let (max, at) = (u64::MAX, expiry_of(OFFERS));
+    run.expect(&rt, at, Ask::Drain(max), Reply::Drained(items));
+    run.expect_last(&rt, at, at, Act::Drain { max, ids });
+    run.expect_audit(&rt, [2_501, 2_500, 2_500, 0, 0, 0, 0]);
+    run.expect_share(&rt, 2_501, 2_500, 2_500);
+    Ok(())
 }
 
-fn tries_of(rt: &impl Abort, alloc: Global) -> Result<Vec<Try>, AllocError> {
+fn all_tries(rt: &impl Abort, alloc: Global) -> Result<Vec<Try>, AllocError> {
     let mut tries = Vec::new(alloc);
     for n in 0..OFFERS {
+        let ask = ask_of(rt, n);
         tries.push(Try {
             seat: n,
             asked: n,
-            ask: ask_of(rt, n),
+            ask,
         })?;
     }
     Ok(tries)
@@ -104,27 +89,19 @@ fn tries_of(rt: &impl Abort, alloc: Global) -> Result<Vec<Try>, AllocError> {
 
 fn expect_offered(rt: &impl Abort, steps: &[Step]) {
     assert_eq!(rt; steps.len(), 2_500);
-    for (n, step) in (0..OFFERS).zip(steps) {
+    let mut n = 0_u64;
+    for step in steps {
         assert_eq!(rt; *step, Ok(Outcome::Done(reply_of(rt, n))));
+        n = n.saturating_add(1);
     }
-}
-
-fn runs_long(
-    rt: &impl Abort,
-    alloc: Global,
-    kept: &mut ListKept,
-    tally: &mut Tally,
-) -> Result<(), Fail> {
-    let steps = kept.run_tries(tally, tries_of(rt, alloc)?)?;
-    expect_offered(rt, &steps);
-    expect_audit(rt, kept, [2_500, 2_500, 0, 0, 0, 2_500, 0]);
-    assert_eq!(rt; kept.history().len(), 2_500);
-    Ok(())
 }
 
 #[test]
 fn a_long_run_finds_ample_memory(rt: HostRuntime) -> Result<(), Fail> {
-    let alloc = rt.alloc();
-    let (mut kept, mut tally) = ListKept::new(alloc, OFFERS)?;
-    runs_long(&rt, alloc, &mut kept, &mut tally)
+    let tries = all_tries(&rt, rt.alloc())?;
+    let mut run = Run::new(&rt, rt.alloc(), OFFERS);
+    let steps = run.kept.run_tries(&mut run.tally, tries);
+    expect_offered(&rt, &steps.ok().expect(&rt, "steps"));
+    run.expect_audit(&rt, [2_500, 2_500, 0, 0, 0, 2_500, 0]);
+    Ok(())
 }

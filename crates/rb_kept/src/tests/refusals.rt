@@ -1,4 +1,4 @@
-use super::{element, offer, offered};
+use super::{element, event, offer, offered};
 use crate::{CallFault, Kept, NewFault, Outcome, Step, Try};
 use rb_delayed::Element;
 use rb_ledger::{Tally, Totals};
@@ -96,13 +96,22 @@ fn answered<T: Timer>(
     }
 }
 
-// Elements 19 to 5 are drained, and their ids recorded.
-fn expect_drained(rt: &impl Abort, items: &[Element], ids: &[u64]) {
-    assert_eq!(rt; (items.len(), ids.len()), (15, 15));
-    for (expected, item) in (5..MANY).rev().zip(items) {
-        assert_eq!(rt; *item, numbered(rt, expected));
+// Elements 19 to 5 are drained.
+fn expect_items(rt: &impl Abort, items: &[Element]) {
+    assert_eq!(rt; items.len(), 15);
+    let mut id = MANY;
+    for item in items {
+        id = id.saturating_sub(1);
+        assert_eq!(rt; *item, numbered(rt, id));
     }
-    for (expected, &id) in (5..MANY).rev().zip(ids) {
+}
+
+// Their ids are recorded.
+fn expect_ids(rt: &impl Abort, ids: &[u64]) {
+    assert_eq!(rt; ids.len(), 15);
+    let mut expected = MANY;
+    for &id in ids {
+        expected = expected.saturating_sub(1);
         assert_eq!(rt; id, expected);
     }
 }
@@ -120,7 +129,8 @@ fn drains<T: Timer>(
     let Some(Act::Drain { ids, .. }) = kept.history().last().map(|event| &event.act) else {
         return Err(Fail::from("the drain is not recorded"));
     };
-    expect_drained(rt, items.as_slice(), ids.as_slice());
+    expect_items(rt, items.as_slice());
+    expect_ids(rt, ids.as_slice());
     Ok(())
 }
 
@@ -192,9 +202,10 @@ fn offers_many<T: Timer>(
 
 fn expect_events(rt: &impl Abort, history: &[Event]) {
     assert_eq!(rt; history.len(), MANY as usize);
-    for (id, event) in (0..MANY).zip(history) {
-        assert_eq!(rt; (event.seat, event.asked, event.at), (0, 95, 95));
-        assert_eq!(rt; event.act, Act::Offer(numbered(rt, id)));
+    let mut id = 0_u64;
+    for offer in history {
+        assert_eq!(rt; *offer, event(0, 95, 95, Act::Offer(numbered(rt, id))));
+        id = id.saturating_add(1);
     }
 }
 

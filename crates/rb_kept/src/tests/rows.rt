@@ -1,196 +1,118 @@
 // Whole exchanges of one caller, each with all its replies.
 
-use super::{
-    ListKept, answer, drained, element, event, expect, expect_audit, expect_last, item, offer,
-    offer_each, offered,
-};
+use super::run::Run;
+use super::{drained, drained_act, element, item};
+use crate::Outcome;
 use rb_delayed::Element;
-use rb_ledger::Tally;
-use rb_queue::{Act, Ask, Items, Reply};
-use std::alloc::{AllocError, Global};
+use rb_queue::{Act, Ask, Reply};
 use std::process::Abort;
-use std::test::Fail;
-
-// The reply of a drain: elements of ids, expiries and payloads of one byte.
-fn drained_items(
-    rt: &impl Abort,
-    alloc: Global,
-    entries: &[(u64, u64, u8)],
-) -> Result<Reply, AllocError> {
-    let mut elements = Vec::new(alloc);
-    for &(id, expiry, byte) in entries {
-        elements.push(element(rt, id, expiry, &[byte]))?;
-    }
-    Ok(Reply::Drained(Items::new(elements)))
-}
 
 // The element that a peek shows at moment 10.
-fn shown(kept: &mut ListKept, tally: &mut Tally) -> Result<Element, Fail> {
-    let reply = answer(kept, tally, 10, Ask::Peek)?;
-    match &reply {
-        Reply::Head(element) => Ok(*element),
-        _ => Err(Fail::from("the peek shows nothing")),
+fn shown(run: &mut Run) -> Option<Element> {
+    let step = run.kept.act(&mut run.tally, 0, 10, Ask::Peek);
+    match &step {
+        Ok(Outcome::Done(Reply::Head(element))) => Some(*element),
+        _ => None,
     }
 }
 
 // The element that a poll gives at moment 10.
-fn polled(kept: &mut ListKept, tally: &mut Tally) -> Result<Element, Fail> {
-    let reply = answer(kept, tally, 10, Ask::Poll)?;
-    match &reply {
-        Reply::Item(element) => Ok(*element),
-        _ => Err(Fail::from("the poll gives nothing")),
+fn polled(run: &mut Run) -> Option<Element> {
+    let step = run.kept.act(&mut run.tally, 0, 10, Ask::Poll);
+    match &step {
+        Ok(Outcome::Done(Reply::Item(element))) => Some(*element),
+        _ => None,
     }
 }
 
-fn give_either(rt: &impl Abort, kept: &mut ListKept, tally: &mut Tally) -> Result<(), Fail> {
-    offer_each(rt, kept, tally, 0, &[(0, 10, b'a'), (1, 10, b'b')])?;
-    let both = [element(rt, 0, 10, b"a"), element(rt, 1, 10, b"b")];
-    let head = shown(kept, tally)?;
-    assert!(rt; both.contains(&head));
-    let first = polled(kept, tally)?;
-    let second = polled(kept, tally)?;
-    assert!(rt; [first, second] == both || [second, first] == both);
-    expect(rt, kept, tally, 10, Ask::Poll, Reply::Nothing)
+#[test]
+fn equal_expiries_are_given_in_either_order(rt: HostRuntime) {
+    let mut run = Run::new(&rt, rt.alloc(), 9);
+    run.offer(&rt, 0, 0, 10, b"a");
+    run.offer(&rt, 0, 1, 10, b"b");
+    let (a, b) = (
+        Some(element(&rt, 0, 10, b"a")),
+        Some(element(&rt, 1, 10, b"b")),
+    );
+    let head = shown(&mut run);
+    assert!(rt; head == a || head == b);
+    let both = (polled(&mut run), polled(&mut run));
+    assert!(rt; both == (a, b) || both == (b, a));
+    run.expect(&rt, 10, Ask::Poll, Reply::Nothing);
 }
 
 #[test]
-fn equal_expiries_are_given_in_either_order(rt: HostRuntime) -> Result<(), Fail> {
-    let (mut kept, mut tally) = ListKept::new(rt.alloc(), 9)?;
-    give_either(&rt, &mut kept, &mut tally)
-}
-
-fn offer_the_past(rt: &impl Abort, kept: &mut ListKept, tally: &mut Tally) -> Result<(), Fail> {
-    for (ask, reply) in [
-        (offer(rt, 7, b"y"), offered(rt, 0, 7, b"y")),
-        (Ask::Poll, item(rt, 0, 7, b"y")),
-        (offer(rt, 5, b"z"), offered(rt, 1, 5, b"z")),
-        (offer(rt, 9, b"w"), offered(rt, 2, 9, b"w")),
-        (Ask::Poll, item(rt, 1, 5, b"z")),
-        (Ask::Poll, item(rt, 2, 9, b"w")),
-    ] {
-        expect(rt, kept, tally, 500, ask, reply)?;
-    }
-    Ok(())
+fn an_offer_into_the_past_is_given_at_once(rt: HostRuntime) {
+    let mut run = Run::new(&rt, rt.alloc(), 9);
+    run.offer(&rt, 500, 0, 7, b"y");
+    run.expect(&rt, 500, Ask::Poll, item(&rt, 0, 7, b"y"));
+    run.offer(&rt, 500, 1, 5, b"z");
+    run.offer(&rt, 500, 2, 9, b"w");
+    run.expect(&rt, 500, Ask::Poll, item(&rt, 1, 5, b"z"));
+    run.expect(&rt, 500, Ask::Poll, item(&rt, 2, 9, b"w"));
 }
 
 #[test]
-fn an_offer_into_the_past_is_given_at_once(rt: HostRuntime) -> Result<(), Fail> {
-    let (mut kept, mut tally) = ListKept::new(rt.alloc(), 9)?;
-    offer_the_past(&rt, &mut kept, &mut tally)
-}
-
-fn drain_four(
-    rt: &impl Abort,
-    alloc: Global,
-    kept: &mut ListKept,
-    tally: &mut Tally,
-) -> Result<(), Fail> {
+fn a_drain_gives_the_least_expiry_first(rt: HostRuntime) {
+    let alloc = rt.alloc();
+    let mut run = Run::new(&rt, alloc, 9);
+    run.offer(&rt, 0, 0, 4096, b"a");
+    run.offer(&rt, 0, 1, 4095, b"b");
+    run.offer(&rt, 0, 2, 64, b"c");
+    run.offer(&rt, 0, 3, 63, b"d");
+    run.expect(&rt, 0, Ask::Peek, Reply::Head(element(&rt, 3, 63, b"d")));
     let entries = [
-        (0, 4096, b'a'),
-        (1, 4095, b'b'),
-        (2, 64, b'c'),
-        (3, 63, b'd'),
-    ];
-    offer_each(rt, kept, tally, 0, &entries)?;
-    expect(
-        rt,
-        kept,
-        tally,
-        0,
-        Ask::Peek,
-        Reply::Head(element(rt, 3, 63, b"d")),
-    )?;
-    let given = [
         (3, 63, b'd'),
         (2, 64, b'c'),
         (1, 4095, b'b'),
         (0, 4096, b'a'),
     ];
-    let all = drained_items(rt, alloc, &given)?;
-    expect(rt, kept, tally, 4096, Ask::Drain(9), all)?;
-    expect_last(rt, kept, 4096, 4096, drained(alloc, 9, &[3, 2, 1, 0])?);
-    Ok(())
+    run.expect(&rt, 4096, Ask::Drain(9), drained(&rt, alloc, &entries));
+    run.expect_last(&rt, 4096, 4096, drained_act(&rt, alloc, 9, &[3, 2, 1, 0]));
 }
 
 #[test]
-fn a_drain_gives_the_least_expiry_first(rt: HostRuntime) -> Result<(), Fail> {
+fn an_element_is_removed_once(rt: HostRuntime) {
+    let mut run = Run::new(&rt, rt.alloc(), 9);
+    run.offer(&rt, 0, 0, 10, b"a");
+    expect_removal(&rt, &mut run, 0, true);
+    expect_removal(&rt, &mut run, 0, false);
+    expect_removal(&rt, &mut run, 7, false);
+    run.expect_audit(&rt, [4, 1, 0, 1, 0, 0, 0]);
+}
+
+fn expect_removal(rt: &impl Abort, run: &mut Run, id: u64, found: bool) {
+    run.expect(rt, 0, Ask::Remove(id), Reply::Removed(found));
+    run.expect_last(rt, 0, 0, Act::Remove { id, found });
+}
+
+#[test]
+fn a_drain_gives_at_most_so_many(rt: HostRuntime) {
     let alloc = rt.alloc();
-    let (mut kept, mut tally) = ListKept::new(alloc, 9)?;
-    drain_four(&rt, alloc, &mut kept, &mut tally)
-}
-
-fn remove_once(rt: &impl Abort, kept: &mut ListKept, tally: &mut Tally) -> Result<(), Fail> {
-    offer_each(rt, kept, tally, 0, &[(0, 10, b'a')])?;
-    for (id, found) in [(0, true), (0, false), (7, false)] {
-        expect(rt, kept, tally, 0, Ask::Remove(id), Reply::Removed(found))?;
-        expect_last(rt, kept, 0, 0, Act::Remove { id, found });
-    }
-    expect_audit(rt, kept, [4, 1, 0, 1, 0, 0, 0]);
-    Ok(())
-}
-
-#[test]
-fn an_element_is_removed_once(rt: HostRuntime) -> Result<(), Fail> {
-    let (mut kept, mut tally) = ListKept::new(rt.alloc(), 9)?;
-    remove_once(&rt, &mut kept, &mut tally)
-}
-
-fn drain_some(
-    rt: &impl Abort,
-    alloc: Global,
-    kept: &mut ListKept,
-    tally: &mut Tally,
-) -> Result<(), Fail> {
-    let entries = [(0, 1, b'a'), (1, 2, b'b'), (2, 3, b'c'), (3, 9, b'd')];
-    offer_each(rt, kept, tally, 0, &entries)?;
-    for (max, entries) in [
-        (2, [(0, 1, b'a'), (1, 2, b'b')].as_slice()),
-        (0, [].as_slice()),
-        (5, [(2, 3, b'c')].as_slice()),
-    ] {
-        let reply = drained_items(rt, alloc, entries)?;
-        expect(rt, kept, tally, 3, Ask::Drain(max), reply)?;
-    }
-    expect(rt, kept, tally, 3, Ask::Size, Reply::Size(1))?;
-    expect_some_drained(rt, alloc, kept)
-}
-
-fn expect_some_drained(rt: &impl Abort, alloc: Global, kept: &ListKept) -> Result<(), Fail> {
-    for (place, max, ids) in [
-        (4, 2, [0, 1].as_slice()),
-        (5, 0, [].as_slice()),
-        (6, 5, [2].as_slice()),
-    ] {
-        let act = drained(alloc, max, ids)?;
-        assert_eq!(rt; kept.history().get(place), Some(&event(0, 3, 3, act)));
-    }
-    expect_audit(rt, kept, [8, 4, 3, 0, 0, 1, 0]);
-    Ok(())
+    let mut run = Run::new(&rt, alloc, 9);
+    run.offer(&rt, 0, 0, 1, b"a");
+    run.offer(&rt, 0, 1, 2, b"b");
+    run.offer(&rt, 0, 2, 3, b"c");
+    run.offer(&rt, 0, 3, 9, b"d");
+    let two = drained(&rt, alloc, &[(0, 1, b'a'), (1, 2, b'b')]);
+    run.expect(&rt, 3, Ask::Drain(2), two);
+    run.expect_last(&rt, 3, 3, drained_act(&rt, alloc, 2, &[0, 1]));
+    run.expect(&rt, 3, Ask::Drain(0), drained(&rt, alloc, &[]));
+    run.expect_last(&rt, 3, 3, drained_act(&rt, alloc, 0, &[]));
+    let one = drained(&rt, alloc, &[(2, 3, b'c')]);
+    run.expect(&rt, 3, Ask::Drain(5), one);
+    run.expect_last(&rt, 3, 3, drained_act(&rt, alloc, 5, &[2]));
+    run.expect(&rt, 3, Ask::Size, Reply::Size(1));
+    run.expect_audit(&rt, [8, 4, 3, 0, 0, 1, 0]);
 }
 
 #[test]
-fn a_drain_gives_at_most_so_many(rt: HostRuntime) -> Result<(), Fail> {
-    let alloc = rt.alloc();
-    let (mut kept, mut tally) = ListKept::new(alloc, 9)?;
-    drain_some(&rt, alloc, &mut kept, &mut tally)
-}
-
-fn clear_all(rt: &impl Abort, kept: &mut ListKept, tally: &mut Tally) -> Result<(), Fail> {
-    for (ask, reply) in [
-        (offer(rt, 10, b"p"), offered(rt, 0, 10, b"p")),
-        (offer(rt, 20, b"r"), offered(rt, 1, 20, b"r")),
-        (Ask::Clear, Reply::Cleared),
-        (Ask::Size, Reply::Size(0)),
-        (offer(rt, 0, b"q"), offered(rt, 2, 0, b"q")),
-    ] {
-        expect(rt, kept, tally, 0, ask, reply)?;
-    }
-    expect_audit(rt, kept, [5, 3, 0, 0, 2, 1, 0]);
-    Ok(())
-}
-
-#[test]
-fn a_clear_discards_what_is_not_expired_too(rt: HostRuntime) -> Result<(), Fail> {
-    let (mut kept, mut tally) = ListKept::new(rt.alloc(), 9)?;
-    clear_all(&rt, &mut kept, &mut tally)
+fn a_clear_discards_what_is_not_expired_too(rt: HostRuntime) {
+    let mut run = Run::new(&rt, rt.alloc(), 9);
+    run.offer(&rt, 0, 0, 10, b"p");
+    run.offer(&rt, 0, 1, 20, b"r");
+    run.expect(&rt, 0, Ask::Clear, Reply::Cleared);
+    run.expect(&rt, 0, Ask::Size, Reply::Size(0));
+    run.offer(&rt, 0, 2, 0, b"q");
+    run.expect_audit(&rt, [5, 3, 0, 0, 2, 1, 0]);
 }

@@ -1,29 +1,10 @@
 // Runs of tries.
 
-use super::{
-    ListKept, drained, element, event, expect_audit, expect_share, item, offer, offered, timed_act,
-    timed_poll,
-};
-use crate::{CallFault, Outcome, Step, Try};
-use rb_delayed::Element;
-use rb_ledger::Tally;
-use rb_queue::{Act, Ask, Event, Items, Reply};
-use std::alloc::Global;
+use super::run::Run;
+use super::{drained, drained_act, element, event, item, offer, offered, timed_act, timed_poll};
+use crate::{CallFault, Outcome, Step};
+use rb_queue::{Act, Ask, Event, Reply};
 use std::process::Abort;
-use std::test::Fail;
-
-fn run(
-    alloc: Global,
-    kept: &mut ListKept,
-    tally: &mut Tally,
-    tries: &[(u64, u64, Ask)],
-) -> Result<Vec<Step>, Fail> {
-    let mut made = Vec::new(alloc);
-    for &(seat, asked, ask) in tries {
-        made.push(Try { seat, asked, ask })?;
-    }
-    Ok(kept.run_tries(tally, made)?)
-}
 
 fn done(reply: Reply) -> Step {
     Ok(Outcome::Done(reply))
@@ -56,37 +37,22 @@ fn expect_four_events(rt: &impl Abort, history: &[Event]) {
     assert_eq!(rt; history, expected.as_slice());
 }
 
-fn run_six(
-    rt: &impl Abort,
-    alloc: Global,
-    kept: &mut ListKept,
-    tally: &mut Tally,
-) -> Result<(), Fail> {
-    let steps = run(
-        alloc,
-        kept,
-        tally,
-        &[
-            (0, 10, offer(rt, 10, b"a")),
-            (1, 5, Ask::Poll),
-            (1, 3, timed_poll(3, 4)),
-            (0, 11, Ask::Take),
-            (0, 11, Ask::Size),
-            (0, 12, Ask::Size),
-        ],
-    )?;
-    expect_six(rt, &steps);
-    expect_four_events(rt, kept.history());
-    expect_audit(rt, kept, [4, 1, 1, 0, 0, 0, 0]);
-    expect_share(rt, tally, 4, 1, 1);
-    Ok(())
-}
-
 #[test]
-fn a_run_answers_each_try_in_its_turn(rt: HostRuntime) -> Result<(), Fail> {
-    let alloc = rt.alloc();
-    let (mut kept, mut tally) = ListKept::new(alloc, 4)?;
-    run_six(&rt, alloc, &mut kept, &mut tally)
+fn a_run_answers_each_try_in_its_turn(rt: HostRuntime) {
+    let mut run = Run::new(&rt, rt.alloc(), 4);
+    let tries = [
+        (0, 10, offer(&rt, 10, b"a")),
+        (1, 5, Ask::Poll),
+        (1, 3, timed_poll(3, 4)),
+        (0, 11, Ask::Take),
+        (0, 11, Ask::Size),
+        (0, 12, Ask::Size),
+    ];
+    let steps = run.run_tries(&rt, rt.alloc(), &tries);
+    expect_six(&rt, &steps);
+    expect_four_events(&rt, run.kept.history());
+    run.expect_audit(&rt, [4, 1, 1, 0, 0, 0, 0]);
+    run.expect_share(&rt, 4, 1, 1);
 }
 
 fn expect_second(rt: &impl Abort, steps: &[Step]) {
@@ -99,46 +65,34 @@ fn expect_second(rt: &impl Abort, steps: &[Step]) {
     assert_eq!(rt; steps, expected.as_slice());
 }
 
-fn expect_moments(rt: &impl Abort, history: &[Event]) {
-    let moments = [(20, 20), (21, 21), (7, 21), (29, 29), (29, 29)];
-    assert_eq!(rt; history.len(), 5);
-    for (event, (asked, at)) in history.iter().zip(moments) {
-        assert_eq!(rt; (event.asked, event.at), (asked, at));
-    }
-}
-
-fn run_twice(
-    rt: &impl Abort,
-    alloc: Global,
-    kept: &mut ListKept,
-    tally: &mut Tally,
-) -> Result<(), Fail> {
-    let first = [(0, 20, offer(rt, 30, b"a")), (0, 21, Ask::Poll)];
-    let _ = run(alloc, kept, tally, &first)?;
-    let steps = run(
-        alloc,
-        kept,
-        tally,
-        &[
-            (2, 7, Ask::Peek),
-            (2, 29, offer(rt, 25, b"b")),
-            (2, 29, Ask::Poll),
-            (2, 30, Ask::Poll),
-        ],
-    )?;
-    expect_second(rt, &steps);
-    expect_moments(rt, kept.history());
-    Ok(())
+fn expect_five_events(rt: &impl Abort, history: &[Event]) {
+    let expected = [
+        event(0, 20, 20, inserted(rt, 0, 30, b"a")),
+        event(0, 21, 21, Act::Poll(None)),
+        event(2, 7, 21, Act::Peek(Some(0))),
+        event(2, 29, 29, inserted(rt, 1, 25, b"b")),
+        event(2, 29, 29, Act::Poll(Some(1))),
+    ];
+    assert_eq!(rt; history, expected.as_slice());
 }
 
 #[test]
-fn a_second_run_goes_on(rt: HostRuntime) -> Result<(), Fail> {
-    let alloc = rt.alloc();
-    let (mut kept, mut tally) = ListKept::new(alloc, 5)?;
-    run_twice(&rt, alloc, &mut kept, &mut tally)
+fn a_second_run_goes_on(rt: HostRuntime) {
+    let mut run = Run::new(&rt, rt.alloc(), 5);
+    let first = [(0, 20, offer(&rt, 30, b"a")), (0, 21, Ask::Poll)];
+    let _ = run.run_tries(&rt, rt.alloc(), &first);
+    let second = [
+        (2, 7, Ask::Peek),
+        (2, 29, offer(&rt, 25, b"b")),
+        (2, 29, Ask::Poll),
+        (2, 30, Ask::Poll),
+    ];
+    let steps = run.run_tries(&rt, rt.alloc(), &second);
+    expect_second(&rt, &steps);
+    expect_five_events(&rt, run.kept.history());
 }
 
-fn expect_twelve(rt: &impl Abort, steps: &[Step], all: Vec<Element>) {
+fn expect_twelve(rt: &impl Abort, steps: &[Step], drained: Reply) {
     let expected = [
         done(offered(rt, 0, 9, b"a")),
         done(offered(rt, 1, 8, b"b")),
@@ -148,7 +102,7 @@ fn expect_twelve(rt: &impl Abort, steps: &[Step], all: Vec<Element>) {
         done(item(rt, 1, 8, b"b")),
         done(item(rt, 0, 9, b"a")),
         done(offered(rt, 2, 9, b"c")),
-        done(Reply::Drained(Items::new(all))),
+        done(drained),
         done(Reply::Removed(false)),
         done(Reply::Cleared),
         done(Reply::Size(0)),
@@ -177,41 +131,26 @@ fn expect_eleven_events(rt: &impl Abort, history: &[Event], drained: Act) {
     assert_eq!(rt; history, expected.as_slice());
 }
 
-fn run_twelve(
-    rt: &impl Abort,
-    alloc: Global,
-    kept: &mut ListKept,
-    tally: &mut Tally,
-) -> Result<(), Fail> {
-    let steps = run(
-        alloc,
-        kept,
-        tally,
-        &[
-            (1, 1, offer(rt, 9, b"a")),
-            (2, 1, offer(rt, 8, b"b")),
-            (3, 2, Ask::Take),
-            (4, 2, Ask::Peek),
-            (5, 2, Ask::Poll),
-            (6, 8, Ask::Take),
-            (7, 9, timed_poll(6, 7)),
-            (8, 9, offer(rt, 9, b"c")),
-            (9, 9, Ask::Drain(3)),
-            (10, 9, Ask::Remove(0)),
-            (11, 9, Ask::Clear),
-            (12, 9, Ask::Size),
-        ],
-    )?;
-    let all = vec![in alloc; element(rt, 2, 9, b"c")]?;
-    expect_twelve(rt, &steps, all);
-    expect_eleven_events(rt, kept.history(), drained(alloc, 3, &[2])?);
-    Ok(())
-}
-
 // A fault and a wait are steps too, and the tries behind them are made.
 #[test]
-fn each_ask_is_recorded_by_its_own_act(rt: HostRuntime) -> Result<(), Fail> {
-    let alloc = rt.alloc();
-    let (mut kept, mut tally) = ListKept::new(alloc, 11)?;
-    run_twelve(&rt, alloc, &mut kept, &mut tally)
+fn each_ask_is_recorded_by_its_own_act(rt: HostRuntime) {
+    let mut run = Run::new(&rt, rt.alloc(), 11);
+    let tries = [
+        (1, 1, offer(&rt, 9, b"a")),
+        (2, 1, offer(&rt, 8, b"b")),
+        (3, 2, Ask::Take),
+        (4, 2, Ask::Peek),
+        (5, 2, Ask::Poll),
+        (6, 8, Ask::Take),
+        (7, 9, timed_poll(6, 7)),
+        (8, 9, offer(&rt, 9, b"c")),
+        (9, 9, Ask::Drain(3)),
+        (10, 9, Ask::Remove(0)),
+        (11, 9, Ask::Clear),
+        (12, 9, Ask::Size),
+    ];
+    let steps = run.run_tries(&rt, rt.alloc(), &tries);
+    expect_twelve(&rt, &steps, drained(&rt, rt.alloc(), &[(2, 9, b'c')]));
+    let act = drained_act(&rt, rt.alloc(), 3, &[2]);
+    expect_eleven_events(&rt, run.kept.history(), act);
 }
