@@ -109,21 +109,21 @@ fn drained_opening(rt: &impl Abort, queue: &mut ListQueue) -> Result<Opening, Fa
     Ok(opening)
 }
 
-fn poll_all(rt: &impl Abort, queue: &mut ListQueue) -> Result<(), Fail> {
+fn poll_all(rt: &impl Abort, queue: &mut ListQueue) {
     expect_size(rt, queue, COUNT, COUNT);
     for offset in 0..COUNT {
         let expiry = LEAST_EXPIRY + offset;
-        let element = queue.poll(expiry).ok_or("nothing is expired")?;
-        assert_eq!(rt; element.expiry, expiry);
+        let polled = queue.poll(expiry).map(|element| element.expiry);
+        assert_eq!(rt; polled, Some(expiry));
     }
-    assert_eq!(rt; queue.size(), 0);
-    Ok(())
+    expect_size(rt, queue, 0, COUNT);
 }
 
 #[test]
 fn drains_all_with_ample_memory(rt: HostRuntime) -> Result<(), Fail> {
     let mut queue = queue_of_many(&rt, rt.alloc())?;
     let opening = drained_opening(&rt, &mut queue)?;
-    let mut queue = ListQueue::new_from(rt.alloc(), &opening)?;
-    poll_all(&rt, &mut queue)
+    let queue = ListQueue::new_from(rt.alloc(), &opening);
+    poll_all(&rt, &mut queue.ok().expect(&rt, "a queue"));
+    Ok(())
 }

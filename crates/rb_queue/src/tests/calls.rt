@@ -1,197 +1,158 @@
 use super::*;
 use rb_delayed::GREATEST_ATTEMPT;
-use std::test::Fail;
 
-fn give_nothing(rt: &impl Abort, queue: &mut ListQueue) -> Result<(), Fail> {
-    expect_size(rt, queue, 0, 0);
-    assert_eq!(rt; (queue.peek(), queue.next_expiry()), (None, None));
-    assert_eq!(rt; (queue.poll(0), queue.poll(u64::MAX)), (None, None));
-    assert!(rt; !queue.remove(0));
-    assert!(rt; queue.drain(u64::MAX, u64::MAX)?.as_slice().is_empty());
+#[test]
+fn an_empty_queue_gives_nothing(rt: HostRuntime) {
+    let mut queue = ListQueue::new(rt.alloc());
+    expect_size(&rt, &queue, 0, 0);
+    expect_no_head(&rt, &queue);
+    expect_nothing(&rt, &mut queue, 0);
+    expect_nothing(&rt, &mut queue, u64::MAX);
+    expect_removal(&rt, &mut queue, 0, false);
+    expect_drain(&rt, rt.alloc(), &mut queue, u64::MAX, u64::MAX, &[]);
     queue.clear();
-    expect_size(rt, queue, 0, 0);
-    Ok(())
+    expect_size(&rt, &queue, 0, 0);
 }
 
 #[test]
-fn an_empty_queue_gives_nothing(rt: HostRuntime) -> Result<(), Fail> {
+fn ids_rise_from_zero_and_are_not_reused(rt: HostRuntime) {
     let mut queue = ListQueue::new(rt.alloc());
-    give_nothing(&rt, &mut queue)
-}
-
-fn give_ids(rt: &impl Abort, queue: &mut ListQueue) -> Result<(), Fail> {
-    for id in 0..3 {
-        assert_eq!(rt; queue.next_id(), id);
-        assert_eq!(rt; offered(rt, queue, 40)?.id, id);
-    }
-    for left in [2, 1, 0] {
-        assert!(rt; queue.poll(40).is_some());
-        expect_size(rt, queue, left, 3);
-    }
-    assert_eq!(rt; offered(rt, queue, 40)?.id, 3);
-    Ok(())
-}
-
-#[test]
-fn ids_rise_from_zero_and_are_not_reused(rt: HostRuntime) -> Result<(), Fail> {
-    let mut queue = ListQueue::new(rt.alloc());
-    give_ids(&rt, &mut queue)?;
+    expect_offer(&rt, &mut queue, 0, 40);
+    expect_offer(&rt, &mut queue, 1, 41);
+    expect_offer(&rt, &mut queue, 2, 42);
+    expect_poll(&rt, &mut queue, 42, 0, 40);
+    expect_size(&rt, &queue, 2, 3);
+    expect_poll(&rt, &mut queue, 42, 1, 41);
+    expect_size(&rt, &queue, 1, 3);
+    expect_poll(&rt, &mut queue, 42, 2, 42);
+    expect_size(&rt, &queue, 0, 3);
+    expect_offer(&rt, &mut queue, 3, 40);
     each_id_once();
     each_element_counted();
-    Ok(())
 }
 
-// Where a draft names no origin, the element's own id and expiry stand for it.
-fn offer_drafts(rt: &impl Abort, queue: &mut ListQueue) -> Result<(), Fail> {
-    let again = Draft {
+// Offers a draft, which becomes this element.
+fn expect_offered(rt: &impl Abort, queue: &mut ListQueue, draft: Draft, element: Element) {
+    assert!(rt; queue.next_id() < u64::MAX);
+    assert_eq!(rt; queue.offer(draft), Ok(element));
+}
+
+fn retried_draft(rt: &impl Abort) -> Draft {
+    Draft {
         expiry: 50,
         origin: Some(0),
         first: Some(30),
         attempt: GREATEST_ATTEMPT,
         payload: payload(rt, b"b"),
-    };
-    for (draft, id, expiry, origin, first, attempt) in [
-        (Draft::first(70, payload(rt, b"a")), 0, 70, 0, 70, 1),
-        (again, 1, 50, 0, 30, 1_000),
-        (Draft::first(70, payload(rt, b"a")), 2, 70, 2, 70, 1),
-    ] {
-        let element = Element {
-            id,
-            expiry,
-            origin,
-            first,
-            attempt,
-            payload: draft.payload,
-        };
-        assert!(rt; queue.next_id() < u64::MAX);
-        assert_eq!(rt; queue.offer(draft)?, element, "element {id}");
     }
-    Ok(())
 }
 
-// What comes out is what was answered at the offer.
-fn poll_again(rt: &impl Abort, queue: &mut ListQueue) {
-    let polled = Element {
+fn retried(rt: &impl Abort) -> Element {
+    Element {
         id: 1,
         expiry: 50,
         origin: 0,
         first: 30,
         attempt: 1_000,
         payload: payload(rt, b"b"),
-    };
-    assert_eq!(rt; queue.poll(50), Some(polled));
+    }
 }
 
+// Where a draft names no origin, the element's own id and expiry stand for it. What comes out is what was
+// answered at the offer.
 #[test]
-fn an_element_has_the_fields_of_its_draft(rt: HostRuntime) -> Result<(), Fail> {
+fn an_element_has_the_fields_of_its_draft(rt: HostRuntime) {
     let mut queue = ListQueue::new(rt.alloc());
-    offer_drafts(&rt, &mut queue)?;
-    poll_again(&rt, &mut queue);
-    Ok(())
+    expect_offer(&rt, &mut queue, 0, 70);
+    expect_offered(&rt, &mut queue, retried_draft(&rt), retried(&rt));
+    expect_offer(&rt, &mut queue, 2, 70);
+    assert_eq!(rt; queue.poll(50), Some(retried(&rt)));
 }
 
-// An element of expiry 100 is given at this moment, or is not.
-fn poll_at(rt: &impl Abort, queue: &mut ListQueue, now: u64, is_given: bool) -> Result<(), Fail> {
-    let element = offered(rt, queue, 100)?;
-    let want = is_given.then_some(element);
-    assert_eq!(rt; queue.poll(now), want, "at {now}");
-    assert_eq!(rt; queue.size(), u64::from(!is_given), "at {now}");
-    Ok(())
-}
-
-#[test]
-fn polls_from_the_expiry_on(rt: HostRuntime) -> Result<(), Fail> {
-    for (now, is_given) in [
-        (0, false),
-        (99, false),
-        (100, true),
-        (101, true),
-        (u64::MAX, true),
-    ] {
-        let mut queue = ListQueue::new(rt.alloc());
-        poll_at(&rt, &mut queue, now, is_given)?;
-    }
-    Ok(())
-}
-
-fn poll_in_order(rt: &impl Abort, queue: &mut ListQueue) -> Result<(), Fail> {
-    for expiry in [30, 10, 20] {
-        let _ = offered(rt, queue, expiry)?;
-    }
-    for (id, expiry) in [(1, 10), (2, 20), (0, 30)] {
-        assert_eq!(rt; queue.next_expiry(), Some(expiry));
-        assert_eq!(rt; queue.poll(30), Some(element(rt, id, expiry)));
-    }
-    assert_eq!(rt; (queue.next_expiry(), queue.poll(30)), (None, None));
-    Ok(())
+// An element of expiry 100 is given at this moment.
+fn expect_given(rt: &impl Abort, alloc: Global, now: u64) {
+    let mut queue = ListQueue::new(alloc);
+    expect_offer(rt, &mut queue, 0, 100);
+    expect_poll(rt, &mut queue, now, 0, 100);
+    expect_size(rt, &queue, 0, 1);
 }
 
 #[test]
-fn polls_the_least_expiry_first(rt: HostRuntime) -> Result<(), Fail> {
+fn polls_from_the_expiry_on(rt: HostRuntime) {
     let mut queue = ListQueue::new(rt.alloc());
-    poll_in_order(&rt, &mut queue)
-}
-
-fn offer_the_past(rt: &impl Abort, queue: &mut ListQueue) -> Result<(), Fail> {
-    for expiry in [50, 60] {
-        let _ = offered(rt, queue, expiry)?;
-    }
-    expect_polled(rt, queue, 55, &[0]);
-    for expiry in [5, 0] {
-        let _ = offered(rt, queue, expiry)?;
-    }
-    expect_polled(rt, queue, 60, &[3, 2, 1]);
-    Ok(())
+    expect_offer(&rt, &mut queue, 0, 100);
+    expect_nothing(&rt, &mut queue, 0);
+    expect_nothing(&rt, &mut queue, 99);
+    expect_size(&rt, &queue, 1, 1);
+    expect_given(&rt, rt.alloc(), 100);
+    expect_given(&rt, rt.alloc(), 101);
+    expect_given(&rt, rt.alloc(), u64::MAX);
 }
 
 #[test]
-fn an_expiry_in_the_past_comes_first(rt: HostRuntime) -> Result<(), Fail> {
+fn polls_the_least_expiry_first(rt: HostRuntime) {
     let mut queue = ListQueue::new(rt.alloc());
-    offer_the_past(&rt, &mut queue)
+    expect_offer(&rt, &mut queue, 0, 30);
+    expect_offer(&rt, &mut queue, 1, 10);
+    expect_offer(&rt, &mut queue, 2, 20);
+    expect_head(&rt, &queue, 1, 10);
+    expect_poll(&rt, &mut queue, 30, 1, 10);
+    expect_head(&rt, &queue, 2, 20);
+    expect_poll(&rt, &mut queue, 30, 2, 20);
+    expect_head(&rt, &queue, 0, 30);
+    expect_poll(&rt, &mut queue, 30, 0, 30);
+    expect_no_head(&rt, &queue);
+    expect_nothing(&rt, &mut queue, 30);
+}
+
+#[test]
+fn an_expiry_in_the_past_comes_first(rt: HostRuntime) {
+    let mut queue = ListQueue::new(rt.alloc());
+    expect_offer(&rt, &mut queue, 0, 50);
+    expect_offer(&rt, &mut queue, 1, 60);
+    expect_poll(&rt, &mut queue, 55, 0, 50);
+    expect_offer(&rt, &mut queue, 2, 5);
+    expect_offer(&rt, &mut queue, 3, 0);
+    expect_poll(&rt, &mut queue, 60, 3, 0);
+    expect_poll(&rt, &mut queue, 60, 2, 5);
+    expect_poll(&rt, &mut queue, 60, 1, 60);
 }
 
 // Which of two with one expiry comes first is left open.
-fn poll_both(rt: &impl Abort, queue: &mut ListQueue) -> Result<(), Fail> {
-    for expiry in [11, 10, 10] {
-        let _ = offered(rt, queue, expiry)?;
-    }
+fn expect_both(rt: &impl Abort, queue: &mut ListQueue) {
     let (one, other) = (Some(element(rt, 1, 10)), Some(element(rt, 2, 10)));
     let head = queue.peek();
     assert!(rt; head == one || head == other);
     let both = (queue.poll(10), queue.poll(10));
     assert!(rt; both == (one, other) || both == (other, one));
-    assert_eq!(rt; queue.poll(10), None);
-    assert_eq!(rt; queue.poll(11), Some(element(rt, 0, 11)));
-    Ok(())
 }
 
 #[test]
-fn both_of_a_tie_come(rt: HostRuntime) -> Result<(), Fail> {
+fn both_of_a_tie_come(rt: HostRuntime) {
     let mut queue = ListQueue::new(rt.alloc());
-    poll_both(&rt, &mut queue)
-}
-
-// An element that is shown stays.
-fn expect_shown(rt: &impl Abort, queue: &mut ListQueue, soon: Option<Element>) {
-    assert_eq!(rt; queue.peek(), soon);
-    assert_eq!(rt; (queue.size(), queue.next_expiry()), (2, Some(80)));
-    assert_eq!(rt; queue.poll(79), None);
-}
-
-fn show_unexpired(rt: &impl Abort, queue: &mut ListQueue) -> Result<(), Fail> {
-    let late = Some(offered(rt, queue, u64::MAX)?);
-    assert_eq!(rt; (queue.peek(), queue.size()), (late, 1));
-    let soon = Some(offered(rt, queue, 80)?);
-    for _ in 0..2 {
-        expect_shown(rt, queue, soon);
-    }
-    assert_eq!(rt; queue.poll(80), soon);
-    assert_eq!(rt; (queue.peek(), queue.size()), (late, 1));
-    Ok(())
+    expect_offer(&rt, &mut queue, 0, 11);
+    expect_offer(&rt, &mut queue, 1, 10);
+    expect_offer(&rt, &mut queue, 2, 10);
+    expect_both(&rt, &mut queue);
+    expect_nothing(&rt, &mut queue, 10);
+    expect_poll(&rt, &mut queue, 11, 0, 11);
 }
 
 #[test]
-fn peek_and_size_see_the_unexpired(rt: HostRuntime) -> Result<(), Fail> {
+fn peek_and_size_see_the_unexpired(rt: HostRuntime) {
     let mut queue = ListQueue::new(rt.alloc());
-    show_unexpired(&rt, &mut queue)
+    expect_offer(&rt, &mut queue, 0, u64::MAX);
+    expect_head(&rt, &queue, 0, u64::MAX);
+    expect_size(&rt, &queue, 1, 1);
+    expect_offer(&rt, &mut queue, 1, 80);
+    // An element that is shown stays.
+    expect_head(&rt, &queue, 1, 80);
+    expect_size(&rt, &queue, 2, 2);
+    expect_nothing(&rt, &mut queue, 79);
+    expect_head(&rt, &queue, 1, 80);
+    expect_size(&rt, &queue, 2, 2);
+    expect_nothing(&rt, &mut queue, 79);
+    expect_poll(&rt, &mut queue, 80, 1, 80);
+    expect_head(&rt, &queue, 0, u64::MAX);
+    expect_size(&rt, &queue, 1, 2);
 }

@@ -15,11 +15,10 @@ fn an_empty_opening_begins_at_zero(rt: HostRuntime) -> Result<(), Fail> {
 }
 
 #[test]
-fn a_queue_begins_empty(rt: HostRuntime) -> Result<(), Fail> {
+fn a_queue_begins_empty(rt: HostRuntime) {
     let empty = Opening::empty(rt.alloc());
-    let queue = ListQueue::new_from(rt.alloc(), &empty)?;
-    expect_size(&rt, &queue, 0, 0);
-    Ok(())
+    let queue = ListQueue::new_from(rt.alloc(), &empty);
+    expect_size(&rt, &queue.ok().expect(&rt, "a queue"), 0, 0);
 }
 
 #[test]
@@ -83,32 +82,32 @@ fn an_opening_has_at_most_a_million_elements(rt: HostRuntime) -> Result<(), Fail
     Ok(())
 }
 
-fn go_on(rt: &impl Abort, queue: &mut ListQueue) -> Result<(), Fail> {
+fn go_on(rt: &impl Abort, queue: &mut ListQueue) {
     expect_size(rt, queue, 3, 12);
-    assert_eq!(rt; queue.peek(), Some(element(rt, 5, 10)));
-    assert!(rt; !queue.remove(0));
-    assert_eq!(rt; offered(rt, queue, 40)?.id, 12);
-    assert!(rt; queue.remove(9));
-    for (id, expiry) in [(5, 10), (3, 30), (12, 40)] {
-        assert_eq!(rt; queue.poll(expiry - 1), None);
-        assert_eq!(rt; queue.poll(expiry), Some(element(rt, id, expiry)));
-    }
+    expect_head(rt, queue, 5, 10);
+    expect_removal(rt, queue, 0, false);
+    expect_offer(rt, queue, 12, 40);
+    expect_removal(rt, queue, 9, true);
+    expect_nothing(rt, queue, 9);
+    expect_poll(rt, queue, 10, 5, 10);
+    expect_nothing(rt, queue, 29);
+    expect_poll(rt, queue, 30, 3, 30);
+    expect_nothing(rt, queue, 39);
+    expect_poll(rt, queue, 40, 12, 40);
     expect_size(rt, queue, 0, 13);
-    Ok(())
 }
 
-// The opening stays, and serves again.
-fn begin_twice(rt: &impl Abort, alloc: Global, opening: &Opening) -> Result<(), Fail> {
-    for _ in 0..2 {
-        let mut queue = ListQueue::new_from(alloc, opening)?;
-        go_on(rt, &mut queue)?;
-    }
-    Ok(())
+// Begins with the opening, which stays.
+fn begin(rt: &impl Abort, alloc: Global, opening: &Opening) {
+    let queue = ListQueue::new_from(alloc, opening);
+    go_on(rt, &mut queue.ok().expect(rt, "a queue"));
 }
 
 #[test]
 fn a_queue_begins_with_its_opening(rt: HostRuntime) -> Result<(), Fail> {
     let items = standing(&rt, rt.alloc(), &[(3, 30), (5, 10), (9, 20)])?;
-    let opening = Opening::new(items, 12, 25).ok_or("no opening")?;
-    begin_twice(&rt, rt.alloc(), &opening)
+    let opening = Opening::new(items, 12, 25).expect(&rt, "an opening");
+    begin(&rt, rt.alloc(), &opening);
+    begin(&rt, rt.alloc(), &opening);
+    Ok(())
 }

@@ -78,28 +78,21 @@ fn expect_refused(rt: &impl Abort, alloc: Global, opening: &Opening) {
     assert!(rt; DelayQueue::<RefusingTimer<ListTimer, 4>>::new_from(alloc, opening).is_err());
 }
 
-fn begin(rt: &impl Abort, alloc: Global, opening: &Opening) -> Result<(), AllocError> {
-    let queue = ListQueue::new_from(alloc, opening)?;
-    expect_size(rt, &queue, 5, 5);
-    Ok(())
-}
-
-fn refuse_and_begin(
-    rt: &impl Abort,
-    alloc: Global,
-    opening: &Opening,
-    entries: &[(u64, u64)],
-) -> Result<(), Fail> {
-    expect_refused(rt, alloc, opening);
-    assert_eq!(rt; opening.elements, standing(rt, alloc, entries)?);
-    begin(rt, alloc, opening)?;
-    Ok(())
+fn expect_begun(rt: &impl Abort, alloc: Global, opening: &Opening) {
+    let queue = ListQueue::new_from(alloc, opening);
+    expect_size(rt, &queue.ok().expect(rt, "a queue"), 5, 5);
 }
 
 #[test]
 fn an_opening_stays_where_the_timer_refuses(rt: HostRuntime) -> Result<(), Fail> {
     let entries = [(0, 9), (1, 8), (2, 7), (3, 6), (4, 5)];
-    let items = standing(&rt, rt.alloc(), &entries)?;
-    let opening = Opening::new(items, 5, 0).ok_or("no opening")?;
-    refuse_and_begin(&rt, rt.alloc(), &opening, &entries)
+    let (items, expected) = (
+        standing(&rt, rt.alloc(), &entries)?,
+        standing(&rt, rt.alloc(), &entries)?,
+    );
+    let opening = Opening::new(items, 5, 0).expect(&rt, "an opening");
+    expect_refused(&rt, rt.alloc(), &opening);
+    assert_eq!(rt; opening.elements, expected);
+    expect_begun(&rt, rt.alloc(), &opening);
+    Ok(())
 }
