@@ -5,17 +5,16 @@ mod openings;
 mod refusals;
 mod refusing_timer;
 mod rows;
+mod run;
 mod runs;
 mod shares;
 
-use crate::{Kept, Outcome};
+use crate::Kept;
 use rb_delayed::{Element, Payload};
-use rb_ledger::Tally;
 use rb_queue::{Act, Ask, Draft, Event, Ids, Items, Opening, Reply};
 use rb_timer::ListTimer;
-use std::alloc::Global;
+use std::alloc::{AllocError, Global};
 use std::process::Abort;
-use std::test::Fail;
 
 type ListKept = Kept<ListTimer>;
 
@@ -59,34 +58,55 @@ fn event(seat: u64, asked: u64, at: u64, act: Act) -> Event {
     }
 }
 
-// The act of a drain that gave these.
-fn drained(alloc: Global, max: u64, ids: &[u64]) -> Result<Act, Fail> {
+fn timed_poll(start: u64, timeout: u64) -> Ask {
+    Ask::PollFor { start, timeout }
+}
+
+// The act of a timed poll.
+fn timed_act(start: u64, timeout: u64, got: Option<u64>) -> Act {
+    Act::PollFor {
+        start,
+        timeout,
+        got,
+    }
+}
+
+fn ids(alloc: Global, ids: &[u64]) -> Result<Ids, AllocError> {
     let mut given = Vec::new(alloc);
     for &id in ids {
         given.push(id)?;
     }
-    Ok(Act::Drain {
-        max,
-        ids: Ids::new(given),
-    })
+    Ok(Ids::new(given))
 }
 
-// Asks for seat 0, which has to be answered.
-fn answer(kept: &mut ListKept, tally: &mut Tally, asked: u64, ask: Ask) -> Result<Reply, Fail> {
-    match kept.act(tally, 0, asked, ask)? {
-        Outcome::Done(reply) => Ok(reply),
-        Outcome::Later(_) => Err(Fail::from("the ask would wait")),
+// The act of a drain that gave these.
+fn drained_act(rt: &impl Abort, alloc: Global, max: u64, given: &[u64]) -> Act {
+    Act::Drain {
+        max,
+        ids: ids(alloc, given).ok().expect(rt, "ids"),
     }
+}
+
+// Elements of these ids, expiries and payloads of one byte.
+fn items(rt: &impl Abort, alloc: Global, entries: &[(u64, u64, u8)]) -> Result<Items, AllocError> {
+    let mut elements = Vec::new(alloc);
+    for &(id, expiry, byte) in entries {
+        elements.push(element(rt, id, expiry, &[byte]))?;
+    }
+    Ok(Items::new(elements))
+}
+
+// The reply of a drain that gave these.
+fn drained(rt: &impl Abort, alloc: Global, entries: &[(u64, u64, u8)]) -> Reply {
+    Reply::Drained(items(rt, alloc, entries).ok().expect(rt, "items"))
 }
 
 // Element 2 of expiry 50, of an older job, and element 5 of expiry 40. The next id is 7, and the last
 // moment 30.
-fn opening(rt: &impl Abort, alloc: Global) -> Result<Opening, Fail> {
-    let elements = vec![in alloc; retried(rt), element(rt, 5, 40, b"b")]?;
-    match Opening::new(Items::new(elements), 7, 30) {
-        Some(opening) => Ok(opening),
-        None => Err(Fail::from("no opening")),
-    }
+fn opening(rt: &impl Abort, alloc: Global) -> Opening {
+    let elements = vec![in alloc; retried(rt), element(rt, 5, 40, b"b")];
+    let items = Items::new(elements.ok().expect(rt, "elements"));
+    Opening::new(items, 7, 30).expect(rt, "an opening")
 }
 
 // Element 2 of the opening.

@@ -1,8 +1,11 @@
 // Long runs, in which every array has grown many times, find memory.
 
-use super::{ListKept, answer, element, offer};
-use crate::{Outcome, Try};
-use rb_queue::{Act, Ask, Audit, Reply};
+use super::run::Run;
+use super::{element, offer};
+use crate::{Outcome, Step, Try};
+use rb_queue::{Act, Ask, Ids, Items, Reply};
+use std::alloc::{AllocError, Global};
+use std::process::Abort;
 use std::test::Fail;
 
 const OFFERS: u64 = 2_500;
@@ -26,70 +29,79 @@ fn offer_of(rank: u64) -> u64 {
     rank % OFFERS * 2_143 % OFFERS
 }
 
+fn ask_of(rt: &impl Abort, n: u64) -> Ask {
+    offer(rt, expiry_of(rank_of(n)), &PAYLOAD)
+}
+
+fn reply_of(rt: &impl Abort, n: u64) -> Reply {
+    Reply::Offered(element(rt, n, expiry_of(rank_of(n)), &PAYLOAD))
+}
+
+fn offers_all(rt: &impl Abort, run: &mut Run) {
+    for n in 0..OFFERS {
+        run.expect(rt, n, ask_of(rt, n), reply_of(rt, n));
+    }
+}
+
+// All elements, in the order of their expiries.
+fn all_items(rt: &impl Abort, alloc: Global) -> Result<Items, AllocError> {
+    let mut elements = Vec::new(alloc);
+    for rank in 0..OFFERS {
+        let (id, expiry) = (offer_of(rank), expiry_of(rank));
+        elements.push(element(rt, id, expiry, &PAYLOAD))?;
+    }
+    Ok(Items::new(elements))
+}
+
+fn all_ids(alloc: Global) -> Result<Ids, AllocError> {
+    let mut ids = Vec::new(alloc);
+    for rank in 0..OFFERS {
+        ids.push(offer_of(rank))?;
+    }
+    Ok(Ids::new(ids))
+}
+
 #[test]
 fn answers_with_ample_memory(rt: HostRuntime) -> Result<(), Fail> {
-    let alloc = rt.alloc();
-    let (mut kept, mut tally) = ListKept::new(alloc, 1_000_000)?;
-    for n in 0..OFFERS {
-        let expiry = expiry_of(rank_of(n));
-        let offered = Reply::Offered(element(&rt, n, expiry, &PAYLOAD));
-        let ask = offer(&rt, expiry, &PAYLOAD);
-        assert_eq!(rt; answer(&mut kept, &mut tally, n, ask)?, offered);
-    }
-    let asked = expiry_of(OFFERS);
-    let Reply::Drained(items) = answer(&mut kept, &mut tally, asked, Ask::Drain(u64::MAX))? else {
-        return Err(Fail::from("the drain gave nothing"));
-    };
-    let Some(Act::Drain { max: u64::MAX, ids }) = kept.history().last().map(|event| &event.act)
-    else {
-        return Err(Fail::from("the drain is not recorded"));
-    };
-    assert_eq!(rt;
-        (items.as_slice().len(), ids.as_slice().len()),
-        (2_500, 2_500)
-    );
-    for ((rank, item), &id) in (0..OFFERS).zip(items.as_slice()).zip(ids.as_slice()) {
-        let expected = element(&rt, offer_of(rank), expiry_of(rank), &PAYLOAD);
-        assert_eq!(rt; *item, expected);
-        assert_eq!(rt; id, expected.id);
-    }
-    assert_eq!(rt;
-        kept.audit(),
-        Audit {
-            calls: 2_501,
-            offered: 2_500,
-            given: 2_500,
-            removed: 0,
-            cleared: 0,
-            left: 0,
-            opening: 0,
-        }
-    );
-    assert_eq!(rt;
-        (tally.calls(), tally.offered(), tally.given()),
-        (2_501, 2_500, 2_500)
-    );
+    let (items, ids) = (all_items(&rt, rt.alloc())?, all_ids(rt.alloc())?);
+    let mut run = Run::new(&rt, rt.alloc(), 1_000_000);
+    offers_all(&rt, &mut run);
+    let (max, at) = (u64::MAX, expiry_of(OFFERS));
+    run.expect(&rt, at, Ask::Drain(max), Reply::Drained(items));
+    run.expect_last(&rt, at, at, Act::Drain { max, ids });
+    run.expect_audit(&rt, [2_501, 2_500, 2_500, 0, 0, 0, 0]);
+    run.expect_share(&rt, 2_501, 2_500, 2_500);
     Ok(())
+}
+
+fn all_tries(rt: &impl Abort, alloc: Global) -> Result<Vec<Try>, AllocError> {
+    let mut tries = Vec::new(alloc);
+    for n in 0..OFFERS {
+        let ask = ask_of(rt, n);
+        tries.push(Try {
+            seat: n,
+            asked: n,
+            ask,
+        })?;
+    }
+    Ok(tries)
+}
+
+fn expect_offered(rt: &impl Abort, steps: &[Step]) {
+    assert_eq!(rt; steps.len(), 2_500);
+    let mut n = 0_u64;
+    for step in steps {
+        assert_eq!(rt; *step, Ok(Outcome::Done(reply_of(rt, n))));
+        n = n.saturating_add(1);
+    }
 }
 
 #[test]
 fn a_long_run_finds_ample_memory(rt: HostRuntime) -> Result<(), Fail> {
-    let alloc = rt.alloc();
-    let (mut kept, mut tally) = ListKept::new(alloc, OFFERS)?;
-    let mut tries = Vec::new(alloc);
-    for n in 0..OFFERS {
-        tries.push(Try {
-            seat: n,
-            asked: n,
-            ask: offer(&rt, expiry_of(rank_of(n)), &PAYLOAD),
-        })?;
-    }
-    let steps = kept.run_tries(&mut tally, tries)?;
-    assert_eq!(rt; steps.len(), 2_500);
-    for (n, step) in (0..OFFERS).zip(&steps) {
-        let expected = element(&rt, n, expiry_of(rank_of(n)), &PAYLOAD);
-        assert_eq!(rt; *step, Ok(Outcome::Done(Reply::Offered(expected))));
-    }
-    assert_eq!(rt; (kept.history().len(), kept.audit().left), (2_500, 2_500));
+    let tries = all_tries(&rt, rt.alloc())?;
+    let mut run = Run::new(&rt, rt.alloc(), OFFERS);
+    let steps = run.kept.run_tries(&mut run.tally, tries);
+    expect_offered(&rt, &steps.ok().expect(&rt, "steps"));
+    run.expect_audit(&rt, [2_500, 2_500, 0, 0, 0, 2_500, 0]);
     Ok(())
 }

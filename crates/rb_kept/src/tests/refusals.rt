@@ -1,8 +1,8 @@
-use super::{element, offer, offered};
-use crate::{CallFault, Kept, NewFault, Outcome, Try};
+use super::{element, event, offer, offered};
+use crate::{CallFault, Kept, NewFault, Outcome, Step, Try};
 use rb_delayed::Element;
 use rb_ledger::{Tally, Totals};
-use rb_queue::{Act, Ask, Audit, Items, Opening, Reply};
+use rb_queue::{Act, Ask, Audit, Event, Items, Opening, Reply};
 use rb_timer::{ListTimer, Timer};
 use std::alloc::{AllocError, Global};
 use std::process::Abort;
@@ -96,7 +96,26 @@ fn answered<T: Timer>(
     }
 }
 
-// Drains elements 19 to 5.
+// Elements 19 to 5 are drained.
+fn expect_items(rt: &impl Abort, items: &[Element]) {
+    assert_eq!(rt; items.len(), 15);
+    let mut id = MANY;
+    for item in items {
+        id = id.saturating_sub(1);
+        assert_eq!(rt; *item, numbered(rt, id));
+    }
+}
+
+// Their ids are recorded.
+fn expect_ids(rt: &impl Abort, ids: &[u64]) {
+    assert_eq!(rt; ids.len(), 15);
+    let mut expected = MANY;
+    for &id in ids {
+        expected = expected.saturating_sub(1);
+        assert_eq!(rt; id, expected);
+    }
+}
+
 fn drains<T: Timer>(
     rt: &impl Abort,
     kept: &mut Kept<T>,
@@ -110,14 +129,8 @@ fn drains<T: Timer>(
     let Some(Act::Drain { ids, .. }) = kept.history().last().map(|event| &event.act) else {
         return Err(Fail::from("the drain is not recorded"));
     };
-    assert_eq!(rt; (items.as_slice().len(), ids.as_slice().len()), (15, 15));
-    let drained = (5..MANY).rev();
-    for ((expected, item), &id) in drained.zip(items.as_slice()).zip(ids.as_slice()) {
-        assert_eq!(rt; *item, numbered(rt, expected));
-        assert_eq!(rt; id, item.id);
-    }
-    let next = answered(rt, kept, tally, Ask::Take, met)?;
-    assert_eq!(rt; next, Outcome::Later(Some(96)));
+    expect_items(rt, items.as_slice());
+    expect_ids(rt, ids.as_slice());
     Ok(())
 }
 
@@ -132,7 +145,18 @@ fn offers_one(rt: &impl Abort, alloc: Global) -> Result<Vec<Try>, AllocError> {
     Ok(tries)
 }
 
-// Offers element 20 in a run. A refused offer is a step of the run, and gives no id away.
+// Whether the run's one step offers element 20. A refused offer is a step too.
+fn has_offered(rt: &impl Abort, steps: &[Step]) -> bool {
+    assert_eq!(rt; steps.len(), 1);
+    if let Some(Ok(outcome)) = steps.first() {
+        assert_eq!(rt; *outcome, Outcome::Done(offered(rt, 20, 80, b"a")));
+        return true;
+    }
+    assert_eq!(rt; steps.first(), Some(&Err(CallFault::Memory)));
+    false
+}
+
+// Offers element 20 in a run, once more where that was refused. A refused offer gives no id away.
 fn runs<T: Timer>(
     rt: &impl Abort,
     alloc: Global,
@@ -146,13 +170,10 @@ fn runs<T: Timer>(
             Ok(tries) => tries,
             Err(_) => offers_one(rt, alloc)?,
         };
-        if let Ok(steps) = kept.run_tries(tally, tries) {
-            assert_eq!(rt; steps.len(), 1);
-            if let Some(Ok(outcome)) = steps.first() {
-                assert_eq!(rt; *outcome, Outcome::Done(offered(rt, 20, 80, b"a")));
-                return Ok(());
-            }
-            assert_eq!(rt; steps.first(), Some(&Err(CallFault::Memory)));
+        if let Ok(steps) = kept.run_tries(tally, tries)
+            && has_offered(rt, &steps)
+        {
+            return Ok(());
         }
         assert_eq!(rt; standing(kept, tally), before);
         *met = met.saturating_add(1);
@@ -160,38 +181,78 @@ fn runs<T: Timer>(
     Err(Fail::from("no memory for a run"))
 }
 
+// Offers elements 0 to 19, and finds them in the history.
+fn offers_many<T: Timer>(
+    rt: &impl Abort,
+    kept: &mut Kept<T>,
+    tally: &mut Tally,
+    met: &mut u32,
+) -> Result<(), Fail> {
+    for id in 0..MANY {
+        let ask = offer(rt, expiry_of(id), b"a");
+        let outcome = answered(rt, kept, tally, ask, met)?;
+        assert_eq!(rt;
+            outcome,
+            Outcome::Done(offered(rt, id, expiry_of(id), b"a"))
+        );
+    }
+    expect_events(rt, kept.history());
+    Ok(())
+}
+
+fn expect_events(rt: &impl Abort, history: &[Event]) {
+    assert_eq!(rt; history.len(), MANY as usize);
+    let mut id = 0_u64;
+    for offer in history {
+        assert_eq!(rt; *offer, event(0, 95, 95, Act::Offer(numbered(rt, id))));
+        id = id.saturating_add(1);
+    }
+}
+
+// With elements 0 to 19 in the queue, drains and runs, and answers how often it was refused.
+fn goes_on<T: Timer>(
+    rt: &impl Abort,
+    alloc: Global,
+    kept: &mut Kept<T>,
+    tally: &mut Tally,
+    mut met: u32,
+) -> Result<u32, Fail> {
+    drains(rt, kept, tally, &mut met)?;
+    let next = answered(rt, kept, tally, Ask::Take, &mut met)?;
+    assert_eq!(rt; next, Outcome::Later(Some(96)));
+    runs(rt, alloc, kept, tally, &mut met)?;
+    Ok(met)
+}
+
+// The same from a queue that is empty.
+fn begins<T: Timer>(
+    rt: &impl Abort,
+    alloc: Global,
+    kept: &mut Kept<T>,
+    tally: &mut Tally,
+    mut met: u32,
+) -> Result<u32, Fail> {
+    offers_many(rt, kept, tally, &mut met)?;
+    let met = goes_on(rt, alloc, kept, tally, met)?;
+    let audit = kept.audit();
+    assert_eq!(rt; (audit.calls, audit.offered, audit.given), (22, 21, 15));
+    let totals = tally.totals();
+    assert_eq!(rt; (totals.calls, totals.offered, totals.given), (22, 21, 15));
+    Ok(met)
+}
+
 // Makes each call that may want memory, and answers how often it was refused.
 pub(super) fn run_through<T: Timer>(rt: &impl Abort, alloc: Global) -> Result<u32, Fail> {
     let mut met = 0;
     let (mut kept, mut tally) = made::<T>(rt, alloc, &mut met)?;
-    for id in 0..MANY {
-        let ask = offer(rt, expiry_of(id), b"a");
-        let outcome = answered(rt, &mut kept, &mut tally, ask, &mut met)?;
-        let reply = offered(rt, id, expiry_of(id), b"a");
-        assert_eq!(rt; outcome, Outcome::Done(reply));
-    }
-    drains(rt, &mut kept, &mut tally, &mut met)?;
-    for (id, event) in (0..MANY).zip(kept.history()) {
-        assert_eq!(rt; (event.seat, event.asked, event.at), (0, 95, 95));
-        assert_eq!(rt; event.act, Act::Offer(numbered(rt, id)));
-    }
-    runs(rt, alloc, &mut kept, &mut tally, &mut met)?;
-    let audit = kept.audit();
-    assert_eq!(rt; (audit.calls, audit.offered, audit.given), (22, 21, 15));
-    assert_eq!(rt;
-        (tally.calls(), tally.offered(), tally.given()),
-        (22, 21, 15)
-    );
-    Ok(met)
+    begins(rt, alloc, &mut kept, &mut tally, met)
 }
 
 // The same for a queue that begins with an opening.
 fn run_on(rt: &impl Abort, alloc: Global) -> Result<u32, Fail> {
     let mut met = 0;
     let (mut kept, mut tally) = begun::<ListTimer>(rt, alloc, &mut met)?;
-    drains(rt, &mut kept, &mut tally, &mut met)?;
-    runs(rt, alloc, &mut kept, &mut tally, &mut met)?;
-    Ok(met)
+    goes_on(rt, alloc, &mut kept, &mut tally, met)
 }
 
 #[test]

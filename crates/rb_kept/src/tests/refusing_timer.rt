@@ -78,13 +78,9 @@ fn an_offer_refused_by_the_timer_changes_nothing(rt: HostRuntime) -> Result<(), 
 
 #[test]
 fn an_opening_refused_by_the_timer_is_handed_back(rt: HostRuntime) -> Result<(), Fail> {
-    let alloc = rt.alloc();
-    let given = opening(&rt, alloc, 9)?;
-    match Kept::<RefusingTimer<ListTimer, 8>>::new_from(alloc, 1, given) {
-        Ok(_) => Err(Fail::from("the timer did not refuse")),
-        Err(refused) => {
-            assert_eq!(rt; refused, (opening(&rt, alloc, 9)?, NewFault::Memory));
-            Ok(())
-        }
-    }
+    let given = opening(&rt, rt.alloc(), 9)?;
+    let handed_back = Some((opening(&rt, rt.alloc(), 9)?, NewFault::Memory));
+    let refused = Kept::<RefusingTimer<ListTimer, 8>>::new_from(rt.alloc(), 1, given).err();
+    assert_eq!(rt; refused, handed_back);
+    Ok(())
 }

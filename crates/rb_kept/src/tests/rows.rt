@@ -1,137 +1,118 @@
 // Whole exchanges of one caller, each with all its replies.
 
-use super::{ListKept, answer, drained, element, event, item, offer, offered};
-use rb_queue::{Act, Ask, Items, Reply};
-use std::test::Fail;
+use super::run::Run;
+use super::{drained, drained_act, element, item};
+use crate::Outcome;
+use rb_delayed::Element;
+use rb_queue::{Act, Ask, Reply};
+use std::process::Abort;
 
-#[test]
-fn equal_expiries_are_given_in_either_order(rt: HostRuntime) -> Result<(), Fail> {
-    let (mut kept, mut tally) = ListKept::new(rt.alloc(), 9)?;
-    for (id, bytes) in [(0, b"a"), (1, b"b")] {
-        let reply = answer(&mut kept, &mut tally, 0, offer(&rt, 10, bytes.as_slice()))?;
-        assert_eq!(rt; reply, offered(&rt, id, 10, bytes.as_slice()));
+// The element that a peek shows at moment 10.
+fn shown(run: &mut Run) -> Option<Element> {
+    let step = run.kept.act(&mut run.tally, 0, 10, Ask::Peek);
+    match &step {
+        Ok(Outcome::Done(Reply::Head(element))) => Some(*element),
+        _ => None,
     }
-    let (a, b) = (element(&rt, 0, 10, b"a"), element(&rt, 1, 10, b"b"));
-    let head = answer(&mut kept, &mut tally, 10, Ask::Peek)?;
-    assert!(rt; head == Reply::Head(a) || head == Reply::Head(b));
-    let first = answer(&mut kept, &mut tally, 10, Ask::Poll)?;
-    let second = answer(&mut kept, &mut tally, 10, Ask::Poll)?;
-    let in_order = first == Reply::Item(a) && second == Reply::Item(b);
-    let reversed = first == Reply::Item(b) && second == Reply::Item(a);
-    assert!(rt; in_order || reversed);
-    let third = answer(&mut kept, &mut tally, 10, Ask::Poll)?;
-    assert_eq!(rt; third, Reply::Nothing);
-    Ok(())
+}
+
+// The element that a poll gives at moment 10.
+fn polled(run: &mut Run) -> Option<Element> {
+    let step = run.kept.act(&mut run.tally, 0, 10, Ask::Poll);
+    match &step {
+        Ok(Outcome::Done(Reply::Item(element))) => Some(*element),
+        _ => None,
+    }
 }
 
 #[test]
-fn an_offer_into_the_past_is_given_at_once(rt: HostRuntime) -> Result<(), Fail> {
-    let (mut kept, mut tally) = ListKept::new(rt.alloc(), 9)?;
-    for (ask, reply) in [
-        (offer(&rt, 7, b"y"), offered(&rt, 0, 7, b"y")),
-        (Ask::Poll, item(&rt, 0, 7, b"y")),
-        (offer(&rt, 5, b"z"), offered(&rt, 1, 5, b"z")),
-        (offer(&rt, 9, b"w"), offered(&rt, 2, 9, b"w")),
-        (Ask::Poll, item(&rt, 1, 5, b"z")),
-        (Ask::Poll, item(&rt, 2, 9, b"w")),
-    ] {
-        assert_eq!(rt; answer(&mut kept, &mut tally, 500, ask)?, reply);
-    }
-    Ok(())
+fn equal_expiries_are_given_in_either_order(rt: HostRuntime) {
+    let mut run = Run::new(&rt, rt.alloc(), 9);
+    run.offer(&rt, 0, 0, 10, b"a");
+    run.offer(&rt, 0, 1, 10, b"b");
+    let (a, b) = (
+        Some(element(&rt, 0, 10, b"a")),
+        Some(element(&rt, 1, 10, b"b")),
+    );
+    let head = shown(&mut run);
+    assert!(rt; head == a || head == b);
+    let both = (polled(&mut run), polled(&mut run));
+    assert!(rt; both == (a, b) || both == (b, a));
+    run.expect(&rt, 10, Ask::Poll, Reply::Nothing);
 }
 
 #[test]
-fn a_drain_gives_the_least_expiry_first(rt: HostRuntime) -> Result<(), Fail> {
+fn an_offer_into_the_past_is_given_at_once(rt: HostRuntime) {
+    let mut run = Run::new(&rt, rt.alloc(), 9);
+    run.offer(&rt, 500, 0, 7, b"y");
+    run.expect(&rt, 500, Ask::Poll, item(&rt, 0, 7, b"y"));
+    run.offer(&rt, 500, 1, 5, b"z");
+    run.offer(&rt, 500, 2, 9, b"w");
+    run.expect(&rt, 500, Ask::Poll, item(&rt, 1, 5, b"z"));
+    run.expect(&rt, 500, Ask::Poll, item(&rt, 2, 9, b"w"));
+}
+
+#[test]
+fn a_drain_gives_the_least_expiry_first(rt: HostRuntime) {
     let alloc = rt.alloc();
-    let (mut kept, mut tally) = ListKept::new(alloc, 9)?;
-    let all = vec![in alloc;
-        element(&rt, 3, 63, b"d"),
-        element(&rt, 2, 64, b"c"),
-        element(&rt, 1, 4095, b"b"),
-        element(&rt, 0, 4096, b"a"),
-    ]?;
-    for (asked, ask, reply) in [
-        (0, offer(&rt, 4096, b"a"), offered(&rt, 0, 4096, b"a")),
-        (0, offer(&rt, 4095, b"b"), offered(&rt, 1, 4095, b"b")),
-        (0, offer(&rt, 64, b"c"), offered(&rt, 2, 64, b"c")),
-        (0, offer(&rt, 63, b"d"), offered(&rt, 3, 63, b"d")),
-        (0, Ask::Peek, Reply::Head(element(&rt, 3, 63, b"d"))),
-        (4096, Ask::Drain(9), Reply::Drained(Items::new(all))),
-    ] {
-        assert_eq!(rt; answer(&mut kept, &mut tally, asked, ask)?, reply);
-    }
-    let act = drained(alloc, 9, &[3, 2, 1, 0])?;
-    assert_eq!(rt; kept.history().last(), Some(&event(0, 4096, 4096, act)));
-    Ok(())
+    let mut run = Run::new(&rt, alloc, 9);
+    run.offer(&rt, 0, 0, 4096, b"a");
+    run.offer(&rt, 0, 1, 4095, b"b");
+    run.offer(&rt, 0, 2, 64, b"c");
+    run.offer(&rt, 0, 3, 63, b"d");
+    run.expect(&rt, 0, Ask::Peek, Reply::Head(element(&rt, 3, 63, b"d")));
+    let entries = [
+        (3, 63, b'd'),
+        (2, 64, b'c'),
+        (1, 4095, b'b'),
+        (0, 4096, b'a'),
+    ];
+    run.expect(&rt, 4096, Ask::Drain(9), drained(&rt, alloc, &entries));
+    run.expect_last(&rt, 4096, 4096, drained_act(&rt, alloc, 9, &[3, 2, 1, 0]));
 }
 
 #[test]
-fn an_element_is_removed_once(rt: HostRuntime) -> Result<(), Fail> {
-    let (mut kept, mut tally) = ListKept::new(rt.alloc(), 9)?;
-    let _ = answer(&mut kept, &mut tally, 0, offer(&rt, 10, b"a"))?;
-    for (id, found) in [(0, true), (0, false), (7, false)] {
-        assert_eq!(rt;
-            answer(&mut kept, &mut tally, 0, Ask::Remove(id))?,
-            Reply::Removed(found)
-        );
-        assert_eq!(rt;
-            kept.history().last(),
-            Some(&event(0, 0, 0, Act::Remove { id, found }))
-        );
-    }
-    let audit = kept.audit();
-    assert_eq!(rt; (audit.calls, audit.offered, audit.removed), (4, 1, 1));
-    assert_eq!(rt; (audit.given, audit.cleared, audit.left), (0, 0, 0));
-    Ok(())
+fn an_element_is_removed_once(rt: HostRuntime) {
+    let mut run = Run::new(&rt, rt.alloc(), 9);
+    run.offer(&rt, 0, 0, 10, b"a");
+    expect_removal(&rt, &mut run, 0, true);
+    expect_removal(&rt, &mut run, 0, false);
+    expect_removal(&rt, &mut run, 7, false);
+    run.expect_audit(&rt, [4, 1, 0, 1, 0, 0, 0]);
+}
+
+fn expect_removal(rt: &impl Abort, run: &mut Run, id: u64, found: bool) {
+    run.expect(rt, 0, Ask::Remove(id), Reply::Removed(found));
+    run.expect_last(rt, 0, 0, Act::Remove { id, found });
 }
 
 #[test]
-fn a_drain_gives_at_most_so_many(rt: HostRuntime) -> Result<(), Fail> {
+fn a_drain_gives_at_most_so_many(rt: HostRuntime) {
     let alloc = rt.alloc();
-    let (mut kept, mut tally) = ListKept::new(alloc, 9)?;
-    let two = vec![in alloc; element(&rt, 0, 1, b"a"), element(&rt, 1, 2, b"b")]?;
-    let one = vec![in alloc; element(&rt, 2, 3, b"c")]?;
-    let none = Items::new(Vec::new(alloc));
-    for (asked, ask, reply) in [
-        (0, offer(&rt, 1, b"a"), offered(&rt, 0, 1, b"a")),
-        (0, offer(&rt, 2, b"b"), offered(&rt, 1, 2, b"b")),
-        (0, offer(&rt, 3, b"c"), offered(&rt, 2, 3, b"c")),
-        (0, offer(&rt, 9, b"d"), offered(&rt, 3, 9, b"d")),
-        (3, Ask::Drain(2), Reply::Drained(Items::new(two))),
-        (3, Ask::Drain(0), Reply::Drained(none)),
-        (3, Ask::Drain(5), Reply::Drained(Items::new(one))),
-        (3, Ask::Size, Reply::Size(1)),
-    ] {
-        assert_eq!(rt; answer(&mut kept, &mut tally, asked, ask)?, reply);
-    }
-    for (place, max, ids) in [
-        (4, 2, [0, 1].as_slice()),
-        (5, 0, [].as_slice()),
-        (6, 5, [2].as_slice()),
-    ] {
-        let act = drained(alloc, max, ids)?;
-        assert_eq!(rt; kept.history().get(place), Some(&event(0, 3, 3, act)));
-    }
-    let audit = kept.audit();
-    assert_eq!(rt; (audit.calls, audit.offered, audit.given), (8, 4, 3));
-    assert_eq!(rt; audit.left, 1);
-    Ok(())
+    let mut run = Run::new(&rt, alloc, 9);
+    run.offer(&rt, 0, 0, 1, b"a");
+    run.offer(&rt, 0, 1, 2, b"b");
+    run.offer(&rt, 0, 2, 3, b"c");
+    run.offer(&rt, 0, 3, 9, b"d");
+    let two = drained(&rt, alloc, &[(0, 1, b'a'), (1, 2, b'b')]);
+    run.expect(&rt, 3, Ask::Drain(2), two);
+    run.expect_last(&rt, 3, 3, drained_act(&rt, alloc, 2, &[0, 1]));
+    run.expect(&rt, 3, Ask::Drain(0), drained(&rt, alloc, &[]));
+    run.expect_last(&rt, 3, 3, drained_act(&rt, alloc, 0, &[]));
+    let one = drained(&rt, alloc, &[(2, 3, b'c')]);
+    run.expect(&rt, 3, Ask::Drain(5), one);
+    run.expect_last(&rt, 3, 3, drained_act(&rt, alloc, 5, &[2]));
+    run.expect(&rt, 3, Ask::Size, Reply::Size(1));
+    run.expect_audit(&rt, [8, 4, 3, 0, 0, 1, 0]);
 }
 
 #[test]
-fn a_clear_discards_what_is_not_expired_too(rt: HostRuntime) -> Result<(), Fail> {
-    let (mut kept, mut tally) = ListKept::new(rt.alloc(), 9)?;
-    for (ask, reply) in [
-        (offer(&rt, 10, b"p"), offered(&rt, 0, 10, b"p")),
-        (offer(&rt, 20, b"r"), offered(&rt, 1, 20, b"r")),
-        (Ask::Clear, Reply::Cleared),
-        (Ask::Size, Reply::Size(0)),
-        (offer(&rt, 0, b"q"), offered(&rt, 2, 0, b"q")),
-    ] {
-        assert_eq!(rt; answer(&mut kept, &mut tally, 0, ask)?, reply);
-    }
-    let audit = kept.audit();
-    assert_eq!(rt; (audit.calls, audit.offered, audit.cleared), (5, 3, 2));
-    assert_eq!(rt; (audit.given, audit.removed, audit.left), (0, 0, 1));
-    Ok(())
+fn a_clear_discards_what_is_not_expired_too(rt: HostRuntime) {
+    let mut run = Run::new(&rt, rt.alloc(), 9);
+    run.offer(&rt, 0, 0, 10, b"p");
+    run.offer(&rt, 0, 1, 20, b"r");
+    run.expect(&rt, 0, Ask::Clear, Reply::Cleared);
+    run.expect(&rt, 0, Ask::Size, Reply::Size(0));
+    run.offer(&rt, 0, 2, 0, b"q");
+    run.expect_audit(&rt, [5, 3, 0, 0, 2, 1, 0]);
 }

@@ -1,155 +1,158 @@
 use super::*;
 use rb_delayed::GREATEST_ATTEMPT;
-use std::test::Fail;
 
 #[test]
-fn an_empty_queue_gives_nothing(rt: HostRuntime) -> Result<(), Fail> {
+fn an_empty_queue_gives_nothing(rt: HostRuntime) {
     let mut queue = ListQueue::new(rt.alloc());
-    assert_eq!(rt; (queue.size(), queue.next_id()), (0, 0));
-    assert_eq!(rt; (queue.peek(), queue.next_expiry()), (None, None));
-    assert_eq!(rt; (queue.poll(0), queue.poll(u64::MAX)), (None, None));
-    assert!(rt; !queue.remove(0));
-    assert!(rt; queue.drain(u64::MAX, u64::MAX)?.as_slice().is_empty());
+    expect_size(&rt, &queue, 0, 0);
+    expect_no_head(&rt, &queue);
+    expect_nothing(&rt, &mut queue, 0);
+    expect_nothing(&rt, &mut queue, u64::MAX);
+    expect_removal(&rt, &mut queue, 0, false);
+    expect_drain(&rt, rt.alloc(), &mut queue, u64::MAX, u64::MAX, &[]);
     queue.clear();
-    assert_eq!(rt; (queue.size(), queue.next_id()), (0, 0));
-    Ok(())
+    expect_size(&rt, &queue, 0, 0);
 }
 
 #[test]
-fn ids_rise_from_zero_and_are_not_reused(rt: HostRuntime) -> Result<(), Fail> {
+fn ids_rise_from_zero_and_are_not_reused(rt: HostRuntime) {
     let mut queue = ListQueue::new(rt.alloc());
-    for id in 0..3 {
-        assert_eq!(rt; queue.next_id(), id);
-        assert_eq!(rt; offered(&rt, &mut queue, 40)?.id, id);
-    }
-    for left in [2, 1, 0] {
-        assert!(rt; queue.poll(40).is_some());
-        assert_eq!(rt; (queue.size(), queue.next_id()), (left, 3));
-    }
-    assert_eq!(rt; offered(&rt, &mut queue, 40)?.id, 3);
+    expect_offer(&rt, &mut queue, 0, 40);
+    expect_offer(&rt, &mut queue, 1, 41);
+    expect_offer(&rt, &mut queue, 2, 42);
+    expect_poll(&rt, &mut queue, 42, 0, 40);
+    expect_size(&rt, &queue, 2, 3);
+    expect_poll(&rt, &mut queue, 42, 1, 41);
+    expect_size(&rt, &queue, 1, 3);
+    expect_poll(&rt, &mut queue, 42, 2, 42);
+    expect_size(&rt, &queue, 0, 3);
+    expect_offer(&rt, &mut queue, 3, 40);
     each_id_once();
     each_element_counted();
-    Ok(())
 }
 
-#[test]
-fn an_element_has_the_fields_of_its_draft(rt: HostRuntime) -> Result<(), Fail> {
-    let mut queue = ListQueue::new(rt.alloc());
-    let first = Draft::first(70, payload(&rt, b"a"));
-    let again = Draft {
+// Offers a draft, which becomes this element.
+fn expect_offered(rt: &impl Abort, queue: &mut ListQueue, draft: Draft, element: Element) {
+    assert!(rt; queue.next_id() < u64::MAX);
+    assert_eq!(rt; queue.offer(draft), Ok(element));
+}
+
+fn retried_draft(rt: &impl Abort) -> Draft {
+    Draft {
         expiry: 50,
         origin: Some(0),
         first: Some(30),
         attempt: GREATEST_ATTEMPT,
-        payload: payload(&rt, b"b"),
-    };
-    // Where a draft names no origin, the element's own id and expiry stand for it.
-    for (draft, id, expiry, origin, first, attempt) in [
-        (first, 0, 70, 0, 70, 1),
-        (again, 1, 50, 0, 30, 1_000),
-        (first, 2, 70, 2, 70, 1),
-    ] {
-        let element = Element {
-            id,
-            expiry,
-            origin,
-            first,
-            attempt,
-            payload: draft.payload,
-        };
-        assert!(rt; queue.next_id() < u64::MAX);
-        assert_eq!(rt; queue.offer(draft)?, element, "element {id}");
+        payload: payload(rt, b"b"),
     }
-    // What comes out is what was answered at the offer.
-    let element = queue.poll(50).ok_or("nothing is expired")?;
-    assert_eq!(rt;
-        (element.id, element.expiry, element.attempt),
-        (1, 50, 1_000)
-    );
-    assert_eq!(rt; (element.origin, element.first), (0, 30));
-    assert_eq!(rt; element.payload, payload(&rt, b"b"));
-    Ok(())
 }
 
-#[test]
-fn polls_from_the_expiry_on(rt: HostRuntime) -> Result<(), Fail> {
-    for (now, given) in [
-        (0, false),
-        (99, false),
-        (100, true),
-        (101, true),
-        (u64::MAX, true),
-    ] {
-        let mut queue = ListQueue::new(rt.alloc());
-        let element = offered(&rt, &mut queue, 100)?;
-        let want = given.then_some(element);
-        assert_eq!(rt; queue.poll(now), want, "at {now}");
-        assert_eq!(rt; queue.size(), u64::from(!given), "at {now}");
+fn retried(rt: &impl Abort) -> Element {
+    Element {
+        id: 1,
+        expiry: 50,
+        origin: 0,
+        first: 30,
+        attempt: 1_000,
+        payload: payload(rt, b"b"),
     }
-    Ok(())
 }
 
+// Where a draft names no origin, the element's own id and expiry stand for it. What comes out is what was
+// answered at the offer.
 #[test]
-fn polls_the_least_expiry_first(rt: HostRuntime) -> Result<(), Fail> {
+fn an_element_has_the_fields_of_its_draft(rt: HostRuntime) {
     let mut queue = ListQueue::new(rt.alloc());
-    for expiry in [30, 10, 20] {
-        let _ = offered(&rt, &mut queue, expiry)?;
-    }
-    for (id, expiry) in [(1, 10), (2, 20), (0, 30)] {
-        assert_eq!(rt; queue.next_expiry(), Some(expiry));
-        let element = queue.poll(30).ok_or("nothing is expired")?;
-        assert_eq!(rt; (element.id, element.expiry), (id, expiry));
-    }
-    assert_eq!(rt; (queue.next_expiry(), queue.poll(30)), (None, None));
-    Ok(())
+    expect_offer(&rt, &mut queue, 0, 70);
+    expect_offered(&rt, &mut queue, retried_draft(&rt), retried(&rt));
+    expect_offer(&rt, &mut queue, 2, 70);
+    assert_eq!(rt; queue.poll(50), Some(retried(&rt)));
+}
+
+// An element of expiry 100 is given at this moment.
+fn expect_given(rt: &impl Abort, alloc: Global, now: u64) {
+    let mut queue = ListQueue::new(alloc);
+    expect_offer(rt, &mut queue, 0, 100);
+    expect_poll(rt, &mut queue, now, 0, 100);
+    expect_size(rt, &queue, 0, 1);
 }
 
 #[test]
-fn an_expiry_in_the_past_comes_first(rt: HostRuntime) -> Result<(), Fail> {
+fn polls_from_the_expiry_on(rt: HostRuntime) {
     let mut queue = ListQueue::new(rt.alloc());
-    for expiry in [50, 60] {
-        let _ = offered(&rt, &mut queue, expiry)?;
-    }
-    assert_eq!(rt; queue.poll(55).map(|element| element.id), Some(0));
-    let _ = offered(&rt, &mut queue, 5)?;
-    let _ = offered(&rt, &mut queue, 0)?;
-    for id in [3, 2, 1] {
-        assert_eq!(rt; queue.poll(60).map(|element| element.id), Some(id));
-    }
-    Ok(())
+    expect_offer(&rt, &mut queue, 0, 100);
+    expect_nothing(&rt, &mut queue, 0);
+    expect_nothing(&rt, &mut queue, 99);
+    expect_size(&rt, &queue, 1, 1);
+    expect_given(&rt, rt.alloc(), 100);
+    expect_given(&rt, rt.alloc(), 101);
+    expect_given(&rt, rt.alloc(), u64::MAX);
+}
+
+#[test]
+fn polls_the_least_expiry_first(rt: HostRuntime) {
+    let mut queue = ListQueue::new(rt.alloc());
+    expect_offer(&rt, &mut queue, 0, 30);
+    expect_offer(&rt, &mut queue, 1, 10);
+    expect_offer(&rt, &mut queue, 2, 20);
+    expect_head(&rt, &queue, 1, 10);
+    expect_poll(&rt, &mut queue, 30, 1, 10);
+    expect_head(&rt, &queue, 2, 20);
+    expect_poll(&rt, &mut queue, 30, 2, 20);
+    expect_head(&rt, &queue, 0, 30);
+    expect_poll(&rt, &mut queue, 30, 0, 30);
+    expect_no_head(&rt, &queue);
+    expect_nothing(&rt, &mut queue, 30);
+}
+
+#[test]
+fn an_expiry_in_the_past_comes_first(rt: HostRuntime) {
+    let mut queue = ListQueue::new(rt.alloc());
+    expect_offer(&rt, &mut queue, 0, 50);
+    expect_offer(&rt, &mut queue, 1, 60);
+    expect_poll(&rt, &mut queue, 55, 0, 50);
+    expect_offer(&rt, &mut queue, 2, 5);
+    expect_offer(&rt, &mut queue, 3, 0);
+    expect_poll(&rt, &mut queue, 60, 3, 0);
+    expect_poll(&rt, &mut queue, 60, 2, 5);
+    expect_poll(&rt, &mut queue, 60, 1, 60);
 }
 
 // Which of two with one expiry comes first is left open.
-#[test]
-fn both_of_a_tie_come(rt: HostRuntime) -> Result<(), Fail> {
-    let mut queue = ListQueue::new(rt.alloc());
-    let last = offered(&rt, &mut queue, 11)?;
-    let one = offered(&rt, &mut queue, 10)?;
-    let other = offered(&rt, &mut queue, 10)?;
-    assert!(rt; [Some(one), Some(other)].contains(&queue.peek()));
+fn expect_both(rt: &impl Abort, queue: &mut ListQueue) {
+    let (one, other) = (Some(element(rt, 1, 10)), Some(element(rt, 2, 10)));
+    let head = queue.peek();
+    assert!(rt; head == one || head == other);
     let both = (queue.poll(10), queue.poll(10));
-    assert!(rt; both == (Some(one), Some(other)) || both == (Some(other), Some(one)));
-    assert_eq!(rt; queue.poll(10), None);
-    assert_eq!(rt; queue.poll(11), Some(last));
-    Ok(())
+    assert!(rt; both == (one, other) || both == (other, one));
 }
 
 #[test]
-fn peek_and_size_see_the_unexpired(rt: HostRuntime) -> Result<(), Fail> {
+fn both_of_a_tie_come(rt: HostRuntime) {
     let mut queue = ListQueue::new(rt.alloc());
-    let late = Some(offered(&rt, &mut queue, u64::MAX)?);
-    assert_eq!(rt; queue.peek(), late);
-    assert_eq!(rt; queue.size(), 1);
-    let soon = Some(offered(&rt, &mut queue, 80)?);
+    expect_offer(&rt, &mut queue, 0, 11);
+    expect_offer(&rt, &mut queue, 1, 10);
+    expect_offer(&rt, &mut queue, 2, 10);
+    expect_both(&rt, &mut queue);
+    expect_nothing(&rt, &mut queue, 10);
+    expect_poll(&rt, &mut queue, 11, 0, 11);
+}
+
+#[test]
+fn peek_and_size_see_the_unexpired(rt: HostRuntime) {
+    let mut queue = ListQueue::new(rt.alloc());
+    expect_offer(&rt, &mut queue, 0, u64::MAX);
+    expect_head(&rt, &queue, 0, u64::MAX);
+    expect_size(&rt, &queue, 1, 1);
+    expect_offer(&rt, &mut queue, 1, 80);
     // An element that is shown stays.
-    for _ in 0..2 {
-        assert_eq!(rt; queue.peek(), soon);
-        assert_eq!(rt; queue.size(), 2);
-        assert_eq!(rt; queue.next_expiry(), Some(80));
-        assert_eq!(rt; queue.poll(79), None);
-    }
-    assert_eq!(rt; queue.poll(80), soon);
-    assert_eq!(rt; queue.peek(), late);
-    assert_eq!(rt; queue.size(), 1);
-    Ok(())
+    expect_head(&rt, &queue, 1, 80);
+    expect_size(&rt, &queue, 2, 2);
+    expect_nothing(&rt, &mut queue, 79);
+    expect_head(&rt, &queue, 1, 80);
+    expect_size(&rt, &queue, 2, 2);
+    expect_nothing(&rt, &mut queue, 79);
+    expect_poll(&rt, &mut queue, 80, 1, 80);
+    expect_head(&rt, &queue, 0, u64::MAX);
+    expect_size(&rt, &queue, 1, 2);
 }

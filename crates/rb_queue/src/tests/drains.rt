@@ -1,49 +1,52 @@
 use super::*;
-use std::test::Fail;
 
 #[test]
-fn drains_in_the_order_of_expiries(rt: HostRuntime) -> Result<(), Fail> {
+fn drains_in_the_order_of_expiries(rt: HostRuntime) {
     let mut queue = ListQueue::new(rt.alloc());
-    let last = offered(&rt, &mut queue, 4096)?;
-    let third = offered(&rt, &mut queue, 4095)?;
-    let second = offered(&rt, &mut queue, 64)?;
-    let first = offered(&rt, &mut queue, 63)?;
-    let items = queue.drain(4096, 9)?;
-    assert_eq!(rt; items.as_slice(), [first, second, third, last].as_slice());
-    assert_eq!(rt; (queue.size(), queue.next_id()), (0, 4));
-    assert!(rt; !queue.remove(3));
-    Ok(())
+    expect_offer(&rt, &mut queue, 0, 4096);
+    expect_offer(&rt, &mut queue, 1, 4095);
+    expect_offer(&rt, &mut queue, 2, 64);
+    expect_offer(&rt, &mut queue, 3, 63);
+    let entries = [(3, 63), (2, 64), (1, 4095), (0, 4096)];
+    expect_drain(&rt, rt.alloc(), &mut queue, 4096, 9, &entries);
+    expect_size(&rt, &queue, 0, 4);
+    expect_removal(&rt, &mut queue, 3, false);
 }
 
 #[test]
-fn drains_at_most_so_many_and_none_unexpired(rt: HostRuntime) -> Result<(), Fail> {
-    let mut queue = ListQueue::new(rt.alloc());
-    let first = offered(&rt, &mut queue, 1)?;
-    let second = offered(&rt, &mut queue, 2)?;
-    let third = offered(&rt, &mut queue, 3)?;
-    let late = offered(&rt, &mut queue, 9)?;
-    assert!(rt; queue.drain(0, 5)?.as_slice().is_empty());
-    assert_eq!(rt; queue.drain(3, 2)?.as_slice(), [first, second].as_slice());
-    assert!(rt; queue.drain(3, 0)?.as_slice().is_empty());
-    assert_eq!(rt; queue.size(), 2);
-    assert_eq!(rt; queue.drain(3, 5)?.as_slice(), [third].as_slice());
-    assert_eq!(rt; (queue.size(), queue.peek()), (1, Some(late)));
+fn drains_at_most_so_many_and_none_unexpired(rt: HostRuntime) {
+    let alloc = rt.alloc();
+    let mut queue = ListQueue::new(alloc);
+    expect_offer(&rt, &mut queue, 0, 1);
+    expect_offer(&rt, &mut queue, 1, 2);
+    expect_offer(&rt, &mut queue, 2, 3);
+    expect_offer(&rt, &mut queue, 3, 9);
+    expect_drain(&rt, alloc, &mut queue, 0, 5, &[]);
+    expect_drain(&rt, alloc, &mut queue, 3, 2, &[(0, 1), (1, 2)]);
+    expect_drain(&rt, alloc, &mut queue, 3, 0, &[]);
+    expect_size(&rt, &queue, 2, 4);
+    expect_drain(&rt, alloc, &mut queue, 3, 5, &[(2, 3)]);
+    expect_size(&rt, &queue, 1, 4);
+    expect_head(&rt, &queue, 3, 9);
     // More than stand, by far: no room is asked for them.
-    assert_eq!(rt; queue.drain(9, u64::MAX)?.as_slice(), [late].as_slice());
-    assert_eq!(rt; queue.size(), 0);
-    Ok(())
+    expect_drain(&rt, alloc, &mut queue, 9, u64::MAX, &[(3, 9)]);
+    expect_size(&rt, &queue, 0, 4);
 }
 
 // Which of two with one expiry comes first is left open.
-#[test]
-fn drains_both_of_a_tie(rt: HostRuntime) -> Result<(), Fail> {
-    let mut queue = ListQueue::new(rt.alloc());
-    let one = offered(&rt, &mut queue, 5)?;
-    let other = offered(&rt, &mut queue, 5)?;
-    let soon = offered(&rt, &mut queue, 4)?;
-    let items = queue.drain(5, 3)?;
-    let items = items.as_slice();
+fn expect_both(rt: &impl Abort, items: &[Element]) {
+    let (one, other) = (element(rt, 0, 5), element(rt, 1, 5));
+    let soon = element(rt, 2, 4);
     assert!(rt; items == [soon, one, other].as_slice() || items == [soon, other, one].as_slice());
-    assert_eq!(rt; queue.size(), 0);
-    Ok(())
+}
+
+#[test]
+fn drains_both_of_a_tie(rt: HostRuntime) {
+    let mut queue = ListQueue::new(rt.alloc());
+    expect_offer(&rt, &mut queue, 0, 5);
+    expect_offer(&rt, &mut queue, 1, 5);
+    expect_offer(&rt, &mut queue, 2, 4);
+    let items = queue.drain(5, 3).ok().expect(&rt, "items");
+    expect_both(&rt, items.as_slice());
+    expect_size(&rt, &queue, 0, 3);
 }

@@ -80,24 +80,44 @@ fn expect_down_from(rt: &impl Abort, items: &Items, last: u64, count: usize) {
     }
 }
 
+// Offers elements 5 to 19, and answers how often it was refused.
+fn offers_many<T: Timer>(rt: &impl Abort, queue: &mut DelayQueue<T>) -> Result<u32, AllocError> {
+    let mut refused = 0_u32;
+    for id in 5..COUNT {
+        let (offer, times) = offered_again(rt, queue, expiry_of(id))?;
+        assert_eq!(rt; offer, element(rt, id, expiry_of(id)));
+        refused = refused.saturating_add(times);
+    }
+    Ok(refused)
+}
+
+// Drains seven, and then all, and answers how often it was refused.
+fn drains_twice<T: Timer>(rt: &impl Abort, queue: &mut DelayQueue<T>) -> Result<u32, AllocError> {
+    let (few, refused) = drained_again(rt, queue, 90, 7)?;
+    expect_down_from(rt, &few, 19, 7);
+    let (all, times) = drained_again(rt, queue, u64::MAX, u64::MAX)?;
+    expect_down_from(rt, &all, 12, 13);
+    assert_eq!(rt; shown(queue), (0, COUNT, None, None));
+    Ok(refused.saturating_add(times))
+}
+
+fn offers_and_drains<T: Timer>(
+    rt: &impl Abort,
+    queue: &mut DelayQueue<T>,
+    refused: u32,
+) -> Result<u32, AllocError> {
+    assert_eq!(rt; shown(queue), (5, 5, Some(element(rt, 4, 96)), Some(96)));
+    let offering = offers_many(rt, queue)?;
+    let draining = drains_twice(rt, queue)?;
+    Ok(refused.saturating_add(offering).saturating_add(draining))
+}
+
 /// Begins, offers and drains, each call made again where it was refused, and gives the number of
 /// refusals. After a refusal all is as before it: what a queue shows then, and each element that it
 /// gives up to the end.
 pub(super) fn run_through<T: Timer>(rt: &impl Abort, alloc: Global) -> Result<u32, AllocError> {
-    let (mut queue, mut refused) = begun::<T>(rt, alloc)?;
-    assert_eq!(rt; shown(&queue), (5, 5, Some(element(rt, 4, 96)), Some(96)));
-    for id in 5..COUNT {
-        let (offer, times) = offered_again(rt, &mut queue, expiry_of(id))?;
-        assert_eq!(rt; offer, element(rt, id, expiry_of(id)));
-        refused = refused.saturating_add(times);
-    }
-    let (few, times) = drained_again(rt, &mut queue, 90, 7)?;
-    expect_down_from(rt, &few, 19, 7);
-    refused = refused.saturating_add(times);
-    let (all, times) = drained_again(rt, &mut queue, u64::MAX, u64::MAX)?;
-    expect_down_from(rt, &all, 12, 13);
-    assert_eq!(rt; shown(&queue), (0, COUNT, None, None));
-    Ok(refused.saturating_add(times))
+    let (mut queue, refused) = begun::<T>(rt, alloc)?;
+    offers_and_drains(rt, &mut queue, refused)
 }
 
 #[test]

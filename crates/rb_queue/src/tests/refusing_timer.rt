@@ -74,15 +74,25 @@ fn an_offer_refused_by_the_timer_changes_nothing(rt: HostRuntime) -> Result<(), 
     Ok(())
 }
 
+fn expect_refused(rt: &impl Abort, alloc: Global, opening: &Opening) {
+    assert!(rt; DelayQueue::<RefusingTimer<ListTimer, 4>>::new_from(alloc, opening).is_err());
+}
+
+fn expect_begun(rt: &impl Abort, alloc: Global, opening: &Opening) {
+    let queue = ListQueue::new_from(alloc, opening);
+    expect_size(rt, &queue.ok().expect(rt, "a queue"), 5, 5);
+}
+
 #[test]
 fn an_opening_stays_where_the_timer_refuses(rt: HostRuntime) -> Result<(), Fail> {
-    let alloc = rt.alloc();
     let entries = [(0, 9), (1, 8), (2, 7), (3, 6), (4, 5)];
-    let items = standing(&rt, alloc, &entries)?;
-    let opening = Opening::new(items, 5, 0).ok_or("no opening")?;
-    assert!(rt; DelayQueue::<RefusingTimer<ListTimer, 4>>::new_from(alloc, &opening).is_err());
-    assert_eq!(rt; opening.elements, standing(&rt, alloc, &entries)?);
-    let queue = ListQueue::new_from(alloc, &opening)?;
-    assert_eq!(rt; (queue.size(), queue.next_id()), (5, 5));
+    let (items, expected) = (
+        standing(&rt, rt.alloc(), &entries)?,
+        standing(&rt, rt.alloc(), &entries)?,
+    );
+    let opening = Opening::new(items, 5, 0).expect(&rt, "an opening");
+    expect_refused(&rt, rt.alloc(), &opening);
+    assert_eq!(rt; opening.elements, expected);
+    expect_begun(&rt, rt.alloc(), &opening);
     Ok(())
 }
