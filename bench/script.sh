@@ -7,11 +7,12 @@
 #
 # Three kinds of input, in each of which S elements stand all the time:
 #   random    delays from 0 to 1,000,000,000 ns; AT moves time on to the least expiry, an element is offered,
-#             and POLL takes one
+#             and POLL takes one, which is DONE
 #   timeouts  each element expires later than those before it; of twenty that leave, nineteen are removed by
-#             REMOVE before they expire, and one is taken by POLL after AT
-#   equal     all elements expire at once; one is offered, and POLL takes one
-# AT is no call, but its line is read and answered in the times below.
+#             REMOVE before they expire, and one is taken by POLL after AT, and is DONE
+#   equal     all elements expire at once; one is offered, and the oldest leaves by REMOVE (POLL may take
+#             any of them, so a file can't name the one that is DONE)
+# AT and DONE are no calls, but their lines are read and answered in the times below.
 set -euo pipefail
 export LC_ALL=C
 
@@ -35,17 +36,19 @@ rng = random.Random(20261122)
 lines = []
 
 def random_delays():
-    standing, now = [], 0
+    standing, used, now = [], set(), 0
     for at in range(size + (calls - size) // 2):
         if at >= size:
-            now = max(now, standing[0])
+            now = max(now, standing[0][0])
             lines.append(f"AT {now}")
         delay = rng.randint(0, 1_000_000_000)
-        heapq.heappush(standing, now + delay)
+        while now + delay in used:
+            delay = rng.randint(0, 1_000_000_000)
+        used.add(now + delay)
+        heapq.heappush(standing, (now + delay, at))
         lines.append(f"OFFER {delay} p{at}")
         if at >= size:
-            heapq.heappop(standing)
-            lines.append("POLL")
+            lines += ["POLL", f"DONE {heapq.heappop(standing)[1]}"]
 
 def timeouts():
     standing, place, first, now = list(range(size)), list(range(size)), 0, 0
@@ -58,7 +61,7 @@ def timeouts():
                 gone.discard(first)
                 first += 1
             lines.append(f"AT {1_000_000 + first}")
-            lines.append("POLL")
+            lines += ["POLL", f"DONE {first}"]
             leaves = first
         else:
             leaves = standing[rng.randrange(len(standing))]
@@ -76,7 +79,7 @@ def equal():
     for at in range(size + (calls - size) // 2):
         lines.append(f"OFFERAT 0 p{at}")
         if at >= size:
-            lines.append("POLL")
+            lines.append(f"REMOVE {at - size}")
 
 {"random": random_delays, "timeouts": timeouts, "equal": equal}[kind]()
 lines += ["SIZE"] * ((calls - size) % 2) + ["QUIT"]
