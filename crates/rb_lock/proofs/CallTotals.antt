@@ -1,11 +1,9 @@
 -- What calls come to, one list behind the other.
-use Rattle.std.proofs.Common.{◌≡◌, ℕ, ◌+◌, ◌≤◌, List, [], ◌∷◌, ◌++◌, length, refl, ap, sym, ◌∙◌, arith, append_assoc, length-append}
-use Rattle.std.specs.Prelude.{min, sum_by}
+use Rattle.std.proofs.Common.{◌≡◌, ◌+◌, List, [], ◌∷◌, ◌++◌, length, ap, sym, ◌∙◌, arith, append_assoc, length-append}
 use Rattle.std.proofs.lemmas.List.{append-nil}
 use Rattle.std.proofs.lemmas.List.Sums.{sum_by-append, sum_by-cons}
 use Rattle.rb_ledger.specs.Totals.{total_of}
 use Rattle.rb_ledger.specs.declared.totals.Totals.{Totals}
-use Rattle.rb_ledger.specs.declared.totals.TheConstants.{GREATEST_COUNT}
 use Rattle.rb_queue.specs.Effect.{effect_of, inserted, given}
 use Rattle.rb_queue.specs.Counts.{offer_count, give_count}
 use Rattle.rb_queue.specs.declared.event.Event.{Event}

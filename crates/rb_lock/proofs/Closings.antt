@@ -1,13 +1,12 @@
 -- A pass closes the queue, or is refused: the lock is taken, and the totals are compared.
-use Rattle.std.proofs.Common.{◌≡◌, ℕ, ◌+◌, ◌≤◌, ◌<◌, List, [], ◌∷◌, ◌++◌, length, refl, ap, sym, subst, ◌∙◌, arith}
-use Rattle.std.specs.Prelude.{Option, Some, None}
+use Rattle.std.proofs.Common.{◌≡◌, ◌≤◌, ◌<◌, [], ◌∷◌, length, refl, ap, sym, subst, ◌∙◌, arith}
+use Rattle.std.specs.Prelude.{Some}
 use Rattle.atomic_table.specs.Seated.{TableId}
 use Rattle.rb_ledger.specs.declared.totals.Totals.{Totals}
 use Rattle.rb_queue.specs.History.{IsLegal}
-use Rattle.rb_queue.specs.declared.event.Event.{Event}
 use Rattle.rb_kept.specs.Log.{Log}
 use Rattle.rb_kept.specs.Shares.{totals_of}
-use Rattle.rb_lock.specs.Records.{times, names_of, AreDifferent}
+use Rattle.rb_lock.specs.Records.{names_of, AreDifferent}
 use Rattle.rb_lock.specs.Passes.{Seen, gathered, tally_of}
 use Rattle.rb_lock.specs.Gatherings.{IsGathered, IsNotAll, AreCounts}
 use Rattle.rb_lock.specs.Views.{idle, pass_of, holder_of, settled}
@@ -15,7 +14,6 @@ use Rattle.rb_lock.specs.Rule.{home_of}
 use Rattle.rb_lock.specs.LockSteps.{Sat, Found, Got, MayGive, in_hand}
 use Rattle.rb_lock.specs.declared.home.Home.{Home}
 use Rattle.rb_lock.specs.declared.stage.Stage.TheVariants.{Idle}
-use Rattle.rb_lock.specs.declared.view.View.{View}
 use Rattle.rb_lock.proofs.Sums.{times-append}
 use Rattle.rb_lock.proofs.LongerHistories.{grown_none}
 use Rattle.rb_lock.proofs.GatheredCalls.{all_gathered, not_gathered}

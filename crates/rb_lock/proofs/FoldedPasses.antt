@@ -1,5 +1,5 @@
 -- A pass with another folded into it.
-use Rattle.std.proofs.Common.{◌≡◌, ℕ, ◌+◌, List, [], ◌∷◌, ◌++◌, refl, ap, sym, subst, ◌∙◌, append_assoc}
+use Rattle.std.proofs.Common.{◌≡◌, ℕ, List, [], ◌∷◌, ◌++◌, refl, ap, sym, subst, ◌∙◌, append_assoc}
 use Rattle.atomic_table.specs.Seated.{TableId}
 use Rattle.atomic_table.specs.Table.{Joins}
 use Rattle.rb_ledger.specs.Totals.{total_of}
@@ -7,12 +7,11 @@ use Rattle.rb_ledger.specs.declared.totals.Totals.{Totals}
 use Rattle.rb_queue.specs.declared.event.Event.{Event}
 use Rattle.rb_kept.specs.Shares.{totals_of}
 use Rattle.rb_lock.specs.Records.{calls_of}
-use Rattle.rb_lock.specs.Passes.{Seen, IsSound, gathered, capped, tally_of, folded_with}
+use Rattle.rb_lock.specs.Passes.{Seen, gathered, capped, tally_of, folded_with}
 use Rattle.rb_lock.specs.Views.{idle, pass_of, folding, nobody}
 use Rattle.rb_lock.specs.Rule.{Locked}
 use Rattle.rb_lock.specs.LockSteps.{Sat, AtRest, IsPass}
 use Rattle.rb_lock.specs.declared.record.Record.{Record}
-use Rattle.rb_lock.specs.declared.view.View.{View}
 use Rattle.rb_lock.proofs.CallTotals.{capped-append}
 use Rattle.rb_lock.proofs.Sharings.{folds}
 use Rattle.rb_lock.proofs.RestingPasses.{is_pass}

@@ -1,16 +1,16 @@
 -- What the calls of some seats come to, beside all calls of a history.
-use Rattle.std.proofs.Common.{◌≡◌, ◌≢◌, ℕ, zero, suc, ◌+◌, ◌<◌, ◌≤◌, ◌==◌, Bool, true, false, cond, List, [], ◌∷◌, ◌++◌, length, refl, ap, sym, subst, ◌∙◌, arith, eq-eqb, ne_eqb, length-append}
+use Rattle.std.proofs.Common.{◌≡◌, ◌≢◌, ℕ, zero, suc, ◌+◌, ◌<◌, ◌≤◌, ◌==◌, Bool, cond, List, [], ◌∷◌, ◌++◌, length, refl, ap, sym, ◌∙◌, arith, eq-eqb, ne_eqb}
 use Rattle.std.specs.Prelude.{min, sum_by}
-use Rattle.std.proofs.lemmas.List.Sums.{sum_by-append, sum_by-cons}
+use Rattle.std.proofs.lemmas.List.Sums.{sum_by-cons}
 use mathlib.Core.Logic.{dite}
 use native.Mathlib.Decide.{ℕ_discrete}
 use Rattle.rb_queue.specs.Effect.{effect_of, inserted, given}
-use Rattle.rb_queue.specs.Counts.{events_of, offer_count, give_count}
+use Rattle.rb_queue.specs.Counts.{events_of}
 use Rattle.rb_queue.specs.declared.event.Event.{Event}
 use Rattle.rb_kept.specs.Shares.{totals_of}
 use Rattle.rb_ledger.specs.declared.totals.Totals.{Totals}
 use Rattle.rb_ledger.specs.declared.totals.TheConstants.{GREATEST_COUNT}
-use Rattle.rb_lock.specs.Records.{bit, times, names_of, calls_of, AreDifferent, IsRecord, AreRecords}
+use Rattle.rb_lock.specs.Records.{bit, times, names_of, calls_of, AreDifferent, AreRecords}
 use Rattle.rb_lock.specs.Passes.{capped}
 use Rattle.rb_lock.specs.Gatherings.{AreCounts}
 use Rattle.rb_lock.specs.declared.record.Record.{Record}

@@ -1,5 +1,5 @@
 -- The pair in a seat's hand.
-use Rattle.std.proofs.Common.{◌≡◌, ℕ, List, [], ◌∷◌, refl, ap, sym, subst, ◌∙◌, Option, Some, None}
+use Rattle.std.proofs.Common.{◌≡◌, ℕ, List, [], ◌∷◌, ap, sym, ◌∙◌, Option, Some, None}
 use Rattle.atomic_table.specs.Table.{rest}
 use Rattle.rb_lock.specs.declared.home.Home.{Home}
 

@@ -1,11 +1,11 @@
 -- A history that one name's events made longer.
-use Rattle.std.proofs.Common.{◌≡◌, ◌≢◌, ℕ, ◌+◌, ◌==◌, List, [], ◌∷◌, ◌++◌, refl, ap, sym, subst, ◌∙◌, arith, append_assoc}
+use Rattle.std.proofs.Common.{◌≡◌, ◌≢◌, ℕ, ◌==◌, List, [], ◌∷◌, ◌++◌, refl, ap, sym, subst, ◌∙◌, arith, append_assoc}
 use Rattle.std.proofs.lemmas.List.{append-nil}
 use Rattle.std.proofs.lemmas.List.Elements.{filter-append}
 use mathlib.Core.List.{IsPrefix}
 use Rattle.rb_queue.specs.Counts.{events_of}
 use Rattle.rb_queue.specs.declared.event.Event.{Event}
-use Rattle.rb_lock.specs.Records.{bit, times, names_of, IsRecord, AreRecords}
+use Rattle.rb_lock.specs.Records.{bit, times, names_of, AreRecords}
 use Rattle.rb_lock.specs.LockSteps.{Grown}
 use Rattle.rb_lock.specs.declared.record.Record.{Record}
 use Rattle.rb_lock.proofs.Sums.{bit_other}

@@ -1,18 +1,16 @@
 -- A call through a pass: the lock is taken, the kept queue is called where it lies, the lock is given back.
-use Rattle.std.proofs.Common.{◌≡◌, ◌≢◌, ℕ, ◌+◌, ◌≤◌, ◌<◌, ◌==◌, Bool, cond, List, [], ◌∷◌, ◌++◌, length, refl, ap, sym, subst, ◌∙◌, arith, eq-eqb, ne_eqb, length-append}
-use Rattle.std.specs.Prelude.{Option, Some, Result, Ok, Err}
+use Rattle.std.proofs.Common.{◌≡◌, ◌≢◌, ℕ, ◌≤◌, Bool, cond, List, [], ◌∷◌, ◌++◌, length, refl, ap, sym, subst, ◌∙◌, arith, eq-eqb, ne_eqb, length-append}
+use Rattle.std.specs.Prelude.{Some, Result, Ok, Err}
 use Rattle.std.proofs.lemmas.List.{append-nil}
 use mathlib.Core.List.{IsPrefix}
-use Rattle.atomic_table.specs.Table.{Me}
 use Rattle.atomic_table.specs.Seated.{TableId}
 use Rattle.rb_ledger.specs.declared.totals.Totals.{Totals}
-use Rattle.rb_ledger.specs.Totals.{total_of}
 use Rattle.rb_queue.specs.Counts.{events_of}
 use Rattle.rb_queue.specs.History.{IsLegal}
 use Rattle.rb_queue.specs.declared.event.Event.{Event}
-use Rattle.rb_kept.specs.Log.{Log, HasRoom, IsFull, with_event, with_events}
+use Rattle.rb_kept.specs.Log.{Log, HasRoom, IsFull, with_events}
 use Rattle.rb_kept.specs.Tries.{StepsTo, Records, Waits}
-use Rattle.rb_kept.specs.Shares.{Grows, totals_of, amount_of, share_with}
+use Rattle.rb_kept.specs.Shares.{Grows, totals_of, share_with}
 use Rattle.rb_kept.specs.declared.tries.Try.{Try}
 use Rattle.rb_kept.specs.declared.outcome.Outcome.{Outcome}
 use Rattle.rb_kept.specs.declared.outcome.Outcome.TheVariants.{Done, Later}
@@ -20,10 +18,10 @@ use Rattle.rb_kept.specs.declared.fault.CallFault.{CallFault}
 use Rattle.rb_kept.specs.declared.fault.CallFault.TheVariants.{Full, Memory}
 use Rattle.rb_lock.specs.Records.{calls_of}
 use Rattle.rb_lock.specs.Passes.{Seen, IsSound, Learns, log_at, capped, tally_of}
-use Rattle.rb_lock.specs.SharedCalls.{Answered, Replied}
+use Rattle.rb_lock.specs.SharedCalls.{Answered}
 use Rattle.rb_lock.specs.Views.{idle, pass_of, holder_of, settled}
 use Rattle.rb_lock.specs.Rule.{home_of}
-use Rattle.rb_lock.specs.LockSteps.{Sat, Found, Got, Grown, MayGive, ActsOn, ActsIn, IsPass, in_hand}
+use Rattle.rb_lock.specs.LockSteps.{Sat, Found, Got, Grown, MayGive, ActsIn, IsPass, in_hand}
 use Rattle.rb_lock.specs.declared.home.Home.{Home}
 use Rattle.rb_lock.specs.declared.stage.Stage.TheVariants.{Idle}
 use Rattle.rb_lock.proofs.Beginnings.{prefix_trans, append_same}

@@ -1,21 +1,17 @@
 -- Two beginnings of one history, and the steps of a meeting.
-use Rattle.std.proofs.Common.{◌≡◌, ◌≢◌, ℕ, ◌+◌, ◌<◌, ◌≤◌, List, [], ◌∷◌, ◌++◌, length, set, refl, ap, sym, subst, ◌∙◌, arith, ◌⊎◌, ⊎_elim, inl, inr}
-use Rattle.std.specs.Prelude.{Option, Some, slice_index, slice_set}
-use mathlib.Core.Option.{none, some}
+use Rattle.std.proofs.Common.{◌≡◌, ℕ, ◌+◌, List, [], ◌∷◌, set, refl, ap, sym, subst, ◌∙◌, arith, ◌⊎◌, ⊎_elim, inl, inr}
+use Rattle.std.specs.Prelude.{slice_index, slice_set}
+use mathlib.Core.Option.{none}
 use mathlib.Core.List.{IsPrefix}
-use lib.ListN.{get_elem?}
-use Rattle.atomic_table.specs.Table.{State, Act, step, keeps, Allows, Splits, Joins}
+use Rattle.atomic_table.specs.Table.{step, keeps, Allows, Splits, Joins}
 use Rattle.rb_queue.specs.declared.event.Event.{Event}
 use Rattle.rb_queue.specs.declared.opening.Opening.{Opening}
-use Rattle.rb_kept.specs.Log.{Log}
-use Rattle.rb_lock.specs.Records.{IsRecord}
 use Rattle.rb_lock.specs.Passes.{Seen}
-use Rattle.rb_lock.specs.Views.{idle, pass_of, weight, holders, total, rested, note_of, nobody, longer, meeting}
-use Rattle.rb_lock.specs.Rule.{Fits, Locked, IsFree, IsHeld}
-use Rattle.rb_lock.specs.LockSteps.{Sat, AtRest, HasCompared, learned}
+use Rattle.rb_lock.specs.Views.{idle, pass_of, holders, total, rested, note_of, nobody, longer, meeting}
+use Rattle.rb_lock.specs.Rule.{Locked, IsFree, IsHeld}
+use Rattle.rb_lock.specs.LockSteps.{Sat, AtRest, learned}
 use Rattle.atomic_table.specs.Seated.{TableId}
-use Rattle.rb_lock.specs.declared.home.Home.{Home}
-use Rattle.rb_lock.specs.declared.stage.Stage.TheVariants.{Idle, Meets}
+use Rattle.rb_lock.specs.declared.stage.Stage.TheVariants.{Meets}
 use Rattle.rb_lock.specs.declared.view.View.{View}
 use Rattle.rb_lock.proofs.Sums.{total_set}
 use Rattle.rb_lock.proofs.Beginnings.{prefix_self, prefix_none}

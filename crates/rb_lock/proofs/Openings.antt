@@ -1,16 +1,14 @@
 -- The rule holds when the lock is made.
-use Rattle.std.proofs.Common.{◌≡◌, ◌≢◌, ℕ, zero, suc, ◌+◌, ◌≤◌, ◌==◌, List, [], ◌∷◌, refl, ap, sym, subst, ◌∙◌, arith, inl}
-use Rattle.std.specs.Prelude.{Option, Some}
+use Rattle.std.proofs.Common.{◌≡◌, ℕ, zero, suc, ◌==◌, List, [], ◌∷◌, refl, sym, subst, arith, inl}
+use Rattle.std.specs.Prelude.{Some}
 use mathlib.Core.Option.{some, some-injective, some-ne-none}
 use lib.ListN.{get_elem?}
-use Rattle.atomic_table.specs.Table.{State, opening}
+use Rattle.atomic_table.specs.Table.{opening}
 use Rattle.rb_queue.specs.declared.event.Event.{Event}
 use Rattle.rb_queue.specs.Counts.{events_of}
 use Rattle.rb_kept.specs.Log.{Log}
-use Rattle.rb_lock.specs.Records.{bit}
 use Rattle.rb_lock.specs.Views.{newcomer}
 use Rattle.rb_lock.specs.Rule.{Fits, Locked, home_of}
-use Rattle.rb_lock.specs.declared.home.Home.{Home}
 use Rattle.rb_lock.specs.declared.view.View.{View}
 use Rattle.rb_lock.proofs.Sums.{bit_apart, bit_small}
 use Rattle.rb_lock.proofs.Beginnings.{prefix_none}

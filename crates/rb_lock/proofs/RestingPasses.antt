@@ -1,5 +1,5 @@
 -- Seats of passes that are in no step, and what a pass has seen once it took the lock.
-use Rattle.std.proofs.Common.{◌≡◌, ℕ, ◌+◌, ◌≤◌, List, [], ◌∷◌, ◌++◌, length, refl, ap, sym, subst, ◌∙◌, arith}
+use Rattle.std.proofs.Common.{◌≡◌, ℕ, ◌≤◌, List, [], ◌∷◌, length, ap, sym, subst, ◌∙◌}
 use Rattle.std.specs.Prelude.{Option, Some}
 use Rattle.atomic_table.specs.Seated.{TableId}
 use Rattle.rb_ledger.specs.declared.totals.Totals.{Totals}
@@ -8,7 +8,7 @@ use Rattle.rb_queue.specs.History.{IsLegal}
 use Rattle.rb_queue.specs.declared.event.Event.{Event}
 use Rattle.rb_kept.specs.Log.{Log}
 use Rattle.rb_lock.specs.Passes.{Seen, IsSound, tally_of}
-use Rattle.rb_lock.specs.Views.{idle, pass_of, holder_of}
+use Rattle.rb_lock.specs.Views.{idle, pass_of}
 use Rattle.rb_lock.specs.Rule.{home_of}
 use Rattle.rb_lock.specs.LockSteps.{Sat, AtRest, IsPass, Found, Got}
 use Rattle.rb_lock.specs.declared.home.Home.{Home}

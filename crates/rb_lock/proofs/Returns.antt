@@ -1,17 +1,17 @@
 -- The step that gives the lock back keeps the rule.
-use Rattle.std.proofs.Common.{◌≡◌, ◌≢◌, ℕ, ◌+◌, ◌<◌, ◌≤◌, ◌==◌, List, [], ◌∷◌, ◌++◌, length, get_or, set, refl, ap, sym, subst, ◌∙◌, arith, ◌⊎◌, ⊎_elim, inl, inr, lt_of_not-le}
+use Rattle.std.proofs.Common.{◌≡◌, ◌≢◌, ℕ, ◌+◌, ◌<◌, ◌≤◌, ◌==◌, List, [], ◌∷◌, ◌++◌, set, refl, ap, sym, subst, ◌∙◌, arith, ⊎_elim, inl, lt_of_not-le}
 use mathlib.Core.Logic.{dite}
 use native.Mathlib.Decide.{dec_le}
-use Rattle.std.specs.Prelude.{Option, Some, slice_index, slice_set}
+use Rattle.std.specs.Prelude.{Option, Some, slice_set}
 use mathlib.Core.Option as maybe
 use mathlib.Core.Option.{none, some}
 use lib.ListN.{get_elem?}
-use Rattle.atomic_table.specs.Table.{State, Me, step, stepped, gives, Allows}
+use Rattle.atomic_table.specs.Table.{State, step, stepped, gives, Allows}
 use Rattle.atomic_table.proofs.Lists.{at_set}
 use Rattle.rb_queue.specs.Counts.{events_of}
 use Rattle.rb_queue.specs.declared.event.Event.{Event}
 use Rattle.rb_kept.specs.Log.{Log}
-use Rattle.rb_lock.specs.Records.{bit, times, names_of, IsRecord, AreRecords}
+use Rattle.rb_lock.specs.Records.{bit, times, names_of}
 use Rattle.rb_lock.specs.Passes.{Seen}
 use Rattle.rb_lock.specs.Views.{idle, records_of, weight, holders, is_held, drawn, total, holder_of, settled}
 use Rattle.rb_lock.specs.Rule.{AtStage, IsThere, Fits, Locked, IsFree, IsHeld, home_of}
@@ -23,7 +23,7 @@ use Rattle.rb_lock.specs.declared.stage.Stage.TheVariants.{Idle, Holds, Drew, Me
 use Rattle.rb_lock.specs.declared.view.View.{View}
 use Rattle.rb_lock.proofs.Sums.{total_set, total_at, total_two, bit_same, bit_other, bit_small, bit_apart, times-append}
 use Rattle.rb_lock.proofs.Beginnings.{prefix_self}
-use Rattle.rb_lock.proofs.LongerHistories.{grown_none, others_stay, begins_stay, records_stay, events_of-append}
+use Rattle.rb_lock.proofs.LongerHistories.{grown_none, others_stay, begins_stay, records_stay}
 
 -- what the seat may be about to do, where the names go on from `names` to `after`
 pub record IsNext (names after : ℕ) (log : Log) (next : Stage) : Type 0 where

@@ -1,6 +1,6 @@
 -- Views that share out what they hold: the rule stays where each name stands as often as before.
-use Rattle.std.proofs.Common.{◌≡◌, ◌≢◌, ℕ, ◌+◌, ◌≤◌, List, [], ◌∷◌, ◌++◌, set, refl, ap, sym, subst, ◌∙◌, arith, ◌⊎◌, ⊎_elim, inl, inr}
-use Rattle.std.specs.Prelude.{Option, Some}
+use Rattle.std.proofs.Common.{◌≡◌, ◌≢◌, ℕ, ◌+◌, List, [], ◌∷◌, ◌++◌, set, subst, ◌∙◌, arith, ⊎_elim, inl, inr}
+use Rattle.std.specs.Prelude.{Option}
 use mathlib.Core.Option.{some}
 use lib.ListN.{get_elem?}
 use Rattle.atomic_table.specs.Table.{State}

@@ -1,17 +1,13 @@
 -- The steps of splitting and folding keep the rule.
-use Rattle.std.proofs.Common.{◌≡◌, ℕ, ◌+◌, List, [], ◌∷◌, ◌++◌, refl, ap, sym, subst, ◌∙◌, arith}
-use Rattle.std.specs.Prelude.{Option, Some}
-use mathlib.Core.Option.{some}
-use lib.ListN.{get_elem?}
-use Rattle.atomic_table.specs.Table.{State, Splits, Joins}
+use Rattle.std.proofs.Common.{◌≡◌, ℕ, List, [], ◌∷◌, ◌++◌, refl, ap, arith}
+use Rattle.atomic_table.specs.Table.{Splits, Joins}
 use Rattle.rb_queue.specs.declared.event.Event.{Event}
 use Rattle.rb_kept.specs.Log.{Log}
-use Rattle.rb_lock.specs.Records.{times, names_of, calls_of, AreRecords}
+use Rattle.rb_lock.specs.Records.{times, names_of, AreRecords}
 use Rattle.rb_lock.specs.Passes.{Seen, gathered}
-use Rattle.rb_lock.specs.Views.{idle, weight, rested, cut_off, folding, nobody}
+use Rattle.rb_lock.specs.Views.{idle, rested, cut_off, folding, nobody}
 use Rattle.rb_lock.specs.Rule.{Fits, Locked}
 use Rattle.rb_lock.specs.declared.record.Record.{Record}
-use Rattle.rb_lock.specs.declared.home.Home.{Home}
 use Rattle.rb_lock.specs.declared.stage.Stage.TheVariants.{Drew}
 use Rattle.rb_lock.specs.declared.view.View.{View}
 use Rattle.rb_lock.proofs.Sums.{times-append}

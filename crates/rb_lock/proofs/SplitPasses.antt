@@ -1,19 +1,14 @@
 -- A pass splits another off: the lock is taken, a name is drawn as it is given back, and the seat is cut in two.
-use Rattle.std.proofs.Common.{◌≡◌, ℕ, ◌+◌, ◌≤◌, ◌<◌, List, [], ◌∷◌, ◌++◌, length, refl, ap, sym, subst, ◌∙◌, arith}
+use Rattle.std.proofs.Common.{◌≡◌, ℕ, ◌+◌, ◌<◌, [], ◌∷◌, ap, sym, subst, ◌∙◌}
 use Rattle.std.specs.Prelude.{Option, Some, None}
 use Rattle.atomic_table.specs.Table.{Splits}
-use Rattle.rb_queue.specs.Counts.{events_of}
-use Rattle.rb_queue.specs.History.{IsLegal}
-use Rattle.rb_queue.specs.declared.event.Event.{Event}
-use Rattle.rb_kept.specs.Log.{Log}
-use Rattle.rb_lock.specs.Passes.{Seen, IsSound, child_of}
+use Rattle.rb_lock.specs.Passes.{Seen}
 use Rattle.rb_lock.specs.Views.{idle, holder_of, settled, rested, cut_off}
 use Rattle.rb_lock.specs.Rule.{home_of, Locked}
 use Rattle.rb_lock.specs.LockSteps.{Sat, Found, Got, MayGive, MayDraw, NamesIn, in_hand}
 use Rattle.rb_lock.specs.declared.home.Home.{Home}
 use Rattle.rb_lock.specs.declared.home.TheConstants.{MOST_NAMES}
-use Rattle.rb_lock.specs.declared.stage.Stage.TheVariants.{Idle, Drew}
-use Rattle.rb_lock.specs.declared.view.View.{View}
+use Rattle.rb_lock.specs.declared.stage.Stage.TheVariants.{Drew}
 use Rattle.rb_lock.proofs.LongerHistories.{grown_none}
 use Rattle.rb_lock.proofs.Sharings.{drawing, cuts}
 use Rattle.rb_lock.proofs.RestingPasses.{learned, found_pair}

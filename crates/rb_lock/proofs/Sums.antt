@@ -1,5 +1,5 @@
 -- Sums over views, and how often a name stands in a list.
-use Rattle.std.proofs.Common.{◌≡◌, ◌≢◌, ℕ, zero, suc, ◌+◌, ◌≤◌, ◌==◌, List, [], ◌∷◌, ◌++◌, set, refl, ap, sym, subst, ◌∙◌, arith, eq-eqb, ne_eqb, Bool, true, false}
+use Rattle.std.proofs.Common.{◌≡◌, ◌≢◌, ℕ, zero, suc, ◌+◌, ◌≤◌, ◌==◌, List, [], ◌∷◌, ◌++◌, set, refl, ap, sym, arith, eq-eqb, ne_eqb, Bool, true, false}
 use mathlib.Core.Option.{some, some-injective, some-ne-none}
 use lib.ListN.{get_elem?}
 use Rattle.rb_lock.specs.Records.{bit, times}

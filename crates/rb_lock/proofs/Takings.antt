@@ -1,19 +1,17 @@
 -- The step that takes the lock, or finds it taken, keeps the rule.
-use Rattle.std.proofs.Common.{◌≡◌, ◌≢◌, ℕ, ◌+◌, ◌<◌, ◌≤◌, ◌==◌, List, [], ◌∷◌, ◌++◌, length, get_or, set, refl, ap, sym, subst, ◌∙◌, arith, ◌⊎◌, ⊎_elim, inl, inr}
+use Rattle.std.proofs.Common.{◌≡◌, ◌≢◌, ℕ, ◌+◌, ◌<◌, ◌==◌, List, [], set, refl, ap, sym, subst, arith, ◌⊎◌, ⊎_elim, inr}
 use Rattle.std.specs.Prelude.{Option, Some, slice_index, slice_set}
 use mathlib.Core.Option as maybe
 use mathlib.Core.Option.{none, some}
 use lib.ListN.{get_elem?}
 use prog.Atomic.{either}
-use Rattle.atomic_table.specs.Table.{State, Act, Me, step, stepped, carried_after, Valid, keeps, takes, Allows}
+use Rattle.atomic_table.specs.Table.{State, Act, step, stepped, carried_after, Valid, keeps, takes, Allows}
 use Rattle.atomic_table.proofs.Lists.{at_set, exchanged}
 use Rattle.atomic_table.specs.Seated.{TableId}
-use Rattle.rb_queue.specs.declared.event.Event.{Event}
-use Rattle.rb_kept.specs.Log.{Log}
 use Rattle.rb_lock.specs.Passes.{Seen}
 use Rattle.rb_lock.specs.Views.{idle, pass_of, weight, holders, total, holder_of}
 use Rattle.rb_lock.specs.Rule.{Fits, Locked, IsFree, IsHeld, home_of}
-use Rattle.rb_lock.specs.LockSteps.{Sat, AtRest, Found, Got, taken}
+use Rattle.rb_lock.specs.LockSteps.{Sat, AtRest, Found, taken}
 use Rattle.rb_lock.specs.declared.home.Home.{Home}
 use Rattle.rb_lock.specs.declared.view.View.{View}
 use Rattle.rb_lock.proofs.Sums.{total_set, total_at}

@@ -3,8 +3,6 @@ use Rattle.std.specs.Prelude.{◌≡◌, ◌<◌, ◌≤◌, List, length}
 use Rattle.rb_ledger.specs.declared.totals.Totals.{Totals}
 use Rattle.rb_ledger.specs.declared.totals.TheConstants.{GREATEST_COUNT}
 use Rattle.rb_queue.specs.History.{IsLegal}
-use Rattle.rb_queue.specs.declared.event.Event.{Event}
-use Rattle.rb_queue.specs.declared.opening.Opening.{Opening}
 use Rattle.rb_kept.specs.Log.{Log}
 use Rattle.rb_kept.specs.Shares.{totals_of}
 use Rattle.rb_lock.specs.Records.{AreRecords, AreDifferent, names_of, calls_of}

@@ -1,5 +1,5 @@
 -- What stands in the view of a seat, and how the steps of the lock change it.
-use Rattle.std.specs.Prelude.{◌≡◌, ℕ, ◌+◌, Bool, true, false, List, [], ◌∷◌, ◌++◌, length}
+use Rattle.std.specs.Prelude.{ℕ, ◌+◌, Bool, true, false, List, [], ◌∷◌, ◌++◌}
 use Rattle.std.proofs.Math.Bridge.{no_suc-le-zero}
 use Prim.Native.Nat.{zero-le}
 use Rattle.atomic_table.specs.Seated.{TableId}

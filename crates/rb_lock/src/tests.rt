@@ -1,5 +1,6 @@
 mod calls;
 mod names;
+mod refusals;
 mod rows;
 mod threads;
 

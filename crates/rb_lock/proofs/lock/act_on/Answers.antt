@@ -1,5 +1,4 @@
 use Rattle.std.proofs.Common.{refl, rules}
-use Rattle.std.specs.Prelude.{Some}
 use Rattle.rb_lock.proofs.lock.act_on.Goals as goal
 
 pub returns : goal.returns

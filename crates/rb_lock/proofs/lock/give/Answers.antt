@@ -1,4 +1,4 @@
-use Rattle.std.proofs.Common.{rules, arith}
+use Rattle.std.proofs.Common.{arith}
 use Rattle.rb_lock.proofs.Returns.{gives_at}
 use Rattle.rb_lock.proofs.lock.give.Goals as goal
 

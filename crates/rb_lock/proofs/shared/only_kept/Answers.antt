@@ -1,4 +1,4 @@
-use Rattle.std.proofs.Common.{arith, length, ap, ◌∙◌, sym, [], ◌∷◌, ◌++◌, List}
+use Rattle.std.proofs.Common.{arith, length, ap, ◌∙◌, ◌++◌}
 use Rattle.std.specs.Prelude.{Option, Some}
 use Rattle.std.specs.Option.{option_to_list}
 use Rattle.rb_lock.specs.declared.home.Home.{Home}

@@ -1,4 +1,4 @@
-use Rattle.std.proofs.Common.{◌≡◌, ℕ, refl, sym, ap, ◌∙◌, subst, [], ◌∷◌}
+use Rattle.std.proofs.Common.{◌≡◌, ℕ, refl, ap, ◌∙◌, subst, [], ◌∷◌}
 use Rattle.std.specs.Prelude.{Some}
 use Rattle.rb_lock.specs.LockSteps.{Sat, ActsIn}
 use Rattle.rb_lock.specs.Passes.{Seen, IsSound}

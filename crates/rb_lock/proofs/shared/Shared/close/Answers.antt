@@ -1,12 +1,11 @@
-use Rattle.std.proofs.Common.{◌≡◌, ℕ, refl, sym, ap, subst, ◌∙◌, [], ◌∷◌}
+use Rattle.std.proofs.Common.{◌≡◌, sym, ap, subst, ◌∙◌, [], ◌∷◌}
 use Rattle.std.specs.Prelude.{Some}
-use Rattle.rb_ledger.specs.declared.totals.Totals.{Totals}
 use Rattle.rb_kept.specs.Shares.{totals_of}
 use Rattle.rb_queue.specs.declared.audit.Audit.{Audit}
 use Rattle.rb_lock.specs.Gatherings.{AreCounts}
 use Rattle.rb_lock.specs.LockSteps.{Sat}
-use Rattle.rb_lock.specs.Passes.{Seen, IsSound, gathered, tally_of}
-use Rattle.rb_lock.specs.Views.{idle, pass_of}
+use Rattle.rb_lock.specs.Passes.{Seen, tally_of}
+use Rattle.rb_lock.specs.Views.{idle}
 use Rattle.rb_lock.specs.Rule.{home_of}
 use Rattle.rb_lock.proofs.Closings.{gathers, back_may_give, refused}
 use Rattle.rb_lock.proofs.EqualTotals.{equal_totals, other_totals}

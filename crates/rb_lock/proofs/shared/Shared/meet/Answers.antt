@@ -1,5 +1,4 @@
 use Rattle.std.proofs.Common.{sym, ap, ◌∙◌}
-use Rattle.rb_queue.specs.declared.event.Event.{Event}
 use Rattle.rb_lock.specs.Views.{longer}
 use Rattle.rb_lock.specs.LockSteps.{Sat}
 use Rattle.rb_lock.proofs.Meetings.{longer_whole}

@@ -1,8 +1,8 @@
-use Rattle.std.proofs.Common.{◌≡◌, ℕ, arith, refl, sym, ap, subst, ◌∙◌, [], ◌∷◌}
-use Rattle.std.specs.Prelude.{Some, None}
-use Rattle.rb_lock.specs.LockSteps.{Sat, NamesIn}
-use Rattle.rb_lock.specs.Passes.{Seen, IsSound}
-use Rattle.rb_lock.specs.Views.{idle, pass_of}
+use Rattle.std.proofs.Common.{arith, sym, ap, ◌∙◌, ◌∷◌}
+use Rattle.std.specs.Prelude.{Some}
+use Rattle.rb_lock.specs.LockSteps.{Sat}
+use Rattle.rb_lock.specs.Passes.{Seen}
+use Rattle.rb_lock.specs.Views.{pass_of}
 use Rattle.rb_lock.specs.Rule.{home_of}
 use Rattle.rb_lock.proofs.SplitPasses.{none_may_give, may_draw, may_cut}
 use Rattle.rb_lock.proofs.shared.Shared.split.Goals as goal
