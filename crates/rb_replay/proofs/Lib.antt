@@ -1,0 +1,5 @@
+pub mod Sending
+pub mod Lines
+pub mod Elements
+pub mod Judgements
+pub mod Replays
