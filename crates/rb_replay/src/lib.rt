@@ -14,6 +14,8 @@ mod replay;
 mod replay_fault;
 mod send;
 mod standing;
+#[cfg(test)]
+mod tests;
 mod text;
 mod version;
 mod write;
