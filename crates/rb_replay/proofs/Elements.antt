@@ -1,13 +1,16 @@
 -- The map of the elements that stand, after each change of the bag.
-use Rattle.std.proofs.Common.{◌≡◌, ◌≢◌, ℕ, ◌≤◌, List, [], ◌∷◌, refl, sym, ap, subst, ◌∙◌, arith, Bool, true, false, cond, Option, Some, None, inl, inr, ◌⊎◌}
+use Rattle.std.proofs.Common.{◌≡◌, ◌≢◌, ℕ, ◌+◌, ◌<◌, ◌≤◌, List, [], ◌∷◌, refl, sym, ap, subst, ◌∙◌, arith, Bool, true, false, cond, Option, Some, None, inl, inr, ◌⊎◌}
 use Rattle.std.specs.Prelude.{IfSome, IsSome, IfOk, OnOk, Result, Ok, Err, is_ok, unwrap_or}
 use Rattle.std.specs.Ordering.{nat_cmp, eq_by_cmp}
 use Rattle.std.specs.Cmp.{nat_cmp_total, eq_by_cmp_equiv}
 use Rattle.std.specs.FinMap as map
-use Rattle.std.specs.FinMap.{get-empty}
+use Rattle.std.specs.FinMap.{get-empty, nat_cmp-IsAntisymmetric}
 use Rattle.std.specs.BTreeMap.{BTreeMap, is_at}
 use Rattle.std.specs.BTreeMap as tree
-use Rattle.std.specs.Map.{lookup}
+use Rattle.std.specs.Map.{lookup, remove_entry}
+use Rattle.std.specs.Ordering.{match_ordering}
+use Rattle.std.specs.declared.cmp.Ordering.{Ordering}
+use Rattle.std.specs.declared.cmp.Ordering.TheVariants.{Less, Equal, Greater}
 use mathlib.Core.HLevel.{Σ_prop_path}
 use Rattle.std.proofs.Props.{props}
 use Rattle.rb_delayed.specs.declared.element.TheConstants.{GREATEST_ATTEMPT}
@@ -21,24 +24,52 @@ use Rattle.rb_queue.specs.Calls.{Acts}
 use Rattle.rb_queue.specs.declared.act.Act.TheVariants as acts
 use Rattle.rb_queue.proofs.Options.{same_or_not}
 use Rattle.rb_queue.proofs.Bags.{get_inserted, get_removed, get_inserted_same, get_inserted_other, get_removed_same, get_removed_other, remove_absent}
-use Rattle.rb_replay.specs.Standing.{HasElements}
+use Rattle.rb_replay.specs.Standing.{AreFiled, HasElements}
 
 -- the order of the two ids that are compared has no meaning
 flipped : (k q : ℕ) → eq_by_cmp nat_cmp k q ≡ eq_by_cmp nat_cmp q k
 flipped k q = (eq_by_cmp_equiv nat_cmp_total).symm k q
 
+-- entries that are filed stay so where the end comes later, where one is put in, and where one is taken out
+filed_later : (end : ℕ) (entries : List (ℕ × Element)) → AreFiled end entries → AreFiled (end + 1) entries
+filed_later end [] filed = tt
+filed_later end ((id, element) ∷ entries) filed = (filed.0, omega (arith, filed.1), filed_later end entries filed.2)
+
+filed_inserted : (end : ℕ) (entries : List (ℕ × Element)) (element : Element) → AreFiled end entries → element.id < end
+    → AreFiled end (tree.insert_entry nat_cmp entries element.id element)
+filed_inserted end [] element filed below = (refl, below, tt)
+filed_inserted end ((id, other) ∷ entries) element filed below =
+    by_order (filed_inserted end entries element filed.2 below) (nat_cmp element.id id) refl
+  where
+    by_order : AreFiled end (tree.insert_entry nat_cmp entries element.id element) → (order : Ordering) → nat_cmp element.id id ≡ order
+        → AreFiled end (match_ordering order ((element.id, element) ∷ (id, other) ∷ entries) ((id, element) ∷ entries) ((id, other) ∷ tree.insert_entry nat_cmp entries element.id element))
+    by_order later Less is = (refl, below, filed)
+    by_order later Equal is = (nat_cmp-IsAntisymmetric element.id id is, filed.1, filed.2)
+    by_order later Greater is = (filed.0, filed.1, later)
+
+filed_removed : (end : ℕ) (entries : List (ℕ × Element)) (test : ℕ → Bool) → AreFiled end entries → AreFiled end (remove_entry test entries)
+filed_removed end [] test filed = tt
+filed_removed end ((id, element) ∷ entries) test filed =
+    elim (test id) as (λ b. AreFiled end (cond b entries ((id, element) ∷ remove_entry test entries))) [
+      | true ↦ filed.2
+      | false ↦ (filed.0, filed.1, filed_removed end entries test filed.2)
+    ]
+
 -- no entry
-pub has_none : (elements : BTreeMap ℕ Element) → elements.entries ≡ [] → HasElements map.empty elements
-has_none elements none = record {
+pub has_none : (end : ℕ) (elements : BTreeMap ℕ Element) → elements.entries ≡ [] → HasElements map.empty end elements
+has_none end elements none = record {
+  filed = subst (AreFiled end) (sym none) tt;
   same = λ id. ap (lookup (is_at (nat_cmp id))) none ∙ sym (get-empty nat_cmp id);
   named = λ id. subst (λ o. IfSome o (λ (element : Element). element.id ≡ id)) (sym (get-empty nat_cmp id)) tt;
 }
 
 -- one element more, under its id
-pub has_inserted : (bag : Bag) (old new : BTreeMap ℕ Element) (element : Element) → HasElements bag old
+pub has_inserted : (bag : Bag) (end : ℕ) (old new : BTreeMap ℕ Element) (element : Element) → HasElements bag end old → element.id < end
+    → new.entries ≡ tree.insert_entry nat_cmp old.entries element.id element
     → ((q : ℕ) → tree.get nat_cmp new q ≡ cond (is_at (nat_cmp element.id) q) (Some element) (tree.get nat_cmp old q))
-    → HasElements (map.insert bag element.id element) new
-has_inserted bag old new element has updates = record {
+    → HasElements (map.insert bag element.id element) end new
+has_inserted bag end old new element has below entries updates = record {
+  filed = subst (AreFiled end) (sym entries) (filed_inserted end old.entries element has.filed below);
   same = λ id.
       updates id ∙ ap (λ b. cond b (Some element) (tree.get nat_cmp old id)) (flipped element.id id)
       ∙ ap (cond (eq_by_cmp nat_cmp id element.id) (Some element)) (has.same id)
@@ -53,10 +84,12 @@ has_inserted bag old new element has updates = record {
         subst (λ o. IfSome o (λ (other : Element). other.id ≡ id)) (sym (get_inserted_other bag element.id id element differ)) (has.named id)
 
 -- one element less
-pub has_removed : (bag : Bag) (old new : BTreeMap ℕ Element) (k : ℕ) → HasElements bag old
+pub has_removed : (bag : Bag) (end : ℕ) (old new : BTreeMap ℕ Element) (k : ℕ) → HasElements bag end old
+    → new.entries ≡ remove_entry (is_at (nat_cmp k)) old.entries
     → ((q : ℕ) → tree.get nat_cmp new q ≡ cond (is_at (nat_cmp k) q) None (tree.get nat_cmp old q))
-    → HasElements (map.remove bag k) new
-has_removed bag old new k has updates = record {
+    → HasElements (map.remove bag k) end new
+has_removed bag end old new k has entries updates = record {
+  filed = subst (AreFiled end) (sym entries) (filed_removed end old.entries (is_at (nat_cmp k)) has.filed);
   same = λ id.
       updates id ∙ ap (λ b. cond b None (tree.get nat_cmp old id)) (flipped k id)
       ∙ ap (cond (eq_by_cmp nat_cmp id k) None) (has.same id) ∙ sym (get_removed bag k id);
@@ -68,6 +101,10 @@ has_removed bag old new k has updates = record {
         subst (λ o. IfSome o (λ (other : Element). other.id ≡ id)) (sym (ap (map.get (map.remove bag k)) same ∙ get_removed_same bag k)) tt
     named_at id (inr differ) =
         subst (λ o. IfSome o (λ (other : Element). other.id ≡ id)) (sym (get_removed_other bag k id differ)) (has.named id)
+
+-- the end may come later
+pub has_later : (bag : Bag) (end : ℕ) (elements : BTreeMap ℕ Element) → HasElements bag end elements → HasElements bag (end + 1) elements
+has_later bag end elements has = record { same = has.same; named = has.named; filed = filed_later end elements.entries has.filed }
 
 -- a removal by name takes the element out, whether there was one or not
 pub removed_anyway : (old new : Queue) (id : ℕ) (found : Bool) → Acts old 0 (acts.Remove id found) new → new ≡ record old { bag = map.remove old.bag id }

@@ -3,3 +3,4 @@ pub mod Lines
 pub mod Elements
 pub mod Judgements
 pub mod Replays
+pub mod Ordered

@@ -8,3 +8,4 @@ pub mod Standing
 pub mod Judging
 pub mod Checking
 pub mod Replaying
+pub mod Opens

@@ -5,10 +5,13 @@
 //! may have had. Moments and delays are nanoseconds.
 #![tactic(auto)]
 
+mod history;
 mod history_fault;
 mod history_text;
 mod judge;
 mod legality;
+mod next_opening;
+mod opening_fault;
 mod reason;
 mod replay;
 mod replay_fault;
@@ -20,8 +23,11 @@ mod text;
 mod version;
 mod write;
 
+pub use history::History;
 pub use history_fault::HistoryFault;
 pub use legality::check;
+pub use next_opening::opening_of;
+pub use opening_fault::OpeningFault;
 pub use reason::Reason;
 pub use replay_fault::ReplayFault;
 pub use version::Version;

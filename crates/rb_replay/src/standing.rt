@@ -1,4 +1,6 @@
-ghost use Rattle.std.specs.Prelude.{◌≡◌, ◌<◌, IfOk, OnOk, IfSome};
+ghost use Rattle.std.specs.Prelude.{◌≡◌, ◌<◌, length, IfOk, OnOk, IfSome};
+ghost use Rattle.std.specs.Ordering.{nat_cmp};
+ghost use Rattle.std.specs.BTreeMap as tree;
 ghost use Rattle.std.specs.FinMap as map;
 ghost use Rattle.rb_queue.specs.Bag.{bag_from};
 ghost use Rattle.rb_queue.specs.Opening.{AreInOrder};
@@ -11,7 +13,7 @@ ghost use Rattle.rb_queue.specs.declared.act.Act.TheVariants as acts;
 
 use rb_binary::BinaryTimer;
 use rb_delayed::Element;
-use rb_queue::{DelayQueue, Draft, Opening};
+use rb_queue::{DelayQueue, Draft, Items, Opening};
 use std::alloc::{AllocError, Global};
 use std::collections::BTreeMap;
 use std::marker::Model;
@@ -37,7 +39,7 @@ impl Model for Standing {
 
     ghost view = { λ s. s.queue };
 
-    ghost invariant = { λ s. HasElements s.queue.bag s.elements };
+    ghost invariant = { λ s. HasElements s.queue.bag s.queue.next_id s.elements };
 }
 
 impl Standing {
@@ -114,6 +116,15 @@ impl Standing {
         self.elements.remove(&id);
     }
 
+    /// The elements, in rising order of their ids.
+    pub(crate) fn elements(&self) -> Result<Items, AllocError>
+        ensures bag { IfOk result (λ items. bag_from items ≡ self.now.bag) }
+        ensures order { IfOk result (λ items. AreInOrder items self.now.next_id) }
+        ensures counted { IfOk result (λ items. length items ≡ map.len self.now.bag) }
+    {
+        Ok(Items::new(values_of(self.alloc, &self.elements)?))
+    }
+
     /// Takes out all elements.
     pub(crate) fn clear(&mut self)
         ensures { self.new ≡ queue_after self.old (effect_of acts.Clear) }
@@ -130,11 +141,19 @@ fn elements_of(
     end: u64,
 ) -> Result<BTreeMap<u64, Element>, AllocError>
     requires { AreInOrder elements.now end }
-    ensures { IfOk result (HasElements (bag_from elements.now)) }
+    ensures { IfOk result (HasElements (bag_from elements.now) end) }
 {
     let mut map = BTreeMap::new(alloc);
     for element in elements {
         map.insert(element.id, *element)?;
     }
     Ok(map)
+}
+
+// The elements of a map, in the order of their ids.
+fn values_of(alloc: Global, elements: &BTreeMap<u64, Element>) -> Result<Vec<Element>, AllocError>
+    ensures values { IfOk result (λ found. found.items ≡ tree.values elements.now) }
+    ensures ordered { tree.IsOrdered nat_cmp elements.now }
+{
+    elements.values().copied().collect(alloc)
 }

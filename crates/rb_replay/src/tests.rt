@@ -6,6 +6,7 @@ use std::process::Abort;
 use std::test::Fail;
 
 mod legal;
+mod openings;
 mod written;
 
 // Element 0 or 1 of a run: the first of its job, with payload `a` or `b`.

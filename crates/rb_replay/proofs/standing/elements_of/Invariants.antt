@@ -5,4 +5,4 @@ use Rattle.rb_replay.proofs.standing.elements_of.Given as goal
 
 -- the elements so far are filed
 abbrev pub invariant-loop-element : goal.invariant-loop-element
-invariant-loop-element l = HasElements (bag_from (take l.element-index l.elements)) l.map
+invariant-loop-element l = HasElements (bag_from (take l.element-index l.elements)) l.end l.map

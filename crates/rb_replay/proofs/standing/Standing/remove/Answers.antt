@@ -7,8 +7,8 @@ use Rattle.rb_replay.proofs.standing.Standing.remove.Goals as goal
 pub invariant_of-self : goal.invariant_of-self
 invariant_of-self c =
     let after = removed_anyway _ _ c.args.id c.remove.result (c.remove.ensures 0) in
-    subst (λ bag. HasElements bag c.remove-2.new.self) (sym (ap (λ (q : Queue). q.bag) after))
-    (has_removed _ _ _ c.args.id c.self.invariant c.remove-2.ensures.updates.0)
+    subst (λ (q : Queue). HasElements q.bag q.next_id c.remove-2.new.self) (sym after)
+    (has_removed _ _ _ _ c.args.id c.self.invariant c.remove-2.ensures.entries c.remove-2.ensures.updates.0)
 
 pub returns-clause-bag : goal.returns-clause-bag
 returns-clause-bag c = rw (← c.self.view_is) (ap (λ (q : Queue). q.bag) (removed_anyway _ _ c.args.id c.remove.result (c.remove.ensures 0)))
