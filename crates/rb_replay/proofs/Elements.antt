@@ -17,7 +17,7 @@ use Rattle.rb_delayed.specs.declared.element.TheConstants.{GREATEST_ATTEMPT}
 use Rattle.rb_queue.specs.Draft.{IsDrafted}
 use Rattle.rb_queue.specs.declared.draft.Draft.{Draft}
 use Rattle.rb_delayed.specs.declared.element.Element.{Element}
-use Rattle.rb_queue.specs.Bag.{Bag, without}
+use Rattle.rb_queue.specs.Bag.{Bag}
 use Rattle.rb_queue.specs.Queue.{Queue}
 use Rattle.rb_queue.specs.Effect.{effect_of, queue_after}
 use Rattle.rb_queue.specs.Calls.{Acts}

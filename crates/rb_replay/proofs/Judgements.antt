@@ -1,16 +1,16 @@
 -- What the tests of an act find.
-use Rattle.std.proofs.Common.{◌≡◌, ◌≢◌, ℕ, suc, ◌+◌, ◌↔◌, ◌<◌, ◌≤◌, List, [], ◌∷◌, ◌++◌, length, take, drop, get_or, refl, sym, ap, subst, ◌∙◌, arith, Bool, true, false, Option, Some, None, Result, Ok, Err, inl, inr, ◌⊎◌, nat_eq}
+use Rattle.std.proofs.Common.{◌≡◌, ℕ, suc, ◌+◌, ◌↔◌, ◌<◌, ◌≤◌, List, [], ◌∷◌, ◌++◌, length, take, drop, get_or, refl, sym, ap, subst, ◌∙◌, arith, Bool, Option, Some, None, Result, Ok, Err, inl, inr, nat_eq}
 use Rattle.std.proofs.lemmas.Bool.Decides.{nat_tests}
 use Rattle.std.proofs.lemmas.List.{take_more, take_all, take-append-drop}
 use Rattle.std.proofs.Math.Seq.{drop-cons}
-use Rattle.std.specs.Prelude.{IfSome, IsSome, IsSomeAnd, IsTrue, is_some, unwrap_or}
+use Rattle.std.specs.Prelude.{IfSome, IsTrue, is_some, unwrap_or}
 use Rattle.std.specs.Ordering.{nat_cmp}
 use Rattle.std.specs.FinMap as map
 use Rattle.std.specs.FinMap.{get-empty, empty_of_len, len-empty}
 use Rattle.rb_delayed.specs.declared.element.Element.{Element}
 use Rattle.rb_delayed.specs.Moment.{IsExpired}
 use Rattle.rb_queue.specs.Bag.{Bag, NoneExpired, without}
-use Rattle.rb_queue.specs.Head.{IsLeast, IsHeadId, IsLeastExpiry, IsNextExpiry}
+use Rattle.rb_queue.specs.Head.{IsLeast, IsHeadId, IsNextExpiry}
 use Rattle.rb_queue.specs.Queue.{Queue}
 use Rattle.rb_queue.specs.Calls.{AreHeads, Acts}
 use Rattle.rb_queue.specs.declared.act.Act.TheVariants as acts
@@ -19,7 +19,7 @@ use Rattle.rb_replay.specs.declared.reason.Reason.{Reason}
 use Rattle.rb_replay.specs.declared.reason.Reason.TheVariants.{NotNone, NotLeast, NotAll}
 use Rattle.rb_replay.specs.declared.judge.JudgeFault.{JudgeFault}
 use Rattle.rb_replay.specs.declared.judge.JudgeFault.TheVariants.{Refused, Memory}
-use Rattle.rb_replay.specs.Refusal.{Test, NoTest, IsLeastId, LeastTests, HeadTests, DrainTests}
+use Rattle.rb_replay.specs.Refusal.{Test, NoTest, LeastTests, HeadTests, DrainTests}
 use Rattle.rb_replay.specs.Judging.{Passes, Judges, Gave}
 
 -- an element that expires no later than the least is least

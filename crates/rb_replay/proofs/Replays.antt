@@ -1,9 +1,9 @@
 -- A history that is done again, event by event.
-use Rattle.std.proofs.Common.{◌≡◌, ◌≢◌, ℕ, suc, ◌+◌, ◌-◌, ◌^◌, ◌↔◌, ◌<◌, ◌≤◌, List, [], ◌∷◌, ◌++◌, length, take, drop, get_or, refl, sym, ap, subst, ◌∙◌, arith, Bool, true, false, Option, Some, None, Result, Ok, Err, inl, inr, ◌⊎◌}
-use Rattle.std.proofs.lemmas.List.{take_more, take_all, take-append-drop, length-take}
+use Rattle.std.proofs.Common.{◌≡◌, ℕ, suc, ◌+◌, ◌-◌, ◌^◌, ◌<◌, ◌≤◌, List, [], ◌∷◌, ◌++◌, length, take, drop, get_or, sym, ap, subst, ◌∙◌, arith, Some, None, Err, inl, inr}
+use Rattle.std.proofs.lemmas.List.{take_more, take-append-drop, length-take}
 use Rattle.std.proofs.lemmas.List.Sums.{sum_by_more_le, sum_by-cons}
 use Rattle.std.proofs.Math.Seq.{drop-cons}
-use Rattle.std.specs.Prelude.{IsSome, IsSomeAnd, is_some, sum_by}
+use Rattle.std.specs.Prelude.{IsSomeAnd, is_some, sum_by}
 use Rattle.std.specs.FinMap as map
 use Rattle.rb_queue.specs.Bag.{Bag, NoneExpired, without}
 use Rattle.rb_queue.specs.Head.{IsLeast, IsHeadId}
@@ -22,9 +22,8 @@ use Rattle.rb_queue.proofs.Options.{has_and, value_and}
 use Rattle.rb_replay.specs.declared.reason.Reason.{Reason}
 use Rattle.rb_replay.specs.declared.judge.JudgeFault.{JudgeFault}
 use Rattle.rb_replay.specs.declared.judge.JudgeFault.TheVariants.{Refused, Memory}
-use Rattle.rb_replay.specs.declared.replay.End.{End}
-use Rattle.rb_replay.specs.Refusal.{Test, NoTest, HeadTests, LeastTests, DrainTests, ActTests, EventTests, Refuses}
-use Rattle.rb_replay.specs.Replaying.{state_at, fault_at, Redoes, Replays}
+use Rattle.rb_replay.specs.Refusal.{Test, NoTest, HeadTests, LeastTests, DrainTests, ActTests, EventTests}
+use Rattle.rb_replay.specs.Replaying.{fault_at, Redoes, Replays}
 
 -- a single test that fails does not hold
 one_fails : (holds : Type 0) (named reason : Reason) → Test holds named NoTest reason → ¬ holds

@@ -1,6 +1,6 @@
 -- Why an event is not allowed: the first of its tests that fails. The tests of an act are all that the
 -- queue permits by it.
-use Rattle.std.specs.Prelude.{◌≡◌, ℕ, ◌<◌, ◌≤◌, ◌↔◌, ◌⊎◌, max, IsTrue, IsSome, IsSomeAnd, List, [], ◌∷◌, ◌++◌, length, Option, Some, None}
+use Rattle.std.specs.Prelude.{◌≡◌, ℕ, ◌<◌, ◌≤◌, ◌↔◌, ◌⊎◌, max, IsTrue, IsSome, IsSomeAnd, List, [], ◌∷◌, ◌++◌, length, Some, None}
 use Rattle.std.specs.FinMap as map
 use Rattle.rb_queue.specs.Bag.{Bag, NoneExpired}
 use Rattle.rb_queue.specs.Head.{IsLeast, IsHeadId}

@@ -1,6 +1,5 @@
-use Rattle.std.proofs.Common.{map, length, ap, ◌∙◌, arith}
+use Rattle.std.proofs.Common.{map, length}
 use Rattle.rb_replay.specs.EventText.{keep_words, event_words, open_words, header_words, end_words}
-use Rattle.rb_replay.specs.HistoryText.{line_text}
 use Rattle.rb_replay.specs.declared.version.Version.TheVariants.{Three}
 use Rattle.rb_replay.proofs.Lines.{all_lines}
 use Rattle.rb_replay.proofs.history_text.history_bytes.Goals as goal

@@ -2,7 +2,7 @@ use Rattle.std.proofs.Common.{◌≢◌, ◌≤◌, ◌<◌, length, get_or, ref
 use Rattle.std.proofs.lemmas.Bool.Decides.{nat_tests}
 use Rattle.std.proofs.lemmas.Result.{err_from_is_err_and}
 use Rattle.std.proofs.lemmas.Grind.{get_or_default_zero}
-use Rattle.rb_replay.proofs.Judgements.{drained_more, drain_fails, drain_done, drain_last}
+use Rattle.rb_replay.proofs.Judgements.{drained_more, drain_fails, drain_last}
 use Rattle.rb_replay.proofs.judge.drain.Goals as goal
 
 pub loop-id-init : goal.loop-id-init

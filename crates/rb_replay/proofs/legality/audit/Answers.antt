@@ -1,4 +1,4 @@
-use Rattle.std.proofs.Common.{◌≡◌, ◌+◌, List, length, take, refl, sym, ap, ◌∙◌, arith}
+use Rattle.std.proofs.Common.{◌≡◌, length, ap, ◌∙◌, arith}
 use Rattle.std.proofs.lemmas.List.{take_all}
 use Rattle.rb_queue.specs.Counts.{offer_count, give_count, removed_count, cleared_count}
 use Rattle.rb_replay.proofs.Replays.{counted, offers_fit, gives_fit, removals_fit}
