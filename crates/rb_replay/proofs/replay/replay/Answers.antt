@@ -1,0 +1,16 @@
+use Rattle.rb_replay.proofs.Replays.{redone_more, redone_refuses, ids_left}
+use Rattle.rb_replay.proofs.replay.replay.Goals as goal
+
+pub redo-requires : goal.redo-requires
+redo-requires c = ids_left c.args.opening.now c.args.events.now c.loop-index.index _ c.requires c.loop-index.invariant
+
+pub returns-in-Err : goal.returns-in-Err
+returns-in-Err c =
+    rw c.replay_fault.ensures
+    (redone_refuses c.args.opening.now c.args.events.now c.loop-index.index c.index-events-index.result _ _ c.in-Err.fault c.loop-index-test.true
+    c.index-events-index.is c.loop-index.invariant c.in-Err.ensures)
+
+pub loop-index-preserved : goal.loop-index-preserved
+loop-index-preserved c =
+    redone_more c.args.opening.now c.args.events.now c.loop-index.index c.index-events-index.result _ _ c.loop-index-test.true c.index-events-index.is
+    c.loop-index.invariant c.in_default-redo.ensures.0 c.in_default-redo.ensures.1

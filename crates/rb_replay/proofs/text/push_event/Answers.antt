@@ -1,0 +1,9 @@
+use Rattle.std.proofs.lemmas.Result.{on_ok_weaker}
+use Rattle.rb_replay.proofs.Lines.{event_line}
+use Rattle.rb_replay.proofs.text.push_event.Goals as goal
+
+pub returns : goal.returns
+returns c =
+    on_ok_weaker c.push_bytes.result
+    (event_line _ _ _ _ _ _ _ _ _ _ c.in_ok-push_number.ensures c.in_ok-push_number-2.ensures c.in_ok-push_number-3.ensures c.in_ok-push_act.ensures)
+    c.push_bytes.ensures

@@ -1,0 +1,11 @@
+pub mod EventText
+pub mod HistoryText
+pub mod Written
+pub mod Tails
+pub mod ReasonText
+pub mod Refusal
+pub mod Standing
+pub mod Judging
+pub mod Checking
+pub mod Replaying
+pub mod Opens

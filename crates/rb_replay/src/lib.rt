@@ -1,0 +1,34 @@
+//! The history of a run as text, and the check that it is a legal one.
+//!
+//! A text tells what a run began with and each of its events, in order. Reading it again gives the same
+//! opening and the same events, and the check accepts exactly the events that one queue in one thread
+//! may have had. Moments and delays are nanoseconds.
+#![tactic(auto)]
+
+mod history;
+mod history_fault;
+mod history_text;
+mod judge;
+mod legality;
+mod next_opening;
+mod opening_fault;
+mod reason;
+mod replay;
+mod replay_fault;
+mod send;
+mod standing;
+#[cfg(test)]
+mod tests;
+mod text;
+mod version;
+mod write;
+
+pub use history::History;
+pub use history_fault::HistoryFault;
+pub use legality::check;
+pub use next_opening::opening_of;
+pub use opening_fault::OpeningFault;
+pub use reason::Reason;
+pub use replay_fault::ReplayFault;
+pub use version::Version;
+pub use write::{MOST_EVENTS, write_history};

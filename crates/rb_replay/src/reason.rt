@@ -1,0 +1,50 @@
+ghost use Rattle.std.specs.Prelude.{◌≡◌};
+ghost use Rattle.rb_replay.specs.ReasonText.{reason_text};
+
+/// Why an event is not one that the queue may have had then.
+#[derive(Clone, Copy, Debug, PartialEq, Eq)]
+pub enum Reason {
+    /// The event's moment is not the greater of what was asked and the moment before.
+    BadMoment,
+    /// The offered element's id is not the next one.
+    BadId,
+    /// No element of the id stands in the queue.
+    NotInQueue,
+    /// Another element has a smaller expiry.
+    NotLeast,
+    /// The element is not expired.
+    NotExpired,
+    /// There was something to give or to show.
+    NotNone,
+    /// The poll gave up before its deadline.
+    TooEarly,
+    /// An element of the id stands in the queue and was not found, or none does and it was.
+    WrongFound,
+    /// More elements were drained than were asked for.
+    TooMany,
+    /// The drain left an expired element, and took fewer than were asked for.
+    NotAll,
+    /// There are more elements, or fewer.
+    WrongSize,
+}
+
+impl Reason {
+    /// The reason as it is printed.
+    pub fn as_str(self) -> &'static str
+        ensures { result.now ≡ reason_text self }
+    {
+        match self {
+            Reason::BadMoment => "bad moment",
+            Reason::BadId => "bad id",
+            Reason::NotInQueue => "not in queue",
+            Reason::NotLeast => "not least",
+            Reason::NotExpired => "not expired",
+            Reason::NotNone => "not none",
+            Reason::TooEarly => "too early",
+            Reason::WrongFound => "wrong found",
+            Reason::TooMany => "too many",
+            Reason::NotAll => "not all",
+            Reason::WrongSize => "wrong size",
+        }
+    }
+}

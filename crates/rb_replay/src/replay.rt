@@ -1,0 +1,62 @@
+ghost use Rattle.std.specs.Prelude.{◌≡◌, ◌<◌, ◌≤◌, length};
+ghost use Rattle.rb_replay.specs.Replaying.{state_at, fault_at, Redoes, Replays};
+
+use crate::judge::{JudgeFault, judge};
+use crate::reason::Reason;
+use crate::replay_fault::ReplayFault;
+use crate::standing::Standing;
+use crate::write::MOST_EVENTS;
+use rb_queue::{Event, Opening};
+use std::alloc::Global;
+
+/// What a history leads to.
+#[derive(Drop)]
+pub(crate) struct End {
+    /// What stands in the queue.
+    pub(crate) standing: Standing,
+    /// The moment of the last event.
+    pub(crate) moment: u64,
+}
+
+/// Lets a queue do all events again.
+pub(crate) fn replay(alloc: Global, opening: &Opening, events: &[Event]) -> Result<End, ReplayFault>
+    requires { length events.now ≤ MOST_EVENTS }
+    ensures { Replays opening.now events.now result }
+{
+    let Ok(standing) = Standing::new_from(alloc, opening) else {
+        return Err(ReplayFault::Memory);
+    };
+    let mut end = End {
+        standing,
+        moment: opening.last_at,
+    };
+    for (index, event) in events.iter().enumerate() {
+        if let Err(fault) = redo(&mut end, event) {
+            return Err(replay_fault(index as u64, fault));
+        }
+    }
+    Ok(end)
+}
+
+// Lets the queue do one event again.
+fn redo(end: &mut End, event: &Event) -> Result<(), JudgeFault>
+    requires { end.old.standing.next_id < u64.MAX }
+    ensures { Redoes (state_at end.old) event.now result (state_at end.new) }
+{
+    if event.at != event.asked.max(end.moment) {
+        return Err(JudgeFault::Refused(Reason::BadMoment));
+    }
+    judge(&mut end.standing, event.at, &event.act)?;
+    end.moment = event.at;
+    Ok(())
+}
+
+// The fault of an event's index.
+fn replay_fault(index: u64, fault: JudgeFault) -> ReplayFault
+    ensures { result ≡ fault_at index fault }
+{
+    match fault {
+        JudgeFault::Refused(reason) => ReplayFault::At { index, reason },
+        JudgeFault::Memory => ReplayFault::Memory,
+    }
+}

@@ -1,0 +1,45 @@
+ghost use Rattle.std.specs.Prelude.{◌≡◌, ℕ, List, ◌++◌, take, Some, MatchResult};
+
+use std::io::{ErrorKind, Write};
+
+/// A write or a flush failed, or a write took no byte.
+#[derive(Clone, Copy, Debug, PartialEq, Eq)]
+pub(crate) struct WriteFault;
+
+/// Writes a text, by one write where that takes all of it, and else again for what was not taken, and
+/// flushes. A write that was interrupted is made again.
+///
+/// After an `Err` the writer has got the first bytes of the text, perhaps none or all.
+pub(crate) fn send<W: Write>(writer: &mut W, text: &[u8]) -> Result<(), WriteFault>
+    ensures { (before : List ℕ) → W.contents writer.old ≡ Some before → MatchResult result
+        (λ _. W.contents writer.new ≡ Some (before ++ text.now))
+        (λ _. (taken : ℕ) × (W.contents writer.new ≡ Some (before ++ take taken text.now))) }
+{
+    send_bytes(writer, text)?;
+    let Ok(()) = writer.flush() else {
+        return Err(WriteFault);
+    };
+    Ok(())
+}
+
+// Writes the bytes, without a flush.
+fn send_bytes<W: Write>(writer: &mut W, bytes: &[u8]) -> Result<(), WriteFault>
+    ensures { (before : List ℕ) → W.contents writer.old ≡ Some before → MatchResult result
+        (λ _. W.contents writer.new ≡ Some (before ++ bytes.now))
+        (λ _. (taken : ℕ) × (W.contents writer.new ≡ Some (before ++ take taken bytes.now))) }
+{
+    let mut rest = bytes;
+    // Nothing says that interruptions end, so the writes are counted.
+    for _ in 0..u64::MAX {
+        if rest.is_empty() {
+            return Ok(());
+        }
+        match writer.write(rest) {
+            Ok(0) => return Err(WriteFault),
+            Ok(count) => rest = &rest[count..],
+            Err(fault) if fault.kind() == ErrorKind::Interrupted => {}
+            Err(_) => return Err(WriteFault),
+        }
+    }
+    Err(WriteFault)
+}

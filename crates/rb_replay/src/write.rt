@@ -1,0 +1,36 @@
+ghost use Rattle.std.specs.Prelude.{◌≡◌, ℕ, ◌≤◌, List, Some, length};
+ghost use Rattle.rb_replay.specs.HistoryText.{history_text};
+ghost use Rattle.rb_replay.specs.Written.{Writes};
+
+use crate::history_fault::HistoryFault;
+use crate::history_text::history_bytes;
+use crate::send::send;
+use rb_queue::{Event, Opening};
+use std::alloc::Global;
+use std::io::Write;
+
+/// How many events a text has at most.
+pub const MOST_EVENTS: usize = 1_000_000;
+
+/// Writes what a run began with and its events, at most 1,000,000, and flushes.
+///
+/// Memory for the whole text is taken before the first byte is written: after `Memory` the writer is as
+/// before, and after `Write` it has got the first part of the text.
+pub fn write_history<W: Write>(
+    alloc: Global,
+    opening: &Opening,
+    events: &[Event],
+    writer: &mut W,
+) -> Result<(), HistoryFault>
+    requires { length events.now ≤ MOST_EVENTS }
+    ensures { (before : List ℕ) → W.contents writer.old ≡ Some before
+        → Writes result before (history_text opening.now events.now) (W.contents writer.new) }
+{
+    let Ok(text) = history_bytes(alloc, opening, events) else {
+        return Err(HistoryFault::Memory);
+    };
+    let Ok(()) = send(writer, &text) else {
+        return Err(HistoryFault::Write);
+    };
+    Ok(())
+}
