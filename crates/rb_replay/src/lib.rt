@@ -1,8 +1,7 @@
 //! The history of a run as text, and the check that it is a legal one.
 //!
-//! A text tells what a run began with and each of its events, in order. Reading it again gives the same
-//! opening and the same events, and the check accepts exactly the events that one queue in one thread
-//! may have had. Moments and delays are nanoseconds.
+//! A text tells what a run began with and each of its events, in order. The check accepts exactly the
+//! events that one queue in one thread may have had. Moments and delays are nanoseconds.
 #![tactic(auto)]
 
 mod history;

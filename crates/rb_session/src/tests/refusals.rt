@@ -86,7 +86,10 @@ fn refused_failure(rt: &impl Abort, alloc: Global, standing: u64) -> Result<u32,
     if first {
         let offered = kept.audit().offered;
         let kept_out = u64::from(refused.saturating_sub(held_on)).saturating_add(lost);
-        assert_eq!(rt; offered.saturating_add(kept_out), standing.saturating_add(2));
+        assert_eq!(rt;
+            offered.saturating_add(kept_out),
+            standing.saturating_add(2)
+        );
     }
     Ok(refused.saturating_add(u32::from(lost != 0)))
 }
