@@ -71,19 +71,19 @@ fn timed_act(start: u64, timeout: u64, got: Option<u64>) -> Act {
     }
 }
 
-fn ids(alloc: Global, ids: &[u64]) -> Result<Ids, AllocError> {
+fn ids(alloc: Global, entries: &[(u64, u64, u8)]) -> Result<Ids, AllocError> {
     let mut given = Vec::new(alloc);
-    for &id in ids {
+    for &(id, _, _) in entries {
         given.push(id)?;
     }
     Ok(Ids::new(given))
 }
 
-// The act of a drain that gave these.
-fn drained_act(rt: &impl Abort, alloc: Global, max: u64, given: &[u64]) -> Act {
+// The act of a drain that gave elements of these ids, expiries and payloads of one byte.
+fn drained_act(rt: &impl Abort, alloc: Global, max: u64, entries: &[(u64, u64, u8)]) -> Act {
     Act::Drain {
         max,
-        ids: ids(alloc, given).ok().expect(rt, "ids"),
+        ids: ids(alloc, entries).ok().expect(rt, "ids"),
     }
 }
 

@@ -49,7 +49,6 @@ fn asks_wait_from_the_openings_last_moment(rt: HostRuntime) {
 #[test]
 fn a_run_goes_on_from_its_opening(rt: HostRuntime) {
     let mut run = Run::begun(&rt, rt.alloc());
-    assert_eq!(rt; run.kept.capacity(), 9);
     run.expect_audit(&rt, [0, 0, 0, 0, 0, 2, 2]);
     run.expect(&rt, 0, Ask::Size, Reply::Size(2));
     run.offer(&rt, 31, 7, 60, b"c");
@@ -60,11 +59,12 @@ fn a_run_goes_on_from_its_opening(rt: HostRuntime) {
     run.expect(&rt, 51, Ask::Remove(7), Reply::Removed(true));
     run.expect(&rt, 51, Ask::Remove(5), Reply::Removed(false));
     run.expect_audit(&rt, [8, 2, 2, 1, 0, 1, 2]);
-    expect_opening(&rt, &run, &opening(&rt, rt.alloc()));
+    expect_opening(&rt, rt.alloc(), &run);
 }
 
-fn expect_opening(rt: &impl Abort, run: &Run, opening: &Opening) {
-    assert_eq!(rt; run.kept.opening(), opening);
+fn expect_opening(rt: &impl Abort, alloc: Global, run: &Run) {
+    assert_eq!(rt; *run.kept.opening(), opening(rt, alloc));
+    assert_eq!(rt; run.kept.capacity(), 9);
 }
 
 #[test]
@@ -75,9 +75,13 @@ fn a_clear_counts_the_openings_elements(rt: HostRuntime) {
     run.expect_audit(&rt, [2, 1, 0, 0, 3, 0, 2]);
 }
 
+fn expect_empty_opening(rt: &impl Abort, alloc: Global, run: &Run) {
+    assert_eq!(rt; *run.kept.opening(), Opening::empty(alloc));
+}
+
 #[test]
 fn a_new_queue_has_the_empty_opening(rt: HostRuntime) {
     let run = Run::new(&rt, rt.alloc(), 1);
-    expect_opening(&rt, &run, &Opening::empty(rt.alloc()));
+    expect_empty_opening(&rt, rt.alloc(), &run);
     run.expect_audit(&rt, [0; 7]);
 }

@@ -1,7 +1,7 @@
 // Whole exchanges of one caller, each with all its replies.
 
 use super::run::Run;
-use super::{drained, drained_act, element, item};
+use super::{element, item};
 use crate::Outcome;
 use rb_delayed::Element;
 use rb_queue::{Act, Ask, Reply};
@@ -54,8 +54,7 @@ fn an_offer_into_the_past_is_given_at_once(rt: HostRuntime) {
 
 #[test]
 fn a_drain_gives_the_least_expiry_first(rt: HostRuntime) {
-    let alloc = rt.alloc();
-    let mut run = Run::new(&rt, alloc, 9);
+    let mut run = Run::new(&rt, rt.alloc(), 9);
     run.offer(&rt, 0, 0, 4096, b"a");
     run.offer(&rt, 0, 1, 4095, b"b");
     run.offer(&rt, 0, 2, 64, b"c");
@@ -67,8 +66,7 @@ fn a_drain_gives_the_least_expiry_first(rt: HostRuntime) {
         (1, 4095, b'b'),
         (0, 4096, b'a'),
     ];
-    run.expect(&rt, 4096, Ask::Drain(9), drained(&rt, alloc, &entries));
-    run.expect_last(&rt, 4096, 4096, drained_act(&rt, alloc, 9, &[3, 2, 1, 0]));
+    run.expect_drain(&rt, rt.alloc(), 4096, 9, &entries);
 }
 
 #[test]
@@ -94,14 +92,9 @@ fn a_drain_gives_at_most_so_many(rt: HostRuntime) {
     run.offer(&rt, 0, 1, 2, b"b");
     run.offer(&rt, 0, 2, 3, b"c");
     run.offer(&rt, 0, 3, 9, b"d");
-    let two = drained(&rt, alloc, &[(0, 1, b'a'), (1, 2, b'b')]);
-    run.expect(&rt, 3, Ask::Drain(2), two);
-    run.expect_last(&rt, 3, 3, drained_act(&rt, alloc, 2, &[0, 1]));
-    run.expect(&rt, 3, Ask::Drain(0), drained(&rt, alloc, &[]));
-    run.expect_last(&rt, 3, 3, drained_act(&rt, alloc, 0, &[]));
-    let one = drained(&rt, alloc, &[(2, 3, b'c')]);
-    run.expect(&rt, 3, Ask::Drain(5), one);
-    run.expect_last(&rt, 3, 3, drained_act(&rt, alloc, 5, &[2]));
+    run.expect_drain(&rt, alloc, 3, 2, &[(0, 1, b'a'), (1, 2, b'b')]);
+    run.expect_drain(&rt, alloc, 3, 0, &[]);
+    run.expect_drain(&rt, alloc, 3, 5, &[(2, 3, b'c')]);
     run.expect(&rt, 3, Ask::Size, Reply::Size(1));
     run.expect_audit(&rt, [8, 4, 3, 0, 0, 1, 0]);
 }

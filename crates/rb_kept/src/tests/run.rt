@@ -1,7 +1,7 @@
 // A queue with its one caller, and what is expected of it. What does not come stops the test, so that no
 // call of a test ends it early.
 
-use super::{ListKept, event, offer, offered, opening};
+use super::{ListKept, drained, drained_act, event, offer, offered, opening};
 use crate::{Outcome, Step, Try};
 use rb_ledger::{Tally, Totals};
 use rb_queue::{Act, Ask, Audit, Reply};
@@ -50,6 +50,20 @@ impl Run {
     ) {
         let reply = offered(rt, id, expiry, bytes);
         self.expect(rt, asked, offer(rt, expiry, bytes), reply);
+    }
+
+    // Drains, and expects elements of these ids, expiries and payloads of one byte, whose ids are
+    // recorded.
+    pub(super) fn expect_drain(
+        &mut self,
+        rt: &impl Abort,
+        alloc: Global,
+        asked: u64,
+        max: u64,
+        entries: &[(u64, u64, u8)],
+    ) {
+        self.expect(rt, asked, Ask::Drain(max), drained(rt, alloc, entries));
+        self.expect_last(rt, asked, asked, drained_act(rt, alloc, max, entries));
     }
 
     // Makes these tries, of seats, moments and asks, in one run.

@@ -4,6 +4,7 @@ use super::run::Run;
 use super::{drained, drained_act, element, event, item, offer, offered, timed_act, timed_poll};
 use crate::{CallFault, Outcome, Step};
 use rb_queue::{Act, Ask, Event, Reply};
+use std::alloc::Global;
 use std::process::Abort;
 
 fn done(reply: Reply) -> Step {
@@ -37,18 +38,22 @@ fn expect_four_events(rt: &impl Abort, history: &[Event]) {
     assert_eq!(rt; history, expected.as_slice());
 }
 
-#[test]
-fn a_run_answers_each_try_in_its_turn(rt: HostRuntime) {
-    let mut run = Run::new(&rt, rt.alloc(), 4);
+fn run_six(rt: &impl Abort, alloc: Global, run: &mut Run) -> Vec<Step> {
     let tries = [
-        (0, 10, offer(&rt, 10, b"a")),
+        (0, 10, offer(rt, 10, b"a")),
         (1, 5, Ask::Poll),
         (1, 3, timed_poll(3, 4)),
         (0, 11, Ask::Take),
         (0, 11, Ask::Size),
         (0, 12, Ask::Size),
     ];
-    let steps = run.run_tries(&rt, rt.alloc(), &tries);
+    run.run_tries(rt, alloc, &tries)
+}
+
+#[test]
+fn a_run_answers_each_try_in_its_turn(rt: HostRuntime) {
+    let mut run = Run::new(&rt, rt.alloc(), 4);
+    let steps = run_six(&rt, rt.alloc(), &mut run);
     expect_six(&rt, &steps);
     expect_four_events(&rt, run.kept.history());
     run.expect_audit(&rt, [4, 1, 1, 0, 0, 0, 0]);
@@ -76,23 +81,32 @@ fn expect_five_events(rt: &impl Abort, history: &[Event]) {
     assert_eq!(rt; history, expected.as_slice());
 }
 
-#[test]
-fn a_second_run_goes_on(rt: HostRuntime) {
-    let mut run = Run::new(&rt, rt.alloc(), 5);
-    let first = [(0, 20, offer(&rt, 30, b"a")), (0, 21, Ask::Poll)];
-    let _ = run.run_tries(&rt, rt.alloc(), &first);
-    let second = [
+fn run_two(rt: &impl Abort, alloc: Global, run: &mut Run) -> Vec<Step> {
+    let tries = [(0, 20, offer(rt, 30, b"a")), (0, 21, Ask::Poll)];
+    run.run_tries(rt, alloc, &tries)
+}
+
+fn run_four(rt: &impl Abort, alloc: Global, run: &mut Run) -> Vec<Step> {
+    let tries = [
         (2, 7, Ask::Peek),
-        (2, 29, offer(&rt, 25, b"b")),
+        (2, 29, offer(rt, 25, b"b")),
         (2, 29, Ask::Poll),
         (2, 30, Ask::Poll),
     ];
-    let steps = run.run_tries(&rt, rt.alloc(), &second);
+    run.run_tries(rt, alloc, &tries)
+}
+
+#[test]
+fn a_second_run_goes_on(rt: HostRuntime) {
+    let mut run = Run::new(&rt, rt.alloc(), 5);
+    let _ = run_two(&rt, rt.alloc(), &mut run);
+    let steps = run_four(&rt, rt.alloc(), &mut run);
     expect_second(&rt, &steps);
     expect_five_events(&rt, run.kept.history());
 }
 
-fn expect_twelve(rt: &impl Abort, steps: &[Step], drained: Reply) {
+fn expect_twelve(rt: &impl Abort, alloc: Global, steps: &[Step]) {
+    let drained = drained(rt, alloc, &[(2, 9, b'c')]);
     let expected = [
         done(offered(rt, 0, 9, b"a")),
         done(offered(rt, 1, 8, b"b")),
@@ -110,7 +124,8 @@ fn expect_twelve(rt: &impl Abort, steps: &[Step], drained: Reply) {
     assert_eq!(rt; steps, expected.as_slice());
 }
 
-fn expect_eleven_events(rt: &impl Abort, history: &[Event], drained: Act) {
+fn expect_eleven_events(rt: &impl Abort, alloc: Global, history: &[Event]) {
+    let drained = drained_act(rt, alloc, 3, &[(2, 9, b'c')]);
     let missed = Act::Remove {
         id: 0,
         found: false,
@@ -131,26 +146,29 @@ fn expect_eleven_events(rt: &impl Abort, history: &[Event], drained: Act) {
     assert_eq!(rt; history, expected.as_slice());
 }
 
-// A fault and a wait are steps too, and the tries behind them are made.
-#[test]
-fn each_ask_is_recorded_by_its_own_act(rt: HostRuntime) {
-    let mut run = Run::new(&rt, rt.alloc(), 11);
+fn run_twelve(rt: &impl Abort, alloc: Global, run: &mut Run) -> Vec<Step> {
     let tries = [
-        (1, 1, offer(&rt, 9, b"a")),
-        (2, 1, offer(&rt, 8, b"b")),
+        (1, 1, offer(rt, 9, b"a")),
+        (2, 1, offer(rt, 8, b"b")),
         (3, 2, Ask::Take),
         (4, 2, Ask::Peek),
         (5, 2, Ask::Poll),
         (6, 8, Ask::Take),
         (7, 9, timed_poll(6, 7)),
-        (8, 9, offer(&rt, 9, b"c")),
+        (8, 9, offer(rt, 9, b"c")),
         (9, 9, Ask::Drain(3)),
         (10, 9, Ask::Remove(0)),
         (11, 9, Ask::Clear),
         (12, 9, Ask::Size),
     ];
-    let steps = run.run_tries(&rt, rt.alloc(), &tries);
-    expect_twelve(&rt, &steps, drained(&rt, rt.alloc(), &[(2, 9, b'c')]));
-    let act = drained_act(&rt, rt.alloc(), 3, &[2]);
-    expect_eleven_events(&rt, run.kept.history(), act);
+    run.run_tries(rt, alloc, &tries)
+}
+
+// A wait is a step too, and the tries behind it are made.
+#[test]
+fn each_ask_is_recorded_by_its_own_act(rt: HostRuntime) {
+    let mut run = Run::new(&rt, rt.alloc(), 11);
+    let steps = run_twelve(&rt, rt.alloc(), &mut run);
+    expect_twelve(&rt, rt.alloc(), &steps);
+    expect_eleven_events(&rt, rt.alloc(), run.kept.history());
 }

@@ -1,7 +1,7 @@
 // Callers' shares of the totals, and a full history.
 
 use super::run::Run;
-use super::{drained, item, offer, timed_poll};
+use super::{item, offer, timed_poll};
 use crate::CallFault;
 use rb_ledger::Tally;
 use rb_queue::{Ask, Reply};
@@ -26,7 +26,7 @@ fn shares_come_to_the_audit(rt: HostRuntime) {
     change_places(&mut run, &mut other);
     run.offer(&rt, 0, 6, 91, b"b");
     let three = [(0, 1, b'a'), (1, 2, b'a'), (2, 3, b'a')];
-    run.expect(&rt, 3, Ask::Drain(9), drained(&rt, rt.alloc(), &three));
+    run.expect_drain(&rt, rt.alloc(), 3, 9, &three);
     run.expect(&rt, 3, Ask::Poll, Reply::Nothing);
     run.expect(&rt, 4, Ask::Take, item(&rt, 3, 4, b"a"));
     run.expect_wait(&rt, 4, Ask::Take, Some(5));
