@@ -2,6 +2,7 @@
 use Rattle.std.specs.Prelude.{◌≡◌, ℕ, Option, Some, None, Result, Ok, Err}
 use Rattle.rb_delayed.specs.declared.element.Element.{Element}
 use Rattle.rb_queue.specs.declared.ask.Ask.{Ask}
+use Rattle.rb_queue.specs.declared.ask.Ask.TheVariants.{Take, PollFor}
 use Rattle.rb_queue.specs.declared.reply.Reply.{Reply}
 use Rattle.rb_queue.specs.declared.reply.Reply.TheVariants.{Item, Nothing}
 use Rattle.rb_kept.specs.Log.{HasRoom, IsFull}
@@ -35,17 +36,27 @@ pub record IsStopped (gives stops : ℕ → Type 0) (old new : Seen) (ask : Ask)
   pub mine : new.mine ≡ old.mine
 
 -- the history that the pass has seen has no room, and the pass has made no call more
-pub record IsRefused (old new : Seen) : Type 0 where
+pub record EndsFull (old new : Seen) : Type 0 where
   pub full : IsFull (log_of new)
   pub mine : new.mine ≡ old.mine
 
 -- how an ask that waits ended
 abbrev pub Waited : (ℕ → Type 0) → (ℕ → Type 0) → Seen → Seen → Ask → Result Reply WaitFault → Type 0
 Waited gives stops old new ask (Ok reply) = IsAnswered gives old new ask reply
-Waited gives stops old new ask (Err Full) = IsRefused old new
+Waited gives stops old new ask (Err Full) = EndsFull old new
 Waited gives stops old new ask (Err Stopped) = IsStopped gives stops old new ask
 
 -- the reply that gives an element, or none
 abbrev pub reply_with : Option Element → Reply
 reply_with (Some element) = Item element
 reply_with None = Nothing
+
+-- how a take ended: its reply is the element
+abbrev pub TakeWaited : (ℕ → Type 0) → (ℕ → Type 0) → Seen → Seen → Result Element WaitFault → Type 0
+TakeWaited gives stops old new (Ok element) = Waited gives stops old new Take (Ok (Item element))
+TakeWaited gives stops old new (Err fault) = Waited gives stops old new Take (Err fault)
+
+-- how a timed poll ended: its reply is the element, or that there is none
+abbrev pub PollForWaited : (ℕ → Type 0) → (ℕ → Type 0) → Seen → Seen → ℕ → ℕ → Result (Option Element) WaitFault → Type 0
+PollForWaited gives stops old new start timeout (Ok got) = Waited gives stops old new (PollFor start timeout) (Ok (reply_with got))
+PollForWaited gives stops old new start timeout (Err fault) = Waited gives stops old new (PollFor start timeout) (Err fault)

@@ -9,12 +9,16 @@ mod clock;
 mod fault;
 mod gate;
 mod machine_clock;
+mod offers;
 mod pace;
 mod turn_gate;
+mod waits;
 
 pub use bell::Bell;
 pub use clock::Clock;
 pub use fault::WaitFault;
 pub use gate::Gate;
 pub use machine_clock::MachineClock;
+pub use offers::offer_ring;
 pub use turn_gate::TurnGate;
+pub use waits::{poll_for, take};

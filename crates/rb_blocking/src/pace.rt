@@ -4,6 +4,7 @@ use rb_queue::Ask;
 use std::time::Duration;
 
 /// How long a waiting call rests between two tries.
+#[derive(Drop)]
 pub(crate) struct Pace {
     // From when on the call has nothing to wait for, in nanoseconds.
     deadline: u64,
@@ -12,8 +13,8 @@ pub(crate) struct Pace {
 }
 
 impl Pace {
-    pub(crate) fn new(ask: Ask) -> Pace {
-        let deadline = match ask {
+    pub(crate) fn new(ask: &Ask) -> Pace {
+        let deadline = match *ask {
             Ask::PollFor { start, timeout } => add_capped(start, timeout),
             _ => u64::MAX,
         };
