@@ -11,6 +11,8 @@ mod gate;
 mod machine_clock;
 mod offers;
 mod pace;
+#[cfg(test)]
+mod tests;
 mod turn_gate;
 mod waits;
 
