@@ -1,5 +1,5 @@
 -- What a pass has learned in several calls, one after the other.
-use Rattle.std.proofs.Common.{◌≡◌, List, [], ◌++◌, refl, sym, ap, ◌∙◌, append_assoc}
+use Rattle.std.proofs.Common.{List, [], ◌++◌, refl, sym, ap, ◌∙◌, append_assoc}
 use mathlib.Core.List.{IsPrefix}
 use Rattle.rb_lock.specs.Passes.{Seen, IsSound, Learns}
 use Rattle.std.proofs.lemmas.List.{append-nil}
