@@ -1,0 +1,2 @@
+pub mod WaitingCalls
+pub mod RungOffers

@@ -1,0 +1,62 @@
+-- How a call that waits ends, and what the pass has seen after it.
+use Rattle.std.specs.Prelude.{◌≡◌, ℕ, Option, Some, None, Result, Ok, Err}
+use Rattle.rb_delayed.specs.declared.element.Element.{Element}
+use Rattle.rb_queue.specs.declared.ask.Ask.{Ask}
+use Rattle.rb_queue.specs.declared.ask.Ask.TheVariants.{Take, PollFor}
+use Rattle.rb_queue.specs.declared.reply.Reply.{Reply}
+use Rattle.rb_queue.specs.declared.reply.Reply.TheVariants.{Item, Nothing}
+use Rattle.rb_kept.specs.Log.{HasRoom, IsFull}
+use Rattle.rb_kept.specs.Tries.{Waits}
+use Rattle.rb_kept.specs.declared.tries.Try.{Try}
+use Rattle.rb_lock.specs.Passes.{Seen, log_of}
+use Rattle.rb_lock.specs.SharedCalls.{Replied}
+use Rattle.rb_blocking.specs.declared.fault.WaitFault.{WaitFault}
+use Rattle.rb_blocking.specs.declared.fault.WaitFault.TheVariants.{Full, Stopped}
+
+-- the pass's try of an ask, at a reading
+abbrev pub try_of : Seen → ℕ → Ask → Try
+try_of pass asked ask = record { seat = pass.name; asked = asked; ask = ask }
+
+-- The ask was answered, at a reading that the clock gives.
+pub record IsAnswered (gives : ℕ → Type 0) (old new : Seen) (ask : Ask) (reply : Reply) : Type 0 where
+  pub asked : ℕ
+  pub read : gives asked
+  pub replied : Replied old new (try_of old asked ask) reply
+
+-- The gate stopped the wait, after so many turns: the ask would wait still, at a reading that the clock gives,
+-- and the pass has made no call more.
+pub record IsStopped (gives stops : ℕ → Type 0) (old new : Seen) (ask : Ask) : Type 0 where
+  pub turns : ℕ
+  pub stopped : stops turns
+  pub asked : ℕ
+  pub read : gives asked
+  pub expiry : Option ℕ
+  pub room : HasRoom (log_of new)
+  pub waits : Waits (log_of new) (try_of old asked ask) expiry
+  pub mine : new.mine ≡ old.mine
+
+-- the history that the pass has seen has no room, and the pass has made no call more
+pub record EndsFull (old new : Seen) : Type 0 where
+  pub full : IsFull (log_of new)
+  pub mine : new.mine ≡ old.mine
+
+-- how an ask that waits ended
+abbrev pub Waited : (ℕ → Type 0) → (ℕ → Type 0) → Seen → Seen → Ask → Result Reply WaitFault → Type 0
+Waited gives stops old new ask (Ok reply) = IsAnswered gives old new ask reply
+Waited gives stops old new ask (Err Full) = EndsFull old new
+Waited gives stops old new ask (Err Stopped) = IsStopped gives stops old new ask
+
+-- the reply that gives an element, or none
+abbrev pub reply_with : Option Element → Reply
+reply_with (Some element) = Item element
+reply_with None = Nothing
+
+-- how a take ended: its reply is the element
+abbrev pub TakeWaited : (ℕ → Type 0) → (ℕ → Type 0) → Seen → Seen → Result Element WaitFault → Type 0
+TakeWaited gives stops old new (Ok element) = Waited gives stops old new Take (Ok (Item element))
+TakeWaited gives stops old new (Err fault) = Waited gives stops old new Take (Err fault)
+
+-- how a timed poll ended: its reply is the element, or that there is none
+abbrev pub PollForWaited : (ℕ → Type 0) → (ℕ → Type 0) → Seen → Seen → ℕ → ℕ → Result (Option Element) WaitFault → Type 0
+PollForWaited gives stops old new start timeout (Ok got) = Waited gives stops old new (PollFor start timeout) (Ok (reply_with got))
+PollForWaited gives stops old new start timeout (Err fault) = Waited gives stops old new (PollFor start timeout) (Err fault)

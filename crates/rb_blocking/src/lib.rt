@@ -1,0 +1,26 @@
+//! Calls of a shared queue that wait: for an element to expire, for a deadline, or for another thread's offer.
+//!
+//! A call waits by trying again. Each try is at a fresh reading of a clock, and holds the lock as any other
+//! call does; between two tries the caller rests at a bell, and a gate may end its wait.
+#![tactic(auto)]
+
+mod bell;
+mod clock;
+mod fault;
+mod gate;
+mod machine_clock;
+mod offers;
+mod pace;
+#[cfg(test)]
+mod tests;
+mod turn_gate;
+mod waits;
+
+pub use bell::Bell;
+pub use clock::Clock;
+pub use fault::WaitFault;
+pub use gate::Gate;
+pub use machine_clock::MachineClock;
+pub use offers::offer_ring;
+pub use turn_gate::TurnGate;
+pub use waits::{poll_for, take};

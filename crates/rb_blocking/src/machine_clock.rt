@@ -1,0 +1,38 @@
+use crate::clock::Clock;
+use std::time;
+use std::time::{Duration, Instant};
+
+/// The machine's monotonic clock, in nanoseconds since this value was made.
+///
+/// A clock that can't be read stands at 0. Nothing is claimed of its numbers.
+#[derive(Drop)]
+pub struct MachineClock<'a, R: time::Clock> {
+    rt: &'a R,
+    // When it was made, if the clock could be read then.
+    start: Option<Instant>,
+}
+
+impl<'a, R: time::Clock> MachineClock<'a, R> {
+    /// A clock that reads 0 now.
+    pub fn new(rt: &'a R) -> MachineClock<'a, R> {
+        MachineClock {
+            rt,
+            start: Instant::now(rt).ok(),
+        }
+    }
+
+    fn elapsed(&self) -> Option<Duration> {
+        self.start?.elapsed(self.rt).ok()
+    }
+}
+
+impl<'a, R: time::Clock> Clock for MachineClock<'a, R> {
+    ghost gives = { λ _ _. Unit {0} };
+
+    fn now(&self) -> u64 {
+        match self.elapsed() {
+            Some(elapsed) => u64::try_from(elapsed.as_nanos()).unwrap_or(u64::MAX),
+            None => 0,
+        }
+    }
+}

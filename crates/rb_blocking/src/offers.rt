@@ -1,0 +1,40 @@
+ghost use Rattle.std.specs.Prelude.{◌≡◌};
+ghost use Rattle.rb_queue.specs.declared.ask.Ask.TheVariants.{Offer};
+ghost use Rattle.rb_lock.specs.Passes.{Learns};
+ghost use Rattle.rb_blocking.specs.WaitingCalls.{try_of};
+ghost use Rattle.rb_blocking.specs.RungOffers.{OfferAnswered};
+
+use crate::bell::Bell;
+use rb_delayed::Element;
+use rb_kept::{CallFault, Outcome};
+use rb_lock::{Pass, Shared};
+use rb_queue::{Ask, Draft, Reply};
+use rb_timer::Timer;
+use std::sync::Wait;
+
+/// Offers an element as `Shared::call` does, and rings where it was inserted, so that a call that waits tries
+/// again. It waits while another pass calls.
+///
+/// The faults are those of the call: `Full` where the history has as many events as its capacity, `Memory`
+/// where there is none for the element. Then nothing was offered, and nothing is rung.
+pub fn offer_ring<T: Timer, R: Wait>(
+    rt: &R,
+    shared: &Shared<T>,
+    pass: &mut Pass<T>,
+    asked: u64,
+    draft: Draft,
+    bell: &Bell,
+) -> Result<Element, CallFault>
+    requires pass { pass.old.table ≡ shared.now }
+    ensures learns { Learns pass.old pass.new }
+    ensures offered { OfferAnswered pass.old pass.new (try_of pass.old asked (Offer draft)) result }
+{
+    let Outcome::Done(reply) = shared.call(rt, pass, asked, Ask::Offer(draft))? else {
+        unreachable!()
+    };
+    let Reply::Offered(element) = reply else {
+        unreachable!()
+    };
+    bell.ring(rt);
+    Ok(element)
+}

@@ -1,0 +1,80 @@
+mod bells;
+mod calls;
+mod gates;
+mod rows;
+mod threads;
+
+ghost use Rattle.std.specs.Prelude.{◌≡◌, ◌≤◌, IfOk};
+
+use crate::{Clock, Gate};
+use rb_delayed::{Element, Payload};
+use rb_kept::Kept;
+use rb_lock::{Pass, Shared};
+use rb_queue::Draft;
+use rb_timer::ListTimer;
+use std::alloc::Global;
+use std::process::Abort;
+use std::test::Fail;
+
+type ListShared = Shared<ListTimer>;
+
+type ListPass = Pass<ListTimer>;
+
+// A clock that always reads this moment.
+#[derive(Clone, Copy)]
+struct FixedClock(u64);
+
+impl Clock for FixedClock {
+    ghost gives = { λ clock moment. moment ≡ clock.0 };
+
+    fn now(&self) -> u64 {
+        self.0
+    }
+}
+
+// A gate that ends a wait after so many turns, and counts how often it is asked.
+#[derive(Drop)]
+struct CountingGate {
+    limit: u64,
+    asked: u64,
+}
+
+impl Gate for CountingGate {
+    ghost stops = { λ gate turns. gate.limit ≤ turns };
+
+    fn turn(&mut self, turns: u64) -> bool {
+        self.asked = self.asked.saturating_add(1);
+        turns < self.limit
+    }
+}
+
+// A shared queue with room for so many calls, and its first pass.
+fn opened(alloc: Global, capacity: u64) -> Result<(ListShared, ListPass), Fail>
+    ensures { IfOk result (λ opened. opened.1.table ≡ opened.0) }
+{
+    let (kept, tally) = Kept::new(alloc, capacity)?;
+    match Shared::open(alloc, kept, tally) {
+        Ok(opened) => Ok(opened),
+        Err((_, _, fault)) => Err(Fail::from(fault)),
+    }
+}
+
+fn payload(rt: &impl Abort) -> Payload {
+    Payload::new(b"a").ok().expect(rt, "a payload")
+}
+
+fn draft(rt: &impl Abort, expiry: u64) -> Draft {
+    Draft::first(expiry, payload(rt))
+}
+
+// The element that a first offer becomes.
+fn element(rt: &impl Abort, id: u64, expiry: u64) -> Element {
+    Element {
+        id,
+        expiry,
+        origin: id,
+        first: expiry,
+        attempt: 1,
+        payload: payload(rt),
+    }
+}

@@ -1,0 +1,109 @@
+ghost use Rattle.std.specs.Prelude.{◌≡◌, ℕ, OnErr, IfOk, IsErrOf};
+ghost use Rattle.rb_queue.specs.declared.ask.Ask.TheVariants.{Take, PollFor};
+ghost use Rattle.rb_kept.specs.Tries.{TakesMemory};
+ghost use Rattle.rb_lock.specs.Passes.{Learns};
+ghost use Rattle.rb_blocking.specs.WaitingCalls.{Waited, TakeWaited, PollForWaited};
+
+use crate::bell::Bell;
+use crate::clock::Clock;
+use crate::fault::WaitFault;
+use crate::gate::Gate;
+use crate::pace::Pace;
+use rb_delayed::Element;
+use rb_kept::{CallFault, Outcome};
+use rb_lock::{Pass, Shared};
+use rb_queue::{Ask, Reply};
+use rb_timer::Timer;
+use std::sync::Wait;
+use std::time;
+
+/// Takes an element that has expired, and waits while there is none.
+///
+/// Each try is at a fresh reading of the clock; after one that finds nothing expired the gate is asked, and the
+/// call rests at the bell. A reply is that of one `Shared::call` with `Take` at a reading: the pass has seen a
+/// legal history that begins with all that it had seen and ends with this call. After `Stopped`, which only
+/// the gate's no gives, and after `Full` no event is made. It takes no memory.
+pub fn take<T: Timer, C: Clock, G: Gate, R: Wait + time::Clock>(
+    rt: &R,
+    shared: &Shared<T>,
+    pass: &mut Pass<T>,
+    clock: &C,
+    gate: &mut G,
+    bell: &Bell,
+) -> Result<Element, WaitFault>
+    requires pass { pass.old.table ≡ shared.now }
+    ensures learns { Learns pass.old pass.new }
+    ensures waited { TakeWaited (C.gives clock.now) (G.stops gate.old) pass.old pass.new result }
+{
+    match wait(rt, shared, pass, clock, gate, bell, &Ask::Take)? {
+        Reply::Item(element) => Ok(element),
+        _ => unreachable!(),
+    }
+}
+
+/// Takes an element that has expired, and waits while there is none until `timeout` nanoseconds after the
+/// moment `start`.
+///
+/// It is as `take`, by a call with `PollFor`: it gives `None` only where at the deadline or after it nothing
+/// is expired.
+pub fn poll_for<T: Timer, C: Clock, G: Gate, R: Wait + time::Clock>(
+    rt: &R,
+    shared: &Shared<T>,
+    pass: &mut Pass<T>,
+    clock: &C,
+    gate: &mut G,
+    bell: &Bell,
+    start: u64,
+    timeout: u64,
+) -> Result<Option<Element>, WaitFault>
+    requires pass { pass.old.table ≡ shared.now }
+    ensures learns { Learns pass.old pass.new }
+    ensures waited { PollForWaited (C.gives clock.now) (G.stops gate.old) pass.old pass.new start timeout result }
+{
+    let ask = Ask::PollFor { start, timeout };
+    match wait(rt, shared, pass, clock, gate, bell, &ask)? {
+        Reply::Item(element) => Ok(Some(element)),
+        Reply::Nothing => Ok(None),
+        _ => unreachable!(),
+    }
+}
+
+// Tries an ask until it is answered, or refused for want of room, or the gate says no.
+//
+// The lock is held during a try alone. The bell's count is read before the try, so that a ring between the try
+// and the rest is seen.
+fn wait<T: Timer, C: Clock, G: Gate, R: Wait + time::Clock>(
+    rt: &R,
+    shared: &Shared<T>,
+    pass: &mut Pass<T>,
+    clock: &C,
+    gate: &mut G,
+    bell: &Bell,
+    ask: &Ask,
+) -> Result<Reply, WaitFault>
+    requires pass { pass.old.table ≡ shared.now }
+    requires memory { TakesMemory ask.now → ⊥ }
+    ensures learns { Learns pass.old pass.new }
+    ensures waited { Waited (C.gives clock.now) (G.stops gate.old) pass.old pass.new ask.now result }
+{
+    // The proof reads here that the pass has seen a legal history.
+    let _ = pass.name();
+    let mut pace = Pace::new(ask);
+    let mut turns: u64 = 0;
+    for _ in rt.forever() {
+        let seen = bell.count(rt);
+        let asked = clock.now();
+        let expiry = match shared.call(rt, pass, asked, *ask) {
+            Ok(Outcome::Done(reply)) => return Ok(reply),
+            Ok(Outcome::Later(expiry)) => expiry,
+            Err(CallFault::Full) => return Err(WaitFault::Full),
+            Err(CallFault::Memory) => unreachable!(),
+        };
+        if !gate.turn(turns) {
+            return Err(WaitFault::Stopped);
+        }
+        turns = turns.saturating_add(1);
+        bell.rest_at_most(rt, seen, pace.rest_after(asked, expiry));
+    }
+    unreachable!()
+}
