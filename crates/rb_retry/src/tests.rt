@@ -1,4 +1,5 @@
 mod desks;
+mod fixtures;
 mod jobs;
 mod policies;
 mod works;

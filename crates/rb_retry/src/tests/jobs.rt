@@ -2,82 +2,96 @@ use crate::desk::Desk;
 use crate::desk_fault::DeskFault;
 use crate::endings::{done, fail};
 use crate::fetches::{drain, poll, poll_for, take};
+use crate::job::Job;
 use crate::kept_desk::KeptDesk;
 use crate::policy::Policy;
+use crate::tests::fixtures::{kept, offer};
 use crate::verdict::Verdict;
-use rb_delayed::Payload;
-use rb_kept::{CallFault, Kept};
-use rb_queue::{Ask, Draft};
-use rb_timer::{ListTimer, Timer};
+use rb_kept::CallFault;
+use rb_timer::ListTimer;
+use std::alloc::Global;
 use std::process::Abort;
-use std::test::Fail;
 
-fn offer_now<D: Desk>(rt: &impl Abort, desk: &mut D) {
-    let payload = Payload::new(b"a").ok().expect(rt, "a payload");
-    let offered = desk.call(0, Ask::Offer(Draft::first(0, payload)));
-    assert!(rt; offered.is_ok());
+// The id of a fetched job, which is done with that.
+fn id_of(fetched: Result<Option<Job>, DeskFault>) -> Result<Option<u64>, DeskFault> {
+    match fetched {
+        Ok(Some(job)) => Ok(Some(done(job).id)),
+        Ok(None) => Ok(None),
+        Err(fault) => Err(fault),
+    }
 }
 
-#[test]
-fn each_fetch_gives_what_its_event_gave(rt: HostRuntime) -> Result<(), Fail> {
-    let (mut kept, mut tally) = Kept::<ListTimer>::new(rt.alloc(), 20)?;
-    let mut desk = KeptDesk::new(&mut kept, &mut tally);
-    for _ in 0..5 {
-        offer_now(&rt, &mut desk);
-    }
-    let polled = poll(&mut desk, 1)?.expect(&rt, "a job");
-    assert_eq!(rt; polled.element().id, 0);
-    assert_eq!(rt; done(polled).id, 0);
-    assert_eq!(rt; done(take(&mut desk)?).id, 1);
-    assert_eq!(rt; done(poll_for(&mut desk, 1, 0)?.expect(&rt, "a job")).id, 2);
-    let mut jobs = Vec::with_capacity(rt.alloc(), 9)?;
-    drain(&mut desk, 1, 9, &mut jobs)?;
+fn expect_fetches<D: Desk>(rt: &impl Abort, desk: &mut D) {
+    assert_eq!(rt; id_of(poll(desk, 1)), Ok(Some(0)));
+    assert_eq!(rt; id_of(take(desk).map(Some)), Ok(Some(1)));
+    assert_eq!(rt; id_of(poll_for(desk, 1, 0)), Ok(Some(2)));
+}
+
+fn expect_drained<D: Desk>(rt: &impl Abort, alloc: Global, desk: &mut D) {
+    let mut jobs = Vec::with_capacity(alloc, 9).ok().expect(rt, "memory");
+    assert_eq!(rt; drain(desk, 1, 9, &mut jobs), Ok(()));
     assert_eq!(rt; jobs.len(), 2);
     for (job, id) in jobs.iter().zip([3, 4]) {
         assert_eq!(rt; job.element().id, id);
     }
-    assert!(rt; poll(&mut desk, 1)?.is_none());
-    assert!(rt; poll_for(&mut desk, 1, 0)?.is_none());
-    let stopped = take(&mut desk).err();
-    assert_eq!(rt; stopped, Some(DeskFault::Stopped));
-    Ok(())
+}
+
+fn expect_nothing<D: Desk>(rt: &impl Abort, desk: &mut D) {
+    assert_eq!(rt; id_of(poll(desk, 1)), Ok(None));
+    assert_eq!(rt; id_of(poll_for(desk, 1, 0)), Ok(None));
+    assert_eq!(rt; id_of(take(desk).map(Some)), Err(DeskFault::Stopped));
 }
 
 #[test]
-fn a_refused_failure_gives_the_job_back(rt: HostRuntime) -> Result<(), Fail> {
-    let policy = Policy::fixed(10, 2).expect(&rt, "a policy");
-    let (mut kept, mut tally) = Kept::<ListTimer>::new(rt.alloc(), 4)?;
+fn each_fetch_gives_what_its_event_gave(rt: HostRuntime) {
+    let (mut kept, mut tally) = kept::<ListTimer>(&rt, rt.alloc(), 20);
     let mut desk = KeptDesk::new(&mut kept, &mut tally);
-    offer_now(&rt, &mut desk);
-    let first = take(&mut desk)?;
-    let again = match fail(&mut desk, &policy, first, 5) {
-        Ok(Verdict::Again(again)) => again,
-        _ => return Ok(assert!(rt; false)),
-    };
-    assert_eq!(rt; (again.id, again.expiry, again.attempt), (1, 15, 2));
+    for _ in 0..5 {
+        offer(&rt, &mut desk, 0, 0);
+    }
+    expect_fetches(&rt, &mut desk);
+    expect_drained(&rt, rt.alloc(), &mut desk);
+    expect_nothing(&rt, &mut desk);
+}
+
+// What became of a failed job, in numbers: the id and the expiry of its next attempt, or its own id.
+#[derive(Clone, Copy, Debug, PartialEq, Eq)]
+enum End {
+    Again(u64, u64),
+    Dead(u64),
+    Refused(u64, CallFault),
+}
+
+// Takes a job, and lets it fail at this moment.
+fn end_of<D: Desk>(rt: &impl Abort, desk: &mut D, now: u64) -> End {
+    let policy = Policy::fixed(10, 2).expect(rt, "a policy");
+    let job = take(desk).ok().expect(rt, "a job");
+    match fail(desk, &policy, job, now) {
+        Ok(Verdict::Again(again)) => End::Again(again.id, again.expiry),
+        Ok(Verdict::Dead(dead)) => End::Dead(dead.id),
+        Err((job, fault)) => End::Refused(done(job).id, fault),
+    }
+}
+
+// No event is wanted of a job that is dead, so a full history refuses nothing then.
+fn expect_ends<D: Desk>(rt: &impl Abort, desk: &mut D) {
+    offer(rt, desk, 0, 0);
+    assert_eq!(rt; end_of(rt, desk, 5), End::Again(1, 15));
     assert_eq!(rt; desk.set(15), Some(15));
-    let second = take(&mut desk)?;
-    // No event is wanted of a job that is dead, so a full history refuses nothing.
-    match fail(&mut desk, &policy, second, 15) {
-        Ok(Verdict::Dead(dead)) => assert_eq!(rt; dead.id, 1),
-        _ => assert!(rt; false),
-    }
-    Ok(())
+    assert_eq!(rt; end_of(rt, desk, 15), End::Dead(1));
 }
 
 #[test]
-fn a_full_history_refuses_a_retry(rt: HostRuntime) -> Result<(), Fail> {
-    let policy = Policy::fixed(10, 2).expect(&rt, "a policy");
-    let (mut kept, mut tally) = Kept::<ListTimer>::new(rt.alloc(), 2)?;
+fn a_job_fails_until_it_is_dead(rt: HostRuntime) {
+    let (mut kept, mut tally) = kept::<ListTimer>(&rt, rt.alloc(), 4);
     let mut desk = KeptDesk::new(&mut kept, &mut tally);
-    offer_now(&rt, &mut desk);
-    let job = take(&mut desk)?;
-    match fail(&mut desk, &policy, job, 5) {
-        Err((job, fault)) => {
-            assert_eq!(rt; fault, CallFault::Full);
-            assert_eq!(rt; done(job).id, 0);
-        }
-        Ok(_) => assert!(rt; false),
-    }
-    Ok(())
+    expect_ends(&rt, &mut desk);
+}
+
+#[test]
+fn a_full_history_refuses_a_retry(rt: HostRuntime) {
+    let (mut kept, mut tally) = kept::<ListTimer>(&rt, rt.alloc(), 2);
+    let mut desk = KeptDesk::new(&mut kept, &mut tally);
+    offer(&rt, &mut desk, 0, 0);
+    assert_eq!(rt; end_of(&rt, &mut desk, 5), End::Refused(0, CallFault::Full));
 }

@@ -1,17 +1,14 @@
 ghost use Rattle.std.specs.Prelude.{◌≡◌};
 
-use crate::desk::Desk;
 use crate::kept_desk::KeptDesk;
 use crate::policy::Policy;
+use crate::tests::fixtures::{kept, offer};
 use crate::work_report::WorkReport;
 use crate::worker::{Work, work_off};
-use rb_delayed::{Element, Payload};
-use rb_kept::Kept;
-use rb_queue::{Ask, Draft};
+use rb_delayed::Element;
 use rb_timer::ListTimer;
 use std::alloc::Global;
 use std::process::Abort;
-use std::test::Fail;
 
 // Answers the same of each element.
 #[derive(Drop)]
@@ -26,14 +23,12 @@ impl Work for Always {
 }
 
 // Works off one job at moment 0, with no delay before its next attempt.
-fn report_of(rt: &impl Abort, alloc: Global, calls: u64, work: Always) -> Result<WorkReport, Fail> {
-    assert!(rt; calls >= 1);
+fn report_of(rt: &impl Abort, alloc: Global, calls: u64, work: Always) -> WorkReport {
     let policy = Policy::fixed(0, 3).expect(rt, "a policy");
-    let (mut kept, mut tally) = Kept::<ListTimer>::new(alloc, calls)?;
+    let (mut kept, mut tally) = kept::<ListTimer>(rt, alloc, calls);
     let mut desk = KeptDesk::new(&mut kept, &mut tally);
-    let payload = Payload::new(b"a").ok().expect(rt, "a payload");
-    assert!(rt; desk.call(0, Ask::Offer(Draft::first(0, payload))).is_ok());
-    Ok(work_off(&mut desk, &policy, &work))
+    offer(rt, &mut desk, 0, 0);
+    work_off(&mut desk, &policy, &work)
 }
 
 fn report(runs: u64, dones: u64, agains: u64, deads: u64, lost: u64) -> WorkReport {
@@ -47,23 +42,22 @@ fn report(runs: u64, dones: u64, agains: u64, deads: u64, lost: u64) -> WorkRepo
 }
 
 #[test]
-fn a_worker_counts_its_runs(rt: HostRuntime) -> Result<(), Fail> {
+fn a_worker_counts_its_runs(rt: HostRuntime) {
     let alloc = rt.alloc();
     assert_eq!(rt;
-        report_of(&rt, alloc, 100, Always(false))?,
+        report_of(&rt, alloc, 100, Always(false)),
         report(3, 0, 2, 1, 0)
     );
     assert_eq!(rt;
-        report_of(&rt, alloc, 100, Always(true))?,
+        report_of(&rt, alloc, 100, Always(true)),
         report(1, 1, 0, 0, 0)
     );
     assert_eq!(rt;
-        report_of(&rt, alloc, 2, Always(false))?,
+        report_of(&rt, alloc, 2, Always(false)),
         report(1, 0, 0, 0, 1)
     );
     assert_eq!(rt;
-        report_of(&rt, alloc, 1, Always(true))?,
+        report_of(&rt, alloc, 1, Always(true)),
         report(0, 0, 0, 0, 0)
     );
-    Ok(())
 }
