@@ -1,4 +1,5 @@
 mod calls;
+mod crowds;
 mod names;
 mod refusals;
 mod rows;
