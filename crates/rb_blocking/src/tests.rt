@@ -1,6 +1,8 @@
 mod bells;
 mod calls;
 mod gates;
+mod machine;
+mod refusals;
 mod rows;
 mod threads;
 
