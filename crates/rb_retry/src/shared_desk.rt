@@ -89,36 +89,23 @@ impl<'a, T: Timer, C: Clock, G: Gate, R: Wait + time::Clock> Desk for SharedDesk
     fn call(&mut self, asked: u64, ask: Ask) -> Result<Reply, DeskFault> {
         // The proof reads here that the pass has seen a legal history.
         let _ = self.pass.name();
+        let (rt, shared, clock, bell) = (self.rt, self.shared, self.clock, self.bell);
         match ask {
             Ask::Take => {
-                let element = take(
-                    self.rt,
-                    self.shared,
-                    self.pass,
-                    self.clock,
-                    self.gate,
-                    self.bell,
-                )?;
+                let element = take(rt, shared, self.pass, clock, self.gate, bell)?;
                 Ok(Reply::Item(element))
             }
             Ask::PollFor { start, timeout } => {
                 let found = poll_for(
-                    self.rt,
-                    self.shared,
-                    self.pass,
-                    self.clock,
-                    self.gate,
-                    self.bell,
-                    start,
-                    timeout,
+                    rt, shared, self.pass, clock, self.gate, bell, start, timeout,
                 )?;
                 Ok(found.map_or(Reply::Nothing, Reply::Item))
             }
             Ask::Offer(draft) => {
-                let element = offer_ring(self.rt, self.shared, self.pass, asked, draft, self.bell)?;
+                let element = offer_ring(rt, shared, self.pass, asked, draft, bell)?;
                 Ok(Reply::Offered(element))
             }
-            ask => match self.shared.call(self.rt, self.pass, asked, ask) {
+            ask => match shared.call(rt, self.pass, asked, ask) {
                 Ok(Outcome::Done(reply)) => Ok(reply),
                 Ok(Outcome::Later(_)) => unreachable!(),
                 Err(fault) => Err(DeskFault::from(fault)),
