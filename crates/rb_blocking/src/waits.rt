@@ -1,4 +1,4 @@
-ghost use Rattle.std.specs.Prelude.{◌≡◌, ℕ, OnErr, IfOk, IsErrOf};
+ghost use Rattle.std.specs.Prelude.{◌≡◌, ◌↔◌, ℕ, OnErr, IfOk, IsErrOf};
 ghost use Rattle.rb_queue.specs.declared.ask.Ask.TheVariants.{Take, PollFor};
 ghost use Rattle.rb_kept.specs.Tries.{TakesMemory};
 ghost use Rattle.rb_lock.specs.Passes.{Learns};
@@ -34,6 +34,7 @@ pub fn take<T: Timer, C: Clock, G: Gate, R: Wait + time::Clock>(
     requires pass { pass.old.table ≡ shared.now }
     ensures learns { Learns pass.old pass.new }
     ensures waited { TakeWaited (C.gives clock.now) (G.stops gate.old) pass.old pass.new result }
+    ensures gate { (turns : ℕ) → G.stops gate.new turns ↔ G.stops gate.old turns }
 {
     match wait(rt, shared, pass, clock, gate, bell, &Ask::Take)? {
         Reply::Item(element) => Ok(element),
@@ -59,6 +60,7 @@ pub fn poll_for<T: Timer, C: Clock, G: Gate, R: Wait + time::Clock>(
     requires pass { pass.old.table ≡ shared.now }
     ensures learns { Learns pass.old pass.new }
     ensures waited { PollForWaited (C.gives clock.now) (G.stops gate.old) pass.old pass.new start timeout result }
+    ensures gate { (turns : ℕ) → G.stops gate.new turns ↔ G.stops gate.old turns }
 {
     let ask = Ask::PollFor { start, timeout };
     match wait(rt, shared, pass, clock, gate, bell, &ask)? {
@@ -85,6 +87,7 @@ fn wait<T: Timer, C: Clock, G: Gate, R: Wait + time::Clock>(
     requires memory { TakesMemory ask.now → ⊥ }
     ensures learns { Learns pass.old pass.new }
     ensures waited { Waited (C.gives clock.now) (G.stops gate.old) pass.old pass.new ask.now result }
+    ensures gate { (turns : ℕ) → G.stops gate.new turns ↔ G.stops gate.old turns }
 {
     // The proof reads here that the pass has seen a legal history.
     let _ = pass.name();

@@ -1,2 +1,3 @@
 pub mod MadeCounts
 pub mod RunSteps
+pub mod SharedEndings

@@ -1,5 +1,5 @@
 -- What was made through a desk: events, each with its reply.
-use Rattle.std.specs.Prelude.{List, [], ◌∷◌, ◌++◌, Option}
+use Rattle.std.specs.Prelude.{ℕ, ◌==◌, List, [], ◌∷◌, ◌++◌, filter, Option}
 use Rattle.rb_queue.specs.Replies.{reply_of}
 use Rattle.rb_queue.specs.declared.event.Event.{Event}
 use Rattle.rb_queue.specs.declared.opening.Opening.{Opening}
@@ -16,3 +16,7 @@ made_after opening before [] = []
 made_after opening before (event ∷ events) =
     record { event = event; reply = reply_of opening (before ++ event ∷ []) }
     ∷ made_after opening (before ++ event ∷ []) events
+
+-- the events of one seat in a history, each with its reply
+abbrev pub made_by : ℕ → Opening → List Event → List Made
+made_by seat opening history = filter (λ (made : Made). made.event.seat == seat) (made_after opening [] history)

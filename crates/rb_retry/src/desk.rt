@@ -20,8 +20,12 @@ pub trait Desk {
     /// The state of this desk.
     ghost state: { Self → State };
 
-    /// Which reference to its queue the desk holds.
-    ghost name: { State → ℕ };
+    /// What the name of a desk is.
+    ghost Name: { Type 0 };
+
+    /// What no call changes, whatever it does: which reference to its queue the desk holds, and what its
+    /// owner has to know of that queue afterwards.
+    ghost name: { State → Name };
 
     /// What was made through the desk: each event with its reply.
     ghost mine: { State → List Made };

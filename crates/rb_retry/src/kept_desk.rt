@@ -53,6 +53,8 @@ impl<'a, T: Timer> Desk for KeptDesk<'a, T> {
 
     ghost state = { λ desk. record { name = desk.kept.ghost_name; log = desk.kept.now; share = desk.tally.now; moment = desk.moment; before = desk.before } };
 
+    ghost Name = { ℕ };
+
     ghost name = { λ state. state.name };
 
     ghost mine = { made_at };

@@ -11,6 +11,7 @@ mod fetches;
 mod job;
 mod kept_desk;
 mod policy;
+mod shared_desk;
 #[cfg(test)]
 mod tests;
 mod verdict;
@@ -24,6 +25,7 @@ pub use fetches::{drain, poll, poll_for, take};
 pub use job::Job;
 pub use kept_desk::KeptDesk;
 pub use policy::{Pace, Policy};
+pub use shared_desk::SharedDesk;
 pub use verdict::Verdict;
 pub use work_report::WorkReport;
 pub use worker::{Work, work_off};

@@ -1,32 +1,12 @@
 use crate::desk::Desk;
 use crate::desk_fault::DeskFault;
 use crate::kept_desk::KeptDesk;
-use crate::tests::fixtures::{kept, offer};
+use crate::tests::fixtures::{expect, kept, offer};
 use rb_binary::BinaryTimer;
-use rb_queue::{Ask, Reply};
+use rb_queue::Ask;
 use rb_timer::{ListTimer, Timer};
 use std::alloc::Global;
 use std::process::Abort;
-
-// What a call comes to, in short: the id of an element that was taken, or a count.
-fn number_of(reply: &Result<Reply, DeskFault>) -> Result<Option<u64>, DeskFault> {
-    match reply {
-        Ok(Reply::Item(element)) => Ok(Some(element.id)),
-        Ok(Reply::Size(count)) => Ok(Some(*count)),
-        Ok(_) => Ok(None),
-        Err(fault) => Err(*fault),
-    }
-}
-
-fn expect<D: Desk>(
-    rt: &impl Abort,
-    desk: &mut D,
-    asked: u64,
-    ask: Ask,
-    number: Result<Option<u64>, DeskFault>,
-) {
-    assert_eq!(rt; number_of(&desk.call(asked, ask)), number);
-}
 
 // A take is made at the desk's moment, whatever was handed in, and does not wait.
 fn expect_calls<D: Desk>(rt: &impl Abort, desk: &mut D) {

@@ -54,16 +54,16 @@ fn each_fetch_gives_what_its_event_gave(rt: HostRuntime) {
     expect_nothing(&rt, &mut desk);
 }
 
-// What became of a failed job, in numbers: the id and the expiry of its next attempt, or its own id.
+/// What became of a failed job, in numbers: the id and the expiry of its next attempt, or its own id.
 #[derive(Clone, Copy, Debug, PartialEq, Eq)]
-enum End {
+pub enum End {
     Again(u64, u64),
     Dead(u64),
     Refused(u64, CallFault),
 }
 
-// Takes a job, and lets it fail at this moment.
-fn end_of<D: Desk>(rt: &impl Abort, desk: &mut D, now: u64) -> End {
+/// Takes a job, and lets it fail at this moment.
+pub fn end_of<D: Desk>(rt: &impl Abort, desk: &mut D, now: u64) -> End {
     let policy = Policy::fixed(10, 2).expect(rt, "a policy");
     let job = take(desk).ok().expect(rt, "a job");
     match fail(desk, &policy, job, now) {

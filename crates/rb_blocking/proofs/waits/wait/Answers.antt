@@ -7,7 +7,7 @@ use Rattle.rb_blocking.proofs.LearnedPasses.{learns_nothing, learns_on}
 use Rattle.rb_blocking.proofs.waits.wait.Goals as goal
 
 pub loop-init : goal.loop-init
-loop-init g c = (learns_nothing c.args.pass.now c.name.ensures.sound, refl, λ n stops. stops)
+loop-init g c = (learns_nothing c.args.pass.now c.name.ensures.sound, refl, λ n. (λ stops. stops, λ stops. stops))
 
 pub loop-preserved : goal.loop-preserved
 loop-preserved g c =
@@ -16,5 +16,5 @@ loop-preserved g c =
     (c.in-Ok-Later.is ∙ ap Ok c.in-Ok-Later.field-0-is) c.call.ensures.answered in (
       learns_on c.args.pass.now c.loop.pass c.call.new.pass before.0 c.call.ensures.learns,
       later.0 ∙ before.1,
-      λ n stops. before.2 n ((c.turn.ensures.same n).0 stops),
+      λ n. (λ stops. (before.2 n).0 ((c.turn.ensures.same n).0 stops), λ stops. (c.turn.ensures.same n).1 ((before.2 n).1 stops)),
     )

@@ -1,0 +1,81 @@
+-- What a desk over a shared queue does.
+use Rattle.std.specs.Prelude.{◌≡◌, ◌↔◌, ℕ, ◌≤◌, List, length, drop, Option, None, Result, Ok, Err}
+use Rattle.atomic_table.specs.Seated.{TableId}
+use Rattle.rb_queue.specs.declared.ask.Ask.{Ask}
+use Rattle.rb_queue.specs.declared.opening.Opening.{Opening}
+use Rattle.rb_queue.specs.declared.reply.Reply.{Reply}
+use Rattle.rb_kept.specs.Log.{HasRoom}
+use Rattle.rb_kept.specs.Tries.{TakesMemory}
+use Rattle.rb_lock.specs.Passes.{Seen, IsSound, Learns, log_of}
+use Rattle.rb_lock.specs.SharedCalls.{Replied}
+use Rattle.rb_lock.specs.declared.record.Record.{Record}
+use Rattle.rb_blocking.specs.WaitingCalls.{try_of, IsStopped, EndsFull}
+use Rattle.rb_blocking.specs.declared.fault.WaitFault.{WaitFault}
+use Rattle.rb_blocking.specs.declared.fault.WaitFault.TheVariants as waits
+use Rattle.rb_retry.specs.Made.{Made, made_by}
+use Rattle.rb_retry.specs.Asked.{IsMomentOf}
+use Rattle.rb_retry.specs.declared.desk_fault.DeskFault.{DeskFault}
+use Rattle.rb_retry.specs.declared.desk_fault.DeskFault.TheVariants.{Full, Memory, Stopped}
+
+-- A desk over a shared queue: which reference to its pass it holds, what the pass has seen and made, the
+-- desk's clock, the gate that may end its waits, and how many calls the pass had made when the desk was made.
+pub record SharedState (C G : Type 0) : Type 0 where
+  pub reference : ℕ
+  pub pass : Seen
+  pub clock : C
+  pub gate : G
+  pub before : ℕ
+
+-- What no call changes: which reference the desk holds, and of the pass its queue with what that began
+-- with and may hold, its name, and what was folded into it.
+pub record SharedName : Type 0 where
+  pub reference : ℕ
+  pub table : TableId
+  pub name : ℕ
+  pub capacity : ℕ
+  pub opening : Opening
+  pub folded : List Record
+
+-- the fault of a wait that was not answered
+abbrev pub fault_of_wait : WaitFault → DeskFault
+fault_of_wait waits.Full = Full
+fault_of_wait waits.Stopped = Stopped
+
+-- How an ask ended, and what the pass has seen after it. With a reply the pass has made this one call more;
+-- with a fault none, since what it has seen is full, or no memory could be had, or the gate stopped the wait.
+abbrev pub Ends : (ℕ → Type 0) → (ℕ → Type 0) → Seen → Seen → ℕ → Ask → Result Reply DeskFault → Type 0
+Ends gives stops old new handed ask (Ok reply) =
+    (asked : ℕ) × IsMomentOf gives ask handed asked × Replied old new (try_of old asked ask) reply
+Ends gives stops old new handed ask (Err Full) = EndsFull old new
+Ends gives stops old new handed ask (Err Memory) = (new.mine ≡ old.mine) × HasRoom (log_of new) × TakesMemory ask
+Ends gives stops old new handed ask (Err Stopped) = IsStopped gives stops old new ask
+
+module _ {C G : Type 0} where
+  abbrev pub name_of : SharedState C G → SharedName
+  name_of state = record {
+    reference = state.reference;
+    table = state.pass.table;
+    name = state.pass.name;
+    capacity = state.pass.capacity;
+    opening = state.pass.opening;
+    folded = state.pass.folded;
+  }
+
+  -- the pass's events behind those that it had made when the desk was made
+  abbrev pub made_through : SharedState C G → List Made
+  made_through state = drop state.before (made_by state.pass.name state.pass.opening state.pass.seen)
+
+  -- the clock of a shared queue's desk can't be set
+  abbrev pub SetsShared : SharedState C G → ℕ → Option ℕ → SharedState C G → Type 0
+  SetsShared old moment result new = (result ≡ None) × (new ≡ old)
+
+  module _ (gives : C → ℕ → Type 0) (stops : G → ℕ → Type 0) where
+    -- The ask ended so, and the pass has learned. What the gate stops at is as before, and nothing else has
+    -- changed.
+    pub record SharedSteps (old : SharedState C G) (handed : ℕ) (ask : Ask) (result : Result Reply DeskFault) (new : SharedState C G) : Type 0 where
+      pub earlier : old.before ≤ length old.pass.mine
+      pub sound : IsSound old.pass
+      pub learns : Learns old.pass new.pass
+      pub ends : Ends (gives old.clock) (stops old.gate) old.pass new.pass handed ask result
+      pub gate : (turns : ℕ) → stops new.gate turns ↔ stops old.gate turns
+      pub stays : new ≡ record old { pass = new.pass; gate = new.gate }

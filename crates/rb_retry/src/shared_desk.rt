@@ -1,0 +1,121 @@
+ghost use Rattle.std.specs.Prelude.{◌≡◌, ◌≤◌, length};
+ghost use Rattle.rb_retry.specs.SharedSteps.{SharedState, SharedName, SharedSteps, SetsShared, made_through, name_of};
+ghost use Rattle.rb_retry.specs.SharedLaws.{shared_makes, shared_refuses, shared_stays};
+
+use crate::desk::Desk;
+use crate::desk_fault::DeskFault;
+use rb_blocking::{Bell, Clock, Gate, offer_ring, poll_for, take};
+use rb_kept::Outcome;
+use rb_lock::{Pass, Shared};
+use rb_queue::{Ask, Reply};
+use rb_timer::Timer;
+use std::snapshot::Snapshot;
+use std::sync::Wait;
+use std::time;
+
+/// A desk over a shared queue, at the readings of a clock that can't be set.
+///
+/// Its calls are those of its pass, and each waits while another pass calls. A take and a timed poll wait
+/// besides until they are answered, or the gate stops them. An offer rings the bell, so that the waits of
+/// other desks try again.
+#[derive(Drop)]
+pub struct SharedDesk<'a, T: Timer, C: Clock, G: Gate, R: Wait + time::Clock> {
+    rt: &'a R,
+    shared: &'a Shared<T>,
+    pass: &'a mut Pass<T>,
+    clock: &'a C,
+    gate: &'a mut G,
+    bell: &'a Bell,
+    // The pass as it was when the desk was made, which proofs alone read.
+    start: Snapshot<Pass<T>>,
+    ghost of: { pass.now.table ≡ shared.now },
+    ghost earlier: { length start.value.mine ≤ length pass.now.mine },
+}
+
+impl<'a, T: Timer, C: Clock, G: Gate, R: Wait + time::Clock> SharedDesk<'a, T, C, G, R> {
+    /// A desk that calls through this pass, which is one of this queue. Its waits read the clock, and end
+    /// where the gate says no.
+    pub fn new(
+        rt: &'a R,
+        shared: &'a Shared<T>,
+        pass: &'a mut Pass<T>,
+        clock: &'a C,
+        gate: &'a mut G,
+        bell: &'a Bell,
+    ) -> SharedDesk<'a, T, C, G, R>
+        requires pass { pass.old.table ≡ shared.now }
+        ensures state { ⟦<SharedDesk<'a, T, C, G, R> as Desk>⟧.state result
+            ≡ record { reference = pass.entry.ghost_name; pass = pass.old; clock = clock.now; gate = gate.old; before = length pass.old.mine } }
+    {
+        let start = Snapshot::of(&*pass);
+        SharedDesk {
+            rt,
+            shared,
+            pass,
+            clock,
+            gate,
+            bell,
+            start,
+        }
+    }
+}
+
+impl<'a, T: Timer, C: Clock, G: Gate, R: Wait + time::Clock> Desk for SharedDesk<'a, T, C, G, R> {
+    ghost State = { SharedState C G };
+
+    ghost state = { λ desk. record { reference = desk.pass.ghost_name; pass = desk.pass.now; clock = desk.clock.now; gate = desk.gate.now; before = length desk.start.value.mine } };
+
+    ghost Name = { SharedName };
+
+    ghost name = { name_of };
+
+    ghost mine = { made_through };
+
+    ghost gives = { λ state moment. C.gives state.clock moment };
+
+    ghost Sets = { SetsShared };
+
+    ghost Steps = { SharedSteps C.gives G.stops };
+
+    fn now(&self) -> u64 {
+        self.clock.now()
+    }
+
+    fn set(&mut self, _moment: u64) -> Option<u64> {
+        None
+    }
+
+    #[tactic(auto, using(crate::proofs::SharedEndings::few_through, crate::proofs::SharedEndings::ends_refused, crate::proofs::SharedEndings::ends_replied))]
+    fn call(&mut self, asked: u64, ask: Ask) -> Result<Reply, DeskFault> {
+        // The proof reads here that the pass has seen a legal history.
+        let _ = self.pass.name();
+        let (rt, shared, clock, bell) = (self.rt, self.shared, self.clock, self.bell);
+        match ask {
+            Ask::Take => {
+                let element = take(rt, shared, self.pass, clock, self.gate, bell)?;
+                Ok(Reply::Item(element))
+            }
+            Ask::PollFor { start, timeout } => {
+                let found = poll_for(
+                    rt, shared, self.pass, clock, self.gate, bell, start, timeout,
+                )?;
+                Ok(found.map_or(Reply::Nothing, Reply::Item))
+            }
+            Ask::Offer(draft) => {
+                let element = offer_ring(rt, shared, self.pass, asked, draft, bell)?;
+                Ok(Reply::Offered(element))
+            }
+            ask => match shared.call(rt, self.pass, asked, ask) {
+                Ok(Outcome::Done(reply)) => Ok(reply),
+                Ok(Outcome::Later(_)) => unreachable!(),
+                Err(fault) => Err(DeskFault::from(fault)),
+            },
+        }
+    }
+
+    ghost makes = { shared_makes C.gives G.stops };
+
+    ghost refuses = { shared_refuses C.gives G.stops };
+
+    ghost stays = { shared_stays };
+}
