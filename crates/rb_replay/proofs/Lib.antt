@@ -4,3 +4,7 @@ pub mod Elements
 pub mod Judgements
 pub mod Replays
 pub mod Ordered
+pub mod Spelled
+pub mod Keywords
+pub mod FirstFeeds
+pub mod EventLines

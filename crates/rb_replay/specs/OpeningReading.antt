@@ -1,0 +1,16 @@
+-- What the lines of an opening tell.
+use Rattle.std.specs.Prelude.{◌≡◌, ◌≢◌, ◌≤◌, ℕ, ◌++◌, List, [], ◌∷◌, codes, decimal}
+use Rattle.rb_queue.specs.declared.opening.TheConstants.{GREATEST_OPENING_ID, MOST_OPENING_ELEMENTS}
+use Rattle.rb_replay.specs.EventText.{header_words}
+use Rattle.rb_replay.specs.HistoryText.{line_text}
+use Rattle.rb_replay.specs.declared.version.Version.{Version}
+
+-- the words tell these numbers, which are within their limits
+pub record IsOpenLine (words : List (List ℕ)) (next_id last_at count : ℕ) : Type 0 where
+  pub words_are : words ≡ codes "open" ∷ decimal next_id ∷ decimal last_at ∷ decimal count ∷ []
+  pub next : next_id ≤ GREATEST_OPENING_ID
+  pub few : count ≤ MOST_OPENING_ELEMENTS
+
+-- the text begins with no header
+abbrev pub HasNoHeader : List ℕ → Type 0
+HasNoHeader text = (version : Version) (behind : List ℕ) → text ≢ line_text (header_words version) ++ behind
