@@ -14,3 +14,6 @@ pub mod LineReading
 pub mod Feeds
 pub mod TextFaults
 pub mod OpeningReading
+pub mod Offers
+pub mod Firsts
+pub mod Readings

@@ -1,5 +1,5 @@
 -- The values that an event may have: numbers of 64 bits, and payloads.
-use Rattle.std.specs.Prelude.{ℕ, ◌^◌, ◌<◌, List, [], ◌∷◌, Option, None, Some}
+use Rattle.std.specs.Prelude.{ℕ, ◌^◌, ◌<◌, All, List, [], ◌∷◌, Option, None, Some}
 use Rattle.rb_delayed.specs.Payload.{IsPayload}
 use Rattle.rb_delayed.specs.declared.element.Element.{Element}
 use Rattle.rb_queue.specs.declared.act.Act.{Act}
@@ -40,3 +40,9 @@ pub record IsRightEvent (event : Event) : Type 0 where
   pub asked : IsWord event.asked
   pub at : IsWord event.at
   pub act : IsRightAct event.act
+
+abbrev pub AreRightElements : List Element → Type 0
+AreRightElements elements = All IsRightElement elements
+
+abbrev pub AreRightEvents : List Event → Type 0
+AreRightEvents events = All IsRightEvent events
