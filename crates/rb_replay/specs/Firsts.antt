@@ -14,7 +14,7 @@ earliest (element ∷ elements) origin =
 
 -- each of these elements has as its first expiry that of the earliest with its origin
 abbrev pub HaveEarliest : List Element → Type 0
-HaveEarliest elements = All (λ element. earliest elements element.origin ≡ Some element.first) elements
+HaveEarliest elements = All (λ (element : Element). earliest elements element.origin ≡ Some element.first) elements
 
 -- the first expiries of what was kept and offered are told, or follow from the lines
 abbrev pub FirstsFollow : Version → List Element → List Event → Type 0

@@ -1,10 +1,11 @@
--- The values that an event may have: numbers of 64 bits, and payloads.
+-- The values that an event and an opening may have: numbers of 64 bits, and payloads.
 use Rattle.std.specs.Prelude.{ℕ, ◌^◌, ◌<◌, All, List, [], ◌∷◌, Option, None, Some}
 use Rattle.rb_delayed.specs.Payload.{IsPayload}
 use Rattle.rb_delayed.specs.declared.element.Element.{Element}
 use Rattle.rb_queue.specs.declared.act.Act.{Act}
 use Rattle.rb_queue.specs.declared.act.Act.TheVariants.{Offer, Poll, Take, PollFor, Peek, Remove, Drain, Clear, Size}
 use Rattle.rb_queue.specs.declared.event.Event.{Event}
+use Rattle.rb_queue.specs.declared.opening.Opening.{Opening}
 
 abbrev pub IsWord : ℕ → Type 0
 IsWord number = number < 2 ^ 64
@@ -46,3 +47,7 @@ AreRightElements elements = All IsRightElement elements
 
 abbrev pub AreRightEvents : List Event → Type 0
 AreRightEvents events = All IsRightEvent events
+
+pub record IsRightOpening (opening : Opening) : Type 0 where
+  pub last_at : IsWord opening.last_at
+  pub elements : AreRightElements opening.elements

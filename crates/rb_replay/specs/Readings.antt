@@ -4,7 +4,7 @@ use Rattle.rb_queue.specs.declared.event.Event.{Event}
 use Rattle.rb_queue.specs.declared.opening.Opening.{Opening}
 use Rattle.rb_replay.specs.HistoryText.{text_in}
 use Rattle.rb_replay.specs.Firsts.{FirstsFollow}
-use Rattle.rb_replay.specs.Ranges.{AreRightElements, AreRightEvents}
+use Rattle.rb_replay.specs.Ranges.{IsRightOpening, AreRightEvents}
 use Rattle.rb_replay.specs.OpeningReading.{MayOpen}
 use Rattle.rb_replay.specs.TextFaults.{HasFault}
 use Rattle.rb_replay.specs.declared.history.History.{History}
@@ -46,13 +46,13 @@ IsReadAs opening events (Err Memory) = Unit {0}
 
 -- Want of memory aside, a text of a history is read as that history.
 abbrev pub ReadsEach : List ℕ → Result History TextFault → Type 0
-ReadsEach text result = (opening : Opening) (events : List Event) → AreRightElements opening.elements → AreRightEvents events
+ReadsEach text result = (opening : Opening) (events : List Event) → IsRightOpening opening → AreRightEvents events
     → IsTextOf opening events text → IsReadAs opening events result
 
 -- the law that no text is of two histories, nor of one in two versions
 abbrev pub NoTextOfTwo : Type 0
 NoTextOfTwo = (version other : Version) (opening second : Opening) (events others : List Event) (text : List ℕ)
-    → AreRightElements opening.elements → AreRightEvents events → AreRightElements second.elements → AreRightEvents others
+    → IsRightOpening opening → AreRightEvents events → IsRightOpening second → AreRightEvents others
     → IsTextIn version opening events text → IsTextIn other second others text
     → (version ≡ other) × (opening ≡ second) × (events ≡ others)
 
@@ -64,4 +64,4 @@ OneTextEach = (version : Version) (opening : Opening) (events : List Event) (tex
 -- the law that a text of a history has no fault
 abbrev pub NoFaultOfText : Type 0
 NoFaultOfText = (opening : Opening) (events : List Event) (text : List ℕ) (line : ℕ) (reason : TextReason)
-    → AreRightElements opening.elements → AreRightEvents events → IsTextOf opening events text → HasFault text line reason → ⊥
+    → IsRightOpening opening → AreRightEvents events → IsTextOf opening events text → HasFault text line reason → ⊥

@@ -11,7 +11,7 @@ use Rattle.rb_replay.specs.OpeningReading.{IsOpenLine, HasNoHeader, MayOpen, num
 use Rattle.rb_replay.specs.EventText.{event_words, header_words, keep_words, end_words}
 use Rattle.rb_replay.specs.HistoryText.{line_text, lines_text, opening_lines}
 use Rattle.rb_replay.specs.Feeds.{LacksFeed}
-use Rattle.rb_replay.specs.Ranges.{IsWord, IsRightElement, IsRightEvent, AreRightElements, AreRightEvents}
+use Rattle.rb_replay.specs.Ranges.{IsWord, IsRightElement, IsRightEvent, IsRightOpening, AreRightElements, AreRightEvents}
 use Rattle.rb_replay.specs.declared.version.Version.{Version}
 use Rattle.rb_replay.specs.declared.version.Version.TheVariants.{One, Two, Three}
 use Rattle.rb_replay.specs.declared.text_fault.TextFault.{TextFault}
@@ -35,9 +35,9 @@ abbrev pub NextFault : Version → ℕ → ℕ → List ℕ → ℕ → TextReas
 NextFault version count here text line End = (line ≡ here) × LacksFeed text
 NextFault version count here text line Line = (line ≡ here) × HasOtherLine version text
 NextFault version count here text line Many =
-    (line ≡ here) × (count ≡ MOST_EVENTS) × ((event : Event) × (behind : List ℕ) × (text ≡ line_text (event_words version event) ++ behind))
+    (line ≡ here) × (count ≡ MOST_EVENTS) × ((event : Event) × (behind : List ℕ) × IsRightEvent event × (text ≡ line_text (event_words version event) ++ behind))
 NextFault version count here text line Count =
-    (line ≡ here) × ((told : ℕ) × (behind : List ℕ) × (text ≡ line_text (end_words told) ++ behind) × (told ≢ count))
+    (line ≡ here) × ((told : ℕ) × (behind : List ℕ) × IsWord told × (text ≡ line_text (end_words told) ++ behind) × (told ≢ count))
 NextFault version count here text line Trailing =
     (line ≡ here + 1) × ((behind : List ℕ) × (text ≡ line_text (end_words count) ++ behind) × (behind ≢ []))
 NextFault version count here text line reasons.Opening = ⊥
@@ -98,6 +98,7 @@ pub record KeepFault (version : Version) (text : List ℕ) (line : ℕ) (reason 
   pub rest : List ℕ
   pub split : text ≡ lines_text (numbers_words next_id last_at count ∷ map (keep_words version) kept) ++ rest
   pub next : next_id ≤ GREATEST_OPENING_ID
+  pub last : IsWord last_at
   pub most : count ≤ MOST_OPENING_ELEMENTS
   pub opens : MayOpen version next_id last_at count
   pub right : AreRightElements kept
@@ -111,7 +112,7 @@ pub record FaultBehind (version : Version) (text : List ℕ) (line : ℕ) (reaso
   pub opening : Opening
   pub rest : List ℕ
   pub split : text ≡ lines_text (opening_lines version opening) ++ rest
-  pub right : AreRightElements opening.elements
+  pub right : IsRightOpening opening
   pub opens : MayOpen version opening.next_id opening.last_at (length opening.elements)
   pub fault : EventsFault version rest (3 + length opening.elements) line reason
 
