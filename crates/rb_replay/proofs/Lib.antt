@@ -8,3 +8,4 @@ pub mod Spelled
 pub mod Keywords
 pub mod FirstFeeds
 pub mod EventLines
+pub mod Settlings

@@ -17,3 +17,5 @@ pub mod OpeningReading
 pub mod Offers
 pub mod Firsts
 pub mod Readings
+pub mod BodyReading
+pub mod Settling

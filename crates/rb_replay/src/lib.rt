@@ -4,6 +4,7 @@
 //! events that one queue in one thread may have had. Moments and delays are nanoseconds.
 #![tactic(auto)]
 
+mod firsts;
 mod history;
 mod history_fault;
 mod history_text;
@@ -13,10 +14,13 @@ mod next_line;
 mod next_opening;
 mod number;
 mod opening_fault;
+mod read;
 mod read_act;
 mod read_event;
 mod read_events;
+mod read_keeps;
 mod read_opening;
+mod read_run;
 mod reason;
 mod replay;
 mod replay_fault;
@@ -35,6 +39,7 @@ pub use history_fault::HistoryFault;
 pub use legality::check;
 pub use next_opening::opening_of;
 pub use opening_fault::OpeningFault;
+pub use read::read_history;
 pub use reason::Reason;
 pub use replay_fault::ReplayFault;
 pub use text_fault::{TextFault, TextReason};

@@ -141,7 +141,7 @@ fn drain(alloc: Global, version: Version, rest: Option<&[u8]>) -> Result<Option<
 fn read_ids(alloc: Global, words: Option<&[u8]>) -> Result<Option<Vec<u64>>, AllocError>
     ensures { IfOk result (λ found. MatchOption found
         ((ids : List ℕ) → AreWords ids → words_behind words.entry ≢ map decimal ids)
-        (λ ids. words_behind words.entry ≡ map decimal ids.items)) }
+        (λ ids. (words_behind words.entry ≡ map decimal ids.items) × AreWords ids.items)) }
 {
     let mut ids = Vec::new(alloc);
     let mut rest = words;

@@ -41,6 +41,7 @@ pub(crate) fn read_event(
 /// The number of events that a last line tells.
 pub(crate) fn read_end(line: &[u8]) -> Option<u64>
     ensures some { IfSome result (λ count. words_of line.now ≡ end_words count) }
+    ensures small { IfSome result IsWord }
     ensures none { IfNone result ((count : ℕ) → IsWord count → words_of line.now ≢ end_words count) }
 {
     let (word, rest) = next_word(Some(line))?;

@@ -3,7 +3,7 @@ ghost use Rattle.rb_replay.specs.TextFaults.{ReadsEvents, EndsWell};
 
 use crate::next_line::cut_line;
 use crate::read_event::{read_end, read_event};
-use crate::text_fault::{TextFault, TextReason};
+use crate::text_fault::{TextFault, TextReason, at};
 use crate::version::Version;
 use crate::write::MOST_EVENTS;
 use rb_queue::{Event, Sequence};
@@ -57,11 +57,4 @@ fn end_fault(told: u64, count: u64, behind: &[u8], number: u64) -> Result<(), Te
         return Err(at(number + 1, TextReason::Trailing));
     }
     Ok(())
-}
-
-// The fault of a line.
-fn at(line: u64, reason: TextReason) -> TextFault
-    ensures { result ≡ TextFault.At line reason }
-{
-    TextFault::At { line, reason }
 }

@@ -42,6 +42,7 @@ pub(crate) fn read_header(text: &[u8]) -> Option<(Version, &[u8])>
 /// The numbers that the first line of an opening tells, within their limits.
 pub(crate) fn read_open(line: &[u8]) -> Option<OpenLine>
     ensures some { IfSome result (λ told. IsOpenLine (words_of line.now) told.next_id told.last_at told.count) }
+    ensures small { IfSome result (λ told. IsWord told.last_at) }
     ensures none { IfNone result ((next_id last_at count : ℕ) → IsWord last_at
         → IsOpenLine (words_of line.now) next_id last_at count → ⊥) }
 {
@@ -68,6 +69,7 @@ pub(crate) fn read_open(line: &[u8]) -> Option<OpenLine>
 /// The element that a line of an opening tells.
 pub(crate) fn read_keep(version: Version, line: &[u8]) -> Option<Element>
     ensures some { IfSome result (λ element. words_of line.now ≡ keep_words version element) }
+    ensures right { IfSome result IsRightElement }
     ensures none { IfNone result ((element : Element) → IsRightElement element
         → words_of line.now ≢ keep_words version element) }
 {

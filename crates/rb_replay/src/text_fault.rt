@@ -1,3 +1,6 @@
+ghost use Rattle.std.specs.Prelude.{◌≡◌};
+ghost use Rattle.rb_replay.specs.ReasonText.{text_reason_text};
+
 /// Why a text is no history's.
 #[derive(Clone, Copy, Debug, PartialEq, Eq)]
 pub enum TextReason {
@@ -24,4 +27,28 @@ pub enum TextFault {
     At { line: u64, reason: TextReason },
     /// There is no memory for what the text tells.
     Memory,
+}
+
+impl TextReason {
+    /// The reason as it is printed.
+    pub fn as_str(self) -> &'static str
+        ensures { result.now ≡ text_reason_text self }
+    {
+        match self {
+            TextReason::Header => "header",
+            TextReason::Opening => "opening",
+            TextReason::Line => "line",
+            TextReason::Many => "many",
+            TextReason::Count => "count",
+            TextReason::Trailing => "trailing",
+            TextReason::End => "end",
+        }
+    }
+}
+
+// The fault of a line.
+pub(crate) fn at(line: u64, reason: TextReason) -> TextFault
+    ensures { result ≡ TextFault.At line reason }
+{
+    TextFault::At { line, reason }
 }

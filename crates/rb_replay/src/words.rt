@@ -97,6 +97,7 @@ pub(crate) fn last_payload(words: Option<&[u8]>) -> Option<Payload>
 /// The id that is the only word that is left, or that there was none.
 pub(crate) fn last_given(words: Option<&[u8]>) -> Option<Option<u64>>
     ensures some { IfSome result (λ given. words_behind words.entry ≡ given_words given) }
+    ensures right { IfSome result IsRightGiven }
     ensures none { IfNone result ((given : Option ℕ) → IsRightGiven given
         → words_behind words.entry ≢ given_words given) }
 {
@@ -113,6 +114,7 @@ pub(crate) fn last_given(words: Option<&[u8]>) -> Option<Option<u64>>
 /// The element that the words that are left are.
 pub(crate) fn last_element(version: Version, words: Option<&[u8]>) -> Option<Element>
     ensures some { IfSome result (λ element. words_behind words.entry ≡ element_words version element) }
+    ensures right { IfSome result IsRightElement }
     ensures none { IfNone result ((element : Element) → IsRightElement element
         → words_behind words.entry ≢ element_words version element) }
 {
@@ -136,6 +138,7 @@ pub(crate) fn last_element(version: Version, words: Option<&[u8]>) -> Option<Ele
 fn take_first(version: Version, expiry: u64, words: Option<&[u8]>) -> Option<(u64, Option<&[u8]>)>
     ensures some { IfSome result (λ cut. words_behind words.entry
         ≡ first_words version cut.0 ++ words_behind cut.1) }
+    ensures small { IfSome result (λ cut. IsWord cut.0) }
     ensures none { IfNone result ((first : ℕ) (others : List (List ℕ)) → IsWord first
         → words_behind words.entry ≢ first_words version first ++ others) }
 {

@@ -12,7 +12,8 @@ returns-in_err-end_fault c =
     let p = err_from_is_err_and c.from_residual.result c.from_residual.ensures.1 in
     rw (p.1, p.2)
     (read_ends_badly c.args.version c.args.text.now c.loop-line.events.items c.loop-line.rest.now c.in-Some.line.now c.in-Some.behind.now c.in-Some-read_end.told _ c.args.first
-    (c.args.first + c.len-count.result) _ count c.loop-line.invariant c.in-Some.ensures.text c.in-Some-read_end.ensures.some (ap (λ n. c.args.first + n) count) c.in_err-end_fault.ensures)
+    (c.args.first + c.len-count.result) _ count c.loop-line.invariant c.in-Some.ensures.text c.in-Some-read_end.ensures.some c.in-Some-read_end.ensures.small
+    (ap (λ n. c.args.first + n) count) c.in_err-end_fault.ensures)
 
 pub returns-in-Some-read_end : goal.returns-in-Some-read_end
 returns-in-Some-read_end c =
@@ -28,7 +29,7 @@ returns-then-count-ge-MOST_EVENTS c =
     let words = subst (ReadsEvent c.args.version (words_of c.in-Some.line.now)) c.in-Some-found.is c.in-Ok.ensures in
     rw c.at-then-count-ge-MOST_EVENTS.ensures
     (read_too_many c.args.version c.args.text.now c.loop-line.events.items c.loop-line.rest.now c.in-Some.line.now c.in-Some.behind.now c.in-Some-found.event c.args.first
-    (c.args.first + c.len-count.result) c.loop-line.invariant c.in-Some.ensures.text words (ap (λ n. c.args.first + n) count) many)
+    (c.args.first + c.len-count.result) c.loop-line.invariant c.in-Some.ensures.text words.0 words.1 (ap (λ n. c.args.first + n) count) many)
 
 pub loop-line-preserved : goal.loop-line-preserved
 loop-line-preserved c =
@@ -37,4 +38,4 @@ loop-line-preserved c =
     let words = subst (ReadsEvent c.args.version (words_of c.in-Some.line.now)) c.in-Some-found.is c.in-Ok.ensures in
     rw c.in-Ok-push.ensures.items
     (read_more c.args.version c.args.text.now c.loop-line.events.items c.loop-line.rest.now c.in-Some.line.now c.in-Some.behind.now c.in-Some-found.event
-    c.loop-line.invariant c.in-Some.ensures.text words room)
+    c.loop-line.invariant c.in-Some.ensures.text words.0 words.1 room)
