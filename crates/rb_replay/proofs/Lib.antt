@@ -9,3 +9,5 @@ pub mod Keywords
 pub mod FirstFeeds
 pub mod EventLines
 pub mod Settlings
+pub mod KeepLines
+pub mod Bodies

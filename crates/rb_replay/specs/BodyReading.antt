@@ -23,27 +23,17 @@ use Rattle.rb_replay.specs.declared.text_fault.TextReason.{TextReason}
 use Rattle.rb_replay.specs.declared.text_fault.TextReason.TheVariants as reasons
 use Rattle.rb_replay.specs.declared.write.TheConstants.{MOST_EVENTS}
 
--- the next line keeps this element
-pub record KeepsThis (version : Version) (least end : ℕ) (text : List ℕ) (element : Element) (rest : List ℕ) : Type 0 where
-  pub split : text ≡ line_text (keep_words version element) ++ rest
+-- the words keep this element, which may come next
+pub record KeepsNext (version : Version) (least end : ℕ) (words : List (List ℕ)) (element : Element) : Type 0 where
+  pub words_are : words ≡ keep_words version element
   pub right : IsRightElement element
   pub up : least ≤ element.id
   pub low : element.id < end
 
--- the text has a whole line next, which keeps no element that may come next
-pub record KeepsNone (version : Version) (least end : ℕ) (text : List ℕ) : Type 0 where
-  pub line : List ℕ
-  pub behind : List ℕ
-  pub split : text ≡ line ++ (LINE_FEED ∷ behind)
-  pub whole : LacksFeed line
-  pub no_keep : (element : Element) → IsRightElement element → words_of line ≡ keep_words version element
-      → least ≤ element.id → element.id < end → ⊥
-
--- the next line, of this number, keeps no element
-abbrev pub KeepFails : Version → ℕ → ℕ → ℕ → List ℕ → TextFault → Type 0
-KeepFails version least end number text (At line reason) =
-    (line ≡ number) × (((reason ≡ reasons.End) × LacksFeed text) ⊎ ((reason ≡ reasons.Opening) × KeepsNone version least end text))
-KeepFails version least end number text Memory = Unit {0}
+-- the words keep no element that may come next
+abbrev pub KeepsNone : Version → ℕ → ℕ → List (List ℕ) → Type 0
+KeepsNone version least end words =
+    (element : Element) → IsRightElement element → words ≡ keep_words version element → least ≤ element.id → element.id < end → ⊥
 
 -- the next lines keep these elements, as many as were told
 pub record KeepsAll (version : Version) (end count : ℕ) (text : List ℕ) (kept : List Element) (rest : List ℕ) : Type 0 where

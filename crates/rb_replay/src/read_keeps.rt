@@ -1,6 +1,7 @@
-ghost use Rattle.std.specs.Prelude.{◌≤◌, IfOk, IfErr};
+ghost use Rattle.std.specs.Prelude.{◌≤◌, IfOk, IfErr, IfSome, IfNone};
+ghost use Rattle.rb_protocol.specs.Line.{words_of};
 ghost use Rattle.rb_queue.specs.declared.opening.TheConstants.{MOST_OPENING_ELEMENTS};
-ghost use Rattle.rb_replay.specs.BodyReading.{KeepsThis, KeepFails, KeepsAll, KeepsFail};
+ghost use Rattle.rb_replay.specs.BodyReading.{KeepsNext, KeepsNone, KeepsAll, KeepsFail};
 
 use crate::next_line::cut_line;
 use crate::read_opening::{OpenLine, read_keep};
@@ -31,36 +32,33 @@ pub(crate) fn read_keeps(
     // The least id that may come next.
     let mut least = 0;
     for place in 0..told.count {
-        let line = FIRST_KEEP_LINE + place;
-        let (element, behind) = next_keep(version, rest, least, told.next_id, line)?;
-        let Ok(()) = kept.push(element) else {
-            return Err(TextFault::Memory);
+        let number = FIRST_KEEP_LINE + place;
+        let Some((line, behind)) = cut_line(rest) else {
+            return Err(at(number, TextReason::End));
+        };
+        let Some(element) = next_keep(version, line, least, told.next_id) else {
+            return Err(at(number, TextReason::Opening));
         };
         least = element.id + 1;
         rest = behind;
+        let Ok(()) = kept.push(element) else {
+            return Err(TextFault::Memory);
+        };
     }
     Ok((Items::new(kept), rest))
 }
 
-// The element that the next line, of this number, keeps. Its id is at least `least` and below `end`.
-fn next_keep(
-    version: Version,
-    text: &[u8],
-    least: u64,
-    end: u64,
-    number: u64,
-) -> Result<(Element, &[u8]), TextFault>
-    ensures ok { IfOk result (λ cut. KeepsThis version least end text.now cut.0 cut.1.now) }
-    ensures err { IfErr result (KeepFails version least end number text.now) }
+// The element that a line keeps, whose id is at least `least` and below `end`.
+fn next_keep(version: Version, line: &[u8], least: u64, end: u64) -> Option<Element>
+    ensures some { IfSome result (KeepsNext version least end (words_of line.now)) }
+    ensures none { IfNone result (KeepsNone version least end (words_of line.now)) }
 {
-    let Some((line, behind)) = cut_line(text) else {
-        return Err(at(number, TextReason::End));
-    };
-    let Some(element) = read_keep(version, line) else {
-        return Err(at(number, TextReason::Opening));
-    };
-    if element.id < least || element.id >= end {
-        return Err(at(number, TextReason::Opening));
+    let element = read_keep(version, line)?;
+    if element.id < least {
+        return None;
     }
-    Ok((element, behind))
+    if element.id >= end {
+        return None;
+    }
+    Some(element)
 }

@@ -21,7 +21,10 @@ pub(crate) fn read_run(alloc: Global, version: Version, text: &[u8]) -> Result<H
     ensures ok { IfOk result (TellsRun version text.now) }
     ensures err { IfErr result (RunFails version text.now) }
 {
-    let (opening, rest) = read_opening(alloc, version, text)?;
+    let (opening, rest) = match read_opening(alloc, version, text) {
+        Ok(cut) => cut,
+        Err(fault) => return Err(fault),
+    };
     let first = line_behind(version, &opening);
     let events = read_events(alloc, version, rest, first)?;
     Ok(History { opening, events })
@@ -62,7 +65,10 @@ fn read_told(alloc: Global, version: Version, text: &[u8]) -> Result<(Opening, &
     ensures err { IfErr result (OpeningFails version text.now) }
 {
     let (told, behind) = read_numbers(version, text)?;
-    let (elements, rest) = read_keeps(alloc, version, told, behind)?;
+    let (elements, rest) = match read_keeps(alloc, version, told, behind) {
+        Ok(cut) => cut,
+        Err(fault) => return Err(fault),
+    };
     let opening = Opening {
         elements,
         next_id: told.next_id,
