@@ -9,14 +9,14 @@ use Rattle.rb_replay.specs.EventText.{act_words, element_words, given_words}
 use Rattle.rb_replay.specs.Ranges.{IsWord, AreWords, IsRightElement, IsRightGiven, IsRightAct}
 
 -- the first words of the same lists are the same
-heads : (one other : List ℕ) (words behind : List (List ℕ)) → one ∷ words ≡ other ∷ behind → one ≡ other
+pub heads : (one other : List ℕ) (words behind : List (List ℕ)) → one ∷ words ≡ other ∷ behind → one ≡ other
 heads one other words behind is = cc
 
-tails_same : (one other : List ℕ) (words behind : List (List ℕ)) → one ∷ words ≡ other ∷ behind → words ≡ behind
+pub tails_same : (one other : List ℕ) (words behind : List (List ℕ)) → one ∷ words ≡ other ∷ behind → words ≡ behind
 tails_same one other words behind is = cc
 
 -- a number that tells the keywords apart
-abbrev mark : List ℕ → ℕ
+abbrev pub mark : List ℕ → ℕ
 mark word = length word * 65536 + get_or word 0 0 * 256 + get_or word 1 0
 
 pub only_offer : (version : Version) (behind : List (List ℕ)) → ((element : Element) → IsRightElement element → behind ≢ element_words version element) → (act : Act) → IsRightAct act

@@ -9,3 +9,6 @@ pub mod Keywords
 pub mod FirstFeeds
 pub mod EventLines
 pub mod Settlings
+pub mod WordTexts
+pub mod EventTexts
+pub mod FirstTexts
