@@ -12,3 +12,4 @@ pub mod Settlings
 pub mod WordTexts
 pub mod EventTexts
 pub mod FirstTexts
+pub mod OneTexts
