@@ -13,3 +13,4 @@ pub mod WordTexts
 pub mod EventTexts
 pub mod FirstTexts
 pub mod OneTexts
+pub mod FaultlessTexts
