@@ -1,5 +1,5 @@
 -- The lines of a history are lines, and each tells one event, element or number.
-use Rattle.std.proofs.Common.{◌≡◌, ◌≢◌, ℕ, ◌+◌, ◌*◌, ◌<◌, ◌≤◌, ◌^◌, Bool, true, false, Option, Some, None, List, [], ◌∷◌, ◌++◌, length, map, get_or, decimal, codes, refl, sym, ap, ◌∙◌, arith, if◌then◌else◌}
+use Rattle.std.proofs.Common.{◌≡◌, ◌≢◌, ℕ, ◌≤◌, Bool, true, false, Option, Some, None, List, [], ◌∷◌, ◌++◌, length, map, get_or, decimal, codes, refl, ap, arith, if◌then◌else◌}
 use Rattle.std.proofs.lemmas.Fmt.{decimal_injective, decimal_nonempty}
 use Rattle.std.proofs.lemmas.List.Elements.{All-head, All-tail}
 use Rattle.rb_delayed.specs.Payload.{IsPayload}

@@ -1,21 +1,18 @@
 -- A text of a history has no fault.
-use Rattle.std.proofs.Common.{◌≡◌, ◌≢◌, ℕ, suc, ◌+◌, ◌<◌, ◌≤◌, ◌⊎◌, inl, inr, List, [], ◌∷◌, ◌++◌, length, map, get_or, slice_index, refl, sym, ap, subst, ◌∙◌, arith, append_assoc, append-nil, length-append}
-use Rattle.std.proofs.lemmas.List.{length-map, get_or_append_left, map-append}
+use Rattle.std.proofs.Common.{◌≡◌, ℕ, suc, ◌<◌, ◌≤◌, ◌⊎◌, inl, inr, List, [], ◌∷◌, ◌++◌, length, map, slice_index, refl, sym, ap, subst, ◌∙◌, arith, length-append}
+use Rattle.std.proofs.lemmas.List.{length-map, get_or_append_left}
 use Rattle.std.proofs.lemmas.List.Elements.{All-head, All-tail}
-use Rattle.rb_protocol.specs.Line.{words_of}
-use Rattle.rb_protocol.specs.declared.format.TheConstants.{LINE_FEED}
 use Rattle.rb_delayed.specs.declared.element.Element.{Element}
 use Rattle.rb_queue.specs.Opening.{ids_of, AreInOrder}
 use Rattle.rb_queue.specs.declared.event.Event.{Event}
 use Rattle.rb_queue.specs.declared.opening.Opening.{Opening}
-use Rattle.rb_queue.specs.declared.opening.TheConstants.{GREATEST_OPENING_ID, MOST_OPENING_ELEMENTS}
 use Rattle.rb_replay.specs.EventText.{event_words, header_words, open_words, keep_words, end_words}
 use Rattle.rb_replay.specs.Feeds.{LacksFeed}
-use Rattle.rb_replay.specs.HistoryText.{line_text, lines_text, opening_lines, history_lines, text_in}
-use Rattle.rb_replay.specs.OpeningReading.{numbers_words, HasNoHeader, MayOpen}
+use Rattle.rb_replay.specs.HistoryText.{line_text, lines_text, opening_lines}
+use Rattle.rb_replay.specs.OpeningReading.{numbers_words, MayOpen}
 use Rattle.rb_replay.specs.Ranges.{IsWord, IsRightElement, IsRightEvent, IsRightOpening, AreRightElements, AreRightEvents}
-use Rattle.rb_replay.specs.Readings.{IsTextIn, IsTextOf, MayBegin, NoFaultOfText}
-use Rattle.rb_replay.specs.TextFaults.{HasOtherLine, NextFault, EventsFault, HasOtherOpen, HasOtherKeep, OpenFault, KeepFault, FaultBehind, BodyFault, FaultInBody, HasFault}
+use Rattle.rb_replay.specs.Readings.{MayBegin, NoFaultOfText}
+use Rattle.rb_replay.specs.TextFaults.{NextFault, EventsFault, HasOtherKeep, OpenFault, KeepFault, BodyFault}
 use Rattle.rb_replay.specs.declared.text_fault.TextReason.{TextReason}
 use Rattle.rb_replay.specs.declared.text_fault.TextReason.TheVariants as reasons
 use Rattle.rb_replay.specs.declared.text_fault.TextReason.TheVariants.{Header, Line, Many, Count, Trailing, End}
@@ -25,7 +22,7 @@ use Rattle.rb_replay.specs.declared.write.TheConstants.{MOST_EVENTS}
 use Rattle.rb_replay.proofs.EventTexts.{event_line, event_lines, event_no_end, same_end, end_line, header_line, keep_line, keep_lines, keep_told, numbers_line, same_version, same_numbers, told}
 use Rattle.rb_replay.proofs.FirstTexts.{head_of, tail_of, same_parts}
 use Rattle.rb_replay.proofs.OneTexts.{event_texts, events_are_lines, open_are_lines, same_numbers_of}
-use Rattle.rb_replay.proofs.WordTexts.{IsLine, AreLines, lines_behind, lines-append, same_first_line, words_of_first, line_first, feed_in}
+use Rattle.rb_replay.proofs.WordTexts.{AreLines, lines_behind, lines-append, same_first_line, words_of_first, line_first, feed_in}
 
 -- a text with a line has a line feed
 line_has_feed : (words : List (List ℕ)) (behind : List ℕ) → LacksFeed (line_text words ++ behind) → ⊥

@@ -1,5 +1,5 @@
 -- No text is of two histories, nor of one in two versions.
-use Rattle.std.proofs.Common.{◌≡◌, ℕ, ◌+◌, ◌<◌, ◌≤◌, List, [], ◌∷◌, ◌++◌, length, map, refl, sym, ap, subst, ◌∙◌, arith, length-append}
+use Rattle.std.proofs.Common.{◌≡◌, ℕ, ◌≤◌, List, [], ◌∷◌, ◌++◌, length, map, sym, ap, subst, ◌∙◌, arith, length-append}
 use Rattle.std.proofs.lemmas.List.{length-map}
 use Rattle.std.proofs.Props.{props}
 use mathlib.Core.HLevel.{Σ_prop_path}
@@ -7,9 +7,9 @@ use Rattle.rb_delayed.specs.declared.element.Element.{Element}
 use Rattle.rb_queue.specs.Opening.{IsOpening}
 use Rattle.rb_queue.specs.declared.event.Event.{Event}
 use Rattle.rb_queue.specs.declared.opening.Opening.{Opening}
-use Rattle.rb_replay.specs.EventText.{event_words, header_words, open_words, keep_words, end_words}
-use Rattle.rb_replay.specs.HistoryText.{opening_lines, history_lines, text_in}
-use Rattle.rb_replay.specs.Ranges.{IsWord, IsRightOpening, AreRightEvents}
+use Rattle.rb_replay.specs.EventText.{event_words, open_words, keep_words, end_words}
+use Rattle.rb_replay.specs.HistoryText.{opening_lines, history_lines}
+use Rattle.rb_replay.specs.Ranges.{IsRightOpening, AreRightEvents}
 use Rattle.rb_replay.specs.Readings.{IsTextIn, MayBegin, NoTextOfTwo, OneTextEach}
 use Rattle.rb_replay.specs.declared.version.Version.{Version}
 use Rattle.rb_replay.specs.declared.version.Version.TheVariants.{One, Two, Three}
