@@ -123,7 +123,7 @@ events_faultless : (version : Version) (events : List Event) (first line : ℕ) 
     → EventsFault version (lines_text (event_texts version events)) first line reason → ⊥
 events_faultless version events first line reason right few fault =
     let (behind, split, rest) = lines_behind (map (event_words version) fault.events) (event_texts version events) fault.rest
-        (event_lines version fault.events fault.right) (events_are_lines version events right few) (sym fault.split) in
+    (event_lines version fault.events fault.right) (events_are_lines version events right few) (sym fault.split) in
     at behind rest (stands version fault.events events (length events) behind fault.right right split)
   where
     at : (behind : List (List (List ℕ))) → fault.rest ≡ lines_text behind
@@ -159,9 +159,9 @@ stands_keep version [] (element ∷ elements) last behind right fits fewer is = 
 }
 stands_keep version (element ∷ kept) (other ∷ elements) last behind right fits fewer is =
     let next = stands_keep version kept elements last behind (All-tail IsRightElement element kept right) (All-tail IsRightElement other elements fits)
-        (omega arith) (tail_of _ _ _ _ is) in
+    (omega arith) (tail_of _ _ _ _ is) in
     let same : other.id ≡ element.id = told_id version other element (keep_told version other element (All-head IsRightElement other elements fits)
-        (All-head IsRightElement element kept right) (head_of _ _ _ _ is)) in
+    (All-head IsRightElement element kept right) (head_of _ _ _ _ is)) in
     record {
       element = next.element;
       more = next.more;
@@ -223,13 +223,13 @@ keep_faultless version opening events line reason right fits few fault =
     let low = fault.next in
     let small = fault.most in
     let (behind, split, rest) = lines_behind (numbers_words fault.next_id fault.last_at fault.count ∷ map (keep_words version) fault.kept)
-        (open_texts version opening events) fault.rest
-        (numbers_line fault.next_id fault.last_at fault.count (omega arith) fault.last (omega arith), keep_lines version fault.kept fault.right)
-        (open_texts_are_lines version opening events right fits few) (sym fault.split) in
+    (open_texts version opening events) fault.rest
+    (numbers_line fault.next_id fault.last_at fault.count (omega arith) fault.last (omega arith), keep_lines version fault.kept fault.right)
+    (open_texts_are_lines version opening events right fits few) (sym fault.split) in
     let numbers = same_numbers opening.next_id opening.last_at (length opening.elements) fault.next_id fault.last_at fault.count
-        (omega arith) right.last_at (omega arith) (omega arith) fault.last (omega arith) (head_of _ _ _ _ split) in
+    (omega arith) right.last_at (omega arith) (omega arith) fault.last (omega arith) (head_of _ _ _ _ split) in
     let keep = stands_keep version fault.kept opening.elements (event_texts version events) behind fault.right right.elements
-        (omega (arith, numbers.counts, fault.fewer)) (tail_of _ _ _ _ split) in
+    (omega (arith, numbers.counts, fault.fewer)) (tail_of _ _ _ _ split) in
     at behind rest numbers.next keep fault.fault
   where
     at : (behind : List (List (List ℕ))) → fault.rest ≡ lines_text behind → opening.next_id ≡ fault.next_id
@@ -250,11 +250,11 @@ behind_faultless : (version : Version) (opening second : Opening) (events : List
     → EventsFault version rest first line reason → ⊥
 behind_faultless version opening second events rest first line reason right fits few suits is fault =
     let (behind, split, tail) = lines_behind (open_words second ∷ map (keep_words version) second.elements) (open_texts version opening events) rest
-        (open_are_lines version second suits) (open_texts_are_lines version opening events right fits few) (sym is) in
+    (open_are_lines version second suits) (open_texts_are_lines version opening events right fits few) (sym is) in
     let numbers = same_numbers_of opening second right suits (head_of _ _ _ _ split) in
     let lengths = length-map opening.elements (keep_words version) ∙ numbers.counts ∙ sym (length-map second.elements (keep_words version)) in
     let parts = same_parts (map (keep_words version) opening.elements) (map (keep_words version) second.elements) (event_texts version events) behind
-        lengths (tail_of _ _ _ _ split) in
+    lengths (tail_of _ _ _ _ split) in
     events_faultless version events first line reason fits few
     (subst (λ text. EventsFault version text first line reason) (tail ∙ ap lines_text (sym parts.1)) fault)
 
@@ -277,7 +277,7 @@ pub no_fault_of_text : NoFaultOfText
 no_fault_of_text opening events text line reason right fits (version, is_text) (inl (here, header, none)) = none version _ is_text.text_is
 no_fault_of_text opening events text line reason right fits (version, is_text) (inr fault) =
     let first = same_first_line (header_words version) (header_words fault.version) (lines_text (opening_lines version opening ++ event_texts version events))
-        fault.behind (header_line version) (header_line fault.version) (sym is_text.text_is ∙ fault.split) in
+    fault.behind (header_line version) (header_line fault.version) (sym is_text.text_is ∙ fault.split) in
     let versions : version ≡ fault.version = same_version version fault.version first.0 in
     let in_own : BodyFault version fault.behind line reason = subst (λ v. BodyFault v fault.behind line reason) (sym versions) fault.fault in
     body_faultless version opening events line reason right fits is_text.few is_text.begins

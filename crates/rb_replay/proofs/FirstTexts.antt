@@ -30,6 +30,7 @@ same_parts (x ∷ front) (y ∷ other) behind rest long is =
     let more = same_parts front other behind rest (omega (arith, long)) (tail_of x y (front ++ behind) (other ++ rest) is) in
     let first = head_of x y (front ++ behind) (other ++ rest) is in
     (λ i. first i ∷ more.0 i, more.1)
+
 pub same_length : {X Y : Type 0} (f : X → Y) (xs ys : List X) → map f xs ≡ map f ys → length xs ≡ length ys
 same_length f xs ys is = sym (length-map xs f) ∙ ap length is ∙ length-map ys f
 
@@ -59,9 +60,9 @@ known_by_earliest all others (element ∷ elements) (other ∷ behind) same have
     let both : Some element.first ≡ Some other.first = sym told ∙ same element.origin ∙ ap (earliest others) origins ∙ tells in
     let firsts : element.first ≡ other.first = cc (both) in
     let here : element ≡ other = same_element element other (ap (λ (e : Element). e.id) first) (ap (λ (e : Element). e.expiry) first) origins firsts
-        (ap (λ (e : Element). e.attempt) first) (ap (λ (e : Element). e.payload) first) in
+    (ap (λ (e : Element). e.attempt) first) (ap (λ (e : Element). e.payload) first) in
     let more = known_by_earliest all others elements behind same (All-tail (λ (e : Element). earliest all e.origin ≡ Some e.first) element elements have)
-        (All-tail (λ (e : Element). earliest others e.origin ≡ Some e.first) other behind has) (tail_of _ _ _ _ is) in
+    (All-tail (λ (e : Element). earliest others e.origin ≡ Some e.first) other behind has) (tail_of _ _ _ _ is) in
     λ i. here i ∷ more i
 
 same_by_earliest : (elements others : List Element) → HaveEarliest elements → HaveEarliest others → map bare elements ≡ map bare others → elements ≡ others
@@ -121,9 +122,9 @@ same_by_offers version (event ∷ events) (other ∷ others) is offers =
     let first = head_of _ _ _ _ is in
     let acts : told_act version event.act ≡ told_act version other.act = ap (λ (e : Event). e.act) first in
     let images : map (told version) (inserted (effect_of event.act)) ≡ map (told version) (inserted (effect_of other.act)) =
-        sym (act_offers version event.act) ∙ ap (λ act. inserted (effect_of act)) acts ∙ act_offers version other.act in
+    sym (act_offers version event.act) ∙ ap (λ act. inserted (effect_of act)) acts ∙ act_offers version other.act in
     let parts = same_parts (inserted (effect_of event.act)) (inserted (effect_of other.act)) (offers_in events) (offers_in others)
-        (same_length (told version) _ _ images) offers in
+    (same_length (told version) _ _ images) offers in
     let act : event.act ≡ other.act = sym (told_offering version event.act) ∙ (λ i. offering (acts i) (parts.0 i)) ∙ told_offering version other.act in
     let more = same_by_offers version events others (tail_of _ _ _ _ is) parts.1 in
     let seat : event.seat ≡ other.seat = ap (λ (e : Event). e.seat) first in
@@ -139,9 +140,9 @@ same_bare : (version : Version) (kept held : List Element) (events others : List
     → (kept ≡ held) × (events ≡ others)
 same_bare version kept held events others barely have has keeps is =
     let offers : map (told version) (offers_in events) ≡ map (told version) (offers_in others) =
-        sym (told_offers version events) ∙ ap offers_in is ∙ told_offers version others in
+    sym (told_offers version events) ∙ ap offers_in is ∙ told_offers version others in
     let images : map (told version) (kept ++ offers_in events) ≡ map (told version) (held ++ offers_in others) =
-        map-append (told version) kept (offers_in events) ∙ (λ i. keeps i ++ offers i) ∙ sym (map-append (told version) held (offers_in others)) in
+    map-append (told version) kept (offers_in events) ∙ (λ i. keeps i ++ offers i) ∙ sym (map-append (told version) held (offers_in others)) in
     let all = same_by_earliest (kept ++ offers_in events) (held ++ offers_in others) have has (sym (barely _) ∙ images ∙ barely _) in
     let parts = same_parts kept held (offers_in events) (offers_in others) (same_length (told version) kept held keeps) all in
     (parts.0, same_by_offers version events others is parts.1)

@@ -14,3 +14,4 @@ pub mod EventTexts
 pub mod FirstTexts
 pub mod OneTexts
 pub mod FaultlessTexts
+pub mod EachReadings

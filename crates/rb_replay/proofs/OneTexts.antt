@@ -29,9 +29,10 @@ events_are_lines version events right few =
 pub open_are_lines : (version : Version) (opening : Opening) → IsRightOpening opening → AreLines (open_words opening ∷ map (keep_words version) opening.elements)
 open_are_lines version opening right =
     let few = opening.opening.few in
-    let next = opening.opening.next in
-    (numbers_line opening.next_id opening.last_at (length opening.elements) (omega arith) right.last_at (omega arith),
-    keep_lines version opening.elements right.elements)
+    let next = opening.opening.next in (
+      numbers_line opening.next_id opening.last_at (length opening.elements) (omega arith) right.last_at (omega arith),
+      keep_lines version opening.elements right.elements,
+    )
 
 pub opening_are_lines : (version : Version) (opening : Opening) → IsRightOpening opening → AreLines (opening_lines version opening)
 opening_are_lines One opening right = tt
@@ -40,16 +41,18 @@ opening_are_lines Three opening right = open_are_lines Three opening right
 
 pub history_are_lines : (version : Version) (opening : Opening) (events : List Event) → IsRightOpening opening → AreRightEvents events → length events ≤ MOST_EVENTS
     → AreLines (history_lines version opening events)
-history_are_lines version opening events right fits few =
-    (header_line version, lines-append (opening_lines version opening) (event_texts version events) (opening_are_lines version opening right)
-    (events_are_lines version events fits few))
+history_are_lines version opening events right fits few = (
+  header_line version,
+  lines-append (opening_lines version opening) (event_texts version events) (opening_are_lines version opening right)
+      (events_are_lines version events fits few),
+)
 
 -- openings with the same parts are one
 pub same_opening : (one other : Opening) → one.elements ≡ other.elements → one.next_id ≡ other.next_id → one.last_at ≡ other.last_at → one ≡ other
 same_opening one other elements next last =
     let both : ◌≡◌ {A = List Element × ℕ} (one.elements, one.next_id) (other.elements, other.next_id) = λ i. (elements i, next i) in
     let pairs : ◌≡◌ {A = (parts : List Element × ℕ) × IsOpening parts.0 parts.1} ((one.elements, one.next_id), one.opening) ((other.elements, other.next_id), other.opening) =
-        Σ_prop_path (λ (parts : List Element × ℕ). hlevel props) both in
+    Σ_prop_path (λ (parts : List Element × ℕ). hlevel props) both in
     λ i. record { elements = (pairs i).0.0; next_id = (pairs i).0.1; last_at = last i; opening = (pairs i).1 }
 
 -- the lines of events tell them
@@ -57,8 +60,12 @@ same_event_texts : (version : Version) (events others : List Event) → AreRight
     → event_texts version events ≡ event_texts version others → map (told_event version) events ≡ map (told_event version) others
 same_event_texts version events others right fits is =
     let lengths : length (map (event_words version) events) ≡ length (map (event_words version) others) =
-        omega (arith, ap length is, length-append (map (event_words version) events) (end_words (length events) ∷ []),
-        length-append (map (event_words version) others) (end_words (length others) ∷ [])) in
+    omega (
+      arith,
+      ap length is,
+      length-append (map (event_words version) events) (end_words (length events) ∷ []),
+      length-append (map (event_words version) others) (end_words (length others) ∷ []),
+    ) in
     events_told version events others right fits
     (same_parts (map (event_words version) events) (map (event_words version) others) (end_words (length events) ∷ []) (end_words (length others) ∷ []) lengths is).0
 
@@ -88,7 +95,7 @@ same_open_texts version opening second events others right fits suits serves is 
     let numbers = same_numbers_of opening second right suits (head_of _ _ _ _ is) in
     let lengths = length-map opening.elements (keep_words version) ∙ numbers.counts ∙ sym (length-map second.elements (keep_words version)) in
     let parts = same_parts (map (keep_words version) opening.elements) (map (keep_words version) second.elements) (event_texts version events)
-        (event_texts version others) lengths (tail_of _ _ _ _ is) in
+    (event_texts version others) lengths (tail_of _ _ _ _ is) in
     record {
       next = numbers.next;
       last = numbers.last;
@@ -122,8 +129,8 @@ same_history version opening second events others text right fits suits serves o
 pub no_text_of_two : NoTextOfTwo
 no_text_of_two version other opening second events others text right fits suits serves one two =
     let lines : history_lines version opening events ≡ history_lines other second others =
-        same_lines (history_lines version opening events) (history_lines other second others) (history_are_lines version opening events right fits one.few)
-        (history_are_lines other second others suits serves two.few) (sym one.text_is ∙ two.text_is) in
+    same_lines (history_lines version opening events) (history_lines other second others) (history_are_lines version opening events right fits one.few)
+    (history_are_lines other second others suits serves two.few) (sym one.text_is ∙ two.text_is) in
     let versions : version ≡ other = same_version version other (head_of _ _ _ _ lines) in
     let in_one : IsTextIn version second others text = subst (λ v. IsTextIn v second others text) (sym versions) two in
     let behind = tail_of _ _ _ _ lines ∙ ap (λ v. opening_lines v second ++ event_texts v others) (sym versions) in

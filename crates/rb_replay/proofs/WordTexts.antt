@@ -110,7 +110,7 @@ cut_once (byte ∷ line) [] behind rest whole lacks is = absurd (no_feed_first b
 cut_once (byte ∷ line) (next ∷ other) behind rest whole lacks is =
     let bytes : byte ≡ next = head_same _ _ _ _ is in
     let more = cut_once line other behind rest (All-tail (λ b. (b == LINE_FEED) ≡ false) byte line whole)
-        (All-tail (λ b. (b == LINE_FEED) ≡ false) next other lacks) (tail_same _ _ _ _ is) in
+    (All-tail (λ b. (b == LINE_FEED) ≡ false) next other lacks) (tail_same _ _ _ _ is) in
     let lines : line ≡ other = more.0 in
     (cc, more.1)
 
@@ -132,7 +132,7 @@ pub same_first_line : (words others : List (List ℕ)) (behind rest : List ℕ) 
     → line_text words ++ behind ≡ line_text others ++ rest → (words ≡ others) × (behind ≡ rest)
 same_first_line words others behind rest line other is =
     let cut = cut_once (spaced words) (spaced others) behind rest (line_whole words line) (line_whole others other)
-        (sym (line_first words behind) ∙ is ∙ line_first others rest) in
+    (sym (line_first words behind) ∙ is ∙ line_first others rest) in
     (sym (words_again words line) ∙ ap words_of cut.0 ∙ words_again others other, cut.1)
 
 -- a line is no empty text
@@ -149,7 +149,7 @@ lines_behind (words ∷ front) [] rest are all is =
     absurd (line_some words (lines_text front ++ rest) (sym (append_assoc (line_text words) (lines_text front) rest) ∙ is))
 lines_behind (words ∷ front) (others ∷ lines) rest are all is =
     let first = same_first_line words others (lines_text front ++ rest) (lines_text lines) are.0 all.0
-        (sym (append_assoc (line_text words) (lines_text front) rest) ∙ is) in
+    (sym (append_assoc (line_text words) (lines_text front) rest) ∙ is) in
     let (behind, split, tail) = lines_behind front lines rest are.1 all.1 first.1 in
     let same : words ≡ others = first.0 in
     (behind, cc, tail)
