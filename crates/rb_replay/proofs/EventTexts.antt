@@ -14,7 +14,8 @@ use Rattle.rb_replay.specs.Ranges.{IsWord, AreWords, IsRightElement, IsRightGive
 use Rattle.rb_replay.specs.declared.version.Version.{Version}
 use Rattle.rb_replay.specs.declared.version.Version.TheVariants.{One, Two, Three}
 use Rattle.rb_replay.proofs.Elements.{same_element}
-use Rattle.rb_replay.proofs.Keywords.{heads, tails_same, mark}
+use Rattle.rb_replay.proofs.Keywords.{mark}
+use Rattle.rb_replay.proofs.Parts.{head_of, tail_of}
 use Rattle.rb_replay.proofs.WordTexts.{IsPlain, ArePlain, IsLine, AreLines, keyword_plain, number_plain, payload_plain, digit_in}
 
 -- what a version tells of an element
@@ -116,25 +117,25 @@ same_version version other is = absurd (omega (arith, ap (λ (words : List (List
 element_told : (version : Version) (one other : Element) → IsRightElement one → IsRightElement other
     → element_words version one ≡ element_words version other → told version one ≡ told version other
 element_told One one other right fits is =
-    let behind = tails_same _ _ _ _ is in let rest = tails_same _ _ _ _ behind in let last = tails_same _ _ _ _ rest in
-    same_element (told One one) (told One other) (decimal_injective one.id other.id right.id fits.id (heads _ _ _ _ is))
-    (decimal_injective one.expiry other.expiry right.expiry fits.expiry (heads _ _ _ _ behind))
-    (decimal_injective one.origin other.origin right.origin fits.origin (heads _ _ _ _ rest)) refl
-    (decimal_injective one.attempt other.attempt (omega arith) (omega arith) (heads _ _ _ _ last)) (heads _ _ _ _ (tails_same _ _ _ _ last))
+    let behind = tail_of _ _ _ _ is in let rest = tail_of _ _ _ _ behind in let last = tail_of _ _ _ _ rest in
+    same_element (told One one) (told One other) (decimal_injective one.id other.id right.id fits.id (head_of _ _ _ _ is))
+    (decimal_injective one.expiry other.expiry right.expiry fits.expiry (head_of _ _ _ _ behind))
+    (decimal_injective one.origin other.origin right.origin fits.origin (head_of _ _ _ _ rest)) refl
+    (decimal_injective one.attempt other.attempt (omega arith) (omega arith) (head_of _ _ _ _ last)) (head_of _ _ _ _ (tail_of _ _ _ _ last))
 element_told Two one other right fits is =
-    let behind = tails_same _ _ _ _ is in let rest = tails_same _ _ _ _ behind in let last = tails_same _ _ _ _ rest in
-    same_element (told Two one) (told Two other) (decimal_injective one.id other.id right.id fits.id (heads _ _ _ _ is))
-    (decimal_injective one.expiry other.expiry right.expiry fits.expiry (heads _ _ _ _ behind))
-    (decimal_injective one.origin other.origin right.origin fits.origin (heads _ _ _ _ rest)) refl
-    (decimal_injective one.attempt other.attempt (omega arith) (omega arith) (heads _ _ _ _ last)) (heads _ _ _ _ (tails_same _ _ _ _ last))
+    let behind = tail_of _ _ _ _ is in let rest = tail_of _ _ _ _ behind in let last = tail_of _ _ _ _ rest in
+    same_element (told Two one) (told Two other) (decimal_injective one.id other.id right.id fits.id (head_of _ _ _ _ is))
+    (decimal_injective one.expiry other.expiry right.expiry fits.expiry (head_of _ _ _ _ behind))
+    (decimal_injective one.origin other.origin right.origin fits.origin (head_of _ _ _ _ rest)) refl
+    (decimal_injective one.attempt other.attempt (omega arith) (omega arith) (head_of _ _ _ _ last)) (head_of _ _ _ _ (tail_of _ _ _ _ last))
 element_told Three one other right fits is =
-    let behind = tails_same _ _ _ _ is in let rest = tails_same _ _ _ _ behind in let first = tails_same _ _ _ _ rest in
-    let last = tails_same _ _ _ _ first in
-    same_element one other (decimal_injective one.id other.id right.id fits.id (heads _ _ _ _ is))
-    (decimal_injective one.expiry other.expiry right.expiry fits.expiry (heads _ _ _ _ behind))
-    (decimal_injective one.origin other.origin right.origin fits.origin (heads _ _ _ _ rest))
-    (decimal_injective one.first other.first right.first fits.first (heads _ _ _ _ first))
-    (decimal_injective one.attempt other.attempt (omega arith) (omega arith) (heads _ _ _ _ last)) (heads _ _ _ _ (tails_same _ _ _ _ last))
+    let behind = tail_of _ _ _ _ is in let rest = tail_of _ _ _ _ behind in let first = tail_of _ _ _ _ rest in
+    let last = tail_of _ _ _ _ first in
+    same_element one other (decimal_injective one.id other.id right.id fits.id (head_of _ _ _ _ is))
+    (decimal_injective one.expiry other.expiry right.expiry fits.expiry (head_of _ _ _ _ behind))
+    (decimal_injective one.origin other.origin right.origin fits.origin (head_of _ _ _ _ rest))
+    (decimal_injective one.first other.first right.first fits.first (head_of _ _ _ _ first))
+    (decimal_injective one.attempt other.attempt (omega arith) (omega arith) (head_of _ _ _ _ last)) (head_of _ _ _ _ (tail_of _ _ _ _ last))
 
 -- "none" is no number
 number_start : (value : ℕ) → IsWord value → get_or (decimal value) 0 0 ≤ 57
@@ -142,9 +143,9 @@ number_start value small = omega (arith, digit_in value 0 0 small (decimal_nonem
 
 given_same : (one other : Option ℕ) → IsRightGiven one → IsRightGiven other → given_words one ≡ given_words other → one ≡ other
 given_same None None right fits is = refl
-given_same None (Some id) right fits is = absurd (omega (arith, ap (λ (word : List ℕ). get_or word 0 0) (heads _ _ _ _ is), number_start id fits))
-given_same (Some id) None right fits is = absurd (omega (arith, ap (λ (word : List ℕ). get_or word 0 0) (heads _ _ _ _ is), number_start id right))
-given_same (Some id) (Some other) right fits is = ap Some (decimal_injective id other right fits (heads _ _ _ _ is))
+given_same None (Some id) right fits is = absurd (omega (arith, ap (λ (word : List ℕ). get_or word 0 0) (head_of _ _ _ _ is), number_start id fits))
+given_same (Some id) None right fits is = absurd (omega (arith, ap (λ (word : List ℕ). get_or word 0 0) (head_of _ _ _ _ is), number_start id right))
+given_same (Some id) (Some other) right fits is = ap Some (decimal_injective id other right fits (head_of _ _ _ _ is))
 
 found_same : (one other : Bool) → (if one then codes "yes" else codes "no") ≡ (if other then codes "yes" else codes "no") → one ≡ other
 found_same true true is = refl
@@ -157,52 +158,46 @@ ids_same [] [] right fits is = refl
 ids_same [] (other ∷ others) right fits is = absurd (cc)
 ids_same (id ∷ ids) [] right fits is = absurd (cc)
 ids_same (id ∷ ids) (other ∷ others) right fits is =
-    let first = decimal_injective id other right.0 fits.0 (heads _ _ _ _ is) in
-    let more = ids_same ids others right.1 fits.1 (tails_same _ _ _ _ is) in cc
+    let first = decimal_injective id other right.0 fits.0 (head_of _ _ _ _ is) in
+    let more = ids_same ids others right.1 fits.1 (tail_of _ _ _ _ is) in cc
 
 -- the words tell the act
 act_told : (version : Version) (one other : Act) → IsRightAct one → IsRightAct other
     → act_words version one ≡ act_words version other → told_act version one ≡ told_act version other
-act_told version (Offer one) (Offer other) right fits is = ap Offer (element_told version one other right fits (tails_same _ _ _ _ is))
-act_told version (Poll one) (Poll other) right fits is = ap Poll (given_same one other right fits (tails_same _ _ _ _ is))
-act_told version (Take one) (Take other) right fits is = ap Take (decimal_injective one other right fits (heads _ _ _ _ (tails_same _ _ _ _ is)))
+act_told version (Offer one) (Offer other) right fits is = ap Offer (element_told version one other right fits (tail_of _ _ _ _ is))
+act_told version (Poll one) (Poll other) right fits is = ap Poll (given_same one other right fits (tail_of _ _ _ _ is))
+act_told version (Take one) (Take other) right fits is = ap Take (decimal_injective one other right fits (head_of _ _ _ _ (tail_of _ _ _ _ is)))
 act_told version (PollFor start timeout given) (PollFor other limit shown) right fits is =
-    let first = tails_same _ _ _ _ is in let second = tails_same _ _ _ _ first in
-    let starts = decimal_injective start other right.0 fits.0 (heads _ _ _ _ first) in
-    let limits = decimal_injective timeout limit right.1 fits.1 (heads _ _ _ _ second) in
-    let ids = given_same given shown right.2 fits.2 (tails_same _ _ _ _ second) in
+    let first = tail_of _ _ _ _ is in let second = tail_of _ _ _ _ first in
+    let starts = decimal_injective start other right.0 fits.0 (head_of _ _ _ _ first) in
+    let limits = decimal_injective timeout limit right.1 fits.1 (head_of _ _ _ _ second) in
+    let ids = given_same given shown right.2 fits.2 (tail_of _ _ _ _ second) in
     λ i. PollFor (starts i) (limits i) (ids i)
-act_told version (Peek one) (Peek other) right fits is = ap Peek (given_same one other right fits (tails_same _ _ _ _ is))
+act_told version (Peek one) (Peek other) right fits is = ap Peek (given_same one other right fits (tail_of _ _ _ _ is))
 act_told version (Remove one found) (Remove other seen) right fits is =
-    let first = tails_same _ _ _ _ is in
-    let ids = decimal_injective one other right fits (heads _ _ _ _ first) in
-    let same = found_same found seen (heads _ _ _ _ (tails_same _ _ _ _ first)) in
+    let first = tail_of _ _ _ _ is in
+    let ids = decimal_injective one other right fits (head_of _ _ _ _ first) in
+    let same = found_same found seen (head_of _ _ _ _ (tail_of _ _ _ _ first)) in
     λ i. Remove (ids i) (same i)
 act_told version (Drain max ids) (Drain most others) right fits is =
-    let first = tails_same _ _ _ _ is in
-    let limits = decimal_injective max most right.0 fits.0 (heads _ _ _ _ first) in
-    let same = ids_same ids others right.1 fits.1 (tails_same _ _ _ _ first) in
+    let first = tail_of _ _ _ _ is in
+    let limits = decimal_injective max most right.0 fits.0 (head_of _ _ _ _ first) in
+    let same = ids_same ids others right.1 fits.1 (tail_of _ _ _ _ first) in
     λ i. Drain (limits i) (same i)
 act_told version Clear Clear right fits is = refl
-act_told version (Size one) (Size other) right fits is = ap Size (decimal_injective one other right fits (heads _ _ _ _ (tails_same _ _ _ _ is)))
-act_told version one other right fits is = absurd (omega (arith, ap mark (heads _ _ _ _ is)))
+act_told version (Size one) (Size other) right fits is = ap Size (decimal_injective one other right fits (head_of _ _ _ _ (tail_of _ _ _ _ is)))
+act_told version one other right fits is = absurd (omega (arith, ap mark (head_of _ _ _ _ is)))
 
 -- and the event
 event_told : (version : Version) (one other : Event) → IsRightEvent one → IsRightEvent other
     → event_words version one ≡ event_words version other → told_event version one ≡ told_event version other
 event_told version one other right fits is =
-    let first = tails_same _ _ _ _ is in let second = tails_same _ _ _ _ first in
-    let seats = decimal_injective one.seat other.seat right.seat fits.seat (heads _ _ _ _ is) in
-    let calls = decimal_injective one.asked other.asked right.asked fits.asked (heads _ _ _ _ first) in
-    let moments = decimal_injective one.at other.at right.at fits.at (heads _ _ _ _ second) in
-    let acts = act_told version one.act other.act right.act fits.act (tails_same _ _ _ _ second) in
+    let first = tail_of _ _ _ _ is in let second = tail_of _ _ _ _ first in
+    let seats = decimal_injective one.seat other.seat right.seat fits.seat (head_of _ _ _ _ is) in
+    let calls = decimal_injective one.asked other.asked right.asked fits.asked (head_of _ _ _ _ first) in
+    let moments = decimal_injective one.at other.at right.at fits.at (head_of _ _ _ _ second) in
+    let acts = act_told version one.act other.act right.act fits.act (tail_of _ _ _ _ second) in
     λ i. record { seat = seats i; asked = calls i; at = moments i; act = acts i }
-
-line_head : (words others : List (List ℕ)) (lines more : List (List (List ℕ))) → words ∷ lines ≡ others ∷ more → words ≡ others
-line_head words others lines more is = cc
-
-line_tail : (words others : List (List ℕ)) (lines more : List (List (List ℕ))) → words ∷ lines ≡ others ∷ more → lines ≡ more
-line_tail words others lines more is = cc
 
 pub events_told : (version : Version) (events others : List Event) → AreRightEvents events → AreRightEvents others
     → map (event_words version) events ≡ map (event_words version) others → map (told_event version) events ≡ map (told_event version) others
@@ -210,13 +205,13 @@ events_told version [] [] right fits is = refl
 events_told version [] (other ∷ others) right fits is = absurd (cc)
 events_told version (event ∷ events) [] right fits is = absurd (cc)
 events_told version (event ∷ events) (other ∷ others) right fits is =
-    let first = event_told version event other (All-head IsRightEvent event events right) (All-head IsRightEvent other others fits) (line_head _ _ _ _ is) in
-    let more = events_told version events others (All-tail IsRightEvent event events right) (All-tail IsRightEvent other others fits) (line_tail _ _ _ _ is) in
+    let first = event_told version event other (All-head IsRightEvent event events right) (All-head IsRightEvent other others fits) (head_of _ _ _ _ is) in
+    let more = events_told version events others (All-tail IsRightEvent event events right) (All-tail IsRightEvent other others fits) (tail_of _ _ _ _ is) in
     λ i. first i ∷ more i
 
 pub keep_told : (version : Version) (one other : Element) → IsRightElement one → IsRightElement other
     → keep_words version one ≡ keep_words version other → told version one ≡ told version other
-keep_told version one other right fits is = element_told version one other right fits (tails_same _ _ _ _ is)
+keep_told version one other right fits is = element_told version one other right fits (tail_of _ _ _ _ is)
 
 pub keeps_told : (version : Version) (elements others : List Element) → AreRightElements elements → AreRightElements others
     → map (keep_words version) elements ≡ map (keep_words version) others → map (told version) elements ≡ map (told version) others
@@ -224,17 +219,17 @@ keeps_told version [] [] right fits is = refl
 keeps_told version [] (other ∷ others) right fits is = absurd (cc)
 keeps_told version (element ∷ elements) [] right fits is = absurd (cc)
 keeps_told version (element ∷ elements) (other ∷ others) right fits is =
-    let first = keep_told version element other (All-head IsRightElement element elements right) (All-head IsRightElement other others fits) (line_head _ _ _ _ is) in
-    let more = keeps_told version elements others (All-tail IsRightElement element elements right) (All-tail IsRightElement other others fits) (line_tail _ _ _ _ is) in
+    let first = keep_told version element other (All-head IsRightElement element elements right) (All-head IsRightElement other others fits) (head_of _ _ _ _ is) in
+    let more = keeps_told version elements others (All-tail IsRightElement element elements right) (All-tail IsRightElement other others fits) (tail_of _ _ _ _ is) in
     λ i. first i ∷ more i
 
 -- a line of an event is not the last one, and the last one tells one number
 pub event_no_end : (version : Version) (event : Event) (count : ℕ) → IsRightEvent event → event_words version event ≢ end_words count
 event_no_end version event count right is =
-    omega (arith, ap (λ (word : List ℕ). get_or word 0 0) (heads _ _ _ _ is), number_start event.seat right.seat)
+    omega (arith, ap (λ (word : List ℕ). get_or word 0 0) (head_of _ _ _ _ is), number_start event.seat right.seat)
 
 pub same_end : (one other : ℕ) → IsWord one → IsWord other → end_words one ≡ end_words other → one ≡ other
-same_end one other small fits is = decimal_injective one other small fits (heads _ _ _ _ (tails_same _ _ _ _ is))
+same_end one other small fits is = decimal_injective one other small fits (head_of _ _ _ _ (tail_of _ _ _ _ is))
 
 -- The words of an opening tell its numbers.
 pub record SameNumbers (next_id last_at count other_id other_at other_count : ℕ) : Type 0 where
@@ -246,9 +241,9 @@ pub same_numbers : (next_id last_at count other_id other_at other_count : ℕ) �
     → IsWord other_id → IsWord other_at → IsWord other_count → numbers_words next_id last_at count ≡ numbers_words other_id other_at other_count
     → SameNumbers next_id last_at count other_id other_at other_count
 same_numbers next_id last_at count other_id other_at other_count next last few other_next other_last other_few is =
-    let first = tails_same _ _ _ _ is in let second = tails_same _ _ _ _ first in
+    let first = tail_of _ _ _ _ is in let second = tail_of _ _ _ _ first in
     record {
-      next = decimal_injective next_id other_id next other_next (heads _ _ _ _ first);
-      last = decimal_injective last_at other_at last other_last (heads _ _ _ _ second);
-      counts = decimal_injective count other_count few other_few (heads _ _ _ _ (tails_same _ _ _ _ second));
+      next = decimal_injective next_id other_id next other_next (head_of _ _ _ _ first);
+      last = decimal_injective last_at other_at last other_last (head_of _ _ _ _ second);
+      counts = decimal_injective count other_count few other_few (head_of _ _ _ _ (tail_of _ _ _ _ second));
     }

@@ -20,7 +20,7 @@ use Rattle.rb_replay.specs.declared.version.Version.{Version}
 use Rattle.rb_replay.specs.declared.version.Version.TheVariants.{One, Two, Three}
 use Rattle.rb_replay.specs.declared.write.TheConstants.{MOST_EVENTS}
 use Rattle.rb_replay.proofs.EventTexts.{event_line, event_lines, event_no_end, same_end, end_line, header_line, keep_line, keep_lines, keep_told, numbers_line, same_version, same_numbers, told}
-use Rattle.rb_replay.proofs.FirstTexts.{head_of, tail_of, same_parts}
+use Rattle.rb_replay.proofs.Parts.{head_of, tail_of, same_parts}
 use Rattle.rb_replay.proofs.OneTexts.{event_texts, events_are_lines, open_are_lines, same_numbers_of}
 use Rattle.rb_replay.proofs.WordTexts.{AreLines, lines_behind, lines-append, same_first_line, words_of_first, line_first, feed_in}
 
@@ -114,7 +114,8 @@ no_fault_at_end version events front behind rest here line reason few end is fau
         (same_first_line _ _ _ _ (end_line number word) (end_line (length events) small) (sym split ∙ first)).0 ∙ sym end.all)
     by Trailing fault =
         let (after, split, some) = fault.1 in
-        some (same_first_line (end_words (length front)) (end_words (length events)) after [] (end_line (length front) (omega (arith, end.all, few))) (end_line (length events) small) (sym split ∙ first)).1
+        let counted = end_line (length front) (omega (arith, end.all, few)) in
+        some (same_first_line (end_words (length front)) (end_words (length events)) after [] counted (end_line (length events) small) (sym split ∙ first)).1
     by reasons.Opening fault = fault
     by Header fault = fault
 
@@ -200,16 +201,21 @@ open_texts_are_lines version opening events right fits few =
     lines-append (open_words opening ∷ map (keep_words version) opening.elements) (event_texts version events) (open_are_lines version opening right)
     (events_are_lines version events fits few)
 
+-- what stands behind the numbers of an opening
+abbrev behind_open : Version → Opening → List Event → List ℕ
+behind_open version opening events = lines_text (map (keep_words version) opening.elements ++ event_texts version events)
+
 -- the numbers of an opening have no fault
 open_faultless : (version : Version) (opening : Opening) (events : List Event) (line : ℕ) (reason : TextReason) → IsRightOpening opening → AreRightEvents events
     → length events ≤ MOST_EVENTS → MayOpen version opening.next_id opening.last_at (length opening.elements)
     → OpenFault version (lines_text (open_texts version opening events)) line reason → ⊥
 open_faultless version opening events line reason right fits few opens (here, inl (end, lacks)) =
-    line_has_feed (open_words opening) (lines_text (map (keep_words version) opening.elements ++ event_texts version events)) lacks
+    line_has_feed (open_words opening) (behind_open version opening events) lacks
 open_faultless version opening events line reason right fits few opens (here, inr (other, wrong)) =
     wrong.no_open opening.next_id opening.last_at (length opening.elements) right.last_at
     (record {
-      words_are = words_of_first (open_words opening) (lines_text (map (keep_words version) opening.elements ++ event_texts version events)) wrong.line wrong.behind (open_are_lines version opening right).0 wrong.whole wrong.split;
+      words_are = words_of_first (open_words opening) (behind_open version opening events) wrong.line wrong.behind
+          (open_are_lines version opening right).0 wrong.whole wrong.split;
       next = opening.opening.next;
       few = opening.opening.few;
     }) opens
@@ -239,7 +245,8 @@ keep_faultless version opening events line reason right fits few fault =
         line_has_feed (keep_words version keep.element) (lines_text keep.more) (subst LacksFeed (rest ∙ ap lines_text keep.split) lacks)
     at behind rest ids keep (inr (other, wrong)) =
         wrong.no_keep keep.element keep.right
-        (words_of_first (keep_words version keep.element) (lines_text keep.more) wrong.line wrong.behind (keep_line version keep.element keep.right) wrong.whole (sym (rest ∙ ap lines_text keep.split) ∙ wrong.split))
+        (words_of_first (keep_words version keep.element) (lines_text keep.more) wrong.line wrong.behind (keep_line version keep.element keep.right)
+        wrong.whole (sym (rest ∙ ap lines_text keep.split) ∙ wrong.split))
         (order_of_first (fault.kept ++ keep.element ∷ []) opening.elements keep.others fault.next_id keep.ids
         (subst (AreInOrder opening.elements) ids opening.opening.order))
 

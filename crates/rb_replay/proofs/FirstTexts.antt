@@ -1,6 +1,6 @@
 -- First expiries that follow from the lines are the same where the lines are.
-use Rattle.std.proofs.Common.{◌≡◌, ℕ, ◌==◌, cond, Some, List, [], ◌∷◌, ◌++◌, All, length, map, refl, sym, ap, ◌∙◌, arith}
-use Rattle.std.proofs.lemmas.List.{map-append, length-map}
+use Rattle.std.proofs.Common.{◌≡◌, ℕ, ◌==◌, cond, Some, List, [], ◌∷◌, ◌++◌, All, map, refl, sym, ap, ◌∙◌}
+use Rattle.std.proofs.lemmas.List.{map-append}
 use Rattle.std.proofs.lemmas.List.Elements.{All-head, All-tail}
 use Rattle.rb_delayed.specs.declared.element.Element.{Element}
 use Rattle.rb_queue.specs.Effect.{effect_of, inserted}
@@ -13,26 +13,7 @@ use Rattle.rb_replay.specs.declared.version.Version.{Version}
 use Rattle.rb_replay.specs.declared.version.Version.TheVariants.{One, Two, Three}
 use Rattle.rb_replay.proofs.Elements.{same_element}
 use Rattle.rb_replay.proofs.EventTexts.{told, told_act, told_event}
-
-pub head_of : {X : Type 0} (x y : X) (xs ys : List X) → x ∷ xs ≡ y ∷ ys → x ≡ y
-head_of x y xs ys is = cc
-
-pub tail_of : {X : Type 0} (x y : X) (xs ys : List X) → x ∷ xs ≡ y ∷ ys → xs ≡ ys
-tail_of x y xs ys is = cc
-
--- lists that begin with as many elements have the same parts
-pub same_parts : {X : Type 0} (front other behind rest : List X) → length front ≡ length other → front ++ behind ≡ other ++ rest
-    → (front ≡ other) × (behind ≡ rest)
-same_parts [] [] behind rest long is = (refl, is)
-same_parts [] (y ∷ other) behind rest long is = absurd (omega (arith, long))
-same_parts (x ∷ front) [] behind rest long is = absurd (omega (arith, long))
-same_parts (x ∷ front) (y ∷ other) behind rest long is =
-    let more = same_parts front other behind rest (omega (arith, long)) (tail_of x y (front ++ behind) (other ++ rest) is) in
-    let first = head_of x y (front ++ behind) (other ++ rest) is in
-    (λ i. first i ∷ more.0 i, more.1)
-
-pub same_length : {X Y : Type 0} (f : X → Y) (xs ys : List X) → map f xs ≡ map f ys → length xs ≡ length ys
-same_length f xs ys is = sym (length-map xs f) ∙ ap length is ∙ length-map ys f
+use Rattle.rb_replay.proofs.Parts.{head_of, tail_of, same_parts, same_length}
 
 -- an element without its first expiry
 abbrev bare : Element → Element

@@ -9,10 +9,10 @@ use Rattle.rb_replay.specs.EventText.{act_words, element_words, given_words}
 use Rattle.rb_replay.specs.Ranges.{IsWord, AreWords, IsRightElement, IsRightGiven, IsRightAct}
 
 -- the first words of the same lists are the same
-pub heads : (one other : List ℕ) (words behind : List (List ℕ)) → one ∷ words ≡ other ∷ behind → one ≡ other
+heads : (one other : List ℕ) (words behind : List (List ℕ)) → one ∷ words ≡ other ∷ behind → one ≡ other
 heads one other words behind is = cc
 
-pub tails_same : (one other : List ℕ) (words behind : List (List ℕ)) → one ∷ words ≡ other ∷ behind → words ≡ behind
+tails_same : (one other : List ℕ) (words behind : List (List ℕ)) → one ∷ words ≡ other ∷ behind → words ≡ behind
 tails_same one other words behind is = cc
 
 -- a number that tells the keywords apart

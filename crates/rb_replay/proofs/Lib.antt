@@ -9,6 +9,7 @@ pub mod Keywords
 pub mod FirstFeeds
 pub mod EventLines
 pub mod Settlings
+pub mod Parts
 pub mod WordTexts
 pub mod EventTexts
 pub mod FirstTexts

@@ -15,7 +15,8 @@ use Rattle.rb_replay.specs.declared.version.Version.{Version}
 use Rattle.rb_replay.specs.declared.version.Version.TheVariants.{One, Two, Three}
 use Rattle.rb_replay.specs.declared.write.TheConstants.{MOST_EVENTS}
 use Rattle.rb_replay.proofs.EventTexts.{event_lines, keep_lines, numbers_line, end_line, header_line, same_version, events_told, keeps_told, told, told_event, SameNumbers, same_numbers}
-use Rattle.rb_replay.proofs.FirstTexts.{head_of, tail_of, same_parts, same_told}
+use Rattle.rb_replay.proofs.FirstTexts.{same_told}
+use Rattle.rb_replay.proofs.Parts.{head_of, tail_of, same_parts}
 use Rattle.rb_replay.proofs.WordTexts.{AreLines, same_lines, lines-append}
 
 -- the lines of events, and the last one

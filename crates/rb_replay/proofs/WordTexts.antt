@@ -15,6 +15,7 @@ use Rattle.rb_protocol.specs.Line.{spaced, words_of}
 use Rattle.rb_protocol.specs.declared.format.TheConstants.{SPACE, LINE_FEED}
 use Rattle.rb_replay.specs.Feeds.{LacksFeed}
 use Rattle.rb_replay.specs.HistoryText.{line_text, lines_text}
+use Rattle.rb_replay.proofs.Parts.{head_of, tail_of}
 
 -- each byte of the word is a visible character
 abbrev pub IsPlain : List ℕ → Type 0
@@ -90,12 +91,6 @@ line_whole [] line = absurd line
 line_whole (word ∷ words) line = feedless-spaced word words line.0 line.1
 
 -- a text has one first line
-head_same : (one other : ℕ) (behind rest : List ℕ) → one ∷ behind ≡ other ∷ rest → one ≡ other
-head_same one other behind rest is = cc
-
-tail_same : (one other : ℕ) (behind rest : List ℕ) → one ∷ behind ≡ other ∷ rest → behind ≡ rest
-tail_same one other behind rest is = cc
-
 no_feed_first : (byte : ℕ) (text : List ℕ) → LacksFeed (byte ∷ text) → LINE_FEED ≡ byte → ⊥
 no_feed_first byte text lacks is =
     let none : (byte == LINE_FEED) ≡ false = All-head (λ b. (b == LINE_FEED) ≡ false) byte text lacks in
@@ -104,13 +99,13 @@ no_feed_first byte text lacks is =
 
 pub cut_once : (line other behind rest : List ℕ) → LacksFeed line → LacksFeed other
     → line ++ (LINE_FEED ∷ behind) ≡ other ++ (LINE_FEED ∷ rest) → (line ≡ other) × (behind ≡ rest)
-cut_once [] [] behind rest whole lacks is = (refl, tail_same _ _ _ _ is)
-cut_once [] (byte ∷ other) behind rest whole lacks is = absurd (no_feed_first byte other lacks (head_same _ _ _ _ is))
-cut_once (byte ∷ line) [] behind rest whole lacks is = absurd (no_feed_first byte line whole (sym (head_same _ _ _ _ is)))
+cut_once [] [] behind rest whole lacks is = (refl, tail_of _ _ _ _ is)
+cut_once [] (byte ∷ other) behind rest whole lacks is = absurd (no_feed_first byte other lacks (head_of _ _ _ _ is))
+cut_once (byte ∷ line) [] behind rest whole lacks is = absurd (no_feed_first byte line whole (sym (head_of _ _ _ _ is)))
 cut_once (byte ∷ line) (next ∷ other) behind rest whole lacks is =
-    let bytes : byte ≡ next = head_same _ _ _ _ is in
+    let bytes : byte ≡ next = head_of _ _ _ _ is in
     let more = cut_once line other behind rest (All-tail (λ b. (b == LINE_FEED) ≡ false) byte line whole)
-    (All-tail (λ b. (b == LINE_FEED) ≡ false) next other lacks) (tail_same _ _ _ _ is) in
+    (All-tail (λ b. (b == LINE_FEED) ≡ false) next other lacks) (tail_of _ _ _ _ is) in
     let lines : line ≡ other = more.0 in
     (cc, more.1)
 
