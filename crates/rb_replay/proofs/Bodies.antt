@@ -131,7 +131,7 @@ tells_run version text rest history tells reads = record {
   split = tells.split ∙ ap (λ t. lines_text (opening_lines version history.opening) ++ t) reads.2;
   begins = tells.begins;
   few = reads.0;
-  right = record { opening = tells.right; events = reads.1 };
+  right = (tells.right, reads.1);
 }
 
 -- a fault of the opening, and of what stands behind it

@@ -16,7 +16,7 @@ tails_same : (one other : List ℕ) (words behind : List (List ℕ)) → one ∷
 tails_same one other words behind is = cc
 
 -- a number that tells the keywords apart
-abbrev mark : List ℕ → ℕ
+abbrev pub mark : List ℕ → ℕ
 mark word = length word * 65536 + get_or word 0 0 * 256 + get_or word 1 0
 
 pub only_offer : (version : Version) (behind : List (List ℕ)) → ((element : Element) → IsRightElement element → behind ≢ element_words version element) → (act : Act) → IsRightAct act

@@ -11,3 +11,11 @@ pub mod EventLines
 pub mod Settlings
 pub mod KeepLines
 pub mod Bodies
+pub mod Parts
+pub mod WordTexts
+pub mod EventTexts
+pub mod FirstTexts
+pub mod OneTexts
+pub mod FaultlessTexts
+pub mod EachReadings
+pub mod WholeTexts

@@ -90,9 +90,8 @@ line_behind One opening = 2
 line_behind version opening = 3 + length opening.elements
 
 -- all values are in their ranges
-pub record IsRightHistory (history : History) : Type 0 where
-  pub opening : IsRightOpening history.opening
-  pub events : AreRightEvents history.events
+abbrev pub IsRightHistory : History → Type 0
+IsRightHistory history = IsRightOpening history.opening × AreRightEvents history.events
 
 -- the lines tell this history, up to what follows of first expiries
 pub record TellsRun (version : Version) (text : List ℕ) (history : History) : Type 0 where

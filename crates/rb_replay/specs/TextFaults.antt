@@ -13,7 +13,7 @@ use Rattle.rb_replay.specs.HistoryText.{line_text, lines_text, opening_lines}
 use Rattle.rb_replay.specs.Feeds.{LacksFeed}
 use Rattle.rb_replay.specs.Ranges.{IsWord, IsRightElement, IsRightEvent, IsRightOpening, AreRightElements, AreRightEvents}
 use Rattle.rb_replay.specs.declared.version.Version.{Version}
-use Rattle.rb_replay.specs.declared.version.Version.TheVariants.{One, Two, Three}
+use Rattle.rb_replay.specs.declared.version.Version.TheVariants.{One}
 use Rattle.rb_replay.specs.declared.text_fault.TextFault.{TextFault}
 use Rattle.rb_replay.specs.declared.text_fault.TextFault.TheVariants.{At, Memory}
 use Rattle.rb_replay.specs.declared.text_fault.TextReason.{TextReason}

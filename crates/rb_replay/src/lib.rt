@@ -9,6 +9,7 @@ mod history;
 mod history_fault;
 mod history_text;
 mod judge;
+mod laws;
 mod legality;
 mod next_line;
 mod next_opening;
@@ -36,6 +37,7 @@ mod write;
 
 pub use history::History;
 pub use history_fault::HistoryFault;
+pub use laws::{no_fault_of_text, no_text_of_two, one_text_each};
 pub use legality::check;
 pub use next_opening::opening_of;
 pub use opening_fault::OpeningFault;
