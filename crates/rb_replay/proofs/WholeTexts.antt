@@ -1,18 +1,20 @@
 -- A text of a history, put together from its header and what was read behind it.
-use Rattle.std.proofs.Common.{◌≡◌, ◌≢◌, ℕ, zero, suc, ◌+◌, ◌<◌, ◌≤◌, List, [], ◌∷◌, ◌++◌, length, map, codes, decimal, refl, sym, ap, ◌∙◌, arith, inr, Err, append_assoc}
+use Rattle.std.proofs.Common.{◌≡◌, ◌≢◌, ℕ, zero, suc, ◌+◌, ◌<◌, ◌≤◌, List, [], ◌∷◌, ◌++◌, length, map, codes, decimal, refl, sym, ap, subst, ◌∙◌, arith, take, drop, inl, inr, ◌⊎◌, Result, Ok, Err, IfOk, append_assoc}
 use Rattle.std.specs.Prelude.{slice_index}
-use Rattle.std.proofs.lemmas.List.{length-map}
+use Rattle.std.proofs.lemmas.List.{length-map, take_at}
 use Rattle.rb_delayed.specs.declared.element.Element.{Element}
 use Rattle.rb_queue.specs.Opening.{ids_of, AreInOrder, IsOpening}
 use Rattle.rb_queue.specs.declared.event.Event.{Event}
 use Rattle.rb_queue.specs.declared.opening.Opening.{Opening}
-use Rattle.rb_replay.specs.BodyReading.{TellsRun, RunFails}
+use Rattle.rb_replay.specs.BodyReading.{IsRightHistory, TellsRun, RunFails}
 use Rattle.rb_replay.specs.EventText.{act_words, event_words, keep_words, header_words, open_words, end_words}
 use Rattle.rb_replay.specs.Firsts.{HaveEarliest, FirstsFollow}
 use Rattle.rb_replay.specs.HistoryText.{line_text, lines_text, opening_lines, text_in}
 use Rattle.rb_replay.specs.Offers.{offers_in}
 use Rattle.rb_replay.specs.Readings.{MayBegin, IsTextIn, Reads}
-use Rattle.rb_replay.specs.Settling.{HasFirsts, IsSettled}
+use Rattle.rb_replay.specs.Settling.{SettlesElements, SettlesEvents, HasFirsts, IsSettled}
+use Rattle.rb_replay.specs.Ranges.{IsWord}
+use Rattle.rb_replay.specs.declared.firsts.Firsts.{Firsts}
 use Rattle.rb_replay.specs.declared.history.History.{History}
 use Rattle.rb_replay.specs.declared.text_fault.TextFault.{TextFault}
 use Rattle.rb_replay.specs.declared.text_fault.TextFault.TheVariants.{At, Memory}
@@ -113,3 +115,28 @@ is_text version text behind told history cut tells settled =
 pub text_fails : (version : Version) (text behind : List ℕ) (fault : TextFault) → text ≡ line_text (header_words version) ++ behind → RunFails version behind fault → Reads text (Err fault)
 text_fails version text behind (At line reason) cut fails = inr (record { version = version; behind = behind; split = cut; fault = fails })
 text_fails version text behind Memory cut fails = tt
+
+-- the elements, and then the events, have the expiries of the earliest
+pub has_firsts : (told history : History) (known after : Firsts) → IsRightHistory told → SettlesElements told.opening.elements known history.opening.elements
+    → SettlesEvents known told.events after history.events → history.opening.next_id ≡ told.opening.next_id → history.opening.last_at ≡ told.opening.last_at
+    → HasFirsts told history
+has_firsts told history known after right elements events next last = record {
+  elements = elements.words;
+  next_id = next;
+  last_at = last;
+  events = events.words;
+  right = (record { last_at = subst IsWord (sym last) right.0.last_at; elements = elements.right right.0.elements }, events.right right.1);
+  firsts = events.firsts history.opening.elements elements.knows elements.firsts;
+}
+
+pub each_settled : {E : Type 0} (version : Version) (told : History) (result : Result History E) → version ≢ Three → IfOk result (HasFirsts told) → IfOk result (IsSettled version told)
+each_settled version told (Ok history) untold has = settled_by_firsts version told history untold has
+each_settled version told (Err fault) untold has = tt
+
+pub untold : (version : Version) → (version ≡ One) ⊎ (version ≡ Two) → version ≢ Three
+untold version (inl is) three = let same : One ≡ Three = sym is ∙ three in absurd (cc)
+untold version (inr is) three = let same : Two ≡ Three = sym is ∙ three in absurd (cc)
+
+-- a list behind which nothing is left
+pub whole_list : {X : Type 0} (new old : List X) (len : ℕ) → length new ≡ len → take len (new ++ drop (length new) old) ≡ new
+whole_list new old len counted = take_at new (drop (length new) old) len counted
