@@ -1,5 +1,5 @@
 -- The words of each line of a history.
-use Rattle.std.specs.Prelude.{ℕ, List, [], ◌∷◌, length, map, codes, decimal, Option, Some, None, if◌then◌else◌}
+use Rattle.std.specs.Prelude.{ℕ, List, [], ◌∷◌, ◌++◌, length, map, codes, decimal, Option, Some, None, if◌then◌else◌}
 use Rattle.rb_delayed.specs.declared.element.Element.{Element}
 use Rattle.rb_queue.specs.declared.act.Act.{Act}
 use Rattle.rb_queue.specs.declared.act.Act.TheVariants.{Offer, Poll, Take, PollFor, Peek, Remove, Drain, Clear, Size}
@@ -8,12 +8,16 @@ use Rattle.rb_queue.specs.declared.opening.Opening.{Opening}
 use Rattle.rb_replay.specs.declared.version.Version.{Version}
 use Rattle.rb_replay.specs.declared.version.Version.TheVariants.{One, Two, Three}
 
--- an element, without the expiry of its origin's first offer where the version does not tell it
+-- the expiry of the origin's first offer, in the version that tells it
+abbrev pub first_words : Version → ℕ → List (List ℕ)
+first_words One first = []
+first_words Two first = []
+first_words Three first = decimal first ∷ []
+
+-- an element
 abbrev pub element_words : Version → Element → List (List ℕ)
-element_words One e = decimal e.id ∷ decimal e.expiry ∷ decimal e.origin ∷ decimal e.attempt ∷ e.payload ∷ []
-element_words Two e = decimal e.id ∷ decimal e.expiry ∷ decimal e.origin ∷ decimal e.attempt ∷ e.payload ∷ []
-element_words Three e =
-    decimal e.id ∷ decimal e.expiry ∷ decimal e.origin ∷ decimal e.first ∷ decimal e.attempt ∷ e.payload ∷ []
+element_words version e =
+    decimal e.id ∷ decimal e.expiry ∷ decimal e.origin ∷ (first_words version e.first ++ (decimal e.attempt ∷ e.payload ∷ []))
 
 -- the id, or that there was none
 abbrev pub given_words : Option ℕ → List (List ℕ)

@@ -9,3 +9,13 @@ pub mod Judging
 pub mod Checking
 pub mod Replaying
 pub mod Opens
+pub mod Ranges
+pub mod LineReading
+pub mod Feeds
+pub mod TextFaults
+pub mod OpeningReading
+pub mod Offers
+pub mod Firsts
+pub mod Readings
+pub mod BodyReading
+pub mod Settling

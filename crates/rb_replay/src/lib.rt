@@ -4,13 +4,24 @@
 //! events that one queue in one thread may have had. Moments and delays are nanoseconds.
 #![tactic(auto)]
 
+mod firsts;
 mod history;
 mod history_fault;
 mod history_text;
 mod judge;
+mod laws;
 mod legality;
+mod next_line;
 mod next_opening;
+mod number;
 mod opening_fault;
+mod read;
+mod read_act;
+mod read_event;
+mod read_events;
+mod read_keeps;
+mod read_opening;
+mod read_run;
 mod reason;
 mod replay;
 mod replay_fault;
@@ -19,15 +30,20 @@ mod standing;
 #[cfg(test)]
 mod tests;
 mod text;
+mod text_fault;
 mod version;
+mod words;
 mod write;
 
 pub use history::History;
 pub use history_fault::HistoryFault;
+pub use laws::{no_fault_of_text, no_text_of_two, one_text_each};
 pub use legality::check;
 pub use next_opening::opening_of;
 pub use opening_fault::OpeningFault;
+pub use read::read_history;
 pub use reason::Reason;
 pub use replay_fault::ReplayFault;
+pub use text_fault::{TextFault, TextReason};
 pub use version::Version;
 pub use write::{MOST_EVENTS, write_history};

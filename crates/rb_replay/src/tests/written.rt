@@ -1,4 +1,5 @@
 use super::*;
+use crate::{no_fault_of_text, no_text_of_two, one_text_each};
 use std::io::{self, ErrorKind, Write};
 
 const EMPTY_RUN: &[u8] = b"history 3\nopen 0 0 0\nend 0\n";
@@ -76,6 +77,9 @@ fn an_empty_run_is_written(rt: HostRuntime) {
     );
     assert_eq!(rt; result, Ok(()));
     assert_eq!(rt; bytes.as_slice(), EMPTY_RUN);
+    one_text_each();
+    no_text_of_two();
+    no_fault_of_text();
 }
 
 #[test]

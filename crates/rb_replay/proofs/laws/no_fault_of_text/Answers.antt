@@ -1,0 +1,5 @@
+use Rattle.rb_replay.proofs.FaultlessTexts.{no_fault_of_text}
+use Rattle.rb_replay.proofs.laws.no_fault_of_text.Goals as goal
+
+pub returns : goal.returns
+returns c = no_fault_of_text

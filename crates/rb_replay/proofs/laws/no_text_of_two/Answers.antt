@@ -1,0 +1,5 @@
+use Rattle.rb_replay.proofs.OneTexts.{no_text_of_two}
+use Rattle.rb_replay.proofs.laws.no_text_of_two.Goals as goal
+
+pub returns : goal.returns
+returns c = no_text_of_two

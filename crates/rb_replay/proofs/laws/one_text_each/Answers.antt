@@ -1,0 +1,5 @@
+use Rattle.rb_replay.proofs.OneTexts.{one_text_each}
+use Rattle.rb_replay.proofs.laws.one_text_each.Goals as goal
+
+pub returns : goal.returns
+returns c = one_text_each

@@ -1,0 +1,30 @@
+use Rattle.std.proofs.Common.{◌≡◌, ℕ, List, [], ◌∷◌, ◌++◌, decimal, map, sym, ap, ◌∙◌, arith, append_assoc}
+use Rattle.std.proofs.lemmas.List.{map-append}
+use Rattle.rb_replay.specs.Ranges.{IsWord, AreWords}
+use Rattle.rb_replay.proofs.Keywords.{ids_stop}
+use Rattle.rb_replay.proofs.read_act.read_ids.Goals as goal
+
+pub returns-in_default-read_number : goal.returns-in_default-read_number
+returns-in_default-read_number c = λ ids all is.
+    let found = ids_stop c.loop-word.ids.items _ _ ids
+    (ap (λ t. map decimal c.loop-word.ids.items ++ t) (sym c.in-Some.ensures.some) ∙ sym c.loop-word.invariant.words ∙ is) all in
+    c.in_default-read_number.ensures.none found.0 found.1 found.2
+
+-- one number more
+words_push : (ids : List ℕ) (id : ℕ) → AreWords ids → IsWord id → AreWords (ids ++ id ∷ [])
+words_push [] id all small = (small, tt)
+words_push (first ∷ ids) id all small = (all.0, words_push ids id all.1 small)
+
+-- one word more
+word_more : (words rest behind : List (List ℕ)) (word : List ℕ) (ids : List ℕ) (id : ℕ) → words ≡ map decimal ids ++ rest → rest ≡ word ∷ behind → word ≡ decimal id
+    → words ≡ map decimal (ids ++ id ∷ []) ++ behind
+word_more words rest behind word ids id so_far cut is =
+    so_far ∙ ap (λ t. map decimal ids ++ t) (cut ∙ ap (λ w. w ∷ behind) is) ∙ sym (append_assoc (map decimal ids) (decimal id ∷ []) behind)
+    ∙ ap (λ t. t ++ behind) (sym (map-append decimal ids (id ∷ [])))
+
+pub loop-word-preserved : goal.loop-word-preserved
+loop-word-preserved c = record {
+  words = rw c.in_ok-push.ensures.items
+      (word_more _ _ _ _ c.loop-word.ids.items c.in-Some-read_number.id c.loop-word.invariant.words c.in-Some.ensures.some c.in-Some-read_number.ensures.some);
+  right = rw c.in_ok-push.ensures.items (words_push c.loop-word.ids.items c.in-Some-read_number.id c.loop-word.invariant.right (omega arith));
+}

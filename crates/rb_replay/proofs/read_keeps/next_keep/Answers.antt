@@ -1,0 +1,11 @@
+use Rattle.std.proofs.Common.{inl, inr}
+use Rattle.rb_replay.proofs.KeepLines.{keeps_none}
+use Rattle.rb_replay.proofs.read_keeps.next_keep.Goals as goal
+
+pub returns-then-element-least-clause-none : goal.returns-then-element-least-clause-none
+returns-then-element-least-clause-none c =
+    keeps_none c.args.version c.args.least c.args.end _ c.in_ok-element.element c.in_ok-element.ensures.some c.in_ok-element.ensures.right (inl c.if-element-least.true)
+
+pub returns-then-element-end-clause-none : goal.returns-then-element-end-clause-none
+returns-then-element-end-clause-none c =
+    keeps_none c.args.version c.args.least c.args.end _ c.in_ok-element.element c.in_ok-element.ensures.some c.in_ok-element.ensures.right (inr c.if-element-end.true)

@@ -1,0 +1,9 @@
+use Rattle.std.proofs.lemmas.Result.{err_from_is_err_and}
+use Rattle.rb_replay.proofs.Bodies.{run_fails}
+use Rattle.rb_replay.proofs.read_run.read_run.Goals as goal
+
+pub returns-in_err-events-clause-err : goal.returns-in_err-events-clause-err
+returns-in_err-events-clause-err c =
+    let p = err_from_is_err_and c.from_residual.result c.from_residual.ensures.1 in
+    rw (p.1, p.2)
+    (run_fails c.args.version c.args.text.now c.in-Ok.cut.1.now c.in-Ok.cut.0 _ _ c.in-Ok.ensures.ok c.line_behind-first.ensures.number c.in_err-events.ensures)

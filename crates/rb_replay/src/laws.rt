@@ -1,0 +1,17 @@
+ghost use Rattle.rb_replay.specs.Readings.{OneTextEach, NoTextOfTwo, NoFaultOfText};
+
+/// A history has one text in each version.
+pub fn one_text_each()
+    ensures { OneTextEach }
+{}
+
+/// No text is of two histories, nor of one in two versions. The values are within their ranges: numbers
+/// of 64 bits, and payloads.
+pub fn no_text_of_two()
+    ensures { NoTextOfTwo }
+{}
+
+/// A text of a history has no fault, so that it can be read. The values are within their ranges.
+pub fn no_fault_of_text()
+    ensures { NoFaultOfText }
+{}

@@ -1,0 +1,81 @@
+ghost use Rattle.std.specs.Prelude.{IfOk};
+ghost use Rattle.rb_replay.specs.Readings.{Reads, ReadsEach};
+ghost use Rattle.rb_replay.specs.BodyReading.{IsRightHistory};
+ghost use Rattle.rb_replay.specs.Settling.{IsSettled, HasFirsts};
+
+use crate::firsts::Firsts;
+use crate::history::History;
+use crate::read_opening::read_header;
+use crate::read_run::read_run;
+use crate::text_fault::{TextFault, TextReason, at};
+use crate::version::Version;
+use rb_queue::{Items, Opening, Sequence};
+use std::alloc::{AllocError, Global};
+
+/// Reads the text of a history, in any of its versions. Memory is taken for the elements and the events
+/// of the lines that are there.
+///
+/// A text that is no history's is answered by its first fault, and the number of its line from 1:
+/// `Header` where the first line is none of the headers; `Opening` where a line of the opening is none,
+/// or passes a limit; `Line` where another line is neither an event's nor the last; `Many` where an
+/// event's line stands behind 1,000,000 others; `Count` where the last line tells another number than
+/// that of the events; `Trailing` where bytes stand behind it; `End` where the text stops before its
+/// end. `Memory` is answered where there is none for what the text tells.
+pub fn read_history(alloc: Global, text: &[u8]) -> Result<History, TextFault>
+    ensures reads { Reads text.now result }
+    ensures each { ReadsEach text.now result }
+{
+    read_right(alloc, text)
+}
+
+// Reads a text. All numbers that it tells are of 64 bits.
+fn read_right(alloc: Global, text: &[u8]) -> Result<History, TextFault>
+    ensures reads { Reads text.now result }
+    ensures right { IfOk result IsRightHistory }
+{
+    let Some((version, behind)) = read_header(text) else {
+        return Err(at(1, TextReason::Header));
+    };
+    let told = read_run(alloc, version, behind)?;
+    let Ok(history) = settled(alloc, version, told) else {
+        return Err(TextFault::Memory);
+    };
+    Ok(history)
+}
+
+// The history with the first expiries that its version does not tell.
+fn settled(alloc: Global, version: Version, told: History) -> Result<History, AllocError>
+    requires { IsRightHistory told }
+    ensures { IfOk result (IsSettled version told) }
+{
+    match version {
+        Version::Three => Ok(told),
+        Version::One | Version::Two => with_firsts(alloc, told),
+    }
+}
+
+// The history in which an element's first expiry is that of the earliest line with its origin.
+fn with_firsts(alloc: Global, told: History) -> Result<History, AllocError>
+    requires { IsRightHistory told }
+    ensures { IfOk result (HasFirsts told) }
+{
+    let History { opening, events } = told;
+    let Opening {
+        elements,
+        next_id,
+        last_at,
+    } = opening;
+    let mut firsts = Firsts::new(alloc);
+    let mut kept = elements.into_vec();
+    firsts.settle_elements(&mut kept)?;
+    let mut events = events.into_vec();
+    firsts.settle_events(&mut events)?;
+    Ok(History {
+        opening: Opening {
+            elements: Items::new(kept),
+            next_id,
+            last_at,
+        },
+        events: Sequence::new(events),
+    })
+}
