@@ -4,3 +4,5 @@ pub mod Elements
 pub mod Judgements
 pub mod Replays
 pub mod Ordered
+pub mod Registers
+pub mod ChainedHistories

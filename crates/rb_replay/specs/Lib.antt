@@ -3,9 +3,17 @@ pub mod HistoryText
 pub mod Written
 pub mod Tails
 pub mod ReasonText
+pub mod Tests
 pub mod Refusal
 pub mod Standing
 pub mod Judging
 pub mod Checking
 pub mod Replaying
 pub mod Opens
+pub mod Offers
+pub mod Gifts
+pub mod Links
+pub mod LinkTests
+pub mod Chaining
+pub mod ChainReasonText
+pub mod Registering

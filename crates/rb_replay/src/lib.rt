@@ -4,14 +4,19 @@
 //! events that one queue in one thread may have had. Moments and delays are nanoseconds.
 #![tactic(auto)]
 
+mod attempt;
+mod chain_fault;
+mod chain_reason;
 mod history;
 mod history_fault;
 mod history_text;
 mod judge;
 mod legality;
+mod linkage;
 mod next_opening;
 mod opening_fault;
 mod reason;
+mod register;
 mod replay;
 mod replay_fault;
 mod send;
@@ -22,9 +27,12 @@ mod text;
 mod version;
 mod write;
 
+pub use chain_fault::ChainFault;
+pub use chain_reason::ChainReason;
 pub use history::History;
 pub use history_fault::HistoryFault;
 pub use legality::check;
+pub use linkage::chains;
 pub use next_opening::opening_of;
 pub use opening_fault::OpeningFault;
 pub use reason::Reason;
