@@ -27,7 +27,7 @@ use Rattle.rb_queue.proofs.Bags.{get_inserted, get_removed, get_inserted_same, g
 use Rattle.rb_replay.specs.Standing.{AreFiled, HasElements}
 
 -- the order of the two ids that are compared has no meaning
-flipped : (k q : ℕ) → eq_by_cmp nat_cmp k q ≡ eq_by_cmp nat_cmp q k
+pub flipped : (k q : ℕ) → eq_by_cmp nat_cmp k q ≡ eq_by_cmp nat_cmp q k
 flipped k q = (eq_by_cmp_equiv nat_cmp_total).symm k q
 
 -- entries that are filed stay so where the end comes later, where one is put in, and where one is taken out

@@ -19,3 +19,5 @@ pub mod OneTexts
 pub mod FaultlessTexts
 pub mod EachReadings
 pub mod WholeTexts
+pub mod Registers
+pub mod ChainedHistories

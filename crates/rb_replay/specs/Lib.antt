@@ -3,6 +3,7 @@ pub mod HistoryText
 pub mod Written
 pub mod Tails
 pub mod ReasonText
+pub mod Tests
 pub mod Refusal
 pub mod Standing
 pub mod Judging
@@ -19,3 +20,9 @@ pub mod Firsts
 pub mod Readings
 pub mod BodyReading
 pub mod Settling
+pub mod Gifts
+pub mod Links
+pub mod LinkTests
+pub mod Chaining
+pub mod ChainReasonText
+pub mod Registering

@@ -1,6 +1,6 @@
 -- Why an event is not allowed: the first of its tests that fails. The tests of an act are all that the
 -- queue permits by it.
-use Rattle.std.specs.Prelude.{◌≡◌, ℕ, ◌<◌, ◌≤◌, ◌↔◌, ◌⊎◌, max, IsTrue, IsSome, IsSomeAnd, List, [], ◌∷◌, ◌++◌, length, Some, None}
+use Rattle.std.specs.Prelude.{◌≡◌, ℕ, ◌<◌, ◌≤◌, ◌↔◌, max, IsTrue, IsSome, IsSomeAnd, List, [], ◌∷◌, ◌++◌, length, Some, None}
 use Rattle.std.specs.FinMap as map
 use Rattle.rb_queue.specs.Bag.{Bag, NoneExpired}
 use Rattle.rb_queue.specs.Head.{IsLeast, IsHeadId}
@@ -11,16 +11,9 @@ use Rattle.rb_queue.specs.declared.act.Act.{Act}
 use Rattle.rb_queue.specs.declared.act.Act.TheVariants.{Offer, Poll, Take, PollFor, Peek, Remove, Drain, Clear, Size}
 use Rattle.rb_queue.specs.declared.event.Event.{Event}
 use Rattle.rb_queue.specs.declared.opening.Opening.{Opening}
+pub use Rattle.rb_replay.specs.Tests.{Test, NoTest}
 use Rattle.rb_replay.specs.declared.reason.Reason.{Reason}
 use Rattle.rb_replay.specs.declared.reason.Reason.TheVariants.{BadMoment, BadId, NotInQueue, NotLeast, NotExpired, NotNone, TooEarly, WrongFound, TooMany, NotAll, WrongSize}
-
--- a test with the reason where it fails, and the tests behind it
-abbrev pub Test : Type 0 → Reason → (Reason → Type 0) → Reason → Type 0
-Test holds named others reason = (¬ holds × (reason ≡ named)) ⊎ (holds × others reason)
-
--- no test is left that could fail
-abbrev pub NoTest : Reason → Type 0
-NoTest reason = ⊥
 
 -- the element of the id is in the bag, and it is least
 abbrev pub IsLeastId : Bag → ℕ → Type 0

@@ -4,6 +4,9 @@
 //! events that one queue in one thread may have had. Moments and delays are nanoseconds.
 #![tactic(auto)]
 
+mod attempt;
+mod chain_fault;
+mod chain_reason;
 mod firsts;
 mod history;
 mod history_fault;
@@ -11,6 +14,7 @@ mod history_text;
 mod judge;
 mod laws;
 mod legality;
+mod linkage;
 mod next_line;
 mod next_opening;
 mod number;
@@ -23,6 +27,7 @@ mod read_keeps;
 mod read_opening;
 mod read_run;
 mod reason;
+mod register;
 mod replay;
 mod replay_fault;
 mod send;
@@ -35,10 +40,13 @@ mod version;
 mod words;
 mod write;
 
+pub use chain_fault::ChainFault;
+pub use chain_reason::ChainReason;
 pub use history::History;
 pub use history_fault::HistoryFault;
 pub use laws::{no_fault_of_text, no_text_of_two, one_text_each};
 pub use legality::check;
+pub use linkage::chains;
 pub use next_opening::opening_of;
 pub use opening_fault::OpeningFault;
 pub use read::read_history;
