@@ -1,6 +1,7 @@
 ghost use Rattle.std.specs.Prelude.{◌≡◌, ◌≤◌, ◌↔◌, ℕ, List, [], Some, None, Option, Ok, IsTrue, vec_capacity};
 ghost use Rattle.rb_protocol.specs.declared.request.Request.TheVariants.{Quit};
-ghost use Rattle.rb_session.specs.Buffer.{IsUnserved};
+ghost use Rattle.rb_session.specs.Buffer.{IsUnserved, TakesMore};
+ghost use Rattle.rb_session.specs.Lines.{HasNoFeed};
 ghost use Rattle.rb_session.specs.Turn.{point};
 ghost use Rattle.rb_session.specs.Ran.{Ran};
 ghost use Rattle.rb_session.specs.Outlet.{RanThrough, HandedOn};
@@ -20,7 +21,7 @@ use crate::stop::Stop;
 use rb_protocol::{ErrorWord, LineFault, LineReply, REPLY_ROOM, Request};
 use rb_retry::{Desk, Policy};
 use std::alloc::Global;
-use std::io::{ErrorKind, Read, Write};
+use std::io::{self, ErrorKind, Read, Write};
 
 /// How often a session reads at most.
 const MOST_READS: u64 = 10_000_000;
@@ -138,7 +139,7 @@ fn serve_reads<R: Read, O: Outlet, D: Desk>(
         if outlet.hand_on().is_err() {
             return Stop::Write;
         }
-        match buffer.read_from(reader) {
+        match read_more(reader, outlet, buffer) {
             Ok(0) => return finish(buffer, outlet, text, held),
             Ok(_) => {}
             Err(error) if error.kind() == ErrorKind::Interrupted => continue,
@@ -149,6 +150,19 @@ fn serve_reads<R: Read, O: Outlet, D: Desk>(
         }
     }
     Stop::ReadTurns
+}
+
+// Reads once. Nothing may be held back then, so that no client waits for a reply that it has not got.
+fn read_more<R: Read, O: Outlet>(
+    reader: &mut R,
+    _outlet: &O,
+    buffer: &mut LineBuffer,
+) -> io::Result<usize>
+    requires { O.IsClear _outlet.now }
+    ensures { (bytes stream : List ℕ) → IsUnserved buffer.old bytes → HasNoFeed bytes → R.remaining reader.old ≡ Some stream
+        → TakesMore bytes stream result buffer.new (R.remaining reader.new) }
+{
+    buffer.read_from(reader)
 }
 
 // Serves each whole line of the buffer, until one stops the session.

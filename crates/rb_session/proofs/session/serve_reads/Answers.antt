@@ -48,7 +48,7 @@ unfolding stands_kept
 returns-in-Ok-eq0-clause-stops g c stream before readable writable =
     let s = c.loop.invariant.stands stream before readable writable in
     let now = stands_kept g.D.Desk.gives g.D.Desk.Sets g.D.Desk.Steps c.args.policy.now (g.O.Outlet.contents c.loop.outlet) (g.O.Outlet.contents c.hand_on.new.self) c.hand_on.ensures.kept _ (point (g.D.Desk.state c.loop.desk) c.loop.held) s.1 before s.4 in
-    let more = subst (λ (r : Result ℕ Error). TakesMore now.rest s.0 r c.read_from.new.self (g.R.Read.remaining c.read_from.new.reader)) c.in-Ok-eq0.is (c.read_from.ensures now.rest s.0 s.6 s.5 s.2) in
+    let more = subst (λ (r : Result ℕ Error). TakesMore now.rest s.0 r c.read_more.new.buffer (g.R.Read.remaining c.read_more.new.reader)) c.in-Ok-eq0.is (c.read_more.ensures now.rest s.0 s.6 s.5 s.2) in
     let zero : c.in-Ok-eq0.field-0 ≡ 0 = grind (arith, nat_tests, c.in-Ok-eq0.field-0-test) in
     let none : s.0 ≡ [] = more.5 zero in
     let nothing : more.0 ≡ [] = nothing_left more.0 more.1 (sym more.2 ∙ none) in
@@ -72,7 +72,7 @@ unfolding stands_kept
 returns-in-Ok-eq0-clause-clear g c stream before readable writable =
     let s = c.loop.invariant.stands stream before readable writable in
     let now = stands_kept g.D.Desk.gives g.D.Desk.Sets g.D.Desk.Steps c.args.policy.now (g.O.Outlet.contents c.loop.outlet) (g.O.Outlet.contents c.hand_on.new.self) c.hand_on.ensures.kept _ (point (g.D.Desk.state c.loop.desk) c.loop.held) s.1 before s.4 in
-    let more = subst (λ (r : Result ℕ Error). TakesMore now.rest s.0 r c.read_from.new.self (g.R.Read.remaining c.read_from.new.reader)) c.in-Ok-eq0.is (c.read_from.ensures now.rest s.0 s.6 s.5 s.2) in
+    let more = subst (λ (r : Result ℕ Error). TakesMore now.rest s.0 r c.read_more.new.buffer (g.R.Read.remaining c.read_more.new.reader)) c.in-Ok-eq0.is (c.read_more.ensures now.rest s.0 s.6 s.5 s.2) in
     clear_at_end _ c.finish.result _ _ _ (c.finish.ensures.ends (now.rest ++ more.0) (before ++ answers_of now.turns) more.4 now.wrote)
 
 -- all was handed on before the read
@@ -86,7 +86,7 @@ unfolding stands_kept
 returns-in-Some-clause-clear g c stream before readable writable =
     let s = c.loop.invariant.stands stream before readable writable in
     let now = stands_kept g.D.Desk.gives g.D.Desk.Sets g.D.Desk.Steps c.args.policy.now (g.O.Outlet.contents c.loop.outlet) (g.O.Outlet.contents c.hand_on.new.self) c.hand_on.ensures.kept _ (point (g.D.Desk.state c.loop.desk) c.loop.held) s.1 before s.4 in
-    let more = subst (λ (r : Result ℕ Error). TakesMore now.rest s.0 r c.read_from.new.self (g.R.Read.remaining c.read_from.new.reader)) c.in-Ok.is (c.read_from.ensures now.rest s.0 s.6 s.5 s.2) in
+    let more = subst (λ (r : Result ℕ Error). TakesMore now.rest s.0 r c.read_more.new.buffer (g.R.Read.remaining c.read_more.new.reader)) c.in-Ok.is (c.read_more.ensures now.rest s.0 s.6 s.5 s.2) in
     let served = subst (λ (o : Option Stop). ServesLines g.D.Desk.gives g.D.Desk.Sets g.D.Desk.Steps c.args.policy.now (point (g.D.Desk.state c.loop.desk) c.loop.held) (now.rest ++ more.0) (before ++ answers_of now.turns) o
     c.serve_lines.new.buffer (point (g.D.Desk.state c.serve_lines.new.desk) c.serve_lines.new.held) (g.O.Outlet.contents c.serve_lines.new.outlet))
     c.in-Some.is (c.serve_lines.ensures.served (now.rest ++ more.0) (before ++ answers_of now.turns) more.4 now.wrote) in
@@ -98,7 +98,7 @@ loop-preserved-in-Err g c = record {
   stands = λ stream before readable writable.
       let s = c.loop.invariant.stands stream before readable writable in
       let now = stands_kept g.D.Desk.gives g.D.Desk.Sets g.D.Desk.Steps c.args.policy.now (g.O.Outlet.contents c.loop.outlet) (g.O.Outlet.contents c.hand_on.new.self) c.hand_on.ensures.kept _ (point (g.D.Desk.state c.loop.desk) c.loop.held) s.1 before s.4 in
-      let failed = subst (λ (r : Result ℕ Error). TakesMore now.rest s.0 r c.read_from.new.self (g.R.Read.remaining c.read_from.new.reader)) c.in-Err.is (c.read_from.ensures now.rest s.0 s.6 s.5 s.2) in
+      let failed = subst (λ (r : Result ℕ Error). TakesMore now.rest s.0 r c.read_more.new.buffer (g.R.Read.remaining c.read_more.new.reader)) c.in-Err.is (c.read_more.ensures now.rest s.0 s.6 s.5 s.2) in
       (s.0, s.1, failed.0, s.3, now, s.5, failed.1);
   room = c.loop.invariant.room;
   becomes = g.met.O.Outlet.goes_on _ _ _ c.loop.invariant.becomes c.hand_on.ensures.becomes;
@@ -110,7 +110,7 @@ unfolding stands_kept
 returns-in-Err-2-clause-stops g c stream before readable writable =
     let s = c.loop.invariant.stands stream before readable writable in
     let now = stands_kept g.D.Desk.gives g.D.Desk.Sets g.D.Desk.Steps c.args.policy.now (g.O.Outlet.contents c.loop.outlet) (g.O.Outlet.contents c.hand_on.new.self) c.hand_on.ensures.kept _ (point (g.D.Desk.state c.loop.desk) c.loop.held) s.1 before s.4 in
-    let failed = subst (λ (r : Result ℕ Error). TakesMore now.rest s.0 r c.read_from.new.self (g.R.Read.remaining c.read_from.new.reader)) c.in-Err-2.is (c.read_from.ensures now.rest s.0 s.6 s.5 s.2) in
+    let failed = subst (λ (r : Result ℕ Error). TakesMore now.rest s.0 r c.read_more.new.buffer (g.R.Read.remaining c.read_more.new.reader)) c.in-Err-2.is (c.read_more.ensures now.rest s.0 s.6 s.5 s.2) in
     breaks_off g.D.Desk.gives g.D.Desk.Sets g.D.Desk.Steps c.args.policy.now _ (point (g.D.Desk.state c.loop.desk) c.loop.held) stream s.1 before s.0 _ now s.3 _ failed.0 s.5
 
 pub returns-in-Some-clause-stops : goal.returns-in-Some-clause-stops
@@ -118,7 +118,7 @@ unfolding stands_kept
 returns-in-Some-clause-stops g c stream before readable writable =
     let s = c.loop.invariant.stands stream before readable writable in
     let now = stands_kept g.D.Desk.gives g.D.Desk.Sets g.D.Desk.Steps c.args.policy.now (g.O.Outlet.contents c.loop.outlet) (g.O.Outlet.contents c.hand_on.new.self) c.hand_on.ensures.kept _ (point (g.D.Desk.state c.loop.desk) c.loop.held) s.1 before s.4 in
-    let more = subst (λ (r : Result ℕ Error). TakesMore now.rest s.0 r c.read_from.new.self (g.R.Read.remaining c.read_from.new.reader)) c.in-Ok.is (c.read_from.ensures now.rest s.0 s.6 s.5 s.2) in
+    let more = subst (λ (r : Result ℕ Error). TakesMore now.rest s.0 r c.read_more.new.buffer (g.R.Read.remaining c.read_more.new.reader)) c.in-Ok.is (c.read_more.ensures now.rest s.0 s.6 s.5 s.2) in
     let served = subst (λ (o : Option Stop). ServesLines g.D.Desk.gives g.D.Desk.Sets g.D.Desk.Steps c.args.policy.now (point (g.D.Desk.state c.loop.desk) c.loop.held) (now.rest ++ more.0) (before ++ answers_of now.turns) o
     c.serve_lines.new.buffer (point (g.D.Desk.state c.serve_lines.new.desk) c.serve_lines.new.held) (g.O.Outlet.contents c.serve_lines.new.outlet))
     c.in-Some.is (c.serve_lines.ensures.served (now.rest ++ more.0) (before ++ answers_of now.turns) more.4 now.wrote) in
@@ -130,7 +130,7 @@ loop-preserved g c = record {
   stands = λ stream before readable writable.
       let s = c.loop.invariant.stands stream before readable writable in
       let now = stands_kept g.D.Desk.gives g.D.Desk.Sets g.D.Desk.Steps c.args.policy.now (g.O.Outlet.contents c.loop.outlet) (g.O.Outlet.contents c.hand_on.new.self) c.hand_on.ensures.kept _ (point (g.D.Desk.state c.loop.desk) c.loop.held) s.1 before s.4 in
-      let more = subst (λ (r : Result ℕ Error). TakesMore now.rest s.0 r c.read_from.new.self (g.R.Read.remaining c.read_from.new.reader)) c.in-Ok.is (c.read_from.ensures now.rest s.0 s.6 s.5 s.2) in
+      let more = subst (λ (r : Result ℕ Error). TakesMore now.rest s.0 r c.read_more.new.buffer (g.R.Read.remaining c.read_more.new.reader)) c.in-Ok.is (c.read_more.ensures now.rest s.0 s.6 s.5 s.2) in
       let on = c.in_default.ensures.served (now.rest ++ more.0) (before ++ answers_of now.turns) more.4 now.wrote in (
         more.1,
         s.1 ++ more.0,
@@ -153,3 +153,7 @@ returns-clause-stops g c stream before readable writable =
 
 pub returns-then-is_err-clause-becomes : goal.returns-then-is_err-clause-becomes
 returns-then-is_err-clause-becomes g c = g.met.O.Outlet.goes_on _ _ _ c.loop.invariant.becomes c.hand_on.ensures.becomes
+
+-- all was handed on before the read
+pub read_more-requires : goal.read_more-requires
+read_more-requires g c = went c.hand_on.result _ (sym c.is_err.ensures.value ∙ c.if-is_err.false) c.hand_on.ensures.clear
