@@ -31,5 +31,8 @@ pub fn run_gathered<R: Read, W: Write, D: Desk>(
         return Err(SessionFault::Memory);
     };
     let mut outlet = Gathering::new(writer, room);
-    run_session_through(alloc, reader, &mut outlet, desk, policy)
+    let ended = run_session_through(alloc, reader, &mut outlet, desk, policy);
+    // The proof reads here what the writer has got.
+    let _ = &*outlet.into_writer();
+    ended
 }

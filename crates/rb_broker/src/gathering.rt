@@ -1,4 +1,4 @@
-ghost use Rattle.std.specs.Prelude.{◌≡◌, ◌≤◌, [], OnOk, drop, vec_len};
+ghost use Rattle.std.specs.Prelude.{◌≡◌, ◌≤◌, ◌+◌, ◌++◌, ℕ, List, [], OnOk, MatchResult, Some, drop, take, vec_len, vec_capacity};
 ghost use Rattle.std.specs.Io.KnownBytes.{append_known, Keeps};
 ghost use Rattle.std.proofs.Common.{refl, ◌∙◌};
 ghost use Rattle.rb_broker.specs.Growth.{Grows, grows_same, grows_on};
@@ -30,8 +30,19 @@ impl<'a, W: Write> Gathering<'a, W> {
         }
     }
 
+    /// The writer. What is still gathered is dropped.
+    pub fn into_writer(self) -> &'a mut W
+        ensures same_reference { result.ghost_name ≡ self.entry.writer.ghost_name }
+        ensures same { result.now ≡ self.entry.writer.now }
+    {
+        let Gathering { writer, .. } = self;
+        writer
+    }
+
     // How many bytes can still be gathered.
-    fn room(&self) -> usize {
+    fn room(&self) -> usize
+        ensures { vec_len self.now.gathered + result ≤ vec_capacity self.now.gathered }
+    {
         self.gathered.capacity() - self.gathered.len()
     }
 
@@ -89,7 +100,11 @@ impl<W: Write> Outlet for Gathering<'_, W> {
 }
 
 // Sends a line that is longer than all the room.
-fn send_at_once<W: Write>(writer: &mut W, line: &[u8]) -> Result<(), WriteFault> {
+fn send_at_once<W: Write>(writer: &mut W, line: &[u8]) -> Result<(), WriteFault>
+    ensures { (before : List ℕ) → W.contents writer.old ≡ Some before → MatchResult result
+        (λ _. W.contents writer.new ≡ Some (before ++ line.now))
+        (λ _. (taken : ℕ) × (W.contents writer.new ≡ Some (before ++ take taken line.now))) }
+{
     send_line(writer, line)?;
     flush(writer)
 }
