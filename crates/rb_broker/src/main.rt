@@ -12,6 +12,8 @@ mod command_line_rows;
 mod gathered;
 mod gathering;
 #[cfg(test)]
+mod gathering_rows;
+#[cfg(test)]
 mod large_rows;
 #[cfg(test)]
 mod retry_rows;
