@@ -10,7 +10,7 @@ use Rattle.rb_retry.specs.declared.desk_fault.DeskFault.{DeskFault}
 use Rattle.rb_retry.specs.declared.policy.Policy.{Policy}
 use Rattle.rb_session.specs.Turn.{Point, point}
 use Rattle.rb_session.specs.Session.{answers_of, texts_of}
-use Rattle.rb_session.specs.Ran.{IsWhole, BreaksOff, Ran}
+use Rattle.rb_session.specs.Ran.{IsWhole, BreaksOff}
 use Rattle.rb_session.specs.Outlet.{FailsToSend, RanThrough, HandedOn}
 use Rattle.rb_session.specs.declared.ended.Ended.{Ended}
 use Rattle.rb_session.specs.declared.ended.Ended.TheVariants.{Quit, EndOfInput}

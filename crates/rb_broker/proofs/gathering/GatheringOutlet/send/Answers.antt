@@ -1,4 +1,4 @@
-use Rattle.std.proofs.Common.{arith, ◌∙◌, sym}
+use Rattle.std.proofs.Common.{arith}
 use Rattle.rb_broker.specs.Growth.{grows_on}
 use Rattle.rb_broker.proofs.Gatherings.{kept_known, sends_past, sends_grow}
 use Rattle.rb_broker.proofs.gathering.GatheringOutlet.send.Goals as goal
