@@ -3,8 +3,11 @@ pub use Rattle.rb_retry.specs.KeptSteps
 pub use Rattle.rb_session.specs.Turn
 pub use Rattle.rb_session.specs.Session
 pub use Rattle.rb_session.specs.Ran
+pub use Rattle.rb_session.specs.Outlet
 pub mod BrokerFault
 pub mod TimerKind
+pub mod Growth
+pub mod Gathered
 pub mod Script
 pub mod CommandLine
 pub mod ExitStatus

@@ -4,10 +4,10 @@ use Rattle.rb_ledger.specs.Totals.{nothing}
 use Rattle.rb_kept.specs.Log.{Log}
 use Rattle.rb_retry.specs.KeptSteps.{KeptState, KeptSteps, SetsKept}
 use Rattle.rb_retry.specs.declared.policy.Policy.{Policy}
-use Rattle.rb_session.specs.Ran.{Ran}
 use Rattle.rb_session.specs.declared.ended.Ended.{Ended}
 use Rattle.rb_session.specs.declared.session_fault.SessionFault.{SessionFault}
 use Rattle.rb_broker.specs.BrokerFault.{fault_of_session}
+use Rattle.rb_broker.specs.Gathered.{RanGathered}
 use Rattle.rb_broker.specs.declared.broker_fault.BrokerFault.{BrokerFault}
 
 -- a log that begins with an empty queue at moment 0, with no call yet and room for so many
@@ -31,11 +31,11 @@ ends_as (Ok ended) = Ok ended
 ends_as (Err fault) = Err (fault_of_session fault)
 
 -- The run went from a new desk to some other, whose log has its history, and read and wrote what a
--- session does on this way.
+-- session does on this way whose replies are gathered.
 pub record RanScript (policy : Policy) (calls : ℕ) (stream before : List ℕ) (result : Result Ended BrokerFault) (left written : Option (List ℕ)) : Type 0 where
   pub from : KeptState
   pub new : IsNew from calls
   pub to : KeptState
   pub ended : Result Ended SessionFault
   pub result_is : result ≡ ends_as ended
-  pub ran : Ran (λ desk moment. moment ≡ desk.moment) SetsKept KeptSteps policy from stream before ended to left written
+  pub ran : RanGathered (λ desk moment. moment ≡ desk.moment) SetsKept KeptSteps policy from stream before ended to left written

@@ -9,6 +9,10 @@ mod broker_fault;
 mod command_line;
 #[cfg(test)]
 mod command_line_rows;
+mod gathered;
+mod gathering;
+#[cfg(test)]
+mod gathering_rows;
 #[cfg(test)]
 mod large_rows;
 #[cfg(test)]

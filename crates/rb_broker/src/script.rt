@@ -3,13 +3,14 @@ ghost use Rattle.rb_kept.specs.declared.kept.TheConstants.{MOST_CALLS};
 ghost use Rattle.rb_broker.specs.Script.{RanScript};
 
 use crate::broker_fault::BrokerFault;
+use crate::gathered::run_gathered;
 use crate::script_options::ScriptOptions;
 use crate::timer_kind::TimerKind;
 use rb_binary::BinaryTimer;
 use rb_kept::Kept;
 use rb_pairing::PairingTimer;
 use rb_retry::{KeptDesk, Policy};
-use rb_session::{Ended, run_session};
+use rb_session::Ended;
 use rb_timer::{ListTimer, Timer};
 use rb_wheel::WheelTimer;
 use std::alloc::Global;
@@ -18,7 +19,7 @@ use std::io::{Read, Write};
 /// Runs one session over an empty queue, from a reader to a writer.
 ///
 /// The room for the calls is taken before the first read. What is written is the text of the session,
-/// whichever timer is chosen.
+/// whichever timer is chosen. It is gathered: the writer gets it before each read and at the end.
 pub fn run_script<R: Read, W: Write>(
     alloc: Global,
     options: &ScriptOptions,
@@ -55,7 +56,7 @@ fn run_on<T: Timer, R: Read, W: Write>(
         return Err(BrokerFault::Memory);
     };
     let mut desk = KeptDesk::new(&mut kept, &mut tally);
-    match run_session(alloc, reader, writer, &mut desk, policy) {
+    match run_gathered(alloc, reader, writer, &mut desk, policy) {
         Ok(ended) => Ok(ended),
         Err(fault) => Err(BrokerFault::from(fault)),
     }

@@ -390,7 +390,8 @@ fn an_interrupted_read_is_made_again(rt: HostRuntime) {
     }
 }
 
-// Each reply is one write and one flush, so call 2 k is the write of reply k, and the next its flush.
+// Where each read gives one byte, each reply is handed on by one write and one flush. So call 2 k is
+// the write of reply k, and the next its flush.
 #[test]
 fn a_writer_that_fails_ends_the_session(rt: HostRuntime) {
     for (script, replies, calls) in [
@@ -426,7 +427,7 @@ fn expect_write_fault(
     let mut writer = Held::new(alloc);
     let fault = Fault::Fails;
     writer.fault = Some(FaultAt { call, fault });
-    let mut reader = Pieces::of(script, usize::MAX);
+    let mut reader = Pieces::of(script, 1);
     let result = run(rt, alloc, timer, 10, &mut reader, &mut writer);
     assert_eq!(rt; result, Err(BrokerFault::Write), "{call}");
     assert_eq!(rt;
@@ -445,7 +446,7 @@ fn a_writer_that_takes_nothing_ends_the_session(rt: HostRuntime) {
         let fault = Fault::TakesNothing;
         let call = 2 * lines;
         writer.fault = Some(FaultAt { call, fault });
-        let mut reader = Pieces::of(FIRST_SCRIPT, usize::MAX);
+        let mut reader = Pieces::of(FIRST_SCRIPT, 1);
         let result = run(&rt, alloc, TimerKind::List, 10, &mut reader, &mut writer);
         assert_eq!(rt; result, Err(BrokerFault::Write), "{lines}");
         assert_eq!(rt;
@@ -462,7 +463,7 @@ fn an_interrupted_write_is_made_again(rt: HostRuntime) {
     let mut writer = Held::new(alloc);
     let fault = Fault::IsInterrupted;
     writer.fault = Some(FaultAt { call: 2, fault });
-    let mut reader = Pieces::of(FIRST_SCRIPT, usize::MAX);
+    let mut reader = Pieces::of(FIRST_SCRIPT, 1);
     let result = run(&rt, alloc, TimerKind::Heap, 10, &mut reader, &mut writer);
     assert_eq!(rt; result, Ok(AT_END));
     assert_eq!(rt; writer.bytes.as_slice(), FIRST_REPLIES);
@@ -470,7 +471,7 @@ fn an_interrupted_write_is_made_again(rt: HostRuntime) {
 }
 
 #[test]
-fn no_whole_session_needs_more_writes_than_replies(rt: HostRuntime) {
+fn a_batch_is_one_write_and_one_flush(rt: HostRuntime) {
     let mut writer = Held::new(rt.alloc());
     let mut reader = Pieces::of(FIRST_SCRIPT, usize::MAX);
     let result = run(
@@ -482,7 +483,7 @@ fn no_whole_session_needs_more_writes_than_replies(rt: HostRuntime) {
         &mut writer,
     );
     assert_eq!(rt; result, Ok(AT_END));
-    assert_eq!(rt; writer.calls, 10);
+    assert_eq!(rt; writer.calls, 2);
     assert_eq!(rt; reader.calls, 2);
 }
 

@@ -5,3 +5,4 @@ pub mod Closings
 pub mod ReplyTexts
 pub mod Turns
 pub mod StreamRuns
+pub mod Outlets

@@ -1,30 +1,26 @@
--- What a writer holds while a line is sent.
-use Rattle.std.proofs.Common.{◌≡◌, ℕ, ◌+◌, ◌-◌, List, ◌++◌, Option, length, take, drop, ap, ◌∙◌}
-use Rattle.std.proofs.lemmas.List.{take_rest, drop-drop}
-use Rattle.std.specs.Io.KnownBytes.{Appends, Keeps}
-use Rattle.std.proofs.KnownBytes.{Appends-trans, Appends-kept}
+-- What a writer has got of bytes that are written piece by piece.
+use Rattle.std.proofs.Common.{◌≡◌, ℕ, ◌+◌, ◌-◌, ◌≤◌, List, ◌++◌, Option, Some, None, length, take, drop, ap, sym, subst, arith, length-drop, take_all}
+use Rattle.std.specs.Io.KnownBytes.{Appends}
+use Rattle.std.proofs.KnownBytes.{Appends-trans}
 use Rattle.std.proofs.Math.Seq.{take-add}
 
--- the writer got the first bytes of the line, and `rest` is left
-pub record HasSent (old new : Option (List ℕ)) (line rest : List ℕ) : Type 0 where
-  pub taken : ℕ
-  pub left : rest ≡ drop taken line
-  pub written : Appends old new (take taken line)
-
--- a write that failed changed nothing
-pub HasSent-kept : (old mid new : Option (List ℕ)) (line rest : List ℕ) → HasSent old mid line rest
-    → Keeps mid new → HasSent old new line rest
-HasSent-kept old mid new line rest h keeps =
-    record { taken = h.taken; left = h.left; written = Appends-kept old mid new _ h.written keeps }
+-- the writer got the first bytes
+pub record HasTaken (old new : Option (List ℕ)) (bytes : List ℕ) (taken : ℕ) : Type 0 where
+  pub within : taken ≤ length bytes
+  pub written : Appends old new (take taken bytes)
 
 -- a write took the first n bytes of what was left
-pub HasSent-more : (old mid new : Option (List ℕ)) (line rest : List ℕ) (n : ℕ) → HasSent old mid line rest
-    → Appends mid new (take n rest) → HasSent old new line (take (length rest - n) (drop n rest))
-HasSent-more old mid new line rest n h appends =
-    let seam : take (h.taken + n) line ≡ take h.taken line ++ take n rest =
-    rw h.left (take-add h.taken n line) in
-    record {
-      taken = h.taken + n;
-      left = take_rest rest n ∙ ap (drop n) h.left ∙ drop-drop n h.taken line;
-      written = rw seam (Appends-trans old mid new _ _ h.written appends);
-    }
+pub appends_more : (old mid new : Option (List ℕ)) (bytes : List ℕ) (taken n : ℕ) → Appends old mid (take taken bytes)
+    → Appends mid new (take n (take (length bytes - taken) (drop taken bytes))) → Appends old new (take (taken + n) bytes)
+appends_more old mid new bytes taken n before more =
+    let rest : take (length bytes - taken) (drop taken bytes) ≡ drop taken bytes = take_all (length bytes - taken) (drop taken bytes) (omega (arith, length-drop taken bytes)) in
+    subst (Appends old new) (sym (take-add taken n bytes))
+    (Appends-trans old mid new _ _ before (subst (λ r. Appends mid new (take n r)) rest more))
+
+-- what a writer has that got bytes
+pub appended : (old new : Option (List ℕ)) (before bytes : List ℕ) → old ≡ Some before → Appends old new bytes → new ≡ Some (before ++ bytes)
+appended old new before bytes known appends = of_known new (subst (λ o. Appends o new bytes) known appends)
+  where
+    of_known : (o : Option (List ℕ)) → Appends (Some before) o bytes → o ≡ Some (before ++ bytes)
+    of_known None appends = absurd appends
+    of_known (Some found) is = ap Some is

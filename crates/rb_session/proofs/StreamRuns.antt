@@ -41,20 +41,20 @@ module _ {S : Type 0} (gives : S → ℕ → Type 0) (Sets : S → ℕ → Optio
   }
 
   -- the input ends
-  pub ran_end : HasNoFeed stands.rest → left ≡ [] → (stop : Stop) (remaining written' : Option (List ℕ)) → Ends stop (before ++ answers_of stands.turns) stands.rest written'
-      → Stops gives Sets Steps policy from stream before stop here remaining written'
-  ran_end no_feed none stop remaining written' ends = of_stop stop ends
+  pub ran_end : (HoldsBack : Type 0) → HasNoFeed stands.rest → left ≡ [] → (stop : Stop) (remaining written' : Option (List ℕ)) → Ends stop (before ++ answers_of stands.turns) stands.rest written'
+      → Stops gives Sets Steps policy HoldsBack from stream before stop here remaining written'
+  ran_end HoldsBack no_feed none stop remaining written' ends = of_stop stop ends
     where
       whole : stream ≡ bytes_of stands.turns ++ stands.rest
       whole = split ∙ ap (λ b. bytes ++ b) none ∙ append-nil bytes ∙ stands.split
 
-      of_stop : (stop : Stop) → Ends stop (before ++ answers_of stands.turns) stands.rest written' → Stops gives Sets Steps policy from stream before stop here remaining written'
+      of_stop : (stop : Stop) → Ends stop (before ++ answers_of stands.turns) stands.rest written' → Stops gives Sets Steps policy HoldsBack from stream before stop here remaining written'
       of_stop stops.EndOfInput wrote = record {
         text = answers_of stands.turns ++ rest_text stands.rest;
         session = record { turns = stands.turns; rest = stands.rest; split = whole; no_line = no_feed; serves = stands.serves; answers = refl };
         wrote = wrote ∙ ap Some (append_assoc before (answers_of stands.turns) (rest_text stands.rest));
       }
-      of_stop stops.Write (some, sent, unsent, parts, wrote) = record {
+      of_stop stops.Write (some, sent, unsent, parts, wrote) = inl (record {
         turns = stands.turns;
         unserved = stands.rest;
         split = whole;
@@ -68,7 +68,7 @@ module _ {S : Type 0} (gives : S → ℕ → Type 0) (Sets : S → ℕ → Optio
         unsent = unsent;
         parts = append-nil (text_of (lines.Error words.Line)) ∙ sym (rest_is stands.rest some) ∙ parts;
         wrote = wrote ∙ ap Some (append_assoc before (answers_of stands.turns) sent);
-      }
+      })
         where
           rest_is : (rest : List ℕ) → 0 < length rest → rest_text rest ≡ text_of (lines.Error words.Line)
           rest_is [] some = absurd (omega arith)
@@ -150,11 +150,11 @@ module _ {S : Type 0} (gives : S → ℕ → Type 0) (Sets : S → ℕ → Optio
     }
 
     -- a line stopped the session
-    pub stopped : (stop : Stop) (buffer : LineBuffer) (to : Point S) (remaining written' : Option (List ℕ))
+    pub stopped : (HoldsBack : Type 0) (stop : Stop) (buffer : LineBuffer) (to : Point S) (remaining written' : Option (List ℕ))
         → ServesLines gives Sets Steps policy here (stands.rest ++ more) (before ++ answers_of stands.turns) (Some stop) buffer to written'
-        → Stops gives Sets Steps policy from stream before stop to remaining written'
-    stopped stops.Quit buffer to remaining written' served = ran_quit to written' served
-    stopped stops.Write buffer to remaining written' served = ran_fails to written' served
-    stopped stops.EndOfInput buffer to remaining written' served = absurd served
-    stopped stops.Read buffer to remaining written' served = absurd served
-    stopped stops.ReadTurns buffer to remaining written' served = absurd served
+        → Stops gives Sets Steps policy HoldsBack from stream before stop to remaining written'
+    stopped HoldsBack stops.Quit buffer to remaining written' served = ran_quit to written' served
+    stopped HoldsBack stops.Write buffer to remaining written' served = inl (ran_fails to written' served)
+    stopped HoldsBack stops.EndOfInput buffer to remaining written' served = absurd served
+    stopped HoldsBack stops.Read buffer to remaining written' served = absurd served
+    stopped HoldsBack stops.ReadTurns buffer to remaining written' served = absurd served

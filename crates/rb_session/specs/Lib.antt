@@ -10,5 +10,6 @@ pub mod Turn
 pub mod Session
 pub mod Closing
 pub mod Ran
+pub mod Outlet
 pub mod Buffer
 pub mod Progress

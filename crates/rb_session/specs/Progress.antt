@@ -15,7 +15,8 @@ use Rattle.rb_protocol.specs.declared.request.Request.{Request}
 use Rattle.rb_protocol.specs.declared.line_fault.LineFault.{LineFault}
 use Rattle.rb_session.specs.Turn.{Point, IsTurn, fault_line, reply_line, lines_for, fetched_by}
 use Rattle.rb_session.specs.Session.{Turn, IsLine, Serves, ServesToEnd, ServesToQuit, bytes_of, answers_of, texts_of, rest_text}
-use Rattle.rb_session.specs.Ran.{IsWhole, BreaksOff, FailsToWrite}
+use Rattle.rb_session.specs.Ran.{IsWhole, BreaksOff}
+use Rattle.rb_session.specs.Outlet.{FailsToSend}
 use Rattle.rb_session.specs.declared.line_buffer.LineBuffer.{LineBuffer}
 use Rattle.rb_session.specs.declared.ended.Ended.{Ended}
 use Rattle.rb_session.specs.declared.ended.Ended.TheVariants as ends
@@ -60,6 +61,16 @@ Ends EndOfInput before bytes written = written ≡ Some (before ++ rest_text byt
 Ends Write before bytes written =
     (0 < length bytes) × (sent : List ℕ) × (unsent : List ℕ) × (rest_text bytes ≡ sent ++ unsent) × (written ≡ Some (before ++ sent))
 Ends _ before bytes written = ⊥
+
+-- nothing is held back, unless a write failed
+abbrev pub IsClearAt : Type 0 → Stop → Type 0
+IsClearAt clear Write = Unit {0}
+IsClearAt clear stop = clear
+
+-- nothing is held back where a read failed
+abbrev pub IsClearAtRead : Type 0 → Stop → Type 0
+IsClearAtRead clear Read = clear
+IsClearAtRead clear stop = Unit {0}
 
 -- how a session ends that stopped so
 abbrev pub end_of : Stop → ℕ → Result Ended SessionFault
@@ -107,11 +118,11 @@ module _ {S : Type 0} (gives : S → ℕ → Type 0) (Sets : S → ℕ → Optio
   ServesLines from bytes before (Some _) buffer to written = ⊥
 
   -- what serving a stream comes to
-  abbrev pub Stops : Point S → List ℕ → List ℕ → Stop → Point S → Option (List ℕ) → Option (List ℕ) → Type 0
-  Stops from stream before Quit to left written =
+  abbrev pub Stops : Type 0 → Point S → List ℕ → List ℕ → Stop → Point S → Option (List ℕ) → Option (List ℕ) → Type 0
+  Stops HoldsBack from stream before Quit to left written =
       IsWhole gives Sets Steps policy (ServesToQuit gives Sets Steps policy from stream) before to written
-  Stops from stream before EndOfInput to left written =
+  Stops HoldsBack from stream before EndOfInput to left written =
       IsWhole gives Sets Steps policy (ServesToEnd gives Sets Steps policy from stream) before to written
-  Stops from stream before Read to left written = BreaksOff gives Sets Steps policy from stream before to left written
-  Stops from stream before ReadTurns to left written = BreaksOff gives Sets Steps policy from stream before to left written
-  Stops from stream before Write to left written = FailsToWrite gives Sets Steps policy from stream before to written
+  Stops HoldsBack from stream before Read to left written = BreaksOff gives Sets Steps policy from stream before to left written
+  Stops HoldsBack from stream before ReadTurns to left written = BreaksOff gives Sets Steps policy from stream before to left written
+  Stops HoldsBack from stream before Write to left written = FailsToSend gives Sets Steps policy HoldsBack from stream before to written

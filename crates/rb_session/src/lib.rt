@@ -6,11 +6,13 @@
 
 mod answer;
 mod calls;
+mod direct;
 mod ended;
 mod endings;
 mod fetches;
 mod held_jobs;
 mod line_buffer;
+mod outlet;
 mod replies;
 mod send;
 mod session;
@@ -21,5 +23,7 @@ mod tests;
 
 pub use ended::Ended;
 pub use held_jobs::MOST_HELD;
-pub use session::run_session;
+pub use outlet::Outlet;
+pub use send::{WriteFault, flush, send_line, write_out};
+pub use session::{run_session, run_session_through};
 pub use session_fault::SessionFault;

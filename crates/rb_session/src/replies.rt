@@ -5,84 +5,78 @@ ghost use Rattle.rb_session.specs.Session.{texts_of};
 ghost use Rattle.rb_session.specs.Progress.{Sends, replies_of};
 
 use crate::held_jobs::HeldJobs;
-use crate::send::{WriteFault, send_line};
+use crate::outlet::Outlet;
+use crate::send::WriteFault;
 use rb_protocol::{LineReply, REPLY_ROOM, write_reply};
 use rb_retry::Job;
-use std::io::Write;
 
-/// Writes the lines of a reply, each by one write, and flushes. Behind a drain's line come the last
+/// Sends the lines of a reply, each in one piece, and flushes. Behind a drain's line come the last
 /// jobs that are held.
 ///
-/// After an `Err` the writer has got the first bytes of the lines, perhaps none.
-pub(crate) fn send_replies<W: Write>(
-    writer: &mut W,
+/// After an `Err` the outlet has taken the first bytes of the lines, perhaps none.
+pub(crate) fn send_replies<O: Outlet>(
+    outlet: &mut O,
     text: &mut Vec<u8>,
     reply: &LineReply,
     held: &HeldJobs,
 ) -> Result<(), WriteFault>
     requires { REPLY_ROOM ≤ vec_capacity text.old }
-    ensures sent { (before : List ℕ) → W.contents writer.old ≡ Some before
-        → Sends result before (texts_of (replies_of reply.now held.now)) (W.contents writer.new) }
+    ensures sent { (before : List ℕ) → O.contents outlet.old ≡ Some before
+        → Sends result before (texts_of (replies_of reply.now held.now)) (O.contents outlet.new) }
     ensures room { REPLY_ROOM ≤ vec_capacity text.new }
+    ensures becomes { O.Becomes outlet.old outlet.new }
 {
-    send_lines(writer, text, reply, held)?;
-    flush(writer)
+    send_lines(outlet, text, reply, held)?;
+    outlet.flush()
 }
 
-// Writes the lines of a reply.
-fn send_lines<W: Write>(
-    writer: &mut W,
+// Sends the lines of a reply.
+fn send_lines<O: Outlet>(
+    outlet: &mut O,
     text: &mut Vec<u8>,
     reply: &LineReply,
     held: &HeldJobs,
 ) -> Result<(), WriteFault>
     requires { REPLY_ROOM ≤ vec_capacity text.old }
-    ensures sent { (before : List ℕ) → W.contents writer.old ≡ Some before
-        → Sends result before (texts_of (replies_of reply.now held.now)) (W.contents writer.new) }
+    ensures sent { (before : List ℕ) → O.contents outlet.old ≡ Some before
+        → Sends result before (texts_of (replies_of reply.now held.now)) (O.contents outlet.new) }
     ensures room { REPLY_ROOM ≤ vec_capacity text.new }
+    ensures becomes { O.Becomes outlet.old outlet.new }
 {
-    send_reply(writer, text, reply)?;
+    send_reply(outlet, text, reply)?;
     match reply {
-        LineReply::Drained(count) => send_items(writer, text, held.last(*count as usize)),
+        LineReply::Drained(count) => send_items(outlet, text, held.last(*count as usize)),
         _ => Ok(()),
     }
 }
 
-// Hands on what was written.
-fn flush<W: Write>(writer: &mut W) -> Result<(), WriteFault>
-    ensures { (before : List ℕ) → W.contents writer.old ≡ Some before → W.contents writer.new ≡ Some before }
-{
-    match writer.flush() {
-        Ok(()) => Ok(()),
-        Err(_) => Err(WriteFault),
-    }
-}
-
-// Writes a line for each job.
-fn send_items<W: Write>(writer: &mut W, text: &mut Vec<u8>, jobs: &[Job]) -> Result<(), WriteFault>
+// Sends a line for each job.
+fn send_items<O: Outlet>(outlet: &mut O, text: &mut Vec<u8>, jobs: &[Job]) -> Result<(), WriteFault>
     requires { REPLY_ROOM ≤ vec_capacity text.old }
-    ensures sent { (before : List ℕ) → W.contents writer.old ≡ Some before
-        → Sends result before (texts_of (map lines.Item jobs.now)) (W.contents writer.new) }
+    ensures sent { (before : List ℕ) → O.contents outlet.old ≡ Some before
+        → Sends result before (texts_of (map lines.Item jobs.now)) (O.contents outlet.new) }
     ensures room { REPLY_ROOM ≤ vec_capacity text.new }
+    ensures becomes { O.Becomes outlet.old outlet.new }
 {
     for job in jobs {
-        send_reply(writer, text, &LineReply::Item(*job.element()))?;
+        send_reply(outlet, text, &LineReply::Item(*job.element()))?;
     }
     Ok(())
 }
 
-// Writes one line, by one write.
-fn send_reply<W: Write>(
-    writer: &mut W,
+// Sends one line, in one piece.
+fn send_reply<O: Outlet>(
+    outlet: &mut O,
     text: &mut Vec<u8>,
     reply: &LineReply,
 ) -> Result<(), WriteFault>
     requires { REPLY_ROOM ≤ vec_capacity text.old }
-    ensures sent { (before : List ℕ) → W.contents writer.old ≡ Some before
-        → Sends result before (text_of reply.now) (W.contents writer.new) }
+    ensures sent { (before : List ℕ) → O.contents outlet.old ≡ Some before
+        → Sends result before (text_of reply.now) (O.contents outlet.new) }
     ensures room { REPLY_ROOM ≤ vec_capacity text.new }
+    ensures becomes { O.Becomes outlet.old outlet.new }
 {
     text.clear();
     write_reply(reply, text).unwrap();
-    send_line(writer, text)
+    outlet.send(text)
 }

@@ -1,4 +1,5 @@
-ghost use Rattle.std.specs.Prelude.{◌≡◌, ℕ, List, ◌++◌, take, Some, MatchResult};
+ghost use Rattle.std.specs.Prelude.{◌≡◌, ◌≤◌, ℕ, List, ◌++◌, take, length, Some, MatchResult};
+ghost use Rattle.std.specs.Io.KnownBytes.{Appends};
 
 use std::io::{ErrorKind, Write};
 
@@ -15,18 +16,42 @@ pub fn send_line<W: Write>(writer: &mut W, line: &[u8]) -> Result<(), WriteFault
         (λ _. W.contents writer.new ≡ Some (before ++ line.now))
         (λ _. (taken : ℕ) × (W.contents writer.new ≡ Some (before ++ take taken line.now))) }
 {
-    let mut rest = line;
+    if write_out(writer, line) < line.len() {
+        return Err(WriteFault);
+    }
+    Ok(())
+}
+
+/// Writes bytes, by one write where that takes all of them, and else again for what was not taken. A
+/// write that was interrupted is made again.
+///
+/// How many of the first bytes the writer has got: all of them, unless a write failed or took none.
+pub fn write_out<W: Write>(writer: &mut W, bytes: &[u8]) -> usize
+    ensures within { result ≤ length bytes.now }
+    ensures taken { Appends (W.contents writer.old) (W.contents writer.new) (take result bytes.now) }
+{
+    let mut taken = 0;
     // Nothing says that interruptions end, so the writes are counted.
     for _ in 0..u64::MAX {
-        if rest.is_empty() {
-            return Ok(());
+        if taken == bytes.len() {
+            return taken;
         }
-        match writer.write(rest) {
-            Ok(0) => return Err(WriteFault),
-            Ok(count) => rest = &rest[count..],
+        match writer.write(&bytes[taken..]) {
+            Ok(0) => return taken,
+            Ok(count) => taken += count,
             Err(fault) if fault.kind() == ErrorKind::Interrupted => {}
-            Err(_) => return Err(WriteFault),
+            Err(_) => return taken,
         }
     }
-    Err(WriteFault)
+    taken
+}
+
+/// Hands on what was written.
+pub fn flush<W: Write>(writer: &mut W) -> Result<(), WriteFault>
+    ensures { (before : List ℕ) → W.contents writer.old ≡ Some before → W.contents writer.new ≡ Some before }
+{
+    match writer.flush() {
+        Ok(()) => Ok(()),
+        Err(_) => Err(WriteFault),
+    }
 }

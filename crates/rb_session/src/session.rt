@@ -1,22 +1,27 @@
 ghost use Rattle.std.specs.Prelude.{◌≡◌, ◌≤◌, ◌↔◌, ℕ, List, [], Some, None, Option, Ok, IsTrue, vec_capacity};
 ghost use Rattle.rb_protocol.specs.declared.request.Request.TheVariants.{Quit};
-ghost use Rattle.rb_session.specs.Buffer.{IsUnserved};
+ghost use Rattle.rb_session.specs.Buffer.{IsUnserved, TakesMore};
+ghost use Rattle.rb_session.specs.Lines.{HasNoFeed};
 ghost use Rattle.rb_session.specs.Turn.{point};
 ghost use Rattle.rb_session.specs.Ran.{Ran};
-ghost use Rattle.rb_session.specs.Progress.{ServesLines, Ends, Stops, end_of};
+ghost use Rattle.rb_session.specs.Outlet.{RanThrough, HandedOn};
+ghost use Rattle.rb_session.specs.Progress.{ServesLines, Ends, Stops, IsClearAt, IsClearAtRead, end_of};
 
 use crate::answer::answer;
+use crate::direct::Direct;
 use crate::ended::Ended;
 use crate::endings::fail_all;
 use crate::held_jobs::HeldJobs;
 use crate::line_buffer::LineBuffer;
+use crate::outlet::Outlet;
 use crate::replies::send_replies;
 use crate::session_fault::SessionFault;
+use crate::send::WriteFault;
 use crate::stop::Stop;
 use rb_protocol::{ErrorWord, LineFault, LineReply, REPLY_ROOM, Request};
 use rb_retry::{Desk, Policy};
 use std::alloc::Global;
-use std::io::{ErrorKind, Read, Write};
+use std::io::{self, ErrorKind, Read, Write};
 
 /// How often a session reads at most.
 const MOST_READS: u64 = 10_000_000;
@@ -37,6 +42,28 @@ pub fn run_session<R: Read, W: Write, D: Desk>(
         → Ran D.gives D.Sets D.Steps policy.now (D.state desk.old) stream before result (D.state desk.new) (R.remaining reader.new) (W.contents writer.new) }
     ensures name { D.name (D.state desk.new) ≡ D.name (D.state desk.old) }
 {
+    let mut outlet = Direct { writer };
+    run_session_through(alloc, reader, &mut outlet, desk, policy)
+}
+
+/// Runs a session as `run_session` does, whose replies go through an outlet.
+///
+/// What the outlet holds back is handed on before each read, and at the end: so a read that fails, and
+/// each end that is no fault, find nothing held back. Where it can't be handed on, a write failed.
+pub fn run_session_through<R: Read, O: Outlet, D: Desk>(
+    alloc: Global,
+    reader: &mut R,
+    outlet: &mut O,
+    desk: &mut D,
+    policy: &Policy,
+) -> Result<Ended, SessionFault>
+    ensures ran { (stream before : List ℕ) → R.remaining reader.old ≡ Some stream → O.contents outlet.old ≡ Some before
+        → RanThrough D.gives D.Sets D.Steps policy.now O.HoldsBack (D.state desk.old) stream before result (D.state desk.new) (R.remaining reader.new) (O.contents outlet.new) }
+    ensures handed_on { (stream before : List ℕ) → R.remaining reader.old ≡ Some stream → O.contents outlet.old ≡ Some before
+        → HandedOn (O.IsClear outlet.new) result }
+    ensures becomes { O.Becomes outlet.old outlet.new }
+    ensures name { D.name (D.state desk.new) ≡ D.name (D.state desk.old) }
+{
     let Ok(mut buffer) = LineBuffer::new(alloc) else {
         return Err(SessionFault::Memory);
     };
@@ -48,7 +75,7 @@ pub fn run_session<R: Read, W: Write, D: Desk>(
     };
     let stop = serve(
         reader,
-        writer,
+        outlet,
         &mut buffer,
         &mut text,
         desk,
@@ -59,10 +86,11 @@ pub fn run_session<R: Read, W: Write, D: Desk>(
     end_of(stop, lost)
 }
 
-// Serves what is read until something stops it.
-fn serve<R: Read, W: Write, D: Desk>(
+// Serves what is read until something stops it, and then hands on what is held back. A read is made
+// with nothing held back, and a write that failed is not tried again.
+fn serve<R: Read, O: Outlet, D: Desk>(
     reader: &mut R,
-    writer: &mut W,
+    outlet: &mut O,
     buffer: &mut LineBuffer,
     text: &mut Vec<u8>,
     desk: &mut D,
@@ -71,43 +99,92 @@ fn serve<R: Read, W: Write, D: Desk>(
 ) -> Stop
     requires room { REPLY_ROOM ≤ vec_capacity text.old }
     requires fresh { IsUnserved buffer.old [] }
-    ensures stops { (stream before : List ℕ) → R.remaining reader.old ≡ Some stream → W.contents writer.old ≡ Some before
-        → Stops D.gives D.Sets D.Steps policy.now (point (D.state desk.old) held.old) stream before result (point (D.state desk.new) held.new) (R.remaining reader.new) (W.contents writer.new) }
+    ensures stops { (stream before : List ℕ) → R.remaining reader.old ≡ Some stream → O.contents outlet.old ≡ Some before
+        → Stops D.gives D.Sets D.Steps policy.now O.HoldsBack (point (D.state desk.old) held.old) stream before result (point (D.state desk.new) held.new) (R.remaining reader.new) (O.contents outlet.new) }
+    ensures clear { (stream before : List ℕ) → R.remaining reader.old ≡ Some stream → O.contents outlet.old ≡ Some before
+        → IsClearAt (O.IsClear outlet.new) result }
+    ensures becomes { O.Becomes outlet.old outlet.new }
+    ensures name { D.name (D.state desk.new) ≡ D.name (D.state desk.old) }
+{
+    let stop = serve_reads(reader, outlet, buffer, text, desk, policy, held);
+    match stop {
+        Stop::Read | Stop::Write => stop,
+        _ => match outlet.hand_on() {
+            Ok(()) => stop,
+            Err(WriteFault) => Stop::Write,
+        },
+    }
+}
+
+// Serves what is read until something stops it. Nothing is held back while a read is made.
+fn serve_reads<R: Read, O: Outlet, D: Desk>(
+    reader: &mut R,
+    outlet: &mut O,
+    buffer: &mut LineBuffer,
+    text: &mut Vec<u8>,
+    desk: &mut D,
+    policy: &Policy,
+    held: &mut HeldJobs,
+) -> Stop
+    requires room { REPLY_ROOM ≤ vec_capacity text.old }
+    requires fresh { IsUnserved buffer.old [] }
+    ensures stops { (stream before : List ℕ) → R.remaining reader.old ≡ Some stream → O.contents outlet.old ≡ Some before
+        → Stops D.gives D.Sets D.Steps policy.now O.HoldsBack (point (D.state desk.old) held.old) stream before result (point (D.state desk.new) held.new) (R.remaining reader.new) (O.contents outlet.new) }
+    ensures clear { (stream before : List ℕ) → R.remaining reader.old ≡ Some stream → O.contents outlet.old ≡ Some before
+        → IsClearAtRead (O.IsClear outlet.new) result }
+    ensures becomes { O.Becomes outlet.old outlet.new }
     ensures name { D.name (D.state desk.new) ≡ D.name (D.state desk.old) }
 {
     for _ in 0..MOST_READS {
-        match buffer.read_from(reader) {
-            Ok(0) => return finish(buffer, writer, text, held),
+        if outlet.hand_on().is_err() {
+            return Stop::Write;
+        }
+        match read_more(reader, outlet, buffer) {
+            Ok(0) => return finish(buffer, outlet, text, held),
             Ok(_) => {}
             Err(error) if error.kind() == ErrorKind::Interrupted => continue,
             Err(_) => return Stop::Read,
         }
-        if let Some(stop) = serve_lines(buffer, writer, text, desk, policy, held) {
+        if let Some(stop) = serve_lines(buffer, outlet, text, desk, policy, held) {
             return stop;
         }
     }
     Stop::ReadTurns
 }
 
-// Serves each whole line of the buffer, until one stops the session.
-fn serve_lines<W: Write, D: Desk>(
+// Reads once. Nothing may be held back then, so that no client waits for a reply that it has not got.
+fn read_more<R: Read, O: Outlet>(
+    reader: &mut R,
+    _outlet: &O,
     buffer: &mut LineBuffer,
-    writer: &mut W,
+) -> io::Result<usize>
+    requires { O.IsClear _outlet.now }
+    ensures { (bytes stream : List ℕ) → IsUnserved buffer.old bytes → HasNoFeed bytes → R.remaining reader.old ≡ Some stream
+        → TakesMore bytes stream result buffer.new (R.remaining reader.new) }
+{
+    buffer.read_from(reader)
+}
+
+// Serves each whole line of the buffer, until one stops the session.
+fn serve_lines<O: Outlet, D: Desk>(
+    buffer: &mut LineBuffer,
+    outlet: &mut O,
     text: &mut Vec<u8>,
     desk: &mut D,
     policy: &Policy,
     held: &mut HeldJobs,
 ) -> Option<Stop>
     requires { REPLY_ROOM ≤ vec_capacity text.old }
-    ensures served { (bytes before : List ℕ) → IsUnserved buffer.old bytes → W.contents writer.old ≡ Some before
-        → ServesLines D.gives D.Sets D.Steps policy.now (point (D.state desk.old) held.old) bytes before result buffer.new (point (D.state desk.new) held.new) (W.contents writer.new) }
+    ensures served { (bytes before : List ℕ) → IsUnserved buffer.old bytes → O.contents outlet.old ≡ Some before
+        → ServesLines D.gives D.Sets D.Steps policy.now (point (D.state desk.old) held.old) bytes before result buffer.new (point (D.state desk.new) held.new) (O.contents outlet.new) }
     ensures room { REPLY_ROOM ≤ vec_capacity text.new }
+    ensures becomes { O.Becomes outlet.old outlet.new }
     ensures name { D.name (D.state desk.new) ≡ D.name (D.state desk.old) }
 {
     while let Some(reading) = buffer.next_request() {
         let quits = is_quit(&reading);
         let reply = answer(desk, held, policy, reading);
-        if send_replies(writer, text, &reply, held).is_err() {
+        if send_replies(outlet, text, &reply, held).is_err() {
             return Some(Stop::Write);
         }
         if quits {
@@ -125,19 +202,20 @@ fn is_quit(reading: &Result<Request, LineFault>) -> bool
 }
 
 // The input is over: bytes that no line feed ends are answered once.
-fn finish<W: Write>(
+fn finish<O: Outlet>(
     buffer: &LineBuffer,
-    writer: &mut W,
+    outlet: &mut O,
     text: &mut Vec<u8>,
     held: &HeldJobs,
 ) -> Stop
     requires { REPLY_ROOM ≤ vec_capacity text.old }
-    ensures { (bytes before : List ℕ) → IsUnserved buffer.now bytes → W.contents writer.old ≡ Some before
-        → Ends result before bytes (W.contents writer.new) }
+    ensures ends { (bytes before : List ℕ) → IsUnserved buffer.now bytes → O.contents outlet.old ≡ Some before
+        → Ends result before bytes (O.contents outlet.new) }
+    ensures becomes { O.Becomes outlet.old outlet.new }
 {
     if buffer.has_rest() {
         let reply = LineReply::Error(ErrorWord::Line);
-        if send_replies(writer, text, &reply, held).is_err() {
+        if send_replies(outlet, text, &reply, held).is_err() {
             return Stop::Write;
         }
     }

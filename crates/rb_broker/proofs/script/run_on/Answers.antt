@@ -1,4 +1,4 @@
-use Rattle.std.proofs.Common.{◌≡◌, ℕ, ◌<◌, List, [], Option, Ok, Err, refl, sym, subst, ap, ◌∙◌, arith, lit≤, length}
+use Rattle.std.proofs.Common.{◌≡◌, ℕ, List, [], Option, Ok, Err, refl, sym, subst, ap, arith, lit≤, length}
 use Rattle.std.specs.Prelude.{Result}
 use Rattle.rb_ledger.specs.Totals.{nothing}
 use Rattle.rb_ledger.specs.declared.totals.Totals.{Totals}
@@ -6,10 +6,10 @@ use Rattle.rb_queue.specs.declared.opening.Opening.{Opening}
 use Rattle.rb_kept.specs.Log.{Log}
 use Rattle.rb_retry.specs.KeptSteps.{KeptState, KeptSteps, SetsKept}
 use Rattle.rb_retry.specs.declared.policy.Policy.{Policy}
-use Rattle.rb_session.specs.Ran.{Ran}
 use Rattle.rb_session.specs.declared.ended.Ended.{Ended}
 use Rattle.rb_session.specs.declared.session_fault.SessionFault.{SessionFault}
 use Rattle.rb_session.specs.declared.session_fault.SessionFault.TheVariants.{Memory}
+use Rattle.rb_broker.specs.Gathered.{RanGathered}
 use Rattle.rb_broker.specs.Script.{IsFresh, IsNew, RanScript, ends_as}
 use Rattle.rb_broker.proofs.script.run_on.Goals as goal
 
@@ -53,7 +53,7 @@ returns-in_default g c stream before readable writable = record {
 -- what a session at a new desk does
 ran_script : (policy : Policy) (calls name : ℕ) (log : Log) (share : Totals) (from to : KeptState) (stream before : List ℕ) (ended : Result Ended SessionFault) (left written : Option (List ℕ))
     → IsFresh log calls → share ≡ nothing → from ≡ record { name = name; log = log; share = share; moment = log.opening.last_at; before = length log.history }
-    → Ran (λ desk moment. moment ≡ desk.moment) SetsKept KeptSteps policy from stream before ended to left written
+    → RanGathered (λ desk moment. moment ≡ desk.moment) SetsKept KeptSteps policy from stream before ended to left written
     → RanScript policy calls stream before (ends_as ended) left written
 ran_script policy calls name log share from to stream before ended left written fresh none is ran = record {
   from = from;
@@ -64,12 +64,12 @@ ran_script policy calls name log share from to stream before ended left written 
   ran = ran;
 }
 
-pub returns-in-Ok-run_session : goal.returns-in-Ok-run_session
-returns-in-Ok-run_session g c stream before readable writable =
+pub returns-in-Ok-run_gathered : goal.returns-in-Ok-run_gathered
+returns-in-Ok-run_gathered g c stream before readable writable =
     let made = c.in-Ok.ensures in
-    ran_script c.args.policy.now c.args.calls _ c.in-Ok.kept c.in-Ok.tally _ _ stream before (Ok c.in-Ok-run_session.ended) _ _
+    ran_script c.args.policy.now c.args.calls _ c.in-Ok.kept c.in-Ok.tally _ _ stream before (Ok c.in-Ok-run_gathered.ended) _ _
     (record { elements = made.elements; next_id = made.next_id; last_at = made.last_at; history = made.history; capacity = made.capacity })
-    made.tally c.new-desk.ensures.state (c.in-Ok-run_session.ensures.ran stream before readable writable)
+    made.tally c.new-desk.ensures.state (c.in-Ok-run_gathered.ensures.ran stream before readable writable)
 
 pub returns : goal.returns
 returns g c stream before readable writable =

@@ -35,7 +35,7 @@ returns-in_err-send_reply-clause-sent g c before known =
     let elements = c.args.jobs.now in
     let place = c.loop-job.job-index in
     let sent = c.loop-job.invariant.wrote before known in
-    let failed = subst (λ (e : Element). (some : List ℕ) × (unsent : List ℕ) × (text_of (lines.Item e) ≡ some ++ unsent) × (g.W.Write.contents c.send_reply.new.writer ≡ Some ((before ++ items_text (take place elements)) ++ some)))
+    let failed = subst (λ (e : Element). (some : List ℕ) × (unsent : List ℕ) × (text_of (lines.Item e) ≡ some ++ unsent) × (g.O.Outlet.contents c.send_reply.new.outlet ≡ Some ((before ++ items_text (take place elements)) ++ some)))
     c.element.ensures (c.in_err-send_reply.ensures.sent (before ++ items_text (take place elements)) sent) in
     rw (text_split elements place c.job-item.result c.loop-job-test.true c.job-item.is)
     (sends_then c.from_residual.result before (items_text (take place elements)) _ _
@@ -51,4 +51,5 @@ loop-job-preserved g c = record {
       more ∙ ap (λ (e : Element). Some ((before ++ items_text (take place elements)) ++ text_of (lines.Item e))) c.element.ensures
       ∙ ap Some (append_assoc before (items_text (take place elements)) (text_of (lines.Item c.job-item.result)) ∙ ap (λ t. before ++ t) (sym (text_more elements place c.job-item.result c.loop-job-test.true c.job-item.is)));
   room = c.in_ok-send_reply.ensures.room;
+  becomes = g.met.O.Outlet.goes_on _ _ _ c.loop-job.invariant.becomes c.in_ok-send_reply.ensures.becomes;
 }

@@ -8,7 +8,8 @@ use Rattle.rb_session.proofs.replies.send_items.Given as goal
 -- the lines of the jobs so far are written
 abbrev pub invariant-loop-job : goal.invariant-loop-job
 invariant-loop-job g l = record {
-  wrote : (before : List ℕ) → g.W.Write.contents l.fn.writer ≡ Some before
-      → g.W.Write.contents l.writer ≡ Some (before ++ texts_of (map lines.Item (take l.job-index l.jobs)));
+  wrote : (before : List ℕ) → g.O.Outlet.contents l.fn.outlet ≡ Some before
+      → g.O.Outlet.contents l.outlet ≡ Some (before ++ texts_of (map lines.Item (take l.job-index l.jobs)));
   room : REPLY_ROOM ≤ vec_capacity l.text;
+  becomes : g.O.Outlet.Becomes l.fn.outlet l.outlet;
 }

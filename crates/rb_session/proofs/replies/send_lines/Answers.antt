@@ -35,6 +35,6 @@ pub returns-in-Drained-clause-sent : goal.returns-in-Drained-clause-sent
 returns-in-Drained-clause-sent g c before known =
     let first = text_of (lines.Drained c.in-Drained.count) in
     let sent = c.in_ok-send_reply.ensures.sent before known ∙ ap (λ (reply : LineReply). Some (before ++ text_of reply)) c.in-Drained.is in
-    let items = subst (λ (held : List Element). Sends c.send_items.result (before ++ first) (texts_of (map lines.Item held)) (g.W.Write.contents c.send_items.new.writer))
+    let items = subst (λ (held : List Element). Sends c.send_items.result (before ++ first) (texts_of (map lines.Item held)) (g.O.Outlet.contents c.send_items.new.outlet))
     c.last.ensures (c.send_items.ensures.sent (before ++ first) sent) in
     rw c.in-Drained.is (sends_then c.send_items.result before first _ _ items)

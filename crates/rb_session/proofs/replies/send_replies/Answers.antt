@@ -3,4 +3,4 @@ use Rattle.rb_session.proofs.replies.send_replies.Goals as goal
 
 pub returns-clause-sent : goal.returns-clause-sent
 returns-clause-sent g c before known =
-    sends_all c.flush.result before _ _ (c.flush.ensures _ (c.in_ok-send_lines.ensures.sent before known))
+    sends_all c.flush.result before _ _ (c.flush.ensures.kept _ (c.in_ok-send_lines.ensures.sent before known))

@@ -21,4 +21,4 @@ sends_line (Err fault) before line text written same (taken, wrote) =
 pub returns-clause-sent : goal.returns-clause-sent
 returns-clause-sent g c before known =
     let line = c.deref.ensures.value ∙ of_ok c.write_reply.result _ _ c.unwrap.ensures c.write_reply.ensures.ok ∙ ap (λ items. items ++ text_of c.args.reply.now) c.clear.ensures.items in
-    sends_line c.send_line.result before _ (text_of c.args.reply.now) _ line (c.send_line.ensures before known)
+    sends_line c.send.result before _ (text_of c.args.reply.now) _ line (c.send.ensures.sent before known)

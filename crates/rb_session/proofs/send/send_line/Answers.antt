@@ -1,11 +1,10 @@
-use Rattle.rb_session.proofs.Sending.{HasSent-kept, HasSent-more}
+use Rattle.std.proofs.Common.{ap, ◌∙◌, Some, ◌++◌}
+use Rattle.std.proofs.lemmas.List.{take_all}
+use Rattle.rb_session.proofs.Sending.{appended}
 use Rattle.rb_session.proofs.send.send_line.Goals as goal
-use Rattle.rb_session.proofs.send.send_line.Goals.{in-Ok, in-Err}
 
--- a write took some bytes, or it was interrupted and took none
-pub loop-preserved : goal.loop-preserved
-loop-preserved g c =
-    elim c.match-write.branch [
-      | in-Ok w ↦ rw w.rest-is (HasSent-more _ _ _ _ _ w.in-Ok.count c.loop.invariant w.in-Ok.ensures.bytes)
-      | in-Err w ↦ rw w.rest-is (HasSent-kept _ _ _ _ _ c.loop.invariant w.in-Err.ensures.bytes)
-    ]
+pub returns-then-write_out-line : goal.returns-then-write_out-line
+returns-then-write_out-line g c before known = (c.write_out.result, appended _ _ before _ known c.write_out.ensures.taken)
+
+pub returns : goal.returns
+returns g c before known = appended _ _ before _ known c.write_out.ensures.taken ∙ ap (λ bytes. Some (before ++ bytes)) (take_all c.write_out.result c.args.line.now c.if-write_out-line.false)

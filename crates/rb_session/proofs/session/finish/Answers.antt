@@ -12,14 +12,14 @@ rest_is : (rest : List ℕ) → 0 < length rest → texts_of (lines.Error words.
 rest_is [] some = absurd (omega arith)
 rest_is (byte ∷ rest) some = append-nil (text_of (lines.Error words.Line))
 
-pub returns-then-is_err : goal.returns-then-is_err
-returns-then-is_err g c bytes before unserved known =
+pub returns-then-is_err-clause-ends : goal.returns-then-is_err-clause-ends
+returns-then-is_err-clause-ends g c bytes before unserved known =
     let some : 0 < length bytes = (c.has_rest.ensures bytes unserved).0 c.if-has_rest.true in
     let failed = sends_failed c.send_replies.result before _ _ (sym c.is_err.ensures.value ∙ c.if-is_err.true) (c.send_replies.ensures.sent before known) in
     (some, failed.0, failed.1, sym (rest_is bytes some) ∙ failed.2, failed.3)
 
-pub returns-else-is_err : goal.returns-else-is_err
-returns-else-is_err g c bytes before unserved known =
+pub returns-else-is_err-clause-ends : goal.returns-else-is_err-clause-ends
+returns-else-is_err-clause-ends g c bytes before unserved known =
     let some : 0 < length bytes = (c.has_rest.ensures bytes unserved).0 c.if-has_rest.true in
     sends_done c.send_replies.result before _ _ (sym c.is_err.ensures.value ∙ c.if-is_err.false) (c.send_replies.ensures.sent before known)
     ∙ ap (λ t. Some (before ++ t)) (rest_is bytes some)

@@ -10,6 +10,7 @@ loop-reading-init g c = record {
   stands = λ bytes before unserved known.
       (stands_first g.D.Desk.gives g.D.Desk.Sets g.D.Desk.Steps c.args.policy.now (point (g.D.Desk.state c.args.desk.now) c.args.held.now) bytes before _ known, unserved);
   room = c.requires;
+  becomes = g.met.O.Outlet.stays c.args.outlet.now;
   name = refl;
 }
 
@@ -43,6 +44,7 @@ loop-reading-preserved g c = record {
         line.5,
       );
   room = c.send_replies.ensures.room;
+  becomes = g.met.O.Outlet.goes_on _ _ _ c.loop-reading.invariant.becomes c.send_replies.ensures.becomes;
   name = c.answer-reply.ensures.name ∙ c.loop-reading.invariant.name;
 }
 

@@ -9,10 +9,11 @@ use Rattle.rb_session.proofs.session.serve_lines.Given as goal
 -- the lines that were taken out of the buffer are served
 abbrev pub invariant-loop-reading : goal.invariant-loop-reading
 invariant-loop-reading g l = record {
-  stands : (bytes before : List ℕ) → IsUnserved l.fn.buffer bytes → g.W.Write.contents l.fn.writer ≡ Some before
-      → (stands : Stands g.D.Desk.gives g.D.Desk.Sets g.D.Desk.Steps l.policy (point (g.D.Desk.state l.fn.desk) l.fn.held) bytes before (point (g.D.Desk.state l.desk) l.held) (g.W.Write.contents l.writer))
+  stands : (bytes before : List ℕ) → IsUnserved l.fn.buffer bytes → g.O.Outlet.contents l.fn.outlet ≡ Some before
+      → (stands : Stands g.D.Desk.gives g.D.Desk.Sets g.D.Desk.Steps l.policy (point (g.D.Desk.state l.fn.desk) l.fn.held) bytes before (point (g.D.Desk.state l.desk) l.held) (g.O.Outlet.contents l.outlet))
       × IsUnserved l.buffer stands.rest;
   room : REPLY_ROOM ≤ vec_capacity l.text;
+  becomes : g.O.Outlet.Becomes l.fn.outlet l.outlet;
   name : g.D.Desk.name (g.D.Desk.state l.desk) ≡ g.D.Desk.name (g.D.Desk.state l.fn.desk);
 }
 

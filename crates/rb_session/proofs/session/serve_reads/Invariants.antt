@@ -5,15 +5,16 @@ use Rattle.rb_session.specs.Buffer.{IsUnserved}
 use Rattle.rb_session.specs.Lines.{HasNoFeed}
 use Rattle.rb_session.specs.Turn.{point}
 use Rattle.rb_session.specs.Progress.{Stands}
-use Rattle.rb_session.proofs.session.serve.Given as goal
+use Rattle.rb_session.proofs.session.serve_reads.Given as goal
 
 -- of what was read the whole lines are served, and the buffer has the rest
 abbrev pub invariant-loop : goal.invariant-loop
 invariant-loop g l = record {
-  stands : (stream before : List ℕ) → g.R.Read.remaining l.fn.reader ≡ Some stream → g.W.Write.contents l.fn.writer ≡ Some before
+  stands : (stream before : List ℕ) → g.R.Read.remaining l.fn.reader ≡ Some stream → g.O.Outlet.contents l.fn.outlet ≡ Some before
       → (left : List ℕ) × (bytes : List ℕ) × (g.R.Read.remaining l.reader ≡ Some left) × (stream ≡ bytes ++ left)
-      × (stands : Stands g.D.Desk.gives g.D.Desk.Sets g.D.Desk.Steps l.policy (point (g.D.Desk.state l.fn.desk) l.fn.held) bytes before (point (g.D.Desk.state l.desk) l.held) (g.W.Write.contents l.writer))
+      × (stands : Stands g.D.Desk.gives g.D.Desk.Sets g.D.Desk.Steps l.policy (point (g.D.Desk.state l.fn.desk) l.fn.held) bytes before (point (g.D.Desk.state l.desk) l.held) (g.O.Outlet.contents l.outlet))
       × HasNoFeed stands.rest × IsUnserved l.buffer stands.rest;
   room : REPLY_ROOM ≤ vec_capacity l.text;
+  becomes : g.O.Outlet.Becomes l.fn.outlet l.outlet;
   name : g.D.Desk.name (g.D.Desk.state l.desk) ≡ g.D.Desk.name (g.D.Desk.state l.fn.desk);
 }

@@ -1,0 +1,5 @@
+use Rattle.rb_session.proofs.Sending.{HasTaken}
+use Rattle.rb_session.proofs.send.write_out.Given as goal
+
+abbrev pub invariant-loop : goal.invariant-loop
+invariant-loop g l = HasTaken (g.W.Write.contents l.fn.writer) (g.W.Write.contents l.writer) l.bytes l.taken

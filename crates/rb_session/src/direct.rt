@@ -1,0 +1,38 @@
+ghost use Rattle.std.specs.Prelude.{◌≡◌};
+ghost use Rattle.std.proofs.Common.{refl, ◌∙◌};
+
+use crate::outlet::Outlet;
+use crate::send::{WriteFault, flush, send_line};
+use std::io::Write;
+
+/// An outlet that holds nothing back: the writer has each line at once.
+#[derive(Drop)]
+pub(crate) struct Direct<'a, W: Write> {
+    pub(crate) writer: &'a mut W,
+}
+
+impl<W: Write> Outlet for Direct<'_, W> {
+    ghost contents = { λ outlet. W.contents outlet.writer.now };
+
+    ghost IsClear = { λ outlet. Unit {0} };
+
+    ghost HoldsBack = { ⊥ };
+
+    ghost Becomes = { λ old new. new.writer.ghost_name ≡ old.writer.ghost_name };
+
+    fn send(&mut self, line: &[u8]) -> Result<(), WriteFault> {
+        send_line(self.writer, line)
+    }
+
+    fn flush(&mut self) -> Result<(), WriteFault> {
+        flush(self.writer)
+    }
+
+    fn hand_on(&mut self) -> Result<(), WriteFault> {
+        Ok(())
+    }
+
+    ghost stays = { λ outlet. refl };
+
+    ghost goes_on = { λ one two three first second. second ∙ first };
+}

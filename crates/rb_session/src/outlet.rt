@@ -1,0 +1,50 @@
+ghost use Rattle.std.specs.Prelude.{◌≡◌, ℕ, List, ◌++◌, take, Option, Some, MatchResult, OnOk, OnErr};
+
+use crate::send::WriteFault;
+
+/// Where the replies of a session go. An outlet may hold back what was sent to it, until it is told to
+/// hand that on.
+///
+/// A session sends each reply line in one piece and flushes after each request. What is held back has
+/// to be handed on before each read, so that no client waits for a reply that lies here, and at the
+/// session's end.
+pub trait Outlet {
+    /// The bytes that were sent, behind those that lay before them, where they are known.
+    ghost contents: { Self → Option (List ℕ) };
+
+    /// Nothing is held back.
+    ghost IsClear: { Self → Type 0 };
+
+    /// An outlet of this kind may hold something back, so that it may fail to hand it on.
+    ghost HoldsBack: { Type 0 };
+
+    /// What may become of an outlet: it keeps its writer, and never takes back what that has got.
+    ghost Becomes: { Self → Self → Type 0 };
+
+    /// Takes a line.
+    ///
+    /// After an `Err` it has taken the first bytes of the line, perhaps none.
+    fn send(&mut self, line: &[u8]) -> Result<(), WriteFault>
+        ensures sent { (before : List ℕ) → contents self.old ≡ Some before → MatchResult result
+            (λ _. contents self.new ≡ Some (before ++ line.now))
+            (λ _. (taken : ℕ) × (contents self.new ≡ Some (before ++ take taken line.now))) }
+        ensures becomes { Becomes self.old self.new };
+
+    /// The replies to a request are sent. What that means to what is held back is the outlet's own.
+    fn flush(&mut self) -> Result<(), WriteFault>
+        ensures kept { (before : List ℕ) → contents self.old ≡ Some before → contents self.new ≡ Some before }
+        ensures becomes { Becomes self.old self.new };
+
+    /// Hands on all that is held back.
+    fn hand_on(&mut self) -> Result<(), WriteFault>
+        ensures kept { (before : List ℕ) → contents self.old ≡ Some before → contents self.new ≡ Some before }
+        ensures clear { OnOk result (IsClear self.new) }
+        ensures late { OnErr result HoldsBack }
+        ensures becomes { Becomes self.old self.new };
+
+    /// An outlet may stay as it is.
+    ghost stays: { (outlet : Self) → Becomes outlet outlet };
+
+    /// What becomes of what became of an outlet became of it.
+    ghost goes_on: { (one two three : Self) → Becomes one two → Becomes two three → Becomes one three };
+}
