@@ -1,16 +1,13 @@
 -- The lines behind a header, put together from those of the opening and those of the events.
-use Rattle.std.proofs.Common.{◌≡◌, ◌≢◌, ℕ, ◌+◌, ◌<◌, ◌≤◌, List, [], ◌∷◌, ◌++◌, length, map, refl, sym, ap, subst, ◌∙◌, arith, inl, inr, ◌⊎◌, append_assoc, Err}
+use Rattle.std.proofs.Common.{◌≡◌, ◌≢◌, ℕ, ◌≤◌, List, [], ◌∷◌, ◌++◌, length, map, refl, sym, ap, subst, ◌∙◌, arith, inl, inr, append_assoc, Err}
 use Rattle.rb_protocol.specs.Line.{words_of}
 use Rattle.rb_protocol.specs.declared.format.TheConstants.{LINE_FEED}
-use Rattle.rb_queue.specs.Opening.{AreInOrder, IsOpening}
-use Rattle.rb_queue.specs.declared.event.Event.{Event}
 use Rattle.rb_queue.specs.declared.opening.Opening.{Opening}
-use Rattle.rb_queue.specs.declared.opening.TheConstants.{GREATEST_OPENING_ID, MOST_OPENING_ELEMENTS}
-use Rattle.rb_replay.specs.BodyReading.{KeepsAll, StopsKeeping, TellsNumbers, TellsOpening, FaultOfOpening, KeepsFail, OpeningFails, RunFails, IsRightHistory, TellsRun, line_behind}
+use Rattle.rb_replay.specs.BodyReading.{KeepsAll, StopsKeeping, TellsNumbers, TellsOpening, FaultOfOpening, KeepsFail, OpeningFails, RunFails, TellsRun, line_behind}
 use Rattle.rb_replay.specs.EventText.{event_words, keep_words, end_words, open_words}
 use Rattle.rb_replay.specs.HistoryText.{line_text, lines_text, opening_lines}
 use Rattle.rb_replay.specs.OpeningReading.{IsOpenLine, MayOpen, numbers_words}
-use Rattle.rb_replay.specs.Ranges.{IsWord, IsRightOpening, AreRightEvents}
+use Rattle.rb_replay.specs.Ranges.{IsWord, AreRightEvents}
 use Rattle.rb_replay.specs.Readings.{MayBegin}
 use Rattle.rb_replay.specs.TextFaults.{OpenFault, KeepFault, BodyFault, EventsFault, ReadsEvents}
 use Rattle.rb_replay.specs.declared.history.History.{History}
@@ -22,7 +19,6 @@ use Rattle.rb_replay.specs.declared.version.Version.{Version}
 use Rattle.rb_replay.specs.declared.version.Version.TheVariants.{One, Two, Three}
 use Rattle.rb_replay.specs.declared.write.TheConstants.{MOST_EVENTS}
 use Rattle.rb_replay.proofs.EventLines.{line_is}
-use Rattle.rb_replay.proofs.Lines.{lines_text-append}
 use Rattle.rb_replay.proofs.Spelled.{same_number}
 
 -- a line tells the numbers of one opening only

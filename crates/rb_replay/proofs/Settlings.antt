@@ -1,7 +1,6 @@
 -- The earliest expiry of each origin, with one element more.
-use Rattle.std.proofs.Common.{◌≡◌, ◌≢◌, ℕ, ◌+◌, ◌<◌, ◌==◌, Bool, true, false, cond, List, [], ◌∷◌, ◌++◌, length, map, take, set, get_or, codes, decimal, append_assoc, append-nil, Option, Some, None, refl, sym, ap, subst, ◌∙◌, arith, inl, inr, ◌⊎◌}
+use Rattle.std.proofs.Common.{◌≡◌, ◌≢◌, ℕ, ◌+◌, ◌<◌, ◌==◌, true, false, cond, List, [], ◌∷◌, ◌++◌, length, map, take, set, get_or, codes, decimal, append_assoc, append-nil, Some, None, refl, sym, ap, subst, ◌∙◌, arith, inl, inr, ◌⊎◌}
 use Rattle.std.specs.Ordering.{nat_cmp, is_eq}
-use Rattle.std.specs.BTreeMap.{BTreeMap}
 use Rattle.std.specs.BTreeMap as tree
 use Rattle.std.specs.FinMap.{nat_cmp-IsAntisymmetric}
 use Rattle.std.specs.declared.cmp.Ordering.{Ordering}
@@ -21,7 +20,7 @@ use Rattle.rb_replay.specs.EventText.{act_words, event_words, keep_words}
 use Rattle.rb_replay.specs.Firsts.{earliest, HaveEarliest}
 use Rattle.rb_replay.specs.Offers.{offers_in}
 use Rattle.rb_replay.specs.Ranges.{IsWord, IsRightElement, IsRightAct, IsRightEvent, AreRightElements, AreRightEvents}
-use Rattle.rb_replay.specs.Settling.{KnowsFirsts, IsFirst, SettlesElements, SettlesEvent, SettlesEvents}
+use Rattle.rb_replay.specs.Settling.{KnowsFirsts, IsFirst, SettlesEvent}
 use Rattle.rb_replay.specs.declared.version.Version.TheVariants.{One}
 use Rattle.rb_replay.specs.declared.firsts.Firsts.{Firsts}
 

@@ -1,16 +1,13 @@
 -- A text of a history, put together from its header and what was read behind it.
-use Rattle.std.proofs.Common.{◌≡◌, ◌≢◌, ℕ, zero, suc, ◌+◌, ◌<◌, ◌≤◌, List, [], ◌∷◌, ◌++◌, length, map, codes, decimal, refl, sym, ap, subst, ◌∙◌, arith, take, drop, inl, inr, ◌⊎◌, Result, Ok, Err, IfOk, append_assoc}
+use Rattle.std.proofs.Common.{◌≡◌, ◌≢◌, ℕ, List, [], ◌∷◌, ◌++◌, length, map, codes, decimal, refl, sym, ap, subst, ◌∙◌, arith, take, drop, inl, inr, ◌⊎◌, Result, Ok, Err, IfOk, append_assoc}
 use Rattle.std.specs.Prelude.{slice_index}
 use Rattle.std.proofs.lemmas.List.{length-map, take_at}
 use Rattle.rb_delayed.specs.declared.element.Element.{Element}
-use Rattle.rb_queue.specs.Opening.{ids_of, AreInOrder, IsOpening}
+use Rattle.rb_queue.specs.Opening.{ids_of, IsOpening}
 use Rattle.rb_queue.specs.declared.event.Event.{Event}
-use Rattle.rb_queue.specs.declared.opening.Opening.{Opening}
 use Rattle.rb_replay.specs.BodyReading.{IsRightHistory, TellsRun, RunFails}
-use Rattle.rb_replay.specs.EventText.{act_words, event_words, keep_words, header_words, open_words, end_words}
-use Rattle.rb_replay.specs.Firsts.{HaveEarliest, FirstsFollow}
-use Rattle.rb_replay.specs.HistoryText.{line_text, lines_text, opening_lines, text_in}
-use Rattle.rb_replay.specs.Offers.{offers_in}
+use Rattle.rb_replay.specs.EventText.{act_words, event_words, keep_words, header_words, end_words}
+use Rattle.rb_replay.specs.HistoryText.{line_text, lines_text, opening_lines}
 use Rattle.rb_replay.specs.Readings.{MayBegin, IsTextIn, Reads}
 use Rattle.rb_replay.specs.Settling.{SettlesElements, SettlesEvents, HasFirsts, IsSettled}
 use Rattle.rb_replay.specs.Ranges.{IsWord}

@@ -1,7 +1,5 @@
 -- What the lines behind a header are read as. No public clause cites this module.
 use Rattle.std.specs.Prelude.{◌≡◌, ℕ, ◌+◌, ◌<◌, ◌≤◌, ◌⊎◌, List, [], ◌∷◌, ◌++◌, length, map}
-use Rattle.rb_protocol.specs.Line.{words_of}
-use Rattle.rb_protocol.specs.declared.format.TheConstants.{LINE_FEED}
 use Rattle.rb_delayed.specs.declared.element.Element.{Element}
 use Rattle.rb_queue.specs.Opening.{AreInOrder}
 use Rattle.rb_queue.specs.declared.opening.Opening.{Opening}
@@ -16,7 +14,7 @@ use Rattle.rb_replay.specs.TextFaults.{HasOtherKeep, OpenFault, KeepFault, BodyF
 use Rattle.rb_replay.specs.declared.history.History.{History}
 use Rattle.rb_replay.specs.declared.read_opening.OpenLine.{OpenLine}
 use Rattle.rb_replay.specs.declared.version.Version.{Version}
-use Rattle.rb_replay.specs.declared.version.Version.TheVariants.{One, Two, Three}
+use Rattle.rb_replay.specs.declared.version.Version.TheVariants.{One}
 use Rattle.rb_replay.specs.declared.text_fault.TextFault.{TextFault}
 use Rattle.rb_replay.specs.declared.text_fault.TextFault.TheVariants.{At, Memory}
 use Rattle.rb_replay.specs.declared.text_fault.TextReason.{TextReason}

@@ -7,6 +7,8 @@ use std::test::Fail;
 
 mod legal;
 mod openings;
+mod reading;
+mod unreadable;
 mod written;
 
 // Element 0 or 1 of a run: the first of its job, with payload `a` or `b`.
@@ -66,10 +68,23 @@ fn two_seats(rt: &impl Abort, alloc: Global) -> Result<Vec<Event>, AllocError> {
     Ok(events)
 }
 
+// A job that was offered, polled, failed at once, and was offered again.
+fn one_retry(rt: &impl Abort, alloc: Global, again: Element) -> Result<Vec<Event>, AllocError> {
+    let mut events = Vec::with_capacity(alloc, 3)?;
+    events.push(event(0, 0, 0, Act::Offer(first(rt, 0, 0))))?;
+    events.push(event(0, 0, 0, Act::Poll(Some(0))))?;
+    events.push(event(0, 0, 0, Act::Offer(again)))?;
+    Ok(events)
+}
+
 // What stands after a job failed once, and the next run: a count, its poll, and another job.
 fn retried(rt: &impl Abort, alloc: Global) -> Result<Opening, Fail> {
-    let elements = Vec::from_slice(alloc, &[second(rt)])?;
-    match Opening::new(Items::new(elements), 2, 0) {
+    opening(alloc, &[second(rt)], 2)
+}
+
+fn opening(alloc: Global, elements: &[Element], next_id: u64) -> Result<Opening, Fail> {
+    let elements = Items::new(Vec::from_slice(alloc, elements)?);
+    match Opening::new(elements, next_id, 0) {
         Some(opening) => Ok(opening),
         None => Err(Fail::from("no opening")),
     }

@@ -1,4 +1,4 @@
-use Rattle.std.proofs.Common.{◌≡◌, length, refl, sym, subst, ◌∙◌, arith}
+use Rattle.std.proofs.Common.{◌≡◌, refl, sym, subst, ◌∙◌, arith}
 use Rattle.rb_replay.specs.Settling.{SettlesElements, SettlesEvents}
 use Rattle.rb_replay.proofs.WholeTexts.{has_firsts, whole_list}
 use Rattle.rb_replay.proofs.read.with_firsts.Goals as goal
