@@ -1,12 +1,17 @@
-use crate::{HistoryFault, Reason, ReplayFault, check, write_history};
+use crate::{
+    ChainFault, ChainReason, HistoryFault, Reason, ReplayFault, chains, check, write_history,
+};
 use rb_delayed::{Element, Payload};
 use rb_queue::{Act, Audit, Event, Ids, Items, Opening};
+use rb_retry::Policy;
 use std::alloc::{AllocError, Global};
 use std::process::Abort;
 use std::test::Fail;
 
+mod chained;
 mod legal;
 mod openings;
+mod refusals;
 mod written;
 
 // Element 0 or 1 of a run: the first of its job, with payload `a` or `b`.
@@ -63,6 +68,15 @@ fn two_seats(rt: &impl Abort, alloc: Global) -> Result<Vec<Event>, AllocError> {
     events.push(event(1, 5, 10, Act::Poll(Some(0))))?;
     events.push(event(1, 3, 10, poll_for(3, 4)))?;
     events.push(event(0, 11, 11, Act::Size(0)))?;
+    Ok(events)
+}
+
+// A job that was offered, polled, failed at once, and was offered again.
+fn one_retry(rt: &impl Abort, alloc: Global, again: Element) -> Result<Vec<Event>, AllocError> {
+    let mut events = Vec::with_capacity(alloc, 3)?;
+    events.push(event(0, 0, 0, Act::Offer(first(rt, 0, 0))))?;
+    events.push(event(0, 0, 0, Act::Poll(Some(0))))?;
+    events.push(event(0, 0, 0, Act::Offer(again)))?;
     Ok(events)
 }
 

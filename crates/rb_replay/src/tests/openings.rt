@@ -16,15 +16,6 @@ fn opened(
     opening_of(alloc, &history)
 }
 
-// A job that was offered, polled, failed at once, and was offered again.
-fn one_retry(rt: &impl Abort, alloc: Global, again: Element) -> Result<Vec<Event>, AllocError> {
-    let mut events = Vec::with_capacity(alloc, 3)?;
-    events.push(event(0, 0, 0, Act::Offer(first(rt, 0, 0))))?;
-    events.push(event(0, 0, 0, Act::Poll(Some(0))))?;
-    events.push(event(0, 0, 0, Act::Offer(again)))?;
-    Ok(events)
-}
-
 #[test]
 fn a_run_begins_where_another_ended(rt: HostRuntime) -> Result<(), Fail> {
     let alloc = rt.alloc();
