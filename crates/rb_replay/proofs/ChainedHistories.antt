@@ -18,15 +18,13 @@ use Rattle.rb_queue.specs.declared.event.Event.{Event}
 use Rattle.rb_queue.specs.declared.opening.Opening.{Opening}
 use Rattle.rb_retry.specs.declared.policy.Policy.{Policy}
 use Rattle.rb_replay.specs.Offers.{offers_in}
-use Rattle.rb_replay.specs.Gifts.{gifts_from, gifts_of}
+use Rattle.rb_replay.specs.Gifts.{gifts_from}
 use Rattle.rb_replay.specs.Tests.{Test, NoTest}
 use Rattle.rb_replay.specs.Links.{Past, is_attempt, parent_in, CameBefore, Begins, Follows, GoesOn, IsLinked}
 use Rattle.rb_replay.specs.LinkTests.{FollowTests, ParentTests, BeginTests, GoOnTests, LinkTests}
-use Rattle.rb_replay.specs.Chaining.{past_of, IsChained, Unchains, Chains}
+use Rattle.rb_replay.specs.Chaining.{past_of, IsChained, Unchains}
 use Rattle.rb_replay.specs.Registering.{attempt_of, Recalls, Keeps, past_after, EventIsLinked, EventTests}
 use Rattle.rb_replay.specs.declared.attempt.Attempt.{Attempt}
-use Rattle.rb_replay.specs.declared.chain_fault.ChainFault.{ChainFault}
-use Rattle.rb_replay.specs.declared.chain_fault.ChainFault.TheVariants.{At, Memory}
 use Rattle.rb_replay.specs.declared.chain_reason.ChainReason.{ChainReason}
 use Rattle.rb_replay.specs.declared.chain_reason.ChainReason.TheVariants.{NoParent, Twice}
 use Rattle.rb_replay.specs.declared.register.Register.{Register}

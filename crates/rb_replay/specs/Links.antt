@@ -1,6 +1,6 @@
 -- When an offered element is linked to what came before: it begins a job, or it is what the policy
 -- offers after the attempt before.
-use Rattle.std.specs.Prelude.{◌≡◌, ℕ, ◌-◌, ◌≤◌, ◌==◌, ◌&&◌, Bool, IsTrue, IsSomeAnd, List, Option, Some, None}
+use Rattle.std.specs.Prelude.{◌≡◌, ℕ, ◌-◌, ◌≤◌, ◌==◌, ◌&&◌, Bool, IsTrue, IsSomeAnd, List, Option}
 use Rattle.std.specs.List.{find, list_any}
 use Rattle.rb_delayed.specs.declared.element.Element.{Element}
 use Rattle.rb_retry.specs.Retry.{next_expiry}

@@ -1,7 +1,8 @@
-//! The history of a run as text, and the check that it is a legal one.
+//! The history of a run as text, the check that it is a legal one, and that its retries are right.
 //!
 //! A text tells what a run began with and each of its events, in order. The check accepts exactly the
-//! events that one queue in one thread may have had. Moments and delays are nanoseconds.
+//! events that one queue in one thread may have had; that of retries, the legal histories in which each
+//! offer begins a job or goes on with one as a policy says. Moments and delays are nanoseconds.
 #![tactic(auto)]
 
 mod attempt;

@@ -1,13 +1,18 @@
-use crate::{HistoryFault, Reason, ReplayFault, check, write_history};
+use crate::{
+    ChainFault, ChainReason, HistoryFault, Reason, ReplayFault, chains, check, write_history,
+};
 use rb_delayed::{Element, Payload};
 use rb_queue::{Act, Audit, Event, Ids, Items, Opening};
+use rb_retry::Policy;
 use std::alloc::{AllocError, Global};
 use std::process::Abort;
 use std::test::Fail;
 
+mod chained;
 mod legal;
 mod openings;
 mod reading;
+mod refusals;
 mod unreadable;
 mod written;
 

@@ -1,4 +1,3 @@
-use Rattle.std.proofs.Common.{◌≡◌, sym, ◌∙◌}
 use Rattle.rb_replay.proofs.ChainedHistories.{linked_event}
 use Rattle.rb_replay.proofs.linkage.check_event.Goals as goal
 

@@ -1,7 +1,4 @@
-use Rattle.std.proofs.Common.{refl, sym, ap, ◌∙◌}
-use Rattle.std.specs.Prelude.{is_some}
-use Rattle.std.specs.BTreeMap as tree
-use Rattle.rb_replay.specs.Registering.{attempt_cmp}
+use Rattle.std.proofs.Common.{refl, sym, ◌∙◌}
 use Rattle.rb_replay.proofs.Registers.{recalls_new_gift, recalls_old_gift}
 use Rattle.rb_replay.proofs.register.Register.keep_gift.Goals as goal
 
