@@ -19,3 +19,4 @@ pub mod OneTexts
 pub mod FaultlessTexts
 pub mod EachReadings
 pub mod WholeTexts
+pub mod OneFaults

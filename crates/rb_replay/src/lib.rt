@@ -37,7 +37,7 @@ mod write;
 
 pub use history::History;
 pub use history_fault::HistoryFault;
-pub use laws::{no_fault_of_text, no_text_of_two, one_text_each};
+pub use laws::{no_fault_of_text, no_text_of_two, one_fault, one_text_each};
 pub use legality::check;
 pub use next_opening::opening_of;
 pub use opening_fault::OpeningFault;
