@@ -1,11 +1,12 @@
 -- A text of a history has no fault.
-use Rattle.std.proofs.Common.{◌≡◌, ℕ, suc, ◌<◌, ◌≤◌, ◌⊎◌, inl, inr, List, [], ◌∷◌, ◌++◌, length, map, slice_index, refl, sym, ap, subst, ◌∙◌, arith, length-append}
+use Rattle.std.proofs.Common.{◌≡◌, ℕ, suc, ◌+◌, ◌<◌, ◌≤◌, ◌⊎◌, inl, inr, List, [], ◌∷◌, ◌++◌, length, map, slice_index, refl, sym, ap, subst, ◌∙◌, arith, length-append}
 use Rattle.std.proofs.lemmas.List.{length-map, get_or_append_left}
 use Rattle.std.proofs.lemmas.List.Elements.{All-head, All-tail}
 use Rattle.rb_delayed.specs.declared.element.Element.{Element}
 use Rattle.rb_queue.specs.Opening.{ids_of, AreInOrder}
 use Rattle.rb_queue.specs.declared.event.Event.{Event}
 use Rattle.rb_queue.specs.declared.opening.Opening.{Opening}
+use Rattle.rb_queue.specs.declared.opening.TheConstants.{GREATEST_OPENING_ID, MOST_OPENING_ELEMENTS}
 use Rattle.rb_replay.specs.EventText.{event_words, header_words, open_words, keep_words, end_words}
 use Rattle.rb_replay.specs.Feeds.{LacksFeed}
 use Rattle.rb_replay.specs.HistoryText.{line_text, lines_text, opening_lines}
@@ -25,7 +26,7 @@ use Rattle.rb_replay.proofs.OneTexts.{event_texts, events_are_lines, open_are_li
 use Rattle.rb_replay.proofs.WordTexts.{AreLines, lines_behind, lines-append, same_first_line, words_of_first, line_first, feed_in}
 
 -- a text with a line has a line feed
-line_has_feed : (words : List (List ℕ)) (behind : List ℕ) → LacksFeed (line_text words ++ behind) → ⊥
+pub line_has_feed : (words : List (List ℕ)) (behind : List ℕ) → LacksFeed (line_text words ++ behind) → ⊥
 line_has_feed words behind lacks = feed_in _ behind (subst LacksFeed (line_first words behind) lacks)
 
 -- The next event's line stands behind the first of the events.
@@ -64,27 +65,22 @@ stands version (event ∷ front) (other ∷ events) count behind right fits is =
     more (inr next) = inr (record { event = next.event; more = next.more; right = next.right; split = next.split; fewer = omega (arith, next.fewer) })
 
 -- no fault where the next event's line stands
-no_fault_at_event : (version : Version) (events front : List Event) (behind : List (List (List ℕ))) (rest : List ℕ) (here line : ℕ) (reason : TextReason)
-    → length events ≤ MOST_EVENTS → IsAtEvent version events front behind → rest ≡ lines_text behind
-    → NextFault version (length front) here rest line reason → ⊥
-no_fault_at_event version events front behind rest here line reason few next is fault = by reason fault
+pub no_fault_at_event : (version : Version) (event : Event) (behind rest : List ℕ) (count here line : ℕ) (reason : TextReason)
+    → IsRightEvent event → count < MOST_EVENTS → rest ≡ line_text (event_words version event) ++ behind
+    → NextFault version count here rest line reason → ⊥
+no_fault_at_event version event behind rest count here line reason right few is fault = by reason fault
   where
-    first : rest ≡ line_text (event_words version next.event) ++ lines_text next.more
-    first = is ∙ ap lines_text next.split
+    no_end : (number : ℕ) (after : List ℕ) → IsWord number → rest ≡ line_text (end_words number) ++ after → ⊥
+    no_end number after small ends =
+        event_no_end version event number right (same_first_line _ _ _ _ (event_line version event right) (end_line number small) (sym is ∙ ends)).0
 
-    no_end : (count : ℕ) (after : List ℕ) → IsWord count → rest ≡ line_text (end_words count) ++ after → ⊥
-    no_end count after small ends =
-        event_no_end version next.event count next.right
-        (same_first_line _ _ _ _ (event_line version next.event next.right) (end_line count small) (sym first ∙ ends)).0
-
-    by : (reason : TextReason) → NextFault version (length front) here rest line reason → ⊥
-    by End fault = line_has_feed (event_words version next.event) (lines_text next.more) (subst LacksFeed first fault.1)
+    by : (reason : TextReason) → NextFault version count here rest line reason → ⊥
+    by End fault = line_has_feed (event_words version event) behind (subst LacksFeed is fault.1)
     by Line fault =
-        fault.1.no_event next.event next.right
-        (words_of_first _ _ _ _ (event_line version next.event next.right) fault.1.whole (sym first ∙ fault.1.split))
-    by Many fault = omega (arith, fault.1, next.fewer, few)
+        fault.1.no_event event right (words_of_first _ _ _ _ (event_line version event right) fault.1.whole (sym is ∙ fault.1.split))
+    by Many fault = omega (arith, fault.1, few)
     by Count fault = let (number, after, small, split, other) = fault.1 in no_end number after small split
-    by Trailing fault = let (after, split, some) = fault.1 in no_end (length front) after (omega (arith, next.fewer, few)) split
+    by Trailing fault = let (after, split, some) = fault.1 in no_end count after (omega (arith, few)) split
     by reasons.Opening fault = fault
     by Header fault = fault
 
@@ -130,23 +126,25 @@ events_faultless version events first line reason right few fault =
     at : (behind : List (List (List ℕ))) → fault.rest ≡ lines_text behind
         → IsAtEnd events fault.events (length events) behind ⊎ IsAtEvent version events fault.events behind → ⊥
     at behind rest (inl end) = no_fault_at_end version events fault.events behind fault.rest _ line reason few end rest fault.fault
-    at behind rest (inr next) = no_fault_at_event version events fault.events behind fault.rest _ line reason few next rest fault.fault
+    at behind rest (inr next) =
+        no_fault_at_event version next.event (lines_text next.more) fault.rest (length fault.events) (first + length fault.events) line reason next.right
+        (omega (arith, next.fewer, few)) (rest ∙ ap lines_text next.split) fault.fault
 
 -- The next element's line stands behind the first of the elements, whose ids are the first ones.
-record IsAtKeep (version : Version) (elements kept : List Element) (behind : List (List (List ℕ))) : Type 0 where
-  element : Element
-  more : List (List (List ℕ))
-  others : List ℕ
-  right : IsRightElement element
-  split : behind ≡ keep_words version element ∷ more
-  ids : ids_of elements ≡ ids_of (kept ++ element ∷ []) ++ others
+pub record IsAtKeep (version : Version) (elements kept : List Element) (behind : List (List (List ℕ))) : Type 0 where
+  pub element : Element
+  pub more : List (List (List ℕ))
+  pub others : List ℕ
+  pub right : IsRightElement element
+  pub split : behind ≡ keep_words version element ∷ more
+  pub ids : ids_of elements ≡ ids_of (kept ++ element ∷ []) ++ others
 
 told_id : (version : Version) (one other : Element) → told version one ≡ told version other → one.id ≡ other.id
 told_id One one other is = ap (λ (e : Element). e.id) is
 told_id Two one other is = ap (λ (e : Element). e.id) is
 told_id Three one other is = ap (λ (e : Element). e.id) is
 
-stands_keep : (version : Version) (kept elements : List Element) (last behind : List (List (List ℕ))) → AreRightElements kept → AreRightElements elements
+pub stands_keep : (version : Version) (kept elements : List Element) (last behind : List (List (List ℕ))) → AreRightElements kept → AreRightElements elements
     → length kept < length elements → map (keep_words version) elements ++ last ≡ map (keep_words version) kept ++ behind
     → IsAtKeep version elements kept behind
 stands_keep version kept [] last behind right fits fewer is = absurd (omega arith)
@@ -173,7 +171,7 @@ stands_keep version (element ∷ kept) (other ∷ elements) last behind right fi
     }
 
 -- the first of elements in order are so
-order_of_first : (front elements : List Element) (others : List ℕ) (end : ℕ) → ids_of elements ≡ ids_of front ++ others → AreInOrder elements end
+pub order_of_first : (front elements : List Element) (others : List ℕ) (end : ℕ) → ids_of elements ≡ ids_of front ++ others → AreInOrder elements end
     → AreInOrder front end
 order_of_first front elements others end is order = record {
   rising = λ one other lower within.
@@ -201,24 +199,38 @@ open_texts_are_lines version opening events right fits few =
     lines-append (open_words opening ∷ map (keep_words version) opening.elements) (event_texts version events) (open_are_lines version opening right)
     (events_are_lines version events fits few)
 
--- what stands behind the numbers of an opening
-abbrev behind_open : Version → Opening → List Event → List ℕ
-behind_open version opening events = lines_text (map (keep_words version) opening.elements ++ event_texts version events)
-
 -- the numbers of an opening have no fault
-open_faultless : (version : Version) (opening : Opening) (events : List Event) (line : ℕ) (reason : TextReason) → IsRightOpening opening → AreRightEvents events
-    → length events ≤ MOST_EVENTS → MayOpen version opening.next_id opening.last_at (length opening.elements)
-    → OpenFault version (lines_text (open_texts version opening events)) line reason → ⊥
-open_faultless version opening events line reason right fits few opens (here, inl (end, lacks)) =
-    line_has_feed (open_words opening) (behind_open version opening events) lacks
-open_faultless version opening events line reason right fits few opens (here, inr (other, wrong)) =
-    wrong.no_open opening.next_id opening.last_at (length opening.elements) right.last_at
+pub no_fault_at_numbers : (version : Version) (next_id last_at count : ℕ) (text behind : List ℕ) (line : ℕ) (reason : TextReason)
+    → next_id ≤ GREATEST_OPENING_ID → IsWord last_at → count ≤ MOST_OPENING_ELEMENTS → MayOpen version next_id last_at count
+    → text ≡ line_text (numbers_words next_id last_at count) ++ behind → OpenFault version text line reason → ⊥
+no_fault_at_numbers version next_id last_at count text behind line reason next last few opens is (here, inl (end, lacks)) =
+    line_has_feed (numbers_words next_id last_at count) behind (subst LacksFeed is lacks)
+no_fault_at_numbers version next_id last_at count text behind line reason next last few opens is (here, inr (other, wrong)) =
+    let line_is = numbers_line next_id last_at count (omega (arith, next)) last (omega (arith, few)) in
+    wrong.no_open next_id last_at count last
     (record {
-      words_are = words_of_first (open_words opening) (behind_open version opening events) wrong.line wrong.behind
-          (open_are_lines version opening right).0 wrong.whole wrong.split;
-      next = opening.opening.next;
-      few = opening.opening.few;
+      words_are = words_of_first (numbers_words next_id last_at count) behind wrong.line wrong.behind line_is wrong.whole (sym is ∙ wrong.split);
+      next = next;
+      few = few;
     }) opens
+
+open_faultless : (version : Version) (opening : Opening) (events : List Event) (line : ℕ) (reason : TextReason) → IsRightOpening opening
+    → MayOpen version opening.next_id opening.last_at (length opening.elements)
+    → OpenFault version (lines_text (open_texts version opening events)) line reason → ⊥
+open_faultless version opening events line reason right opens fault =
+    no_fault_at_numbers version opening.next_id opening.last_at (length opening.elements) (lines_text (open_texts version opening events))
+    (lines_text (map (keep_words version) opening.elements ++ event_texts version events)) line reason opening.opening.next right.last_at
+    opening.opening.few opens refl fault
+
+-- where the next element's line stands there is none
+pub no_fault_at_keep : (version : Version) (next_id : ℕ) (kept : List Element) (element : Element) (rest behind : List ℕ) (reason : TextReason)
+    → IsRightElement element → AreInOrder (kept ++ element ∷ []) next_id → rest ≡ line_text (keep_words version element) ++ behind
+    → ((reason ≡ End) × LacksFeed rest) ⊎ ((reason ≡ reasons.Opening) × HasOtherKeep version next_id kept rest) → ⊥
+no_fault_at_keep version next_id kept element rest behind reason right order is (inl (end, lacks)) =
+    line_has_feed (keep_words version element) behind (subst LacksFeed is lacks)
+no_fault_at_keep version next_id kept element rest behind reason right order is (inr (other, wrong)) =
+    wrong.no_keep element right
+    (words_of_first (keep_words version element) behind wrong.line wrong.behind (keep_line version element right) wrong.whole (sym is ∙ wrong.split)) order
 
 -- nor has a line of its elements
 keep_faultless : (version : Version) (opening : Opening) (events : List Event) (line : ℕ) (reason : TextReason) → IsRightOpening opening → AreRightEvents events
@@ -236,19 +248,10 @@ keep_faultless version opening events line reason right fits few fault =
     (omega arith) right.last_at (omega arith) (omega arith) fault.last (omega arith) (head_of _ _ _ _ split) in
     let keep = stands_keep version fault.kept opening.elements (event_texts version events) behind fault.right right.elements
     (omega (arith, numbers.counts, fault.fewer)) (tail_of _ _ _ _ split) in
-    at behind rest numbers.next keep fault.fault
-  where
-    at : (behind : List (List (List ℕ))) → fault.rest ≡ lines_text behind → opening.next_id ≡ fault.next_id
-        → IsAtKeep version opening.elements fault.kept behind
-        → ((reason ≡ End) × LacksFeed fault.rest) ⊎ ((reason ≡ reasons.Opening) × HasOtherKeep version fault.next_id fault.kept fault.rest) → ⊥
-    at behind rest ids keep (inl (end, lacks)) =
-        line_has_feed (keep_words version keep.element) (lines_text keep.more) (subst LacksFeed (rest ∙ ap lines_text keep.split) lacks)
-    at behind rest ids keep (inr (other, wrong)) =
-        wrong.no_keep keep.element keep.right
-        (words_of_first (keep_words version keep.element) (lines_text keep.more) wrong.line wrong.behind (keep_line version keep.element keep.right)
-        wrong.whole (sym (rest ∙ ap lines_text keep.split) ∙ wrong.split))
-        (order_of_first (fault.kept ++ keep.element ∷ []) opening.elements keep.others fault.next_id keep.ids
-        (subst (AreInOrder opening.elements) ids opening.opening.order))
+    no_fault_at_keep version fault.next_id fault.kept keep.element fault.rest (lines_text keep.more) reason keep.right
+    (order_of_first (fault.kept ++ keep.element ∷ []) opening.elements keep.others fault.next_id keep.ids
+    (subst (AreInOrder opening.elements) numbers.next opening.opening.order))
+    (rest ∙ ap lines_text keep.split) fault.fault
 
 -- nor what stands behind the opening
 behind_faultless : (version : Version) (opening second : Opening) (events : List Event) (rest : List ℕ) (first line : ℕ) (reason : TextReason)
@@ -270,11 +273,11 @@ body_faultless : (version : Version) (opening : Opening) (events : List Event) (
     → length events ≤ MOST_EVENTS → MayBegin version opening
     → BodyFault version (lines_text (opening_lines version opening ++ event_texts version events)) line reason → ⊥
 body_faultless One opening events line reason right fits few begins fault = events_faultless One events 2 line reason fits few fault
-body_faultless Two opening events line reason right fits few begins (inl fault) = open_faultless Two opening events line reason right fits few begins fault
+body_faultless Two opening events line reason right fits few begins (inl fault) = open_faultless Two opening events line reason right begins fault
 body_faultless Two opening events line reason right fits few begins (inr (inl fault)) = keep_faultless Two opening events line reason right fits few fault
 body_faultless Two opening events line reason right fits few begins (inr (inr fault)) =
     behind_faultless Two opening fault.opening events fault.rest _ line reason right fits few fault.right fault.split fault.fault
-body_faultless Three opening events line reason right fits few begins (inl fault) = open_faultless Three opening events line reason right fits few tt fault
+body_faultless Three opening events line reason right fits few begins (inl fault) = open_faultless Three opening events line reason right tt fault
 body_faultless Three opening events line reason right fits few begins (inr (inl fault)) = keep_faultless Three opening events line reason right fits few fault
 body_faultless Three opening events line reason right fits few begins (inr (inr fault)) =
     behind_faultless Three opening fault.opening events fault.rest _ line reason right fits few fault.right fault.split fault.fault

@@ -21,3 +21,4 @@ pub mod EachReadings
 pub mod WholeTexts
 pub mod Registers
 pub mod ChainedHistories
+pub mod OneFaults

@@ -149,6 +149,19 @@ lines_behind (words ∷ front) (others ∷ lines) rest are all is =
     let same : words ≡ others = first.0 in
     (behind, cc, tail)
 
+-- Of two lists of lines at the front of a text, the one that is not longer begins the other.
+pub lines_before : (front lines : List (List (List ℕ))) (rest after : List ℕ) → AreLines front → AreLines lines → length front ≤ length lines
+    → lines_text front ++ rest ≡ lines_text lines ++ after
+    → (behind : List (List (List ℕ))) × (lines ≡ front ++ behind) × (rest ≡ lines_text behind ++ after)
+lines_before [] lines rest after are all fewer is = (lines, refl, is)
+lines_before (words ∷ front) [] rest after are all fewer is = absurd (omega (arith, fewer))
+lines_before (words ∷ front) (others ∷ lines) rest after are all fewer is =
+    let first = same_first_line words others (lines_text front ++ rest) (lines_text lines ++ after) are.0 all.0
+    (sym (append_assoc (line_text words) (lines_text front) rest) ∙ is ∙ append_assoc (line_text others) (lines_text lines) after) in
+    let (behind, split, tail) = lines_before front lines rest after are.1 all.1 (omega (arith, fewer)) first.1 in
+    let same : words ≡ others = first.0 in
+    (behind, cc, tail)
+
 -- a text is of one list of lines
 pub same_lines : (lines others : List (List (List ℕ))) → AreLines lines → AreLines others → lines_text lines ≡ lines_text others → lines ≡ others
 same_lines lines others are all is =

@@ -65,3 +65,8 @@ OneTextEach = (version : Version) (opening : Opening) (events : List Event) (tex
 abbrev pub NoFaultOfText : Type 0
 NoFaultOfText = (opening : Opening) (events : List Event) (text : List ℕ) (line : ℕ) (reason : TextReason)
     → IsRightOpening opening → AreRightEvents events → IsTextOf opening events text → HasFault text line reason → ⊥
+
+-- the law that a text has one fault at most, its first
+abbrev pub OneFault : Type 0
+OneFault = (text : List ℕ) (line other : ℕ) (reason cause : TextReason)
+    → HasFault text line reason → HasFault text other cause → (line ≡ other) × (reason ≡ cause)

@@ -1,4 +1,4 @@
-ghost use Rattle.rb_replay.specs.Readings.{OneTextEach, NoTextOfTwo, NoFaultOfText};
+ghost use Rattle.rb_replay.specs.Readings.{OneTextEach, NoTextOfTwo, NoFaultOfText, OneFault};
 
 /// A history has one text in each version.
 pub fn one_text_each()
@@ -14,4 +14,9 @@ pub fn no_text_of_two()
 /// A text of a history has no fault, so that it can be read. The values are within their ranges.
 pub fn no_fault_of_text()
     ensures { NoFaultOfText }
+{}
+
+/// A text has one fault at most: the first.
+pub fn one_fault()
+    ensures { OneFault }
 {}

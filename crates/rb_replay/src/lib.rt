@@ -45,7 +45,7 @@ pub use chain_fault::ChainFault;
 pub use chain_reason::ChainReason;
 pub use history::History;
 pub use history_fault::HistoryFault;
-pub use laws::{no_fault_of_text, no_text_of_two, one_text_each};
+pub use laws::{no_fault_of_text, no_text_of_two, one_fault, one_text_each};
 pub use legality::check;
 pub use linkage::chains;
 pub use next_opening::opening_of;

@@ -1,5 +1,5 @@
 use super::*;
-use crate::{no_fault_of_text, no_text_of_two, one_text_each};
+use crate::{no_fault_of_text, no_text_of_two, one_fault, one_text_each};
 use std::io::{self, ErrorKind, Write};
 
 const EMPTY_RUN: &[u8] = b"history 3\nopen 0 0 0\nend 0\n";
@@ -80,6 +80,7 @@ fn an_empty_run_is_written(rt: HostRuntime) {
     one_text_each();
     no_text_of_two();
     no_fault_of_text();
+    one_fault();
 }
 
 #[test]

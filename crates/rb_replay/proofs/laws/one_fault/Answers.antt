@@ -1,0 +1,5 @@
+use Rattle.rb_replay.proofs.OneFaults.{one_fault}
+use Rattle.rb_replay.proofs.laws.one_fault.Goals as goal
+
+pub returns : goal.returns
+returns c = one_fault
