@@ -8,6 +8,7 @@ use std::test::Fail;
 mod legal;
 mod openings;
 mod reading;
+mod refusals;
 mod unreadable;
 mod written;
 

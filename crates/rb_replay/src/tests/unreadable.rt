@@ -136,12 +136,18 @@ fn repeated(alloc: Global, part: &[u8], times: u64) -> Result<Vec<u8>, AllocErro
 #[test]
 fn long_texts_are_refused(rt: HostRuntime) -> Result<(), Fail> {
     let alloc = rt.alloc();
-    let mut text = repeated(alloc, b"xxxxxxxxxx", 1_000_000)?;
+    let mut text = repeated(alloc, b"xxxxxxxxxx", 100_000)?;
     unreadable(&rt, alloc, &text, 2, TextReason::End);
     text.push(b'\n')?;
     unreadable(&rt, alloc, &text, 2, TextReason::Line);
-    let text = repeated(alloc, b"\n", 1_000_000)?;
+    let text = repeated(alloc, b"\n", 100_000)?;
     unreadable(&rt, alloc, &text, 2, TextReason::Line);
+    Ok(())
+}
+
+#[test]
+fn an_event_too_many_is_refused(rt: HostRuntime) -> Result<(), Fail> {
+    let alloc = rt.alloc();
     let text = repeated(alloc, b"0 0 0 clear\n", 1_000_001)?;
     unreadable(&rt, alloc, &text, 1_000_002, TextReason::Many);
     Ok(())
