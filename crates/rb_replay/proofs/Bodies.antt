@@ -121,7 +121,7 @@ fault_of_keep version text behind told line reason none tells stops = by_version
 -- behind the opening, the lines of the events
 pub tells_run : (version : Version) (text rest : List ℕ) (history : History) → TellsOpening version text history.opening rest
     → (length history.events ≤ MOST_EVENTS) × AreRightEvents history.events
-      × (rest ≡ lines_text (map (event_words version) history.events ++ (end_words (length history.events) ∷ [])))
+    × (rest ≡ lines_text (map (event_words version) history.events ++ (end_words (length history.events) ∷ [])))
     → TellsRun version text history
 tells_run version text rest history tells reads = record {
   split = tells.split ∙ ap (λ t. lines_text (opening_lines version history.opening) ++ t) reads.2;

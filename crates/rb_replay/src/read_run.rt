@@ -44,11 +44,7 @@ fn line_behind(version: Version, opening: &Opening) -> u64
 }
 
 // The opening, which the first version does not tell, and what stands behind its lines.
-fn read_opening(
-    alloc: Global,
-    version: Version,
-    text: &[u8],
-) -> Result<(Opening, &[u8]), TextFault>
+fn read_opening(alloc: Global, version: Version, text: &[u8]) -> Result<(Opening, &[u8]), TextFault>
     ensures ok { IfOk result (λ cut. TellsOpening version text.now cut.0 cut.1.now) }
     ensures err { IfErr result (OpeningFails version text.now) }
 {

@@ -20,8 +20,15 @@ fn first_texts_are_read(rt: HostRuntime) -> Result<(), Fail> {
     events.push(event(0, 5, 4, Act::Size(0)))?;
     let text = b"history 1\n0 5 4 size 0\nend 1\n";
     read_as(&rt, alloc, text, Opening::empty(alloc), events);
-    let text = b"history 1\n0 10 10 offer 0 10 0 1 a\n1 5 10 poll 0\n1 3 10 pollfor 3 4 none\n0 11 11 size 0\nend 4\n";
-    read_as(&rt, alloc, text, Opening::empty(alloc), two_seats(&rt, alloc)?);
+    let text =
+        b"history 1\n0 10 10 offer 0 10 0 1 a\n1 5 10 poll 0\n1 3 10 pollfor 3 4 none\n0 11 11 size 0\nend 4\n";
+    read_as(
+        &rt,
+        alloc,
+        text,
+        Opening::empty(alloc),
+        two_seats(&rt, alloc)?,
+    );
     Ok(())
 }
 
@@ -49,12 +56,14 @@ fn a_retry_is_read_in_each_version(rt: HostRuntime) -> Result<(), Fail> {
     let text = b"history 1\n0 0 0 offer 0 0 0 1 a\n0 0 0 poll 0\n0 0 0 offer 1 1000 0 2 a\nend 3\n";
     read_as(&rt, alloc, text, Opening::empty(alloc), events);
     let events = one_retry(&rt, alloc, second(&rt))?;
-    let text = b"history 3\nopen 0 0 0\n0 0 0 offer 0 0 0 0 1 a\n0 0 0 poll 0\n0 0 0 offer 1 1000 0 0 2 a\nend 3\n";
+    let text =
+        b"history 3\nopen 0 0 0\n0 0 0 offer 0 0 0 0 1 a\n0 0 0 poll 0\n0 0 0 offer 1 1000 0 0 2 a\nend 3\n";
     read_as(&rt, alloc, text, Opening::empty(alloc), events);
     let mut other = second(&rt);
     other.first = 1;
     let events = one_retry(&rt, alloc, other)?;
-    let text = b"history 3\nopen 0 0 0\n0 0 0 offer 0 0 0 0 1 a\n0 0 0 poll 0\n0 0 0 offer 1 1000 0 1 2 a\nend 3\n";
+    let text =
+        b"history 3\nopen 0 0 0\n0 0 0 offer 0 0 0 0 1 a\n0 0 0 poll 0\n0 0 0 offer 1 1000 0 1 2 a\nend 3\n";
     read_as(&rt, alloc, text, Opening::empty(alloc), events);
     Ok(())
 }
@@ -73,7 +82,8 @@ fn each_act_is_read(rt: HostRuntime) -> Result<(), Fail> {
     events.push(event(0, 0, 0, drain(alloc, 9, &[4, 5])?))?;
     events.push(event(0, 0, 0, drain(alloc, 0, &[])?))?;
     events.push(event(0, 0, 0, Act::Clear))?;
-    let text = b"history 1\n0 0 0 poll none\n0 0 0 take 18446744073709551615\n0 0 0 peek none\n0 0 0 peek 3\n0 0 0 remove 3 no\n0 0 0 drain 9 4 5\n0 0 0 drain 0\n0 0 0 clear\nend 8\n";
+    let text =
+        b"history 1\n0 0 0 poll none\n0 0 0 take 18446744073709551615\n0 0 0 peek none\n0 0 0 peek 3\n0 0 0 remove 3 no\n0 0 0 drain 9 4 5\n0 0 0 drain 0\n0 0 0 clear\nend 8\n";
     read_as(&rt, alloc, text, Opening::empty(alloc), events);
     Ok(())
 }
@@ -81,12 +91,26 @@ fn each_act_is_read(rt: HostRuntime) -> Result<(), Fail> {
 #[test]
 fn an_opening_is_read(rt: HostRuntime) -> Result<(), Fail> {
     let alloc = rt.alloc();
-    let text = b"history 3\nopen 2 0 1\nkeep 1 1000 0 0 2 a\n0 0 0 size 1\n0 1000 1000 poll 1\n0 1000 1000 offer 2 1000 2 1000 1 b\nend 3\n";
-    read_as(&rt, alloc, text, retried(&rt, alloc)?, next_run(&rt, alloc)?);
-    let text = b"history 2\nopen 2 0 1\nkeep 1 1000 0 2 a\n0 0 0 size 1\n0 1000 1000 poll 1\n0 1000 1000 offer 2 1000 2 1 b\nend 3\n";
+    let text =
+        b"history 3\nopen 2 0 1\nkeep 1 1000 0 0 2 a\n0 0 0 size 1\n0 1000 1000 poll 1\n0 1000 1000 offer 2 1000 2 1000 1 b\nend 3\n";
+    read_as(
+        &rt,
+        alloc,
+        text,
+        retried(&rt, alloc)?,
+        next_run(&rt, alloc)?,
+    );
+    let text =
+        b"history 2\nopen 2 0 1\nkeep 1 1000 0 2 a\n0 0 0 size 1\n0 1000 1000 poll 1\n0 1000 1000 offer 2 1000 2 1 b\nend 3\n";
     let mut kept = second(&rt);
     kept.first = 1000;
-    read_as(&rt, alloc, text, opening(alloc, &[kept], 2)?, next_run(&rt, alloc)?);
+    read_as(
+        &rt,
+        alloc,
+        text,
+        opening(alloc, &[kept], 2)?,
+        next_run(&rt, alloc)?,
+    );
     Ok(())
 }
 
@@ -99,7 +123,8 @@ fn the_greatest_next_id_is_read(rt: HostRuntime) -> Result<(), Fail> {
     element.origin = next_id;
     let mut events = Vec::with_capacity(alloc, 1)?;
     events.push(event(0, 0, 0, Act::Offer(element)))?;
-    let text = b"history 2\nopen 1099511627776 0 0\n0 0 0 offer 1099511627776 0 1099511627776 1 a\nend 1\n";
+    let text =
+        b"history 2\nopen 1099511627776 0 0\n0 0 0 offer 1099511627776 0 1099511627776 1 a\nend 1\n";
     read_as(&rt, alloc, text, opening(alloc, &[], next_id)?, events);
     Ok(())
 }
@@ -115,7 +140,8 @@ fn first_of(event: &Event) -> Option<u64> {
 #[test]
 fn the_earliest_line_tells_the_first_expiry(rt: HostRuntime) -> Result<(), Fail> {
     let alloc = rt.alloc();
-    let text = b"history 2\nopen 9 0 3\nkeep 3 70 1 1 a\nkeep 4 60 2 1 a\nkeep 5 90 1 2 a\n0 0 0 offer 9 50 1 3 a\n0 0 0 offer 10 40 10 1 b\n0 0 0 offer 11 30 10 2 b\nend 3\n";
+    let text =
+        b"history 2\nopen 9 0 3\nkeep 3 70 1 1 a\nkeep 4 60 2 1 a\nkeep 5 90 1 2 a\n0 0 0 offer 9 50 1 3 a\n0 0 0 offer 10 40 10 1 b\n0 0 0 offer 11 30 10 2 b\nend 3\n";
     let Ok(history) = read_history(alloc, text) else {
         return Err(Fail::from("no history"));
     };
