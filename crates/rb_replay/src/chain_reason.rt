@@ -7,7 +7,7 @@ ghost use Rattle.rb_replay.specs.ChainReasonText.{chain_reason_text};
 pub enum ChainReason {
     /// It is a first attempt, and its origin is not its own id or its `first` not its own expiry.
     BadFirst,
-    /// The policy has not so many attempts.
+    /// The policy has fewer attempts.
     TooMany,
     /// No event before gave an element of the same job that is the attempt before.
     NoParent,

@@ -60,7 +60,7 @@ fn check_event(register: &Register, policy: &Policy, event: &Event) -> Result<()
     }
 }
 
-// The same for an offered element.
+// The first reason why an offered element is not linked to what the register has.
 fn check_offer(
     register: &Register,
     policy: &Policy,
@@ -78,7 +78,7 @@ fn check_offer(
     }
 }
 
-// The same for a first attempt.
+// The reason why a first attempt does not begin a job.
 fn check_first(element: &Element) -> Result<(), ChainReason>
     ensures { MatchResult result (λ _. Begins element.now) (BeginTests element.now) }
 {
@@ -88,7 +88,7 @@ fn check_first(element: &Element) -> Result<(), ChainReason>
     Ok(())
 }
 
-// The same for a later attempt.
+// The first reason why a later attempt does not go on with its job.
 fn check_later(
     register: &Register,
     policy: &Policy,
