@@ -114,6 +114,7 @@ impl<'a, R: Wait> Write for Receiver<'a, R> {
 }
 
 // One visit, what it is sent, and how many turns its waits made; or one that is refused.
+#[derive(Drop)]
 struct Plan<'a> {
     sends: Option<Sends<'a>>,
     text: &'a Mutex<Vec<u8>>,
@@ -121,6 +122,7 @@ struct Plan<'a> {
 }
 
 // Gives one visit after the other.
+#[derive(Drop)]
 struct PlannedDoor<'a, R> {
     rt: &'a R,
     plans: &'a [Plan<'a>],
@@ -160,8 +162,8 @@ fn served<R: Threads + Wait + time::Clock + Abort + Sync>(
     plans: &[Plan<'_>],
     workers: u64,
 ) -> ServeReport<ListTimer>
-    requires { 1 ≤ workers }
-    requires { workers ≤ 16 }
+    requires some { 1 ≤ workers }
+    requires few { workers ≤ 16 }
 {
     let door = PlannedDoor {
         rt,
@@ -219,8 +221,8 @@ fn expect_two<R: Threads + Wait + time::Clock + Abort + Sync>(
     taker: &[u8],
     giver: &[u8],
 ) -> ServeReport<ListTimer>
-    requires { 1 ≤ workers }
-    requires { workers ≤ 16 }
+    requires some { 1 ≤ workers }
+    requires few { workers ≤ 16 }
 {
     let (turns, others) = (AtomicU64::new(0), AtomicU64::new(0));
     let (first, second) = (Mutex::new(Vec::new(alloc)), Mutex::new(Vec::new(alloc)));
@@ -248,5 +250,106 @@ fn workers_run_together(rt: HostRuntime) -> Result<(), Fail> {
     let report = expect_two(&rt, rt.alloc(), 2, taker, b"OFFERED 0 7\nBYE\n");
     expect_counts(&rt, &report, 2, 0);
     assert_eq!(rt; report.audit, all_given(1));
+    Ok(())
+}
+
+// One worker serves the visits one after the other, so that the take finds nothing.
+#[test]
+fn one_worker_serves_in_turn(rt: HostRuntime) -> Result<(), Fail> {
+    let taker = b"STOPPED\nERR 5 not-held\nBYE\n";
+    let report = expect_two(&rt, rt.alloc(), 1, taker, b"OFFERED 0 7\nBYE\n");
+    expect_counts(&rt, &report, 2, 0);
+    assert_eq!(rt; (report.audit.calls, report.audit.left), (1, 1));
+    Ok(())
+}
+
+// Whether the two were sent these texts, in either order.
+fn are_sent<R: Wait>(
+    rt: &R,
+    first: &Mutex<Vec<u8>>,
+    second: &Mutex<Vec<u8>>,
+    one: &[u8],
+    other: &[u8],
+) -> bool {
+    let first = first.lock(rt);
+    let second = second.lock(rt);
+    let (first, second) = (first.as_slice(), second.as_slice());
+    first == one && second == other || first == other && second == one
+}
+
+// Two takes wait at once, and each gets an element of its own.
+#[test]
+fn each_taker_gets_its_own(rt: HostRuntime) -> Result<(), Fail> {
+    let alloc = rt.alloc();
+    let (turns, others, last) = (AtomicU64::new(0), AtomicU64::new(0), AtomicU64::new(0));
+    let (first, second) = (Mutex::new(Vec::new(alloc)), Mutex::new(Vec::new(alloc)));
+    let third = Mutex::new(Vec::new(alloc));
+    let takes = Sends::AtOnce(b"TAKE\nDONE 0\nDONE 1\nQUIT\n");
+    let offers = Sends::After(b"OFFER 0 a\nOFFER 0 b\nQUIT\n", &turns, &others);
+    let plans = [
+        Plan {
+            sends: Some(takes),
+            text: &first,
+            turns: &turns,
+        },
+        Plan {
+            sends: Some(takes),
+            text: &second,
+            turns: &others,
+        },
+        Plan {
+            sends: Some(offers),
+            text: &third,
+            turns: &last,
+        },
+    ];
+    let report = served(&rt, alloc, &plans, 3);
+    let got_first = b"ITEM 0 7 1 a\nDONE 0\nERR 5 not-held\nBYE\n";
+    let got_second = b"ITEM 1 7 1 b\nERR 5 not-held\nDONE 1\nBYE\n";
+    assert!(rt; are_sent(&rt, &first, &second, got_first, got_second));
+    expect_text(&rt, &third, b"OFFERED 0 7\nOFFERED 1 7\nBYE\n");
+    expect_counts(&rt, &report, 3, 0);
+    assert_eq!(rt; report.audit, all_given(2));
+    Ok(())
+}
+
+// A refused visit and one whose first read fails are two faults, and make no call.
+#[test]
+fn faults_are_counted(rt: HostRuntime) -> Result<(), Fail> {
+    let turns = AtomicU64::new(0);
+    let text = Mutex::new(Vec::new(rt.alloc()));
+    let plans = [
+        Plan {
+            sends: None,
+            text: &text,
+            turns: &turns,
+        },
+        Plan {
+            sends: Some(Sends::Nothing),
+            text: &text,
+            turns: &turns,
+        },
+    ];
+    let report = served(&rt, rt.alloc(), &plans, 1);
+    expect_counts(&rt, &report, 2, 2);
+    expect_text(&rt, &text, b"");
+    assert_eq!(rt; report.audit, all_given(0));
+    Ok(())
+}
+
+// No client sets the clock that all share.
+#[test]
+fn no_client_sets_the_clock(rt: HostRuntime) -> Result<(), Fail> {
+    let turns = AtomicU64::new(0);
+    let text = Mutex::new(Vec::new(rt.alloc()));
+    let plans = [Plan {
+        sends: Some(Sends::AtOnce(b"AT 9\nAT 01\nOFFERAT 8 a\nPOLL\nSIZE")),
+        text: &text,
+        turns: &turns,
+    }];
+    let report = served(&rt, rt.alloc(), &plans, 1);
+    expect_counts(&rt, &report, 1, 0);
+    let expected = b"ERR 1 syntax\nERR 2 number\nOFFERED 0 8\nNONE\nERR 8 line\n";
+    expect_text(&rt, &text, expected);
     Ok(())
 }
