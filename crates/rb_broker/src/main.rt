@@ -18,12 +18,16 @@ mod script;
 mod script_options;
 #[cfg(test)]
 mod script_rows;
+mod serve_clock;
 mod serve_door;
 mod serve_options;
 mod serve_report;
 mod service;
 #[cfg(test)]
 mod serving_rows;
+mod tcp_door;
+#[cfg(test)]
+mod tcp_rows;
 mod timer_kind;
 mod visit;
 mod visit_counts;

@@ -44,6 +44,8 @@ struct NotedGate<'a> {
 }
 
 impl<'a> Gate for NotedGate<'a> {
+    ghost use Rattle.rb_broker.specs.declared.serving_rows.TheConstants.{MOST_TURNS};
+
     ghost stops = { λ gate turns. MOST_TURNS ≤ turns };
 
     fn turn(&mut self, turns: u64) -> bool {
@@ -119,6 +121,22 @@ struct Plan<'a> {
     sends: Option<Sends<'a>>,
     text: &'a Mutex<Vec<u8>>,
     turns: &'a AtomicU64,
+}
+
+fn planned<'a>(
+    sends: Option<Sends<'a>>,
+    text: &'a Mutex<Vec<u8>>,
+    turns: &'a AtomicU64,
+) -> Plan<'a> {
+    Plan { sends, text, turns }
+}
+
+fn at_once<'a>(lines: &'a [u8]) -> Option<Sends<'a>> {
+    Some(Sends::AtOnce(lines))
+}
+
+fn after<'a>(lines: &'a [u8], first: &'a AtomicU64, second: &'a AtomicU64) -> Option<Sends<'a>> {
+    Some(Sends::After(lines, first, second))
 }
 
 // Gives one visit after the other.
@@ -227,16 +245,12 @@ fn expect_two<R: Threads + Wait + time::Clock + Abort + Sync>(
     let (turns, others) = (AtomicU64::new(0), AtomicU64::new(0));
     let (first, second) = (Mutex::new(Vec::new(alloc)), Mutex::new(Vec::new(alloc)));
     let plans = [
-        Plan {
-            sends: Some(Sends::AtOnce(b"TAKE\nDONE 0\nQUIT\n")),
-            text: &first,
-            turns: &turns,
-        },
-        Plan {
-            sends: Some(Sends::After(b"OFFER 0 a\nQUIT\n", &turns, &turns)),
-            text: &second,
-            turns: &others,
-        },
+        planned(at_once(b"TAKE\nDONE 0\nQUIT\n"), &first, &turns),
+        planned(
+            after(b"OFFER 0 a\nQUIT\n", &turns, &turns),
+            &second,
+            &others,
+        ),
     ];
     let report = served(rt, alloc, &plans, workers);
     expect_text(rt, &first, taker);
@@ -284,24 +298,12 @@ fn each_taker_gets_its_own(rt: HostRuntime) -> Result<(), Fail> {
     let (turns, others, last) = (AtomicU64::new(0), AtomicU64::new(0), AtomicU64::new(0));
     let (first, second) = (Mutex::new(Vec::new(alloc)), Mutex::new(Vec::new(alloc)));
     let third = Mutex::new(Vec::new(alloc));
-    let takes = Sends::AtOnce(b"TAKE\nDONE 0\nDONE 1\nQUIT\n");
-    let offers = Sends::After(b"OFFER 0 a\nOFFER 0 b\nQUIT\n", &turns, &others);
+    let takes = at_once(b"TAKE\nDONE 0\nDONE 1\nQUIT\n");
+    let offers = after(b"OFFER 0 a\nOFFER 0 b\nQUIT\n", &turns, &others);
     let plans = [
-        Plan {
-            sends: Some(takes),
-            text: &first,
-            turns: &turns,
-        },
-        Plan {
-            sends: Some(takes),
-            text: &second,
-            turns: &others,
-        },
-        Plan {
-            sends: Some(offers),
-            text: &third,
-            turns: &last,
-        },
+        planned(takes, &first, &turns),
+        planned(takes, &second, &others),
+        planned(offers, &third, &last),
     ];
     let report = served(&rt, alloc, &plans, 3);
     let got_first = b"ITEM 0 7 1 a\nDONE 0\nERR 5 not-held\nBYE\n";
@@ -319,16 +321,8 @@ fn faults_are_counted(rt: HostRuntime) -> Result<(), Fail> {
     let turns = AtomicU64::new(0);
     let text = Mutex::new(Vec::new(rt.alloc()));
     let plans = [
-        Plan {
-            sends: None,
-            text: &text,
-            turns: &turns,
-        },
-        Plan {
-            sends: Some(Sends::Nothing),
-            text: &text,
-            turns: &turns,
-        },
+        planned(None, &text, &turns),
+        planned(Some(Sends::Nothing), &text, &turns),
     ];
     let report = served(&rt, rt.alloc(), &plans, 1);
     expect_counts(&rt, &report, 2, 2);
@@ -342,11 +336,11 @@ fn faults_are_counted(rt: HostRuntime) -> Result<(), Fail> {
 fn no_client_sets_the_clock(rt: HostRuntime) -> Result<(), Fail> {
     let turns = AtomicU64::new(0);
     let text = Mutex::new(Vec::new(rt.alloc()));
-    let plans = [Plan {
-        sends: Some(Sends::AtOnce(b"AT 9\nAT 01\nOFFERAT 8 a\nPOLL\nSIZE")),
-        text: &text,
-        turns: &turns,
-    }];
+    let plans = [planned(
+        at_once(b"AT 9\nAT 01\nOFFERAT 8 a\nPOLL\nSIZE"),
+        &text,
+        &turns,
+    )];
     let report = served(&rt, rt.alloc(), &plans, 1);
     expect_counts(&rt, &report, 1, 0);
     let expected = b"ERR 1 syntax\nERR 2 number\nOFFERED 0 8\nNONE\nERR 8 line\n";
