@@ -5,11 +5,13 @@ use Rattle.rb_broker.specs.declared.broker_fault.BrokerFault.TheVariants as Brok
 use Rattle.rb_session.specs.declared.session_fault.SessionFault.{SessionFault}
 use Rattle.rb_session.specs.declared.session_fault.SessionFault.TheVariants as Session
 
--- 4 for want of memory, 3 for input and output
+-- 4 for want of memory, 3 for input, output and workers
 abbrev pub status_of : BrokerFault → ℕ
 status_of Broker.Read = 3
 status_of Broker.Write = 3
 status_of Broker.ReadTurns = 3
+status_of Broker.Worker = 3
+status_of Broker.NotGathered = 3
 status_of Broker.Memory = 4
 
 -- each fault of a session is the program's fault of the same name

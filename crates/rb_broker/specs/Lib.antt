@@ -1,5 +1,6 @@
 pub use Rattle.rb_retry.specs.Retry
 pub use Rattle.rb_retry.specs.KeptSteps
+pub use Rattle.rb_lock.specs.Gatherings
 pub use Rattle.rb_session.specs.Turn
 pub use Rattle.rb_session.specs.Session
 pub use Rattle.rb_session.specs.Ran
@@ -11,3 +12,5 @@ pub mod Gathered
 pub mod Script
 pub mod CommandLine
 pub mod ExitStatus
+pub mod VisitCounts
+pub mod Serving

@@ -15,6 +15,12 @@ pub enum BrokerFault {
     /// The input had no end within the reads that a session makes.
     #[error("too many reads")]
     ReadTurns,
+    /// A worker of a server can't be started.
+    #[error("cannot start worker")]
+    Worker,
+    /// The passes of a server's workers have not made all calls of its history.
+    #[error("passes not gathered")]
+    NotGathered,
     /// There is no memory for the run.
     #[error("out of memory")]
     Memory,
@@ -29,6 +35,7 @@ impl BrokerFault {
     {
         match self {
             BrokerFault::Read | BrokerFault::Write | BrokerFault::ReadTurns => 3,
+            BrokerFault::Worker | BrokerFault::NotGathered => 3,
             BrokerFault::Memory => 4,
         }
     }

@@ -9,6 +9,7 @@ mod broker_fault;
 mod command_line;
 #[cfg(test)]
 mod command_line_rows;
+mod door;
 mod gathered;
 mod gathering;
 #[cfg(test)]
@@ -21,8 +22,22 @@ mod script;
 mod script_options;
 #[cfg(test)]
 mod script_rows;
+mod serve_clock;
+mod serve_door;
+mod serve_options;
+mod serve_report;
+mod service;
+#[cfg(test)]
+mod serving_rows;
+mod tcp_door;
+#[cfg(test)]
+mod tcp_rows;
 mod timer_kind;
+mod visit;
+mod visit_counts;
 mod words;
+mod worker;
+mod workers;
 
 ghost use Rattle.std.specs.Process.{exit_status};
 ghost use Rattle.clap.specs.Words.{kind_of};

@@ -18,7 +18,6 @@ use std::time;
 /// Its calls are those of its pass, and each waits while another pass calls. A take and a timed poll wait
 /// besides until they are answered, or the gate stops them. An offer rings the bell, so that the waits of
 /// other desks try again.
-#[derive(Drop)]
 pub struct SharedDesk<'a, T: Timer, C: Clock, G: Gate, R: Wait + time::Clock> {
     rt: &'a R,
     shared: &'a Shared<T>,
@@ -57,6 +56,23 @@ impl<'a, T: Timer, C: Clock, G: Gate, R: Wait + time::Clock> SharedDesk<'a, T, C
             bell,
             start,
         }
+    }
+}
+
+// By hand, to say that what the pass has seen stays with its owner.
+impl<'a, T: Timer, C: Clock, G: Gate, R: Wait + time::Clock> Drop for SharedDesk<'a, T, C, G, R> {
+    fn drop(self)
+        ensures pass { self.exit.1.1.0.now ≡ self.entry.pass.now }
+    {
+        let SharedDesk {
+            rt: _,
+            shared: _,
+            pass: _,
+            clock: _,
+            gate: _,
+            bell: _,
+            start: _,
+        } = self;
     }
 }
 

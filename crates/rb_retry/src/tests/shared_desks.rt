@@ -98,15 +98,29 @@ fn expect_history<R: Wait + Abort>(rt: &R, shared: ListShared, pass: ListPass)
     }
 }
 
+// Makes the calls at a desk over this pass.
+fn expect_run<R: Wait + time::Clock + Abort>(
+    rt: &R,
+    shared: &ListShared,
+    pass: &mut ListPass,
+    gate: &mut CountingGate,
+    bell: &Bell,
+)
+    requires { pass.old.table ≡ shared.now }
+    ensures { pass.new.table ≡ pass.old.table }
+{
+    let clock = FixedClock(7);
+    let mut desk = SharedDesk::new(rt, shared, pass, &clock, gate, bell);
+    expect_calls(rt, &mut desk);
+}
+
 // An offer alone rings, and the gate is asked where a wait finds nothing.
 #[test]
 fn a_shared_desk_waits_by_its_gate(rt: HostRuntime) -> Result<(), Fail> {
     let (shared, mut pass) = opened(rt.alloc(), 4)?;
-    let (clock, bell) = (FixedClock(7), Bell::new());
+    let bell = Bell::new();
     let mut gate = CountingGate { asked: 0 };
-    let mut desk = SharedDesk::new(&rt, &shared, &mut pass, &clock, &mut gate, &bell);
-    expect_calls(&rt, &mut desk);
-    drop(desk);
+    expect_run(&rt, &shared, &mut pass, &mut gate, &bell);
     assert_eq!(rt; (gate.asked, bell.count(&rt), pass.calls()), (2, 1, 4));
     expect_history(&rt, shared, pass);
     Ok(())

@@ -1,0 +1,18 @@
+use rb_kept::Kept;
+use rb_queue::Audit;
+use rb_timer::Timer;
+
+/// What serving visits came to.
+#[derive(Drop)]
+pub struct ServeReport<T: Timer> {
+    /// How many visits there were. This and the next two numbers stay at 2^64 - 1 once there.
+    pub sessions: u64,
+    /// How many of them were refused at the door, or ended by a fault.
+    pub faults: u64,
+    /// How many jobs were lost at the ends of sessions: those whose next attempt was refused.
+    pub lost: u64,
+    /// What the history comes to.
+    pub audit: Audit,
+    /// The queue as all workers left it, with the history of their calls.
+    pub kept: Kept<T>,
+}

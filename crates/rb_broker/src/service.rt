@@ -1,0 +1,17 @@
+use crate::door::Door;
+use rb_blocking::{Bell, Clock};
+use rb_lock::Shared;
+use rb_retry::Policy;
+use rb_timer::Timer;
+use std::alloc::Global;
+
+/// What all workers of a server have in common.
+#[derive(Drop)]
+pub(crate) struct Service<'a, T: Timer, D: Door, C: Clock> {
+    pub(crate) alloc: Global,
+    pub(crate) shared: &'a Shared<T>,
+    pub(crate) door: &'a D,
+    pub(crate) clock: &'a C,
+    pub(crate) bell: &'a Bell,
+    pub(crate) policy: &'a Policy,
+}

@@ -1,0 +1,63 @@
+use crate::door::{Door, DoorFault};
+use crate::visit::Visit;
+use rb_blocking::TurnGate;
+use std::io;
+use std::net::{TcpListener, TcpStream};
+use std::sync::Wait;
+use std::sync::atomic::{AtomicU64, Ordering};
+
+/// A door that lets in the clients of a TCP listener, and no more than so many.
+///
+/// A client that can't be let in counts among them.
+#[derive(Drop)]
+pub struct TcpDoor {
+    listener: TcpListener,
+    sessions: u64,
+    // After how many turns a wait of a client ends.
+    turns: u64,
+    // How often a worker has asked for a client. It may pass `sessions`, once for each worker.
+    asked: AtomicU64,
+}
+
+impl TcpDoor {
+    /// A door for so many sessions, each of whose waits ends after so many turns.
+    pub fn new(listener: TcpListener, sessions: u64, turns: u64) -> TcpDoor {
+        TcpDoor {
+            listener,
+            sessions,
+            turns,
+            asked: AtomicU64::new(0),
+        }
+    }
+
+    // Waits for a client. Its replies are sent at once, and not held back until more can go with them.
+    fn accept(&self) -> io::Result<Visit<TcpStream, TcpStream, TurnGate>> {
+        let (reader, _) = self.listener.accept()?;
+        reader.set_nodelay(true)?;
+        let writer = reader.try_clone()?;
+        let gate = TurnGate { limit: self.turns };
+        Ok(Visit {
+            reader,
+            writer,
+            gate,
+        })
+    }
+}
+
+impl Door for TcpDoor {
+    type Reader = TcpStream;
+
+    type Writer = TcpStream;
+
+    type Gate = TurnGate;
+
+    fn next<R: Wait>(
+        &self,
+        _rt: &R,
+    ) -> Option<Result<Visit<TcpStream, TcpStream, TurnGate>, DoorFault>> {
+        if self.asked.fetch_add(1, Ordering::SeqCst) >= self.sessions {
+            return None;
+        }
+        Some(self.accept().map_err(|_| DoorFault))
+    }
+}
