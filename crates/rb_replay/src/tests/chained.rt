@@ -195,6 +195,18 @@ fn what_stood_at_the_start_is_a_parent(rt: HostRuntime) -> Result<(), Fail> {
 }
 
 #[test]
+fn no_retry_expires_past_the_greatest_moment(rt: HostRuntime) -> Result<(), Fail> {
+    let alloc = rt.alloc();
+    let opening = opening_of_two(alloc, &[attempt(&rt, 1, 5, 2)])?;
+    let last = 18_446_744_073_709_551_615;
+    let events = polled_then(alloc, &[1], attempt(&rt, 2, last, 3))?;
+    for policy in [Policy::fixed(last, 3), Policy::fixed_rate(last, 3)] {
+        assert_eq!(rt; linked(&rt, alloc, &opening, &events, policy), Ok(()));
+    }
+    Ok(())
+}
+
+#[test]
 fn the_parent_that_was_given_first_counts(rt: HostRuntime) -> Result<(), Fail> {
     let alloc = rt.alloc();
     let mut other = first(&rt, 1, 5);
