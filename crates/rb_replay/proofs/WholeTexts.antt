@@ -1,9 +1,7 @@
 -- A text of a history, put together from its header and what was read behind it.
 use Rattle.std.proofs.Common.{◌≡◌, ◌≢◌, ℕ, List, [], ◌∷◌, ◌++◌, length, map, codes, decimal, refl, sym, ap, subst, ◌∙◌, arith, take, drop, inl, inr, ◌⊎◌, Result, Ok, Err, IfOk, append_assoc}
-use Rattle.std.specs.Prelude.{slice_index}
 use Rattle.std.proofs.lemmas.List.{length-map, take_at}
 use Rattle.rb_delayed.specs.declared.element.Element.{Element}
-use Rattle.rb_queue.specs.Opening.{ids_of, IsOpening}
 use Rattle.rb_queue.specs.declared.event.Event.{Event}
 use Rattle.rb_replay.specs.BodyReading.{IsRightHistory, TellsRun, RunFails}
 use Rattle.rb_replay.specs.EventText.{act_words, event_words, keep_words, header_words, end_words}
@@ -24,23 +22,6 @@ use Rattle.rb_replay.proofs.Lines.{lines_text-append}
 -- as many elements as words
 same_length : {X Y : Type 0} (f : X → Y) (one other : List X) → map f one ≡ map f other → length one ≡ length other
 same_length f one other is = sym (length-map one f) ∙ ap length is ∙ length-map other f
-
--- elements of the same ids may open a run where the others may
-pub opening_stays : (old new : List Element) (next_id : ℕ) → ids_of new ≡ ids_of old → IsOpening old next_id → IsOpening new next_id
-opening_stays old new next_id ids opens =
-    let counted : length new ≡ length old = same_length (λ (e : Element). e.id) new old ids in
-    record {
-      order = record {
-        rising = λ one other before within.
-            let low = ap (λ l. slice_index l one) ids in
-            let high = ap (λ l. slice_index l other) ids in
-            omega (arith, opens.order.rising one other before (omega (arith, within, counted)), low, high);
-        below = λ place within.
-            let same = ap (λ l. slice_index l place) ids in omega (arith, opens.order.below place (omega (arith, within, counted)), same);
-      };
-      few = omega (arith, counted, opens.few);
-      next = opens.next;
-    }
 
 -- the second version tells an event as the first does
 same_act : (act : Act) → act_words Two act ≡ act_words One act

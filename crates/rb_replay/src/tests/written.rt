@@ -1,5 +1,8 @@
 use super::*;
-use crate::{no_fault_of_text, no_text_of_two, one_fault, one_text_each};
+use crate::{
+    History, no_fault_of_text, no_text_of_two, one_fault, one_text_each, read_history,
+};
+use rb_queue::Sequence;
 use std::io::{self, ErrorKind, Write};
 
 const EMPTY_RUN: &[u8] = b"history 3\nopen 0 0 0\nend 0\n";
@@ -94,6 +97,21 @@ fn runs_are_written(rt: HostRuntime) -> Result<(), Fail> {
     let (result, bytes) = written(&rt, alloc, &opening, &events, Device::new(alloc, 7, 99));
     assert_eq!(rt; result, Ok(()));
     assert_eq!(rt; bytes.as_slice(), NEXT_RUN);
+    Ok(())
+}
+
+#[test]
+fn what_was_written_is_read(rt: HostRuntime) -> Result<(), Fail> {
+    let alloc = rt.alloc();
+    let (opening, events) = (retried(&rt, alloc)?, next_run(&rt, alloc)?);
+    let device = Device::new(alloc, 999, 99);
+    let (result, bytes) = written(&rt, alloc, &opening, &events, device);
+    assert_eq!(rt; result, Ok(()));
+    let history = History {
+        opening,
+        events: Sequence::new(events),
+    };
+    assert_eq!(rt; read_history(alloc, &bytes), Ok(history));
     Ok(())
 }
 
