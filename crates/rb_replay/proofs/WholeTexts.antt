@@ -1,5 +1,5 @@
 -- A text of a history, put together from its header and what was read behind it.
-use Rattle.std.proofs.Common.{◌≡◌, ◌≢◌, ℕ, List, [], ◌∷◌, ◌++◌, length, map, codes, decimal, refl, sym, ap, subst, ◌∙◌, arith, take, drop, inl, inr, ◌⊎◌, Result, Ok, Err, IfOk, append_assoc}
+use Rattle.std.proofs.Common.{◌≡◌, ◌≢◌, ℕ, List, [], ◌∷◌, ◌++◌, length, map, codes, decimal, refl, sym, ap, subst, ◌∙◌, ◌≤◌, arith, take, drop, inl, inr, ◌⊎◌, Result, Ok, Err, IfOk, append_assoc}
 use Rattle.std.proofs.lemmas.List.{length-map, take_at}
 use Rattle.rb_delayed.specs.declared.element.Element.{Element}
 use Rattle.rb_queue.specs.declared.event.Event.{Event}
@@ -14,6 +14,7 @@ use Rattle.rb_replay.specs.declared.history.History.{History}
 use Rattle.rb_replay.specs.declared.text_fault.TextFault.{TextFault}
 use Rattle.rb_replay.specs.declared.text_fault.TextFault.TheVariants.{At, Memory}
 use Rattle.rb_replay.specs.declared.version.Version.{Version}
+use Rattle.rb_replay.specs.declared.write.TheConstants.{MOST_EVENTS}
 use Rattle.rb_replay.specs.declared.version.Version.TheVariants.{One, Two, Three}
 use Rattle.rb_queue.specs.declared.act.Act.{Act}
 use Rattle.rb_queue.specs.declared.act.Act.TheVariants.{Offer, Poll, Take, PollFor, Peek, Remove, Drain, Clear, Size}
@@ -118,3 +119,8 @@ untold version (inr is) three = let same : Two ≡ Three = sym is ∙ three in a
 -- a list behind which nothing is left
 pub whole_list : {X : Type 0} (new old : List X) (len : ℕ) → length new ≡ len → take len (new ++ drop (length new) old) ≡ new
 whole_list new old len counted = take_at new (drop (length new) old) len counted
+
+-- a history that is read has no more events than a text may have
+pub few_read : (text : List ℕ) (result : Result History TextFault) → Reads text result → IfOk result (λ history. length history.events ≤ MOST_EVENTS)
+few_read text (Ok history) (version, is_text_of) = is_text_of.few
+few_read text (Err fault) fails = tt

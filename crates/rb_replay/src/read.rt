@@ -1,4 +1,4 @@
-ghost use Rattle.std.specs.Prelude.{IfOk};
+ghost use Rattle.std.specs.Prelude.{◌≤◌, length, IfOk};
 ghost use Rattle.rb_replay.specs.Readings.{Reads, ReadsEach};
 ghost use Rattle.rb_replay.specs.BodyReading.{IsRightHistory};
 ghost use Rattle.rb_replay.specs.Settling.{IsSettled, HasFirsts};
@@ -9,11 +9,12 @@ use crate::read_opening::read_header;
 use crate::read_run::read_run;
 use crate::text_fault::{TextFault, TextReason, at};
 use crate::version::Version;
+use crate::write::MOST_EVENTS;
 use rb_queue::{Items, Opening, Sequence};
 use std::alloc::{AllocError, Global};
 
-/// Reads the text of a history, in any of its versions. Memory is taken for the elements and the events
-/// of the lines that are there.
+/// Reads the text of a history, in any of its versions: at most 1,000,000 events. Memory is taken for
+/// the elements and the events of the lines that are there.
 ///
 /// A text that is no history's is answered by its first fault, and the number of its line from 1:
 /// `Header` where the first line is none of the headers; `Opening` where a line of the opening is none,
@@ -24,6 +25,7 @@ use std::alloc::{AllocError, Global};
 pub fn read_history(alloc: Global, text: &[u8]) -> Result<History, TextFault>
     ensures reads { Reads text.now result }
     ensures each { ReadsEach text.now result }
+    ensures few { IfOk result (λ history. length history.events ≤ MOST_EVENTS) }
 {
     read_right(alloc, text)
 }

@@ -1,5 +1,9 @@
 use Rattle.rb_replay.proofs.EachReadings.{reads_each}
+use Rattle.rb_replay.proofs.WholeTexts.{few_read}
 use Rattle.rb_replay.proofs.read.read_history.Goals as goal
 
 pub returns-clause-each : goal.returns-clause-each
 returns-clause-each c = reads_each c.args.text.now c.read_right.result c.read_right.ensures.right c.read_right.ensures.reads
+
+pub returns-clause-few : goal.returns-clause-few
+returns-clause-few c = few_read c.args.text.now c.read_right.result c.read_right.ensures.reads
