@@ -14,6 +14,13 @@ status_of Broker.Worker = 3
 status_of Broker.NotGathered = 3
 status_of Broker.Memory = 4
 
+-- the faults that may end a server
+abbrev pub EndsServing : BrokerFault → Type 0
+EndsServing Broker.Worker = Unit {0}
+EndsServing Broker.NotGathered = Unit {0}
+EndsServing Broker.Memory = Unit {0}
+EndsServing _ = ⊥
+
 -- each fault of a session is the program's fault of the same name
 abbrev pub fault_of_session : SessionFault → BrokerFault
 fault_of_session Session.Memory = Broker.Memory

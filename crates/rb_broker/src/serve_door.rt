@@ -1,5 +1,7 @@
-ghost use Rattle.std.specs.Prelude.{◌≡◌, [], length, IfOk};
+ghost use Rattle.std.specs.Prelude.{◌≡◌, [], length, IfOk, IfErr};
+ghost use Rattle.rb_broker.specs.BrokerFault.{EndsServing};
 ghost use Rattle.rb_broker.specs.Serving.{IsServed};
+ghost use Rattle.rb_broker.specs.declared.broker_fault.BrokerFault.TheVariants.{NotGathered};
 
 use crate::broker_fault::BrokerFault;
 use crate::door::Door;
@@ -38,6 +40,7 @@ pub fn serve_door<
     opening: Opening,
 ) -> Result<ServeReport<T>, BrokerFault>
     ensures served { IfOk result (λ report. IsServed opening options.now.calls options.now.workers report.kept report.audit) }
+    ensures fault { IfErr result EndsServing }
 {
     // The number of calls is in range, so that memory alone can be missing.
     let Ok((kept, tally)) = Kept::<T>::new_from(alloc, options.calls, opening) else {
@@ -69,6 +72,7 @@ fn report_of<T: Timer, R: Wait>(
     requires pass { pass.table ≡ shared }
     requires idle { pass.mine ≡ [] }
     ensures served { IfOk result (λ report. IsServed pass.opening pass.capacity (length pass.folded) report.kept report.audit) }
+    ensures fault { IfErr result (λ fault. fault ≡ NotGathered) }
 {
     match shared.close(rt, pass) {
         Ok((kept, _, audit)) => Ok(ServeReport {

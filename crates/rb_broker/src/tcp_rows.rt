@@ -1,5 +1,7 @@
 // A server over TCP on loopback, both ends in one process.
 
+ghost use Rattle.std.specs.Prelude.{◌≡◌};
+
 use crate::serve_door::serve_door;
 use crate::serve_options::ServeOptions;
 use crate::serve_report::ServeReport;

@@ -1,5 +1,6 @@
-ghost use Rattle.std.specs.Prelude.{◌≡◌, [], IfOk};
+ghost use Rattle.std.specs.Prelude.{◌≡◌, [], IfOk, IfErr};
 ghost use Rattle.rb_broker.specs.Serving.{Gathers};
+ghost use Rattle.rb_broker.specs.declared.broker_fault.BrokerFault.TheVariants.{Worker};
 
 use crate::broker_fault::BrokerFault;
 use crate::door::Door;
@@ -38,13 +39,14 @@ pub(crate) fn serve_all<
 ) -> Result<(Pass<T>, VisitCounts), BrokerFault>
     requires pass { pass.table ≡ service.now.shared.now }
     ensures gathers { IfOk result (λ served. Gathers count pass served.0) }
+    ensures fault { IfErr result (λ fault. fault ≡ Worker) }
 {
     thread::scope(
         thread::scope_env(),
         rt,
         move |scope| -> Result<(Pass<T>, VisitCounts), BrokerFault>
             requires { pass.table ≡ service.now.shared.now }
-            ensures { IfOk result (λ served. Gathers count pass served.0) }
+            ensures { IfOk result (λ served. Gathers count pass served.0) × IfErr result (λ fault. fault ≡ Worker) }
         { start_all(rt, scope, service, pass, count) },
     )
 }
@@ -67,6 +69,7 @@ fn start_all<
 ) -> Result<(Pass<T>, VisitCounts), BrokerFault>
     requires pass { pass.table ≡ service.now.shared.now }
     ensures gathers { IfOk result (λ served. Gathers count pass served.0) }
+    ensures fault { IfErr result (λ fault. fault ≡ Worker) }
 {
     if count == 0 {
         return Ok((pass, VisitCounts::none()));
@@ -99,13 +102,16 @@ fn start<
     requires pass { pass.table ≡ service.now.shared.now }
     requires alone { pass.folded ≡ [] }
     ensures of { IfOk result (λ worker. worker.promise.0.now ≡ service.now.shared.now) }
+    ensures fault { IfErr result (λ fault. fault ≡ Worker) }
 {
-    let started = scope.spawn_with(
+    match scope.spawn_with(
         OfShared(service.shared),
         move || -> (Pass<T>, VisitCounts)
             requires { (pass.table ≡ service.now.shared.now) × (pass.folded ≡ []) }
             ensures { (result.0.table ≡ service.entry.now.shared.now) × (result.0.folded ≡ []) }
         { work(rt, service, pass) },
-    );
-    started.map_err(|_| BrokerFault::Worker)
+    ) {
+        Ok(worker) => Ok(worker),
+        Err(_) => Err(BrokerFault::Worker),
+    }
 }
