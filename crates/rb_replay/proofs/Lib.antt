@@ -4,7 +4,3 @@ pub mod Elements
 pub mod Judgements
 pub mod Replays
 pub mod Ordered
-pub mod Spelled
-pub mod Keywords
-pub mod FirstFeeds
-pub mod EventLines

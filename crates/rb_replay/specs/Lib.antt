@@ -17,3 +17,4 @@ pub mod OpeningReading
 pub mod Offers
 pub mod Firsts
 pub mod Readings
+pub mod Chaining

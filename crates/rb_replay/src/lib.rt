@@ -4,19 +4,16 @@
 //! events that one queue in one thread may have had. Moments and delays are nanoseconds.
 #![tactic(auto)]
 
+mod chain_fault;
+mod chaining;
 mod history;
 mod history_fault;
 mod history_text;
 mod judge;
 mod legality;
-mod next_line;
 mod next_opening;
-mod number;
 mod opening_fault;
-mod read_act;
-mod read_event;
-mod read_events;
-mod read_opening;
+mod reading;
 mod reason;
 mod replay;
 mod replay_fault;
@@ -27,14 +24,16 @@ mod tests;
 mod text;
 mod text_fault;
 mod version;
-mod words;
 mod write;
 
+pub use chain_fault::{ChainFault, ChainReason};
+pub use chaining::chains;
 pub use history::History;
 pub use history_fault::HistoryFault;
 pub use legality::check;
 pub use next_opening::opening_of;
 pub use opening_fault::OpeningFault;
+pub use reading::read_history;
 pub use reason::Reason;
 pub use replay_fault::ReplayFault;
 pub use text_fault::{TextFault, TextReason};

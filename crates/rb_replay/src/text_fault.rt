@@ -1,3 +1,6 @@
+ghost use Rattle.std.specs.Prelude.{◌≡◌};
+ghost use Rattle.rb_replay.specs.ReasonText.{text_reason_text};
+
 /// Why a text is no history's.
 #[derive(Clone, Copy, Debug, PartialEq, Eq)]
 pub enum TextReason {
@@ -15,6 +18,23 @@ pub enum TextReason {
     Trailing,
     /// The text stops before the end of its last line.
     End,
+}
+
+impl TextReason {
+    /// The reason as it is printed.
+    pub fn as_str(self) -> &'static str
+        ensures { result.now ≡ text_reason_text self }
+    {
+        match self {
+            TextReason::Header => "header",
+            TextReason::Opening => "opening",
+            TextReason::Line => "line",
+            TextReason::Many => "many",
+            TextReason::Count => "count",
+            TextReason::Trailing => "trailing",
+            TextReason::End => "end",
+        }
+    }
 }
 
 /// Why a text was not read.
