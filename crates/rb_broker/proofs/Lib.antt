@@ -1,1 +1,4 @@
 pub mod CommandLines
+pub mod Beginnings
+pub mod Verdicts
+pub mod FileTexts
