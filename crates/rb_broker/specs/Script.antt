@@ -1,7 +1,5 @@
 -- What a run of a script is: one session at a desk over the queue of an opening, and then its history.
-use Rattle.std.specs.Prelude.{◌≡◌, ◌⊎◌, ℕ, List, [], Option, None, Some, Result, Ok, Err}
-use Rattle.std.proofs.Common.{inl, inr}
-use Rattle.std.specs.Borrow.{MutBor}
+use Rattle.std.specs.Prelude.{◌≡◌, ◌≢◌, ℕ, List, [], Option, None, Some, Result, Ok, Err}
 use Rattle.rb_ledger.specs.Totals.{nothing}
 use Rattle.rb_queue.specs.declared.opening.Opening.{Opening}
 use Rattle.rb_kept.specs.Log.{Log}
@@ -30,19 +28,15 @@ pub record IsNew (desk : KeptState) (opening : Opening) (calls : ℕ) : Type 0 w
   pub moment : desk.moment ≡ opening.last_at
   pub before : desk.before ≡ 0
 
--- what a function leaves of an optional reference that it took
-abbrev pub Left : Type 0 → Type 0
-Left H = Unit {0} ⊎ ((MutBor H × Unit {0}) ⊎ ⊥)
-
--- what was referred to, if anything, has become something that stands so to it
-abbrev pub Becomes : {H : Type 0} → (H → H → Type 0) → Option (MutBor H) → Left H → Type 0
-Becomes stands None left = Unit {0}
-Becomes stands (Some device) (inr (inl left)) = stands device.now left.0.now
-Becomes stands (Some device) _ = ⊥
+-- what there was, if anything, has become something that stands so to it
+abbrev pub Becomes : {H : Type 0} → (H → H → Type 0) → Option H → Option H → Type 0
+Becomes stands None None = Unit {0}
+Becomes stands (Some old) (Some new) = stands old new
+Becomes stands _ _ = ⊥
 
 -- A device that there was has got the text of the log's history, or a first part of it, or nothing, as
 -- the result of writing it says.
-abbrev pub Records : {H : Type 0} → (H → Option (List ℕ)) → Log → Result (Unit {0}) HistoryFault → Option (MutBor H) → Left H → Type 0
+abbrev pub Records : {H : Type 0} → (H → Option (List ℕ)) → Log → Result (Unit {0}) HistoryFault → Option H → Option H → Type 0
 Records contents log wrote device left = (device ≡ None → wrote ≡ Ok tt) × Becomes (λ old new. (held : List ℕ)
     → contents old ≡ Some held → Writes wrote held (history_text log.opening log.history) (contents new)) device left
 
@@ -51,19 +45,22 @@ abbrev pub ends_as : Ended → Result (Unit {0}) HistoryFault → Result Ended B
 ends_as ended (Ok done) = Ok ended
 ends_as ended (Err fault) = Err (fault_of_history fault)
 
--- For want of memory before the first read nothing is written of a history. After every other session
--- its history is; the session's fault is answered, where it has one, and else that of the writing.
-abbrev pub Finishes : {H : Type 0} → (H → Option (List ℕ)) → Log → Result Ended SessionFault → Result Ended BrokerFault → Option (MutBor H) → Left H → Type 0
-Finishes contents log (Err Memory) result device left =
-    (result ≡ Err (fault_of_session Memory)) × Becomes (λ old new. new ≡ old) device left
-Finishes contents log (Err fault) result device left = (result ≡ Err (fault_of_session fault))
-    × ((wrote : Result (Unit {0}) HistoryFault) × Records contents log wrote device left)
+-- After a session that ended by a fault its history is written too, whatever comes of it; but for want
+-- of memory the session was not begun, and nothing is written.
+pub record RecordsBroken {H : Type 0} (contents : H → Option (List ℕ)) (log : Log) (fault : SessionFault) (device left : Option H) : Type 0 where
+  pub unbegun : fault ≡ Memory → left ≡ device
+  pub begun : fault ≢ Memory → (wrote : Result (Unit {0}) HistoryFault) × Records contents log wrote device left
+
+-- The session's fault is answered, where it has one, and else that of writing the history.
+abbrev pub Finishes : {H : Type 0} → (H → Option (List ℕ)) → Log → Result Ended SessionFault → Result Ended BrokerFault → Option H → Option H → Type 0
+Finishes contents log (Err fault) result device left =
+    (result ≡ Err (fault_of_session fault)) × RecordsBroken contents log fault device left
 Finishes contents log (Ok ended) result device left =
     (wrote : Result (Unit {0}) HistoryFault) × Records contents log wrote device left × (result ≡ ends_as ended wrote)
 
 -- The run went from a new desk to some other, whose log has its history, and read and wrote what a
 -- session does on this way.
-pub record RanScript {H : Type 0} (contents : H → Option (List ℕ)) (policy : Policy) (calls : ℕ) (opening : Opening) (stream before : List ℕ) (result : Result Ended BrokerFault) (rest written : Option (List ℕ)) (device : Option (MutBor H)) (left : Left H) : Type 0 where
+pub record RanScript {H : Type 0} (contents : H → Option (List ℕ)) (policy : Policy) (calls : ℕ) (opening : Opening) (stream before : List ℕ) (result : Result Ended BrokerFault) (rest written : Option (List ℕ)) (device left : Option H) : Type 0 where
   pub from : KeptState
   pub new : IsNew from opening calls
   pub to : KeptState

@@ -35,7 +35,7 @@ pub fn script(
         opening,
         &mut rt.stdin(),
         &mut rt.stdout(),
-        device.as_mut(),
+        &mut device,
     )
 }
 

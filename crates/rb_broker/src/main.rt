@@ -15,11 +15,15 @@ mod command_line_rows;
 mod commands;
 mod given_words;
 #[cfg(test)]
+mod history_rows;
+#[cfg(test)]
 mod large_rows;
 mod opening_in;
 mod read_all;
 mod replay;
 mod replay_options;
+#[cfg(test)]
+mod replay_rows;
 #[cfg(test)]
 mod retry_rows;
 mod script;

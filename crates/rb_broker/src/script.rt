@@ -1,6 +1,6 @@
 ghost use Rattle.std.specs.Prelude.{◌≡◌, ◌≤◌, ℕ, List, Some};
 ghost use Rattle.rb_kept.specs.declared.kept.TheConstants.{MOST_CALLS};
-ghost use Rattle.rb_broker.specs.Script.{RanScript, Records};
+ghost use Rattle.rb_broker.specs.Script.{Finishes, RanScript, Records, RecordsBroken};
 
 use crate::broker_fault::BrokerFault;
 use crate::script_options::ScriptOptions;
@@ -29,10 +29,10 @@ pub fn run_script<R: Read, W: Write, H: Write>(
     opening: Opening,
     reader: &mut R,
     writer: &mut W,
-    history: Option<&mut H>,
+    history: &mut Option<H>,
 ) -> Result<Ended, BrokerFault>
     ensures { (stream before : List ℕ) → R.remaining reader.old ≡ Some stream → W.contents writer.old ≡ Some before
-        → RanScript H.contents options.now.policy options.now.calls opening stream before result (R.remaining reader.new) (W.contents writer.new) history.entry history.exit }
+        → RanScript H.contents options.now.policy options.now.calls opening stream before result (R.remaining reader.new) (W.contents writer.new) history.old history.new }
 {
     let calls = options.calls;
     let policy = &options.policy;
@@ -59,12 +59,12 @@ fn run_on<T: Timer, R: Read, W: Write, H: Write>(
     opening: Opening,
     reader: &mut R,
     writer: &mut W,
-    history: Option<&mut H>,
+    history: &mut Option<H>,
 ) -> Result<Ended, BrokerFault>
     requires from_one { 1 ≤ calls }
     requires in_range { calls ≤ MOST_CALLS }
     ensures { (stream before : List ℕ) → R.remaining reader.old ≡ Some stream → W.contents writer.old ≡ Some before
-        → RanScript H.contents policy.now calls opening stream before result (R.remaining reader.new) (W.contents writer.new) history.entry history.exit }
+        → RanScript H.contents policy.now calls opening stream before result (R.remaining reader.new) (W.contents writer.new) history.old history.new }
 {
     // The number of calls is in range, so that memory alone can be missing.
     let Ok((mut kept, mut tally)) = Kept::<T>::new_from(alloc, calls, opening) else {
@@ -72,22 +72,53 @@ fn run_on<T: Timer, R: Read, W: Write, H: Write>(
     };
     let mut desk = KeptDesk::new(&mut kept, &mut tally);
     let ended = run_session(alloc, reader, writer, &mut desk, policy);
-    if let Err(SessionFault::Memory) = ended {
-        return Err(BrokerFault::Memory);
+    finish(alloc, &kept, ended, history)
+}
+
+// Writes the run's history and answers how the run ends.
+fn finish<T: Timer, H: Write>(
+    alloc: Global,
+    kept: &Kept<T>,
+    ended: Result<Ended, SessionFault>,
+    history: &mut Option<H>,
+) -> Result<Ended, BrokerFault>
+    ensures { Finishes H.contents kept.now ended result history.old history.new }
+{
+    match ended {
+        Ok(ended) => match record(alloc, kept, history) {
+            Ok(()) => Ok(ended),
+            Err(fault) => Err(BrokerFault::from(fault)),
+        },
+        Err(fault) => {
+            record_broken(alloc, kept, fault, history);
+            Err(BrokerFault::from(fault))
+        }
     }
-    let recorded = record(alloc, &kept, history);
-    let ended = ended?;
-    recorded?;
-    Ok(ended)
+}
+
+// Writes the history after a session that ended by a fault, but for want of memory: it was not begun.
+fn record_broken<T: Timer, H: Write>(
+    alloc: Global,
+    kept: &Kept<T>,
+    fault: SessionFault,
+    history: &mut Option<H>,
+)
+    ensures { RecordsBroken H.contents kept.now fault history.old history.new }
+{
+    if let SessionFault::Memory = fault {
+        return;
+    }
+    // The session's fault is the one that is answered.
+    let _ = record(alloc, kept, history);
 }
 
 // Writes the history of the kept queue, where something is to have it.
 fn record<T: Timer, H: Write>(
     alloc: Global,
     kept: &Kept<T>,
-    history: Option<&mut H>,
+    history: &mut Option<H>,
 ) -> Result<(), HistoryFault>
-    ensures { Records H.contents kept.now result history.entry history.exit }
+    ensures { Records H.contents kept.now result history.old history.new }
 {
     // The proof reads here how long the history may get.
     let _ = kept.capacity();
