@@ -1,3 +1,6 @@
 pub mod CommandLines
 pub mod Gatherings
 pub mod GatheredWorkers
+pub mod Beginnings
+pub mod Verdicts
+pub mod FileTexts

@@ -1,17 +1,22 @@
--- The exit status of a fault, and the fault of a session's fault.
+-- The exit status of a fault, and the faults of what a run stands on.
 use Rattle.std.specs.Prelude.{ℕ}
 use Rattle.rb_broker.specs.declared.broker_fault.BrokerFault.{BrokerFault}
 use Rattle.rb_broker.specs.declared.broker_fault.BrokerFault.TheVariants as Broker
+use Rattle.rb_replay.specs.declared.history_fault.HistoryFault.{HistoryFault}
+use Rattle.rb_replay.specs.declared.history_fault.HistoryFault.TheVariants as History
 use Rattle.rb_session.specs.declared.session_fault.SessionFault.{SessionFault}
 use Rattle.rb_session.specs.declared.session_fault.SessionFault.TheVariants as Session
 
--- 4 for want of memory, 3 for input, output and workers
+-- 1 for an opening that is none, 3 for input, output and workers, 4 for want of memory
 abbrev pub status_of : BrokerFault → ℕ
+status_of Broker.BadOpening = 1
 status_of Broker.Read = 3
 status_of Broker.Write = 3
 status_of Broker.ReadTurns = 3
 status_of Broker.Worker = 3
 status_of Broker.NotGathered = 3
+status_of Broker.ReadHistory = 3
+status_of Broker.WriteHistory = 3
 status_of Broker.Memory = 4
 
 -- the faults that may end a server
@@ -27,3 +32,8 @@ fault_of_session Session.Memory = Broker.Memory
 fault_of_session (Session.Read lost) = Broker.Read
 fault_of_session (Session.Write lost) = Broker.Write
 fault_of_session (Session.ReadTurns lost) = Broker.ReadTurns
+
+-- a history that is not written
+abbrev pub fault_of_history : HistoryFault → BrokerFault
+fault_of_history History.Memory = Broker.Memory
+fault_of_history History.Write = Broker.WriteHistory

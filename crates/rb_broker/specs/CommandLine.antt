@@ -1,81 +1,45 @@
 -- What the command line takes, and what its words give.
-use Rattle.std.specs.Prelude.{◌≡◌, ℕ, ◌≤◌, true, false, List, [], ◌∷◌, map, Option, Some, None, MatchBool, is_some, option_map, codes}
+use Rattle.std.specs.Prelude.{◌≡◌, ◌≢◌, ℕ, ◌≤◌, true, false, List, Option, Some, None, MatchBool, is_some, option_map, codes, String, string_bytes}
+use Rattle.std.specs.declared.alloc.Global.{Global}
 use Rattle.std.specs.Borrow.{Bor}
 use Rattle.std.specs.Str.Parse.{IsNumeral, digits_value, without_leading_plus}
-use Rattle.clap.specs.Words.{App, Row, Rule, Text, first_of, one_of, new_app, new_rule, subcommand_of, with_rule, with_subcommand}
-use Rattle.clap.specs.Words.{found_of, matched_of, one_text}
+use Rattle.clap.specs.Words.{App, Row, Text, first_of, one_of, new_app, subcommand_of, with_rule, with_subcommand}
+use Rattle.clap.specs.Words.{first_value, found_of, matched_of, one_text}
 use Rattle.clap.specs.declared.parser.matches.Found.{Found}
-use Rattle.clap.specs.declared.builder.value_parser.ValueParser.TheVariants.{Unsigned, Names}
 use Rattle.rb_delayed.specs.declared.moment.TheConstants.{GREATEST_MOMENT}
 use Rattle.rb_retry.specs.declared.policy.Pace.{Pace}
 use Rattle.rb_retry.specs.declared.policy.Pace.TheVariants.{Delay, Rate}
-use Rattle.rb_broker.specs.declared.script_options.ScriptOptions.{ScriptOptions}
+use Rattle.rb_retry.specs.declared.policy.Policy.{Policy}
+use Rattle.rb_broker.specs.Arguments.{AreTimerNames, attempts_option, calls_option, chains_flag, delay_option, file_argument, from_option, history_option, rate_option, timer_option}
 use Rattle.rb_broker.specs.TimerKind.{name_of}
+use Rattle.rb_broker.specs.declared.replay_options.ReplayOptions.{ReplayOptions}
+use Rattle.rb_broker.specs.declared.script_options.ScriptOptions.{ScriptOptions}
+use Rattle.rb_broker.specs.declared.words.Words.{Words}
+use Rattle.rb_broker.specs.declared.words.Words.TheVariants.{Script, Replay}
 
--- `--calls N`: from 1 to 1,000,000, and 10,000 where it is not given
-abbrev pub calls_option : Rule
-calls_option = record (new_rule (codes "calls")) {
-  long = Some (codes "calls");
-  value_names = 1;
-  defaults = codes "10000" ∷ [];
-  parser = Some (Unsigned 1 1000000);
-}
-
--- `--timer T`: one of the names, and `heap` where it is not given
-abbrev pub timer_option : Bor (List (Bor Text)) → Rule
-timer_option names = record (new_rule (codes "timer")) {
-  long = Some (codes "timer");
-  value_names = 1;
-  defaults = codes "heap" ∷ [];
-  parser = Some (Names names);
-}
-
--- `--delay N`: from 0 to 2^64 - 1 nanoseconds, and 1,000 where it is not given
-abbrev pub delay_option : Rule
-delay_option = record (new_rule (codes "delay")) {
-  long = Some (codes "delay");
-  value_names = 1;
-  defaults = codes "1000" ∷ [];
-  parser = Some (Unsigned 0 18446744073709551615);
-}
-
--- `--rate N`: from 0 to 2^64 - 1 nanoseconds, where no delay is given
-abbrev pub rate_option : Rule
-rate_option = record (new_rule (codes "rate")) {
-  long = Some (codes "rate");
-  value_names = 1;
-  parser = Some (Unsigned 0 18446744073709551615);
-  is_free = false;
-}
-
--- `--attempts N`: from 1 to 1,000, and 3 where it is not given
-abbrev pub attempts_option : Rule
-attempts_option = record (new_rule (codes "attempts")) {
-  long = Some (codes "attempts");
-  value_names = 1;
-  defaults = codes "3" ∷ [];
-  parser = Some (Unsigned 1 1000);
-}
+-- a command with the options of a policy
+abbrev pub with_policy : App → App
+with_policy app = with_rule (with_rule (with_rule app delay_option) rate_option) attempts_option
 
 -- `script` with its options
 abbrev pub script_command : Bor (List (Bor Text)) → App
 script_command names =
-    with_rule (with_rule (with_rule (with_rule (with_rule (new_app (codes "script"))
-    calls_option) (timer_option names)) delay_option) rate_option) attempts_option
+    with_policy (with_rule (with_rule (with_rule (with_rule (new_app (codes "script"))
+    calls_option) (timer_option names)) history_option) from_option)
+
+-- `replay` with its file and its options
+abbrev pub replay_command : App
+replay_command = with_policy (with_rule (with_rule (new_app (codes "replay")) file_argument) chains_flag)
 
 -- the command, which wants a subcommand
 abbrev pub with_required_subcommand : App → App
 with_required_subcommand app = record app { top = record app.top { subcommand_required = true } }
 
--- the program, whose one subcommand is `script`
+-- the program with its subcommands
 abbrev pub program : Bor (List (Bor Text)) → App
 program names =
-    with_subcommand (with_required_subcommand (new_app (codes "rb_broker"))) (script_command names).top
-
--- the names that `--timer` takes
-abbrev pub AreTimerNames : Bor (List (Bor Text)) → Type 0
-AreTimerNames names = map (λ name. name.now) names.now
-    ≡ codes "list" ∷ codes "heap" ∷ codes "pairing" ∷ codes "wheel" ∷ []
+    with_subcommand (with_subcommand (with_required_subcommand (new_app (codes "rb_broker")))
+    (script_command names).top) replay_command.top
 
 -- the number that the digits of an option's value spell
 abbrev pub number_in : Option Text → Option ℕ
@@ -97,15 +61,48 @@ abbrev pub pace_in : Option Text → Option Text → Option Pace
 pace_in delay None = option_map Delay (number_in delay)
 pace_in delay (Some rate) = Some (Rate (digits_value 10 (without_leading_plus rate)))
 
--- The words name `script`. The timer is the one that they name, and the numbers are those that they
--- give; each is the default where they leave it out. `subcommand_of` is how clap reads the words,
--- defaults included.
-pub record GivesScript (words : List Text) (options : ScriptOptions) : Type 0 where
-  pub names : Bor (List (Bor Text))
-  pub names_are : AreTimerNames names
-  pub rows : List Row
-  pub script : subcommand_of (program names) words ≡ Some (codes "script", rows)
+-- the flag is not set; or it is, and the number of attempts and the pace are these
+abbrev pub FoundChains : Found → Option Policy → Type 0
+FoundChains found None = first_value found (codes "chains") ≢ Some (codes "true")
+FoundChains found (Some policy) = (first_value found (codes "chains") ≡ Some (codes "true"))
+    × (number_in (one_text found (codes "attempts")) ≡ Some policy.attempts)
+    × (pace_in (one_text found (codes "delay")) (one_text found (codes "rate")) ≡ Some policy.pace)
+
+-- the values give this policy
+pub record GivesPolicy (rows : List Row) (policy : Policy) : Type 0 where
+  pub attempts : number_in (one_of (codes "attempts") rows) ≡ Some policy.attempts
+  pub pace : pace_in (one_of (codes "delay") rows) (one_of (codes "rate") rows) ≡ Some policy.pace
+
+-- The values of `script` give its options and files. The timer is the one that is named, and the numbers
+-- are those that are told; each is the default where it is left out.
+pub record GivesScript (rows : List Row) (options : ScriptOptions) (history from : Option (String Global)) : Type 0 where
   pub timer : first_of (codes "timer") rows ≡ Some (name_of options.timer)
   pub calls : number_in (one_of (codes "calls") rows) ≡ Some options.calls
-  pub attempts : number_in (one_of (codes "attempts") rows) ≡ Some options.policy.attempts
-  pub pace : pace_in (one_of (codes "delay") rows) (one_of (codes "rate") rows) ≡ Some options.policy.pace
+  pub policy : GivesPolicy rows options.policy
+  pub history_is : option_map string_bytes history ≡ first_of (codes "history") rows
+  pub from_is : option_map string_bytes from ≡ first_of (codes "from") rows
+
+-- the retries are checked exactly where the flag is set, and then by the policy that is given
+abbrev pub GivesChains : List Row → Option Policy → Type 0
+GivesChains rows None = first_of (codes "chains") rows ≢ Some (codes "true")
+GivesChains rows (Some policy) = (first_of (codes "chains") rows ≡ Some (codes "true")) × GivesPolicy rows policy
+
+-- the values of `replay` give its options and its file
+pub record GivesReplay (rows : List Row) (options : ReplayOptions) (file : String Global) : Type 0 where
+  pub chains : GivesChains rows options.chains
+  pub file_is : first_of (codes "file") rows ≡ Some (string_bytes file)
+
+-- the subcommand of this name, with these values, asks for this
+abbrev pub IsAskedBy : Text → List Row → Words → Type 0
+IsAskedBy name rows (Script options history from) = (name ≡ codes "script") × GivesScript rows options history from
+IsAskedBy name rows (Replay options file) = (name ≡ codes "replay") × GivesReplay rows options file
+
+-- The words name a subcommand, which asks for this. `subcommand_of` is how clap reads the words, defaults
+-- included.
+pub record Asks (words : List Text) (asked : Words) : Type 0 where
+  pub names : Bor (List (Bor Text))
+  pub names_are : AreTimerNames names
+  pub name : Text
+  pub rows : List Row
+  pub met : subcommand_of (program names) words ≡ Some (name, rows)
+  pub gives : IsAskedBy name rows asked

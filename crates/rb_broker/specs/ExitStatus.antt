@@ -11,6 +11,11 @@ abbrev pub status_of_script : Result Ended BrokerFault → ℕ
 status_of_script (Ok ended) = 0
 status_of_script (Err fault) = status_of fault
 
+-- that of the verdict, and else that of the fault
+abbrev pub status_of_replay : Result ℕ BrokerFault → ℕ
+status_of_replay (Ok status) = status
+status_of_replay (Err fault) = status_of fault
+
 -- Where the words were not taken: 4 for want of memory, 2 for a mistake, and for help 0, or 3 where it
 -- could not be printed.
 abbrev pub IsStatusOfWords : ErrorKind → ℕ → Type 0

@@ -9,7 +9,17 @@ pub mod BrokerFault
 pub mod TimerKind
 pub mod Growth
 pub mod Gathered
+pub use Rattle.rb_replay.specs.Checking
+pub use Rattle.rb_replay.specs.Chaining
+pub use Rattle.rb_replay.specs.Readings
+pub use Rattle.rb_replay.specs.Opens
+pub use Rattle.rb_replay.specs.Written
+pub mod AuditText
+pub mod Verdict
+pub mod Beginning
+pub mod FileText
 pub mod Script
+pub mod Arguments
 pub mod CommandLine
 pub mod ExitStatus
 pub mod VisitCounts

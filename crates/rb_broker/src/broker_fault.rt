@@ -1,6 +1,8 @@
 ghost use Rattle.std.specs.Prelude.{◌≡◌};
 
+use rb_replay::HistoryFault;
 use rb_session::SessionFault;
+use std::alloc::AllocError;
 use thiserror::Error;
 
 /// Why a run of the program ended early.
@@ -12,9 +14,18 @@ pub enum BrokerFault {
     /// A write to standard output failed.
     #[error("cannot write output")]
     Write,
-    /// The input had no end within the reads that a session makes.
+    /// The input or a file had no end within the reads that are made of it.
     #[error("too many reads")]
     ReadTurns,
+    /// The file of a history could not be opened or read.
+    #[error("cannot read history")]
+    ReadHistory,
+    /// The file of a history could not be created or written.
+    #[error("cannot write history")]
+    WriteHistory,
+    /// A run cannot begin where this history ends: it was not read, is not legal, or leads too far.
+    #[error("bad opening")]
+    BadOpening,
     /// A worker of a server can't be started.
     #[error("cannot start worker")]
     Worker,
@@ -29,13 +40,20 @@ pub enum BrokerFault {
 impl BrokerFault {
     ghost use Rattle.rb_broker.specs.BrokerFault.{status_of};
 
-    /// The exit status of a run that ends by this fault: 3 for input and output, 4 for memory.
+    /// The exit status of a run that ends by this fault: 1 for a bad opening, 3 for input and output,
+    /// 4 for memory.
     pub fn status(self) -> u8
         ensures { result ≡ status_of self }
     {
         match self {
-            BrokerFault::Read | BrokerFault::Write | BrokerFault::ReadTurns => 3,
-            BrokerFault::Worker | BrokerFault::NotGathered => 3,
+            BrokerFault::BadOpening => 1,
+            BrokerFault::Read
+            | BrokerFault::Write
+            | BrokerFault::ReadTurns
+            | BrokerFault::ReadHistory
+            | BrokerFault::WriteHistory
+            | BrokerFault::Worker
+            | BrokerFault::NotGathered => 3,
             BrokerFault::Memory => 4,
         }
     }
@@ -53,5 +71,28 @@ impl From<SessionFault> for BrokerFault {
             SessionFault::Write { .. } => BrokerFault::Write,
             SessionFault::ReadTurns { .. } => BrokerFault::ReadTurns,
         }
+    }
+}
+
+impl From<HistoryFault> for BrokerFault {
+    ghost use Rattle.rb_broker.specs.BrokerFault.{fault_of_history};
+
+    ghost from_gives = { λ fault answer. answer ≡ fault_of_history fault };
+
+    fn from(fault: HistoryFault) -> BrokerFault {
+        match fault {
+            HistoryFault::Memory => BrokerFault::Memory,
+            HistoryFault::Write => BrokerFault::WriteHistory,
+        }
+    }
+}
+
+impl From<AllocError> for BrokerFault {
+    ghost use Rattle.rb_broker.specs.declared.broker_fault.BrokerFault.TheVariants.{Memory};
+
+    ghost from_gives = { λ _ answer. answer ≡ Memory };
+
+    fn from(_: AllocError) -> BrokerFault {
+        BrokerFault::Memory
     }
 }

@@ -3,10 +3,12 @@ ghost use Rattle.rb_kept.specs.declared.kept.TheConstants.{MOST_CALLS};
 
 use crate::broker_fault::BrokerFault;
 use crate::command_line::read_words;
+use crate::replay_options::ReplayOptions;
 use crate::script_options::ScriptOptions;
 use crate::timer_kind::TimerKind;
 use crate::words::Words;
 use clap::error::ErrorKind;
+use rb_replay::HistoryFault;
 use rb_retry::Policy;
 use rb_session::SessionFault;
 use std::alloc::Global;
@@ -15,8 +17,89 @@ use std::test::Fail;
 
 fn options_of(alloc: Global, words: &[&str]) -> Option<ScriptOptions> {
     match read_words(alloc, words) {
-        Ok(Words::Script(options)) => Some(options),
-        Err(_) => None,
+        Ok(Words::Script { options, .. }) => Some(options),
+        _ => None,
+    }
+}
+
+fn replay_options_of(alloc: Global, words: &[&str]) -> Option<ReplayOptions> {
+    match read_words(alloc, words) {
+        Ok(Words::Replay { options, .. }) => Some(options),
+        _ => None,
+    }
+}
+
+// Compares the files that a script is given.
+fn expect_files(
+    rt: &impl Abort,
+    alloc: Global,
+    words: &[&str],
+    history: Option<&str>,
+    from: Option<&str>,
+) {
+    match read_words(alloc, words) {
+        Ok(
+            Words::Script {
+                history: written,
+                from: read,
+                ..
+            },
+        ) => {
+            assert_eq!(rt; written.as_deref(), history, "{words:?}");
+            assert_eq!(rt; read.as_deref(), from, "{words:?}");
+        }
+        _ => assert!(rt; false, "{words:?}"),
+    }
+}
+
+#[test]
+fn takes_the_files_of_a_script(rt: HostRuntime) {
+    let alloc = rt.alloc();
+    expect_files(&rt, alloc, &["rb_broker", "script"], None, None);
+    let history = ["rb_broker", "script", "--history", "run.txt"];
+    expect_files(&rt, alloc, &history, Some("run.txt"), None);
+    let from = ["rb_broker", "script", "--from=a b"];
+    expect_files(&rt, alloc, &from, None, Some("a b"));
+    let both = ["rb_broker", "script", "--from", "x", "--history", "x"];
+    expect_files(&rt, alloc, &both, Some("x"), Some("x"));
+}
+
+#[test]
+fn takes_a_replay_and_its_options(rt: HostRuntime) {
+    let alloc = rt.alloc();
+    for (words, chains) in [
+        (["rb_broker", "replay", "run.txt"].as_slice(), None),
+        (
+            ["rb_broker", "replay", "run.txt", "--delay", "5"].as_slice(),
+            None,
+        ),
+        (
+            ["rb_broker", "replay", "--chains", "run.txt"].as_slice(),
+            Policy::fixed(1_000, 3),
+        ),
+        (
+            ["rb_broker", "replay", "run.txt", "--chains", "--delay=999"].as_slice(),
+            Policy::fixed(999, 3),
+        ),
+        (
+            [
+                "rb_broker",
+                "replay",
+                "run.txt",
+                "--rate=9",
+                "--attempts=7",
+                "--chains",
+            ]
+            .as_slice(),
+            Policy::fixed_rate(9, 7),
+        ),
+    ] {
+        let options = replay_options_of(alloc, words);
+        assert_eq!(rt; options, Some(ReplayOptions { chains }), "{words:?}");
+    }
+    match read_words(alloc, &["rb_broker", "replay", "a run.txt"]) {
+        Ok(Words::Replay { file, .. }) => assert_eq!(rt; file.as_str(), "a run.txt"),
+        _ => assert!(rt; false),
     }
 }
 
@@ -119,6 +202,22 @@ fn refuses_other_commands_with_status_2(rt: HostRuntime) {
             ["rb_broker", "script", "--call", "1"].as_slice(),
             ErrorKind::UnknownArgument,
         ),
+        (
+            ["rb_broker", "replay"].as_slice(),
+            ErrorKind::MissingRequiredArgument,
+        ),
+        (
+            ["rb_broker", "replay", "one", "more"].as_slice(),
+            ErrorKind::UnknownArgument,
+        ),
+        (
+            ["rb_broker", "replay", "one", "--calls=1"].as_slice(),
+            ErrorKind::UnknownArgument,
+        ),
+        (
+            ["rb_broker", "replay", "one", "--delay=1", "--rate=1"].as_slice(),
+            ErrorKind::ArgumentConflict,
+        ),
     ] {
         refuses(&rt, rt.alloc(), words, kind);
     }
@@ -182,6 +281,8 @@ fn shows_help_with_status_0(rt: HostRuntime) -> Result<(), Fail> {
         "--delay <N>",
         "--rate <N>",
         "--attempts <N>",
+        "--history <FILE>",
+        "--from <FILE>",
     ] {
         assert!(rt; text.as_str().contains(part), "{part}");
     }
@@ -221,5 +322,23 @@ fn faults_have_a_status_and_a_text(rt: HostRuntime) -> Result<(), Fail> {
         assert_eq!(rt; fault.status(), status);
         assert_eq!(rt; fault.to_string(alloc)?.as_str(), text);
     }
+    Ok(())
+}
+
+#[test]
+fn faults_of_files_have_a_status_and_a_text(rt: HostRuntime) -> Result<(), Fail> {
+    let alloc = rt.alloc();
+    for (fault, status, text) in [
+        (BrokerFault::ReadHistory, 3, "cannot read history"),
+        (BrokerFault::WriteHistory, 3, "cannot write history"),
+        (BrokerFault::BadOpening, 1, "bad opening"),
+    ] {
+        assert_eq!(rt; fault.status(), status);
+        assert_eq!(rt; fault.to_string(alloc)?.as_str(), text);
+    }
+    let written = BrokerFault::from(HistoryFault::Write);
+    assert_eq!(rt; written, BrokerFault::WriteHistory);
+    let missing = BrokerFault::from(HistoryFault::Memory);
+    assert_eq!(rt; missing, BrokerFault::Memory);
     Ok(())
 }

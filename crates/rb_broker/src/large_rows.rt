@@ -1,6 +1,5 @@
-use crate::script::run_script;
 use crate::script_options::ScriptOptions;
-use crate::script_rows::{AT_END, AT_QUIT, DEFAULT, KINDS, options};
+use crate::script_rows::{AT_END, AT_QUIT, DEFAULT, KINDS, options, run_unrecorded};
 use crate::timer_kind::TimerKind;
 use rb_session::Ended;
 use std::alloc::{AllocError, Global};
@@ -106,7 +105,7 @@ fn expect_replies(
 ) {
     let mut reader = script;
     let mut writer = Vec::new(alloc);
-    let result = run_script(alloc, &options, &mut reader, &mut writer);
+    let result = run_unrecorded(alloc, &options, &mut reader, &mut writer);
     assert_eq!(rt; result, Ok(ended), "{options:?}");
     assert!(rt; writer.as_slice() == replies, "{options:?}");
 }

@@ -1,21 +1,34 @@
 //! A broker of delayed elements, as a command.
 //!
 //! `rb_broker script` reads a script from standard input and writes its answers to standard output.
-//! The exit status is 0 at the end of a run and after help, 2 where the words are refused, 3 where
-//! input or output fails, and 4 for want of memory.
+//! `rb_broker replay` checks the history of a run. The exit status is 0 at the end of a run and after
+//! help, 1 for a history that is not accepted, 2 where the words are refused, 3 where input or output
+//! fails, and 4 for want of memory.
 #![tactic(auto)]
 
+mod arguments;
+mod audit_line;
 mod broker_fault;
 mod command_line;
 #[cfg(test)]
 mod command_line_rows;
+mod commands;
 mod door;
 mod gathered;
 mod gathering;
 #[cfg(test)]
 mod gathering_rows;
+mod given_words;
+#[cfg(test)]
+mod history_rows;
 #[cfg(test)]
 mod large_rows;
+mod opening_in;
+mod read_all;
+mod replay;
+mod replay_options;
+#[cfg(test)]
+mod replay_rows;
 #[cfg(test)]
 mod retry_rows;
 mod script;
@@ -33,6 +46,7 @@ mod tcp_door;
 #[cfg(test)]
 mod tcp_rows;
 mod timer_kind;
+mod verdict;
 mod visit;
 mod visit_counts;
 mod words;
@@ -43,14 +57,13 @@ ghost use Rattle.std.specs.Process.{exit_status};
 ghost use Rattle.clap.specs.Words.{kind_of};
 ghost use Rattle.rb_broker.specs.BrokerFault.{status_of};
 ghost use Rattle.std.specs.Prelude.{◌≡◌};
-ghost use Rattle.rb_broker.specs.ExitStatus.{IsStatusOfWords, status_of_script};
+ghost use Rattle.rb_broker.specs.ExitStatus.{IsStatusOfWords, status_of_replay, status_of_script};
 
 use broker_fault::BrokerFault;
 use clap::Error;
 use clap::error::ErrorKind;
 use command_line::read_words;
 use rb_session::Ended;
-use script::run_script;
 use std::alloc::{AllocError, Global};
 use std::process::ExitCode;
 use std::{env, io};
@@ -88,10 +101,17 @@ fn lent_words<'a>(alloc: Global, words: &'a Vec<String>) -> Result<Vec<&'a str>,
 /// Does what `words` ask for, and answers the exit status of it.
 fn run(rt: &HostRuntime, words: &[&str]) -> ExitCode {
     match read_words(rt.alloc(), words) {
-        Ok(Words::Script(options)) => {
-            let outcome = run_script(rt.alloc(), &options, &mut rt.stdin(), &mut rt.stdout());
-            ended_as(rt, outcome)
-        }
+        Ok(
+            Words::Script {
+                options,
+                history,
+                from,
+            },
+        ) => ended_as(
+            rt,
+            commands::script(rt, &options, history.as_deref(), from.as_deref()),
+        ),
+        Ok(Words::Replay { options, file }) => told_as(rt, commands::replay(rt, &options, &file)),
         Err(error) => refused_by(rt, &error),
     }
 }
@@ -103,6 +123,17 @@ fn ended_as(rt: &HostRuntime, outcome: Result<Ended, BrokerFault>) -> ExitCode
     match outcome {
         Ok(_) => ExitCode::SUCCESS,
         Err(fault) => ended_by(rt, fault),
+    }
+}
+
+/// Prints the line of the fault, where there is one, and answers the exit status, which is that of the
+/// verdict where there is none.
+fn told_as(rt: &HostRuntime, outcome: Result<u8, BrokerFault>) -> ExitCode
+    ensures { exit_status result ≡ status_of_replay outcome }
+{
+    match outcome {
+        Ok(status) => ExitCode::from(status),
+        Err(ended) => ended_by(rt, ended),
     }
 }
 

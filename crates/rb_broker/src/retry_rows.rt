@@ -1,6 +1,5 @@
 use crate::broker_fault::BrokerFault;
-use crate::script::run_script;
-use crate::script_rows::{AT_END, DEFAULT, KINDS, feeds_of, first_lines, options};
+use crate::script_rows::{AT_END, DEFAULT, KINDS, feeds_of, first_lines, options, run_unrecorded};
 use rb_retry::Pace;
 use rb_session::Ended;
 use std::alloc::{AllocError, Global};
@@ -21,7 +20,7 @@ fn expect_replies(
         let mut reader = script;
         let mut writer = Vec::new(alloc);
         let options = options(rt, timer, calls, pace);
-        let result = run_script(alloc, &options, &mut reader, &mut writer);
+        let result = run_unrecorded(alloc, &options, &mut reader, &mut writer);
         assert_eq!(rt; result, Ok(ended), "{timer:?}");
         assert_eq!(rt; writer.as_slice(), replies, "{timer:?}");
     }
@@ -115,7 +114,7 @@ fn a_refused_retry_leaves_the_order(rt: HostRuntime) {
     let mut reader = script.as_slice();
     let mut writer = Vec::new(rt.alloc());
     let options = options(&rt, KINDS[0], 3, DEFAULT);
-    let result = run_script(rt.alloc(), &options, &mut reader, &mut writer);
+    let result = run_unrecorded(rt.alloc(), &options, &mut reader, &mut writer);
     assert_eq!(rt; result, Ok::<Ended, BrokerFault>(AT_END));
     assert_eq!(rt; writer.as_slice(), replies.as_slice());
 }
@@ -134,7 +133,7 @@ fn each_part_of_a_script_gets_its_part_of_the_replies(rt: HostRuntime) -> Result
         let mut reader = part;
         let mut writer = Vec::new(alloc);
         let options = options(&rt, KINDS[1], 100, DEFAULT);
-        let result = run_script(alloc, &options, &mut reader, &mut writer);
+        let result = run_unrecorded(alloc, &options, &mut reader, &mut writer);
         assert_eq!(rt; result, Ok::<Ended, BrokerFault>(AT_END), "{len}");
         assert_eq!(rt; writer.as_slice(), replies.as_slice(), "{len}");
     }

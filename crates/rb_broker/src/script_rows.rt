@@ -2,6 +2,7 @@ use crate::broker_fault::BrokerFault;
 use crate::script::run_script;
 use crate::script_options::ScriptOptions;
 use crate::timer_kind::TimerKind;
+use rb_queue::Opening;
 use rb_retry::{Pace, Policy};
 use rb_session::Ended;
 use std::alloc::{AllocError, Global};
@@ -42,9 +43,9 @@ struct FaultAt {
     fault: Fault,
 }
 
-// Gives its bytes in pieces of `most` bytes, and ends where they end.
+/// Gives its bytes in pieces of `most` bytes, and ends where they end.
 #[derive(Drop)]
-struct Pieces<'a> {
+pub struct Pieces<'a> {
     rest: &'a [u8],
     most: usize,
     calls: usize,
@@ -52,13 +53,21 @@ struct Pieces<'a> {
 }
 
 impl<'a> Pieces<'a> {
-    fn of(rest: &'a [u8], most: usize) -> Pieces<'a> {
+    pub fn of(rest: &'a [u8], most: usize) -> Pieces<'a> {
         Pieces {
             rest,
             most,
             calls: 0,
             fault: None,
         }
+    }
+
+    /// Fails at the call with this number, the first of which is 0.
+    pub fn failing_at(rest: &'a [u8], call: usize) -> Pieces<'a> {
+        let mut pieces = Pieces::of(rest, usize::MAX);
+        let fault = Fault::Fails;
+        pieces.fault = Some(FaultAt { call, fault });
+        pieces
     }
 }
 
@@ -79,21 +88,29 @@ impl Read for Pieces<'_> {
     }
 }
 
-// Holds what is written. Writes and flushes are counted together.
+/// Holds what is written. Writes and flushes are counted together.
 #[derive(Drop)]
-struct Held {
-    bytes: Vec<u8>,
+pub struct Held {
+    pub bytes: Vec<u8>,
     calls: usize,
     fault: Option<FaultAt>,
 }
 
 impl Held {
-    fn new(alloc: Global) -> Held {
+    pub fn new(alloc: Global) -> Held {
         Held {
             bytes: Vec::new(alloc),
             calls: 0,
             fault: None,
         }
+    }
+
+    /// Fails at the call with this number, the first of which is 0.
+    pub fn failing_at(alloc: Global, call: usize) -> Held {
+        let mut held = Held::new(alloc);
+        let fault = Fault::Fails;
+        held.fault = Some(FaultAt { call, fault });
+        held
     }
 
     fn next_fault(&mut self) -> Option<Fault> {
@@ -140,7 +157,25 @@ fn run(
     writer: &mut Held,
 ) -> Result<Ended, BrokerFault> {
     let options = options(rt, timer, calls, DEFAULT);
-    run_script(alloc, &options, reader, writer)
+    run_unrecorded(alloc, &options, reader, writer)
+}
+
+/// Runs a script from the start, and keeps no history.
+pub fn run_unrecorded<R: Read, W: Write>(
+    alloc: Global,
+    options: &ScriptOptions,
+    reader: &mut R,
+    writer: &mut W,
+) -> Result<Ended, BrokerFault> {
+    let mut nothing: Option<Vec<u8>> = None;
+    run_script(
+        alloc,
+        options,
+        Opening::empty(alloc),
+        reader,
+        writer,
+        &mut nothing,
+    )
 }
 
 /// The policy where none is named: three attempts, each 1,000 nanoseconds after the failure.
@@ -529,7 +564,7 @@ fn an_input_without_an_end_is_given_up(rt: HostRuntime) {
     let mut writer = Held::new(rt.alloc());
     let mut reader = Endless { calls: 0 };
     let options = options(&rt, TimerKind::Heap, 1, DEFAULT);
-    let result = run_script(rt.alloc(), &options, &mut reader, &mut writer);
+    let result = run_unrecorded(rt.alloc(), &options, &mut reader, &mut writer);
     assert_eq!(rt; result, Err(BrokerFault::ReadTurns));
     assert_eq!(rt; reader.calls, 10_000_000);
     assert_eq!(rt; writer.calls, 0);

@@ -1,8 +1,20 @@
+use crate::replay_options::ReplayOptions;
 use crate::script_options::ScriptOptions;
 
 /// What the words of the command line ask for.
-#[derive(Clone, Copy)]
+#[derive(Drop)]
 pub enum Words {
     /// To run a script, from standard input to standard output.
-    Script(ScriptOptions),
+    Script {
+        options: ScriptOptions,
+        /// The file that the run's history is written to, if any.
+        history: Option<String>,
+        /// The file with the history behind which the run goes on, if any.
+        from: Option<String>,
+    },
+    /// To check the history in a file.
+    Replay {
+        options: ReplayOptions,
+        file: String,
+    },
 }

@@ -1,0 +1,84 @@
+-- What the options and arguments of the commands take.
+use Rattle.std.specs.Prelude.{◌≡◌, ℕ, true, false, List, [], ◌∷◌, map, Some, codes}
+use Rattle.std.specs.Borrow.{Bor}
+use Rattle.clap.specs.Words.{Rule, Text, new_rule}
+use Rattle.clap.specs.declared.builder.action.ArgAction.TheVariants.{SetTrue}
+use Rattle.clap.specs.declared.builder.value_parser.ValueParser.TheVariants.{Unsigned, Names}
+
+-- `--calls N`: from 1 to 1,000,000, and 10,000 where it is not given
+abbrev pub calls_option : Rule
+calls_option = record (new_rule (codes "calls")) {
+  long = Some (codes "calls");
+  value_names = 1;
+  defaults = codes "10000" ∷ [];
+  parser = Some (Unsigned 1 1000000);
+}
+
+-- `--timer T`: one of the names, and `heap` where it is not given
+abbrev pub timer_option : Bor (List (Bor Text)) → Rule
+timer_option names = record (new_rule (codes "timer")) {
+  long = Some (codes "timer");
+  value_names = 1;
+  defaults = codes "heap" ∷ [];
+  parser = Some (Names names);
+}
+
+-- `--delay N`: from 0 to 2^64 - 1 nanoseconds, and 1,000 where it is not given
+abbrev pub delay_option : Rule
+delay_option = record (new_rule (codes "delay")) {
+  long = Some (codes "delay");
+  value_names = 1;
+  defaults = codes "1000" ∷ [];
+  parser = Some (Unsigned 0 18446744073709551615);
+}
+
+-- `--rate N`: from 0 to 2^64 - 1 nanoseconds, where no delay is given
+abbrev pub rate_option : Rule
+rate_option = record (new_rule (codes "rate")) {
+  long = Some (codes "rate");
+  value_names = 1;
+  parser = Some (Unsigned 0 18446744073709551615);
+  is_free = false;
+}
+
+-- `--attempts N`: from 1 to 1,000, and 3 where it is not given
+abbrev pub attempts_option : Rule
+attempts_option = record (new_rule (codes "attempts")) {
+  long = Some (codes "attempts");
+  value_names = 1;
+  defaults = codes "3" ∷ [];
+  parser = Some (Unsigned 1 1000);
+}
+
+-- `--history FILE`
+abbrev pub history_option : Rule
+history_option = record (new_rule (codes "history")) {
+  long = Some (codes "history");
+  value_names = 1;
+}
+
+-- `--from FILE`
+abbrev pub from_option : Rule
+from_option = record (new_rule (codes "from")) {
+  long = Some (codes "from");
+  value_names = 1;
+}
+
+-- `--chains`
+abbrev pub chains_flag : Rule
+chains_flag = record (new_rule (codes "chains")) {
+  long = Some (codes "chains");
+  action = Some SetTrue;
+}
+
+-- `FILE`, which has to be there
+abbrev pub file_argument : Rule
+file_argument = record (new_rule (codes "file")) {
+  value_names = 1;
+  required = true;
+}
+
+-- the names that `--timer` takes
+abbrev pub AreTimerNames : Bor (List (Bor Text)) → Type 0
+AreTimerNames names = map (λ name. name.now) names.now
+    ≡ codes "list" ∷ codes "heap" ∷ codes "pairing" ∷ codes "wheel" ∷ []
