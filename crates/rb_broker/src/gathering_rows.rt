@@ -1,7 +1,6 @@
 use crate::broker_fault::BrokerFault;
 use crate::gathered::run_gathered;
-use crate::script::run_script;
-use crate::script_rows::{AT_END, DEFAULT, feeds_of, first_lines, options};
+use crate::script_rows::{AT_END, DEFAULT, feeds_of, first_lines, options, run_unrecorded};
 use crate::timer_kind::TimerKind;
 use rb_binary::BinaryTimer;
 use rb_kept::Kept;
@@ -143,7 +142,7 @@ fn a_client_that_waits_gets_its_reply(rt: HostRuntime) {
         let mut writer = Receiving {
             received: &received,
         };
-        let result = run_script(rt.alloc(), &options, &mut reader, &mut writer);
+        let result = run_unrecorded(rt.alloc(), &options, &mut reader, &mut writer);
         assert!(rt; result.is_ok(), "{most}");
         assert_eq!(rt; received.get(), REPLIES.len(), "{most}");
     }
@@ -161,7 +160,7 @@ fn ten_thousand_requests_are_a_few_writes(rt: HostRuntime) -> Result<(), Fail> {
     let mut reader = Batch::of(&script, false);
     let mut writer = Bounded::new(alloc, usize::MAX, true);
     let options = options(&rt, TimerKind::Heap, 10_000, DEFAULT);
-    let result = run_script(alloc, &options, &mut reader, &mut writer);
+    let result = run_unrecorded(alloc, &options, &mut reader, &mut writer);
     assert_eq!(rt; result, Ok(AT_END));
     assert!(rt; writer.bytes.as_slice() == replies.as_slice());
     assert_eq!(rt; writer.writes, 2);
@@ -174,7 +173,7 @@ fn expect_first_bytes(rt: &impl Abort, alloc: Global, room: usize, is_closed: bo
     let options = options(rt, TimerKind::Heap, 100, DEFAULT);
     let mut reader = Batch::of(REQUESTS, false);
     let mut writer = Bounded::new(alloc, room, is_closed);
-    let result = run_script(alloc, &options, &mut reader, &mut writer);
+    let result = run_unrecorded(alloc, &options, &mut reader, &mut writer);
     let first = REPLIES.get(..room).unwrap_or(REPLIES);
     assert_eq!(rt; writer.bytes.as_slice(), first, "{room}");
     if room < REPLIES.len() {
@@ -199,13 +198,13 @@ fn a_late_write_fault_is_no_read_fault(rt: HostRuntime) {
     let options = options(&rt, TimerKind::Heap, 100, DEFAULT);
     let mut reader = Batch::of(b"SIZE\n", true);
     let mut writer = Bounded::new(alloc, 3, true);
-    let result = run_script(alloc, &options, &mut reader, &mut writer);
+    let result = run_unrecorded(alloc, &options, &mut reader, &mut writer);
     assert_eq!(rt; result, Err(BrokerFault::Write));
     assert_eq!(rt; reader.reads, 1);
 
     let mut reader = Batch::of(b"SIZE\n", true);
     let mut writer = Bounded::new(alloc, usize::MAX, true);
-    let result = run_script(alloc, &options, &mut reader, &mut writer);
+    let result = run_unrecorded(alloc, &options, &mut reader, &mut writer);
     assert_eq!(rt; result, Err(BrokerFault::Read));
     assert_eq!(rt; writer.bytes.as_slice(), b"SIZE 0\n".as_slice());
 }

@@ -134,10 +134,11 @@ const SCRIPT: &[u8] = b"OFFER 0 a\nPOLL\n";
 #[test]
 fn the_history_is_written_after_a_fault_too(rt: HostRuntime) {
     let alloc = rt.alloc();
-    // The third call of the writer is the write of the second reply.
+    // Read byte by byte, so that each reply is handed on by itself: the third call of the writer is the
+    // write of the second reply.
     let mut writer = Held::failing_at(alloc, 2);
     let mut history = Some(Held::new(alloc));
-    let mut reader = Pieces::of(SCRIPT, usize::MAX);
+    let mut reader = Pieces::of(SCRIPT, 1);
     let result = run_with(&rt, alloc, &mut reader, &mut writer, &mut history);
     assert_eq!(rt; result, Err(BrokerFault::Write));
     assert_eq!(rt; writer.bytes.as_slice(), b"OFFERED 0 0\n".as_slice());
