@@ -1,5 +1,5 @@
 -- Passes of workers that are folded into the first, one after the other.
-use Rattle.std.proofs.Common.{◌≡◌, ℕ, ◌+◌, ◌-◌, ◌<◌, List, [], ◌∷◌, ◌++◌, refl, sym, ap, ap₂, ◌∙◌, arith, length, length-append, append_assoc}
+use Rattle.std.proofs.Common.{◌≡◌, ℕ, ◌-◌, ◌<◌, List, [], ◌∷◌, ◌++◌, refl, sym, ap, ap₂, ◌∙◌, arith, length-append, append_assoc}
 use Rattle.std.proofs.lemmas.List.{append-nil}
 use Rattle.rb_lock.specs.Passes.{Seen, Learns, record_of, folded_with}
 use Rattle.rb_lock.specs.declared.record.Record.{Record}
