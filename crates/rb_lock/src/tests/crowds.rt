@@ -143,13 +143,7 @@ fn events_of(history: &[Event], seat: u64) -> usize {
 }
 
 // Closes the queue by the pass into which all were folded: so many seats have made so many calls each.
-fn expect_calls<R: Wait + Abort>(
-    rt: &R,
-    shared: HeapShared,
-    pass: HeapPass,
-    seats: u64,
-    count: u64,
-)
+fn expect_calls<R: Wait + Abort>(rt: &R, shared: HeapShared, pass: HeapPass, seats: u64, count: u64)
     requires { pass.table ≡ shared }
 {
     let calls = seats.saturating_mul(count);

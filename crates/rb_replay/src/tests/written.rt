@@ -1,7 +1,5 @@
 use super::*;
-use crate::{
-    History, no_fault_of_text, no_text_of_two, one_fault, one_text_each, read_history,
-};
+use crate::{History, no_fault_of_text, no_text_of_two, one_fault, one_text_each, read_history};
 use rb_queue::Sequence;
 use std::io::{self, ErrorKind, Write};
 
