@@ -64,6 +64,42 @@ from_option = record (new_rule (codes "from")) {
   value_names = 1;
 }
 
+-- `--port P`: from 1 to 65,535, and it has to be there
+abbrev pub port_option : Rule
+port_option = record (new_rule (codes "port")) {
+  long = Some (codes "port");
+  value_names = 1;
+  required = true;
+  parser = Some (Unsigned 1 65535);
+}
+
+-- `--workers N`: from 1 to 16, and 4 where it is not given
+abbrev pub workers_option : Rule
+workers_option = record (new_rule (codes "workers")) {
+  long = Some (codes "workers");
+  value_names = 1;
+  defaults = codes "4" ∷ [];
+  parser = Some (Unsigned 1 16);
+}
+
+-- `--sessions N`: from 1 to 10,000, and 1 where it is not given
+abbrev pub sessions_option : Rule
+sessions_option = record (new_rule (codes "sessions")) {
+  long = Some (codes "sessions");
+  value_names = 1;
+  defaults = codes "1" ∷ [];
+  parser = Some (Unsigned 1 10000);
+}
+
+-- `--turns N`: from 0 to 1,000,000, and 10,000 where it is not given
+abbrev pub turns_option : Rule
+turns_option = record (new_rule (codes "turns")) {
+  long = Some (codes "turns");
+  value_names = 1;
+  defaults = codes "10000" ∷ [];
+  parser = Some (Unsigned 0 1000000);
+}
+
 -- `--chains`
 abbrev pub chains_flag : Rule
 chains_flag = record (new_rule (codes "chains")) {

@@ -7,12 +7,13 @@ use Rattle.rb_replay.specs.declared.history_fault.HistoryFault.TheVariants as Hi
 use Rattle.rb_session.specs.declared.session_fault.SessionFault.{SessionFault}
 use Rattle.rb_session.specs.declared.session_fault.SessionFault.TheVariants as Session
 
--- 1 for an opening that is none, 3 for input, output and workers, 4 for want of memory
+-- 1 for an opening that is none, 3 for input, output, listening and workers, 4 for want of memory
 abbrev pub status_of : BrokerFault → ℕ
 status_of Broker.BadOpening = 1
 status_of Broker.Read = 3
 status_of Broker.Write = 3
 status_of Broker.ReadTurns = 3
+status_of Broker.Listen = 3
 status_of Broker.Worker = 3
 status_of Broker.NotGathered = 3
 status_of Broker.ReadHistory = 3

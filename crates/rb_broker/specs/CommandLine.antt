@@ -10,12 +10,13 @@ use Rattle.rb_delayed.specs.declared.moment.TheConstants.{GREATEST_MOMENT}
 use Rattle.rb_retry.specs.declared.policy.Pace.{Pace}
 use Rattle.rb_retry.specs.declared.policy.Pace.TheVariants.{Delay, Rate}
 use Rattle.rb_retry.specs.declared.policy.Policy.{Policy}
-use Rattle.rb_broker.specs.Arguments.{AreTimerNames, attempts_option, calls_option, chains_flag, delay_option, file_argument, from_option, history_option, rate_option, timer_option}
+use Rattle.rb_broker.specs.Arguments.{AreTimerNames, attempts_option, calls_option, chains_flag, delay_option, file_argument, from_option, history_option, port_option, rate_option, sessions_option, timer_option, turns_option, workers_option}
 use Rattle.rb_broker.specs.TimerKind.{name_of}
 use Rattle.rb_broker.specs.declared.replay_options.ReplayOptions.{ReplayOptions}
 use Rattle.rb_broker.specs.declared.script_options.ScriptOptions.{ScriptOptions}
+use Rattle.rb_broker.specs.declared.server_options.ServerOptions.{ServerOptions}
 use Rattle.rb_broker.specs.declared.words.Words.{Words}
-use Rattle.rb_broker.specs.declared.words.Words.TheVariants.{Script, Replay}
+use Rattle.rb_broker.specs.declared.words.Words.TheVariants.{Script, Replay, Serve}
 
 -- a command with the options of a policy
 abbrev pub with_policy : App → App
@@ -31,15 +32,21 @@ script_command names =
 abbrev pub replay_command : App
 replay_command = with_policy (with_rule (with_rule (new_app (codes "replay")) file_argument) chains_flag)
 
+-- `serve` with its options
+abbrev pub serve_command : Bor (List (Bor Text)) → App
+serve_command names =
+    with_policy (with_rule (with_rule (with_rule (with_rule (with_rule (with_rule (with_rule (with_rule (new_app (codes "serve"))
+    port_option) calls_option) (timer_option names)) workers_option) sessions_option) turns_option) history_option) from_option)
+
 -- the command, which wants a subcommand
 abbrev pub with_required_subcommand : App → App
 with_required_subcommand app = record app { top = record app.top { subcommand_required = true } }
 
--- the program with its subcommands
-abbrev pub program : Bor (List (Bor Text)) → App
-program names =
-    with_subcommand (with_subcommand (with_required_subcommand (new_app (codes "rb_broker")))
-    (script_command names).top) replay_command.top
+-- the program with its subcommands, two of which take the name of a timer
+abbrev pub program : Bor (List (Bor Text)) → Bor (List (Bor Text)) → App
+program scripted served =
+    with_subcommand (with_subcommand (with_subcommand (with_required_subcommand (new_app (codes "rb_broker")))
+    (script_command scripted).top) replay_command.top) (serve_command served).top
 
 -- the number that the digits of an option's value spell
 abbrev pub number_in : Option Text → Option ℕ
@@ -92,17 +99,32 @@ pub record GivesReplay (rows : List Row) (options : ReplayOptions) (file : Strin
   pub chains : GivesChains rows options.chains
   pub file_is : first_of (codes "file") rows ≡ Some (string_bytes file)
 
+-- The values of `serve` give its options and files, each the default where it is left out.
+pub record GivesServer (rows : List Row) (options : ServerOptions) (history from : Option (String Global)) : Type 0 where
+  pub port : number_in (one_of (codes "port") rows) ≡ Some options.port
+  pub timer : first_of (codes "timer") rows ≡ Some (name_of options.timer)
+  pub sessions : number_in (one_of (codes "sessions") rows) ≡ Some options.sessions
+  pub turns : number_in (one_of (codes "turns") rows) ≡ Some options.turns
+  pub workers : number_in (one_of (codes "workers") rows) ≡ Some options.run.workers
+  pub calls : number_in (one_of (codes "calls") rows) ≡ Some options.run.calls
+  pub policy : GivesPolicy rows options.run.policy
+  pub history_is : option_map string_bytes history ≡ first_of (codes "history") rows
+  pub from_is : option_map string_bytes from ≡ first_of (codes "from") rows
+
 -- the subcommand of this name, with these values, asks for this
 abbrev pub IsAskedBy : Text → List Row → Words → Type 0
 IsAskedBy name rows (Script options history from) = (name ≡ codes "script") × GivesScript rows options history from
 IsAskedBy name rows (Replay options file) = (name ≡ codes "replay") × GivesReplay rows options file
+IsAskedBy name rows (Serve options history from) = (name ≡ codes "serve") × GivesServer rows options history from
 
 -- The words name a subcommand, which asks for this. `subcommand_of` is how clap reads the words, defaults
 -- included.
 pub record Asks (words : List Text) (asked : Words) : Type 0 where
-  pub names : Bor (List (Bor Text))
-  pub names_are : AreTimerNames names
+  pub scripted : Bor (List (Bor Text))
+  pub scripted_are : AreTimerNames scripted
+  pub served : Bor (List (Bor Text))
+  pub served_are : AreTimerNames served
   pub name : Text
   pub rows : List Row
-  pub met : subcommand_of (program names) words ≡ Some (name, rows)
+  pub met : subcommand_of (program scripted served) words ≡ Some (name, rows)
   pub gives : IsAskedBy name rows asked

@@ -2,14 +2,13 @@
 use Rattle.std.specs.Prelude.{◌≡◌, ℕ, Result, Ok, Err, ◌⊎◌}
 use Rattle.clap.specs.declared.error.kind.ErrorKind.{ErrorKind}
 use Rattle.clap.specs.declared.error.kind.ErrorKind.TheVariants as kinds
-use Rattle.rb_session.specs.declared.ended.Ended.{Ended}
 use Rattle.rb_broker.specs.declared.broker_fault.BrokerFault.{BrokerFault}
 use Rattle.rb_broker.specs.BrokerFault.{status_of}
 
--- 0 where the script came to its end, and else the status of the fault
-abbrev pub status_of_script : Result Ended BrokerFault → ℕ
-status_of_script (Ok ended) = 0
-status_of_script (Err fault) = status_of fault
+-- 0 where the run came to its end, and else the status of the fault
+abbrev pub status_of_run : {X : Type 0} → Result X BrokerFault → ℕ
+status_of_run (Ok ended) = 0
+status_of_run (Err fault) = status_of fault
 
 -- that of the verdict, and else that of the fault
 abbrev pub status_of_replay : Result ℕ BrokerFault → ℕ

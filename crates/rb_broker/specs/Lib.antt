@@ -19,6 +19,7 @@ pub mod Verdict
 pub mod Beginning
 pub mod FileText
 pub mod Script
+pub mod ServeText
 pub mod Arguments
 pub mod CommandLine
 pub mod ExitStatus

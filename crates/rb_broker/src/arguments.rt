@@ -1,8 +1,10 @@
 ghost use Rattle.std.specs.Prelude.{◌≡◌, ℕ, List, IfOk, false};
 ghost use Rattle.std.specs.Borrow.{Bor};
 ghost use Rattle.clap.specs.Words.{rule_of};
-ghost use Rattle.rb_broker.specs.Arguments.{AreTimerNames, attempts_option, calls_option, chains_flag, delay_option, file_argument, from_option, history_option, rate_option, timer_option};
+ghost use Rattle.rb_broker.specs.Arguments.{AreTimerNames, attempts_option, calls_option, chains_flag, delay_option, file_argument, from_option, history_option, port_option, rate_option, sessions_option, timer_option, turns_option, workers_option};
 
+use crate::serve_options::MOST_WORKERS;
+use crate::server_options::{MOST_SESSIONS, MOST_TURNS};
 use crate::timer_kind::TimerKind;
 use clap::builder::ValueParser;
 use clap::{Arg, ArgAction};
@@ -94,6 +96,58 @@ pub fn from_option<'a>(alloc: Global) -> Arg<'a>
     Arg::new(alloc, "from").long("from").value_name("FILE").help(
         "the file with the history of the run behind which this one goes on",
     )
+}
+
+/// `--port P`
+pub fn port_option<'a>(alloc: Global) -> Arg<'a>
+    ensures rule { rule_of result ≡ port_option }
+    ensures local { result.global ≡ false }
+{
+    Arg::new(alloc, "port")
+        .long("port")
+        .value_name("P")
+        .help("the TCP port on 127.0.0.1 at which clients are served")
+        .required(true)
+        .value_parser(ValueParser::Unsigned(1, u64::from(u16::MAX)))
+}
+
+/// `--workers N`
+pub fn workers_option<'a>(alloc: Global) -> Arg<'a>
+    ensures rule { rule_of result ≡ workers_option }
+    ensures local { result.global ≡ false }
+{
+    Arg::new(alloc, "workers")
+        .long("workers")
+        .value_name("N")
+        .help("how many sessions are served at once")
+        .value_parser(ValueParser::Unsigned(1, MOST_WORKERS))
+        .default_value("4")
+}
+
+/// `--sessions N`
+pub fn sessions_option<'a>(alloc: Global) -> Arg<'a>
+    ensures rule { rule_of result ≡ sessions_option }
+    ensures local { result.global ≡ false }
+{
+    Arg::new(alloc, "sessions")
+        .long("sessions")
+        .value_name("N")
+        .help("after how many sessions the server ends")
+        .value_parser(ValueParser::Unsigned(1, MOST_SESSIONS))
+        .default_value("1")
+}
+
+/// `--turns N`
+pub fn turns_option<'a>(alloc: Global) -> Arg<'a>
+    ensures rule { rule_of result ≡ turns_option }
+    ensures local { result.global ≡ false }
+{
+    Arg::new(alloc, "turns")
+        .long("turns")
+        .value_name("N")
+        .help("after how many turns a wait of a session is given up")
+        .value_parser(ValueParser::Unsigned(0, MOST_TURNS))
+        .default_value("10000")
 }
 
 /// `--chains`

@@ -26,6 +26,9 @@ pub enum BrokerFault {
     /// A run cannot begin where this history ends: it was not read, is not legal, or leads too far.
     #[error("bad opening")]
     BadOpening,
+    /// A server can't listen at its port.
+    #[error("cannot listen")]
+    Listen,
     /// A worker of a server can't be started.
     #[error("cannot start worker")]
     Worker,
@@ -40,8 +43,8 @@ pub enum BrokerFault {
 impl BrokerFault {
     ghost use Rattle.rb_broker.specs.BrokerFault.{status_of};
 
-    /// The exit status of a run that ends by this fault: 1 for a bad opening, 3 for input and output,
-    /// 4 for memory.
+    /// The exit status of a run that ends by this fault: 1 for a bad opening, 4 for memory,
+    /// and else 3.
     pub fn status(self) -> u8
         ensures { result ≡ status_of self }
     {
@@ -52,6 +55,7 @@ impl BrokerFault {
             | BrokerFault::ReadTurns
             | BrokerFault::ReadHistory
             | BrokerFault::WriteHistory
+            | BrokerFault::Listen
             | BrokerFault::Worker
             | BrokerFault::NotGathered => 3,
             BrokerFault::Memory => 4,

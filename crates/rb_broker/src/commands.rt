@@ -5,10 +5,27 @@ use crate::replay::run_replay;
 use crate::replay_options::ReplayOptions;
 use crate::script::run_script;
 use crate::script_options::ScriptOptions;
+use crate::serve_clock::ServeClock;
+use crate::serve_door::serve_door;
+use crate::serve_end::end_server;
+use crate::serve_options::ServeOptions;
+use crate::serve_report::ServeReport;
+use crate::serve_text::print_listening;
+use crate::server_options::ServerOptions;
+use crate::tcp_door::TcpDoor;
+use crate::timer_kind::TimerKind;
+use rb_binary::BinaryTimer;
+use rb_pairing::PairingTimer;
 use rb_queue::Opening;
 use rb_session::Ended;
+use rb_timer::{ListTimer, Timer};
+use rb_wheel::WheelTimer;
 use std::fs::{self, File};
 use std::io::Write;
+use std::net::{Ipv4Addr, SocketAddr, SocketAddrV4, TcpListener};
+use std::sync::Wait;
+use std::thread::Threads;
+use std::time;
 
 /// Runs a script from standard input to standard output.
 ///
@@ -20,17 +37,10 @@ pub fn script(
     history: Option<&str>,
     from: Option<&str>,
 ) -> Result<Ended, BrokerFault> {
-    let alloc = rt.alloc();
-    let opening = match from {
-        Some(path) => opening_in(alloc, &text_of(rt, path)?)?,
-        None => Opening::empty(alloc),
-    };
-    let mut device = match history {
-        Some(path) => Some(created(rt, path)?),
-        None => None,
-    };
+    let opening = opening_behind(rt, from)?;
+    let mut device = device_for(rt, history)?;
     run_script(
-        alloc,
+        rt.alloc(),
         options,
         opening,
         &mut rt.stdin(),
@@ -46,6 +56,76 @@ pub fn replay(rt: &HostRuntime, options: &ReplayOptions, file: &str) -> Result<u
     match output.write_all(line.as_bytes()) {
         Ok(()) => Ok(status),
         Err(_) => Err(BrokerFault::Write),
+    }
+}
+
+/// Serves clients at a port of 127.0.0.1, writes the history of the run, and prints what it came to.
+///
+/// The file `from` is read before anything else, and the file `history` is created before the port is
+/// listened at, so both may be the same. That it is, standard output says by a line. Where the run gives no
+/// history the file stays empty.
+///
+/// The workers are started and wait by `handle`.
+pub fn serve<R: Threads + Wait + time::Clock + Sync>(
+    rt: &HostRuntime,
+    handle: &R,
+    options: &ServerOptions,
+    history: Option<&str>,
+    from: Option<&str>,
+) -> Result<(), BrokerFault> {
+    let opening = opening_behind(rt, from)?;
+    let mut device = device_for(rt, history)?;
+    let address = SocketAddr::V4(SocketAddrV4::new(Ipv4Addr::LOCALHOST, options.port));
+    let Ok(listener) = TcpListener::bind(rt, address) else {
+        return Err(BrokerFault::Listen);
+    };
+    print_listening(rt.alloc(), &mut rt.stdout(), options.port)?;
+    let door = TcpDoor::new(listener, options.sessions, options.turns);
+    let run = &options.run;
+    match options.timer {
+        TimerKind::List => {
+            serve_over::<ListTimer, R>(rt, handle, &door, run, opening, &mut device)
+        }
+        TimerKind::Heap => {
+            serve_over::<BinaryTimer, R>(rt, handle, &door, run, opening, &mut device)
+        }
+        TimerKind::Pairing => {
+            serve_over::<PairingTimer, R>(rt, handle, &door, run, opening, &mut device)
+        }
+        TimerKind::Wheel => {
+            serve_over::<WheelTimer, R>(rt, handle, &door, run, opening, &mut device)
+        }
+    }
+}
+
+// Serves the clients of a door over this timer.
+fn serve_over<T: Timer + Send, R: Threads + Wait + time::Clock + Sync>(
+    rt: &HostRuntime,
+    handle: &R,
+    door: &TcpDoor,
+    run: &ServeOptions,
+    opening: Opening,
+    history: &mut Option<File>,
+) -> Result<(), BrokerFault> {
+    let alloc = rt.alloc();
+    let clock = ServeClock::new(handle, opening.last_at);
+    let report: ServeReport<T> = serve_door(handle, alloc, door, &clock, run, opening)?;
+    end_server(alloc, &report, &mut rt.stdout(), history)
+}
+
+// Where a run begins: behind the history in a file, if one is named.
+fn opening_behind(rt: &HostRuntime, from: Option<&str>) -> Result<Opening, BrokerFault> {
+    match from {
+        Some(path) => opening_in(rt.alloc(), &text_of(rt, path)?),
+        None => Ok(Opening::empty(rt.alloc())),
+    }
+}
+
+// What the history of a run is written to, if a file is named.
+fn device_for(rt: &HostRuntime, history: Option<&str>) -> Result<Option<File>, BrokerFault> {
+    match history {
+        Some(path) => Ok(Some(created(rt, path)?)),
+        None => Ok(None),
     }
 }
 

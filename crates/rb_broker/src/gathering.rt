@@ -99,8 +99,8 @@ impl<W: Write> Outlet for Gathering<'_, W> {
     ghost goes_on = { λ one two three first second. (second.0 ∙ first.0, grows_on _ _ _ first.1 second.1) };
 }
 
-// Sends a line that is longer than all the room.
-fn send_at_once<W: Write>(writer: &mut W, line: &[u8]) -> Result<(), WriteFault>
+/// Writes a line and flushes. After an `Err` the writer has got the first bytes of it, perhaps none or all.
+pub(crate) fn send_at_once<W: Write>(writer: &mut W, line: &[u8]) -> Result<(), WriteFault>
     ensures { (before : List ℕ) → W.contents writer.old ≡ Some before → MatchResult result
         (λ _. W.contents writer.new ≡ Some (before ++ line.now))
         (λ _. (taken : ℕ) × (W.contents writer.new ≡ Some (before ++ take taken line.now))) }

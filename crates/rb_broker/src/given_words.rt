@@ -6,6 +6,7 @@ ghost use Rattle.rb_retry.specs.Retry.{AreAttempts};
 ghost use Rattle.rb_broker.specs.CommandLine.{FoundChains, HasNumber, HasPace, IsAskedBy, number_in, pace_in};
 ghost use Rattle.rb_broker.specs.TimerKind.{name_of};
 
+use crate::given_server::serve;
 use crate::replay_options::ReplayOptions;
 use crate::script_options::ScriptOptions;
 use crate::timer_kind::TimerKind;
@@ -30,6 +31,7 @@ pub fn asked_by(
     match name {
         "script" => script(alloc, given),
         "replay" => replay(alloc, given),
+        "serve" => serve(alloc, given),
         _ => Ok(None),
     }
 }
@@ -114,8 +116,8 @@ fn is_set(given: &ArgMatches<'_>, id: &str) -> bool
     }
 }
 
-// The policy that is given.
-fn given_policy(given: &ArgMatches<'_>) -> Option<Policy>
+/// The policy that is given.
+pub(crate) fn given_policy(given: &ArgMatches<'_>) -> Option<Policy>
     ensures attempts { IfSome result (λ policy. number_in (one_text (found_of given.now) (codes "attempts"))
         ≡ Some policy.attempts) }
     ensures pace { IfSome result (λ policy.
@@ -152,16 +154,20 @@ fn pace(given: &ArgMatches<'_>) -> Option<Pace>
     }
 }
 
-// The number that an option's value spells.
-fn number(given: &ArgMatches<'_>, id: &str) -> Option<u64>
+/// The number that an option's value spells.
+pub(crate) fn number(given: &ArgMatches<'_>, id: &str) -> Option<u64>
     ensures number { IfSome result (λ number. number_in (one_text (found_of given.now) id.now) ≡ Some number) }
     ensures read { HasNumber 0 GREATEST_MOMENT (one_text (found_of given.now) id.now) → IsSome result }
 {
     given.get_one::<u64>(id)
 }
 
-// The text of an option's value, if it was given.
-fn text(alloc: Global, given: &ArgMatches<'_>, id: &str) -> Result<Option<String>, AllocError>
+/// The text of an option's value, if it was given.
+pub(crate) fn text(
+    alloc: Global,
+    given: &ArgMatches<'_>,
+    id: &str,
+) -> Result<Option<String>, AllocError>
     ensures { IfOk result (λ text. option_map string_bytes text ≡ first_value (found_of given.now) id.now) }
 {
     match given.get_str(id) {

@@ -1,9 +1,9 @@
 //! A broker of delayed elements, as a command.
 //!
 //! `rb_broker script` reads a script from standard input and writes its answers to standard output.
-//! `rb_broker replay` checks the history of a run. The exit status is 0 at the end of a run and after
-//! help, 1 for a history that is not accepted, 2 where the words are refused, 3 where input or output
-//! fails, and 4 for want of memory.
+//! `rb_broker replay` checks the history of a run. `rb_broker serve` answers many clients over TCP. The exit status is 0 at the end of a run and after
+//! help, 1 for a history that is not accepted, 2 where the words are refused, 3 where input, output
+//! or a port fails, and 4 for want of memory.
 #![tactic(auto)]
 
 mod arguments;
@@ -18,6 +18,7 @@ mod gathered;
 mod gathering;
 #[cfg(test)]
 mod gathering_rows;
+mod given_server;
 mod given_words;
 #[cfg(test)]
 mod history_rows;
@@ -37,8 +38,11 @@ mod script_options;
 mod script_rows;
 mod serve_clock;
 mod serve_door;
+mod serve_end;
 mod serve_options;
 mod serve_report;
+mod serve_text;
+mod server_options;
 mod service;
 #[cfg(test)]
 mod serving_rows;
@@ -57,16 +61,17 @@ ghost use Rattle.std.specs.Process.{exit_status};
 ghost use Rattle.clap.specs.Words.{kind_of};
 ghost use Rattle.rb_broker.specs.BrokerFault.{status_of};
 ghost use Rattle.std.specs.Prelude.{◌≡◌};
-ghost use Rattle.rb_broker.specs.ExitStatus.{IsStatusOfWords, status_of_replay, status_of_script};
+ghost use Rattle.rb_broker.specs.ExitStatus.{IsStatusOfWords, status_of_replay, status_of_run};
 
 use broker_fault::BrokerFault;
 use clap::Error;
 use clap::error::ErrorKind;
 use command_line::read_words;
-use rb_session::Ended;
 use std::alloc::{AllocError, Global};
 use std::process::ExitCode;
-use std::{env, io};
+use std::sync::Wait;
+use std::thread::Threads;
+use std::{env, io, time};
 use words::Words;
 
 /// The exit status where the words are refused.
@@ -75,7 +80,7 @@ const WORDS_REFUSED: u8 = 2;
 fn main(rt: HostRuntime) -> ExitCode {
     match gathered_words(&rt) {
         Ok(words) => match lent_words(rt.alloc(), &words) {
-            Ok(words) => run(&rt, words.as_slice()),
+            Ok(words) => run(&rt, &rt, words.as_slice()),
             Err(AllocError) => ended_by(&rt, BrokerFault::Memory),
         },
         Err(error) if error.kind() == io::ErrorKind::OutOfMemory => {
@@ -98,8 +103,13 @@ fn lent_words<'a>(alloc: Global, words: &'a Vec<String>) -> Result<Vec<&'a str>,
     words.iter().map(|word| word.as_str()).collect(alloc)
 }
 
-/// Does what `words` ask for, and answers the exit status of it.
-fn run(rt: &HostRuntime, words: &[&str]) -> ExitCode {
+/// Does what `words` ask for, and answers the exit status of it. A server's workers are started and wait
+/// by `handle`.
+fn run<R: Threads + Wait + time::Clock + Sync>(
+    rt: &HostRuntime,
+    handle: &R,
+    words: &[&str],
+) -> ExitCode {
     match read_words(rt.alloc(), words) {
         Ok(
             Words::Script {
@@ -111,14 +121,24 @@ fn run(rt: &HostRuntime, words: &[&str]) -> ExitCode {
             rt,
             commands::script(rt, &options, history.as_deref(), from.as_deref()),
         ),
+        Ok(
+            Words::Serve {
+                options,
+                history,
+                from,
+            },
+        ) => ended_as(
+            rt,
+            commands::serve(rt, handle, &options, history.as_deref(), from.as_deref()),
+        ),
         Ok(Words::Replay { options, file }) => told_as(rt, commands::replay(rt, &options, &file)),
         Err(error) => refused_by(rt, &error),
     }
 }
 
 /// Prints the line of the fault, where there is one, and answers the exit status.
-fn ended_as(rt: &HostRuntime, outcome: Result<Ended, BrokerFault>) -> ExitCode
-    ensures { exit_status result ≡ status_of_script outcome }
+fn ended_as<T: Copy>(rt: &HostRuntime, outcome: Result<T, BrokerFault>) -> ExitCode
+    ensures { exit_status result ≡ status_of_run outcome }
 {
     match outcome {
         Ok(_) => ExitCode::SUCCESS,

@@ -113,8 +113,8 @@ fn record_broken<T: Timer, H: Write>(
     let _ = record(alloc, kept, history);
 }
 
-// Writes the history of the kept queue, where something is to have it.
-fn record<T: Timer, H: Write>(
+/// Writes the history of the kept queue, where something is to have it.
+pub(crate) fn record<T: Timer, H: Write>(
     alloc: Global,
     kept: &Kept<T>,
     history: &mut Option<H>,

@@ -1,5 +1,6 @@
 use crate::replay_options::ReplayOptions;
 use crate::script_options::ScriptOptions;
+use crate::server_options::ServerOptions;
 
 /// What the words of the command line ask for.
 #[derive(Drop)]
@@ -16,5 +17,13 @@ pub enum Words {
     Replay {
         options: ReplayOptions,
         file: String,
+    },
+    /// To serve clients over TCP.
+    Serve {
+        options: ServerOptions,
+        /// The file that the run's history is written to, if any.
+        history: Option<String>,
+        /// The file with the history behind which the run goes on, if any.
+        from: Option<String>,
     },
 }

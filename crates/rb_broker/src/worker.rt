@@ -2,13 +2,14 @@ ghost use Rattle.std.specs.Prelude.{◌≡◌};
 ghost use Rattle.rb_broker.specs.Serving.{IsWorked};
 
 use crate::door::{Door, DoorFault};
+use crate::gathered::run_gathered;
 use crate::service::Service;
 use crate::visit::Visit;
 use crate::visit_counts::VisitCounts;
 use rb_blocking::{Clock, Gate};
 use rb_lock::Pass;
 use rb_retry::SharedDesk;
-use rb_session::{Ended, SessionFault, run_session};
+use rb_session::{Ended, SessionFault};
 use rb_timer::Timer;
 use std::io::{Read, Write};
 use std::sync::Wait;
@@ -40,7 +41,8 @@ pub(crate) fn work<T: Timer, D: Door, C: Clock, R: Wait + time::Clock>(
     (pass, counts)
 }
 
-// Serves a visit to its end: one session at a desk of the pass, whose waits the visit's gate may end.
+// Serves a visit to its end: one session at a desk of the pass, whose waits the visit's gate may end. Its
+// replies are gathered, so that a batch of requests is answered by one write.
 fn serve_visit<
     T: Timer,
     D: Door,
@@ -71,7 +73,7 @@ fn serve_visit<
         &mut gate,
         service.bell,
     );
-    run_session(
+    run_gathered(
         service.alloc,
         &mut reader,
         &mut writer,

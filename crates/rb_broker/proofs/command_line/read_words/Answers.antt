@@ -6,15 +6,17 @@ use Rattle.rb_broker.proofs.command_line.read_words.Goals as goal
 
 pub returns-clause-given : goal.returns-clause-given
 returns-clause-given c =
-    let (names, names_are, program_is) = c.in_ok-command.ensures in
-    let simple : is_simple (program names) ≡ true = refl in
+    let (scripted, served, scripted_are, served_are, program_is) = c.in_ok-command.ensures in
+    let simple : is_simple (program scripted served) ≡ true = refl in
     let rows = rows_of (found_of c.in-Some.given.now) in
     let entered : subcommand_rows_of c.in_ok-matches.matches ≡ Some (c.in-Some.name.now, rows) =
     name_with_rows _ _ _ _ c.in-Some.ensures.name c.in-Some.ensures.rows in
     let read = (c.in_ok-matches.ensures.ok.2 (ap is_simple program_is ∙ simple)).1 in
     record {
-      names = names;
-      names_are = names_are;
+      scripted = scripted;
+      scripted_are = scripted_are;
+      served = served;
+      served_are = served_are;
       name = c.in-Some.name.now;
       rows = rows;
       met = ap (λ app. subcommand_of app (map (λ word. word.now) c.args.words.now)) (sym program_is) ∙ sym read ∙ entered;
