@@ -175,7 +175,8 @@ fn takes_a_script_and_its_options(rt: HostRuntime) {
     assert_eq!(rt; both, options(TimerKind::List, 7));
 }
 
-fn refuses(rt: &impl Abort, alloc: Global, words: &[&str], kind: ErrorKind) {
+/// Compares the kind of the error and its exit code, which is 2.
+pub fn refuses(rt: &impl Abort, alloc: Global, words: &[&str], kind: ErrorKind) {
     let error = read_words(alloc, words).err().expect(rt, "an error");
     assert_eq!(rt; error.kind(), kind, "{words:?}");
     assert_eq!(rt; error.exit_code(), 2, "{words:?}");
@@ -332,6 +333,7 @@ fn faults_of_files_have_a_status_and_a_text(rt: HostRuntime) -> Result<(), Fail>
         (BrokerFault::ReadHistory, 3, "cannot read history"),
         (BrokerFault::WriteHistory, 3, "cannot write history"),
         (BrokerFault::BadOpening, 1, "bad opening"),
+        (BrokerFault::Listen, 3, "cannot listen"),
     ] {
         assert_eq!(rt; fault.status(), status);
         assert_eq!(rt; fault.to_string(alloc)?.as_str(), text);

@@ -42,7 +42,11 @@ mod serve_end;
 mod serve_options;
 mod serve_report;
 mod serve_text;
+#[cfg(test)]
+mod server_end_rows;
 mod server_options;
+#[cfg(test)]
+mod server_words_rows;
 mod service;
 #[cfg(test)]
 mod serving_rows;

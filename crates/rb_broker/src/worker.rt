@@ -2,14 +2,13 @@ ghost use Rattle.std.specs.Prelude.{◌≡◌};
 ghost use Rattle.rb_broker.specs.Serving.{IsWorked};
 
 use crate::door::{Door, DoorFault};
-use crate::gathered::run_gathered;
 use crate::service::Service;
 use crate::visit::Visit;
 use crate::visit_counts::VisitCounts;
 use rb_blocking::{Clock, Gate};
 use rb_lock::Pass;
 use rb_retry::SharedDesk;
-use rb_session::{Ended, SessionFault};
+use rb_session::{Ended, SessionFault, run_session};
 use rb_timer::Timer;
 use std::io::{Read, Write};
 use std::sync::Wait;
@@ -41,8 +40,7 @@ pub(crate) fn work<T: Timer, D: Door, C: Clock, R: Wait + time::Clock>(
     (pass, counts)
 }
 
-// Serves a visit to its end: one session at a desk of the pass, whose waits the visit's gate may end. Its
-// replies are gathered, so that a batch of requests is answered by one write.
+// Serves a visit to its end: one session at a desk of the pass, whose waits the visit's gate may end.
 fn serve_visit<
     T: Timer,
     D: Door,
@@ -73,7 +71,7 @@ fn serve_visit<
         &mut gate,
         service.bell,
     );
-    run_gathered(
+    run_session(
         service.alloc,
         &mut reader,
         &mut writer,
