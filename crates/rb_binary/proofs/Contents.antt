@@ -3,7 +3,7 @@ use Rattle.std.proofs.Common.{◌≡◌, ℕ, zero, suc, ◌<◌, ◌≤◌, Lis
 use Rattle.std.specs.Prelude.{IsSome, IfSome, is_some, option_map}
 use Rattle.std.specs.FinMap as map
 use Rattle.std.proofs.lemmas.List.{get_or_read}
-use Rattle.rb_timer.specs.Content.{IsLeast}
+use Rattle.rb_timer.specs.Content.{IsLeastSlot}
 use Rattle.rb_timer.specs.Slots.{content_of, get-content_of, content_empty, same_content, len-content_of}
 use Rattle.rb_binary.specs.declared.heap.Entry.{Entry}
 use Rattle.rb_binary.specs.Layout.{no_entry, slot_at, expiry_at, parent, place_of, expiries, Agrees, IsOrdered}
@@ -93,7 +93,7 @@ module _ (heap : List Entry) (places : List (Option ℕ)) (agrees : Agrees heap 
 
   -- the first entry is one that expires first
   pub first_is_least : IsOrdered heap → 0 < length heap
-      → IsLeast (content_of (expiries heap places)) (slot_at heap 0) (expiry_at heap 0)
+      → IsLeastSlot (content_of (expiries heap places)) (slot_at heap 0) (expiry_at heap 0)
   first_is_least ordered some = record {
     present = get-content_at heap places (slot_at heap 0) 0 (agrees.noted 0 some);
     least = each_expiry (λ expiry. expiry_at heap 0 ≤ expiry) (first_expiry heap ordered);

@@ -6,14 +6,14 @@ use Rattle.rb_replay.specs.Opens.{Opens}
 use Rattle.rb_replay.specs.declared.opening_fault.OpeningFault.{OpeningFault}
 use Rattle.rb_replay.specs.declared.opening_fault.OpeningFault.TheVariants.{At, TooLarge}
 use Rattle.rb_replay.specs.declared.reason.Reason.{Reason}
-use Rattle.rb_broker.specs.Beginning.{GoesOn, HasNoNext}
+use Rattle.rb_broker.specs.Beginning.{Continues, HasNoNext}
 use Rattle.rb_broker.specs.declared.broker_fault.BrokerFault.{BrokerFault}
 
 -- what goes on behind a history goes on so behind the same one
 pub goes_on_same : {one other : Opening} {events others : List Event} (result : Result Opening BrokerFault)
-    → (one ≡ other) × (events ≡ others) → GoesOn one events result → GoesOn other others result
+    → (one ≡ other) × (events ≡ others) → Continues one events result → Continues other others result
 goes_on_same {one = one} {others = others} result (same, alike) goes =
-    subst (λ from. GoesOn from others result) same (subst (λ events. GoesOn one events result) alike goes)
+    subst (λ from. Continues from others result) same (subst (λ events. Continues one events result) alike goes)
 
 -- a history that is refused has no next run
 pub refused : {from : Opening} {events : List Event} {fault : OpeningFault} {index : ℕ} {reason : Reason}

@@ -16,7 +16,7 @@ use Rattle.rb_session.specs.declared.ended.Ended.{Ended}
 use Rattle.rb_session.specs.declared.ended.Ended.TheVariants.{Quit, EndOfInput}
 use Rattle.rb_session.specs.declared.session_fault.SessionFault.{SessionFault}
 use Rattle.rb_session.specs.declared.session_fault.SessionFault.TheVariants.{Memory, Read, Write, ReadTurns}
-use Rattle.rb_broker.specs.Growth.{Grows}
+use Rattle.rb_broker.specs.Growth.{KeepsFront}
 use Rattle.rb_broker.specs.Gathered.{LosesReplies, RanGathered}
 
 -- known bytes that are kept stay known
@@ -56,12 +56,12 @@ sends_past (Err fault) old new gathered before line none sends is =
 
 -- what was sent is behind what there was
 pub sends_grow : {T E : Type 0} (result : Result T E) (old new : Option (List ℕ)) (line : List ℕ)
-    → ((bytes : List ℕ) → old ≡ Some bytes → Sends result new bytes line) → Grows old new
+    → ((bytes : List ℕ) → old ≡ Some bytes → Sends result new bytes line) → KeepsFront old new
 sends_grow (Ok done) old new line sends bytes is = (line, sends bytes is)
 sends_grow (Err fault) old new line sends bytes is = let some = sends bytes is in (take some.0 line, some.1)
 
 -- else it has got a first part
-first_part : (written : Option (List ℕ)) (gathered before text : List ℕ) → Grows (Some before) written → append_known written gathered ≡ Some (before ++ text)
+first_part : (written : Option (List ℕ)) (gathered before text : List ℕ) → KeepsFront (Some before) written → append_known written gathered ≡ Some (before ++ text)
     → (sent : List ℕ) × (unsent : List ℕ) × (text ≡ sent ++ unsent) × (written ≡ Some (before ++ sent))
 first_part written gathered before text grows is = part (grows before refl)
   where
@@ -77,7 +77,7 @@ nothing_sent (byte ∷ sent) unsent is = absurd (cc)
 
 module _ {S : Type 0} (gives : S → ℕ → Type 0) (Sets : S → ℕ → Option ℕ → S → Type 0)
     (Steps : S → ℕ → Ask → Result Reply DeskFault → S → Type 0) (policy : Policy)
-    (from to : S) (stream before : List ℕ) (left written : Option (List ℕ)) (gathered : List ℕ) (grows : Grows (Some before) written) where
+    (from to : S) (stream before : List ℕ) (left written : Option (List ℕ)) (gathered : List ℕ) (grows : KeepsFront (Some before) written) where
   whole : (Session : List ℕ → Point S → Type 0) (last : Point S) → gathered ≡ [] → IsWhole gives Sets Steps policy Session before last (append_known written gathered)
       → IsWhole gives Sets Steps policy Session before last written
   whole Session last clear is = record { text = is.text; session = is.session; wrote = all_written written gathered _ clear is.wrote }

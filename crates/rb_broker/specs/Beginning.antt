@@ -18,10 +18,10 @@ HasNoNext from events = ((index : ℕ) × (reason : Reason) × Refuses from even
     ⊎ (IsLegal from events × IsTooLarge (state_of from events))
 
 -- behind this history a run begins in the state that it leads to, or none can
-abbrev pub GoesOn : Opening → List Event → Result Opening BrokerFault → Type 0
-GoesOn from events (Ok opening) = Opens from events (Ok opening)
-GoesOn from events (Err BadOpening) = HasNoNext from events
-GoesOn from events (Err fault) = fault ≡ Memory
+abbrev pub Continues : Opening → List Event → Result Opening BrokerFault → Type 0
+Continues from events (Ok opening) = Opens from events (Ok opening)
+Continues from events (Err BadOpening) = HasNoNext from events
+Continues from events (Err fault) = fault ≡ Memory
 
 -- the text has a first fault
 abbrev pub IsUnreadable : List ℕ → Type 0
@@ -29,7 +29,7 @@ IsUnreadable text = (line : ℕ) × (reason : TextReason) × HasFault text line 
 
 -- the text is of a history that a run goes on behind so
 abbrev pub GoesOnIn : List ℕ → Result Opening BrokerFault → Type 0
-GoesOnIn text result = (from : Opening) × (events : List Event) × IsTextOf from events text × GoesOn from events result
+GoesOnIn text result = (from : Opening) × (events : List Event) × IsTextOf from events text × Continues from events result
 
 -- the opening of a run that goes on behind the text's history, or why there is none
 abbrev pub BeginsIn : List ℕ → Result Opening BrokerFault → Type 0

@@ -53,15 +53,15 @@ abbrev pub number_in : Option Text → Option ℕ
 number_in = option_map (λ digits. digits_value 10 (without_leading_plus digits))
 
 -- the value of an option is a number in this range
-abbrev pub HasNumber : ℕ → ℕ → Option Text → Type 0
-HasNumber least most value = (digits : Text) × (value ≡ Some digits) × IsNumeral 10 (without_leading_plus digits)
+abbrev pub HasNumberWithin : ℕ → ℕ → Option Text → Type 0
+HasNumberWithin least most value = (digits : Text) × (value ≡ Some digits) × IsNumeral 10 (without_leading_plus digits)
     × (least ≤ digits_value 10 (without_leading_plus digits)) × (digits_value 10 (without_leading_plus digits) ≤ most)
 
 -- a rate was given, or there is a delay
 abbrev pub HasPace : Found → Type 0
 HasPace found = MatchBool (is_some (matched_of found (codes "rate")))
-    (HasNumber 0 GREATEST_MOMENT (one_text found (codes "rate")))
-    (HasNumber 0 GREATEST_MOMENT (one_text found (codes "delay")))
+    (HasNumberWithin 0 GREATEST_MOMENT (one_text found (codes "rate")))
+    (HasNumberWithin 0 GREATEST_MOMENT (one_text found (codes "delay")))
 
 -- the pace that a delay's value and a rate's give: the rate, if there is one
 abbrev pub pace_in : Option Text → Option Text → Option Pace

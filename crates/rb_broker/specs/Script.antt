@@ -36,8 +36,8 @@ Becomes stands _ _ = ⊥
 
 -- A device that there was has got the text of the log's history, or a first part of it, or nothing, as
 -- the result of writing it says.
-abbrev pub Records : {H : Type 0} → (H → Option (List ℕ)) → Log → Result (Unit {0}) HistoryFault → Option H → Option H → Type 0
-Records contents log wrote device left = (device ≡ None → wrote ≡ Ok tt) × Becomes (λ old new. (held : List ℕ)
+abbrev pub RecordsRun : {H : Type 0} → (H → Option (List ℕ)) → Log → Result (Unit {0}) HistoryFault → Option H → Option H → Type 0
+RecordsRun contents log wrote device left = (device ≡ None → wrote ≡ Ok tt) × Becomes (λ old new. (held : List ℕ)
     → contents old ≡ Some held → Writes wrote held (history_text log.opening log.history) (contents new)) device left
 
 -- the run ends as the writing of its history does, where its session came to its end
@@ -49,14 +49,14 @@ ends_as ended (Err fault) = Err (fault_of_history fault)
 -- of memory the session was not begun, and nothing is written.
 pub record RecordsBroken {H : Type 0} (contents : H → Option (List ℕ)) (log : Log) (fault : SessionFault) (device left : Option H) : Type 0 where
   pub unbegun : fault ≡ Memory → left ≡ device
-  pub begun : fault ≢ Memory → (wrote : Result (Unit {0}) HistoryFault) × Records contents log wrote device left
+  pub begun : fault ≢ Memory → (wrote : Result (Unit {0}) HistoryFault) × RecordsRun contents log wrote device left
 
 -- The session's fault is answered, where it has one, and else that of writing the history.
 abbrev pub Finishes : {H : Type 0} → (H → Option (List ℕ)) → Log → Result Ended SessionFault → Result Ended BrokerFault → Option H → Option H → Type 0
 Finishes contents log (Err fault) result device left =
     (result ≡ Err (fault_of_session fault)) × RecordsBroken contents log fault device left
 Finishes contents log (Ok ended) result device left =
-    (wrote : Result (Unit {0}) HistoryFault) × Records contents log wrote device left × (result ≡ ends_as ended wrote)
+    (wrote : Result (Unit {0}) HistoryFault) × RecordsRun contents log wrote device left × (result ≡ ends_as ended wrote)
 
 -- The run went from a new desk to some other, whose log has its history, and read and wrote what a
 -- session does on this way whose replies are gathered.

@@ -5,7 +5,7 @@ use Rattle.rb_kept.specs.Log.{Log}
 use Rattle.rb_replay.specs.declared.history_fault.HistoryFault.{HistoryFault}
 use Rattle.rb_broker.specs.AuditText.{audit_text}
 use Rattle.rb_broker.specs.BrokerFault.{fault_of_history}
-use Rattle.rb_broker.specs.Script.{Records}
+use Rattle.rb_broker.specs.Script.{RecordsRun}
 use Rattle.rb_broker.specs.declared.broker_fault.BrokerFault.{BrokerFault}
 use Rattle.rb_broker.specs.declared.broker_fault.BrokerFault.TheVariants.{Memory, Write}
 
@@ -37,4 +37,4 @@ first_fault (Err fault) printed = Err (fault_of_history fault)
 abbrev pub EndsServer : {H : Type 0} → (H → Option (List ℕ)) → Log → List ℕ → List ℕ → Result (Unit {0}) BrokerFault → Option (List ℕ) → Option H → Option H → Type 0
 EndsServer contents log text before result written device left =
     (wrote : Result (Unit {0}) HistoryFault) × (printed : Result (Unit {0}) BrokerFault)
-    × Records contents log wrote device left × Prints before text printed written × (result ≡ first_fault wrote printed)
+    × RecordsRun contents log wrote device left × Prints before text printed written × (result ≡ first_fault wrote printed)

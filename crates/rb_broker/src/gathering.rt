@@ -1,7 +1,7 @@
 ghost use Rattle.std.specs.Prelude.{◌≡◌, ◌≤◌, ◌+◌, ◌++◌, ℕ, List, [], OnOk, MatchResult, Some, drop, take, vec_len, vec_capacity};
 ghost use Rattle.std.specs.Io.KnownBytes.{append_known, Keeps};
 ghost use Rattle.std.proofs.Common.{refl, ◌∙◌};
-ghost use Rattle.rb_broker.specs.Growth.{Grows, grows_same, grows_on};
+ghost use Rattle.rb_broker.specs.Growth.{KeepsFront, grows_same, grows_on};
 
 use rb_session::{Outlet, WriteFault, flush, send_line, write_out};
 use std::io::Write;
@@ -51,7 +51,7 @@ impl<'a, W: Write> Gathering<'a, W> {
         ensures empty { OnOk result (self.new.gathered.items ≡ []) }
         ensures kept { Keeps (append_known (W.contents self.old.writer.now) self.old.gathered.items) (append_known (W.contents self.new.writer.now) self.new.gathered.items) }
         ensures same_reference { self.new.writer.ghost_name ≡ self.old.writer.ghost_name }
-        ensures grows { Grows (W.contents self.old.writer.now) (W.contents self.new.writer.now) }
+        ensures grows { KeepsFront (W.contents self.old.writer.now) (W.contents self.new.writer.now) }
     {
         if self.gathered.is_empty() {
             return Ok(());
@@ -72,7 +72,7 @@ impl<W: Write> Outlet for Gathering<'_, W> {
 
     ghost HoldsBack = { Unit {0} };
 
-    ghost Becomes = { λ old new. (new.writer.ghost_name ≡ old.writer.ghost_name) × Grows (W.contents old.writer.now) (W.contents new.writer.now) };
+    ghost Becomes = { λ old new. (new.writer.ghost_name ≡ old.writer.ghost_name) × KeepsFront (W.contents old.writer.now) (W.contents new.writer.now) };
 
     fn send(&mut self, line: &[u8]) -> Result<(), WriteFault> {
         if line.len() > self.room() {

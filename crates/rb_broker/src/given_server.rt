@@ -2,7 +2,7 @@ ghost use Rattle.std.specs.Prelude.{◌≡◌, ◌≤◌, IfOk, IsSome, IfSome, 
 ghost use Rattle.clap.specs.Words.{first_value, found_of, one_text, rows_of};
 ghost use Rattle.rb_delayed.specs.declared.element.TheConstants.{GREATEST_ATTEMPT};
 ghost use Rattle.rb_kept.specs.declared.kept.TheConstants.{MOST_CALLS};
-ghost use Rattle.rb_broker.specs.CommandLine.{HasNumber, HasPace, IsAskedBy, number_in, pace_in};
+ghost use Rattle.rb_broker.specs.CommandLine.{HasNumberWithin, HasPace, IsAskedBy, number_in, pace_in};
 ghost use Rattle.rb_broker.specs.TimerKind.{name_of};
 ghost use Rattle.rb_broker.specs.declared.serve_options.TheConstants.{MOST_WORKERS};
 ghost use Rattle.rb_broker.specs.declared.server_options.TheConstants.{MOST_SESSIONS, MOST_TURNS};
@@ -52,12 +52,12 @@ fn server_options(given: &ArgMatches<'_>) -> Option<ServerOptions>
         pace_in (one_text (found_of given.now) (codes "delay")) (one_text (found_of given.now) (codes "rate"))
         ≡ Some options.run.policy.pace) }
     ensures given { (kind : TimerKind) → first_value (found_of given.now) (codes "timer") ≡ Some (name_of kind)
-        → HasNumber 1 65535 (one_text (found_of given.now) (codes "port"))
-        → HasNumber 1 MOST_SESSIONS (one_text (found_of given.now) (codes "sessions"))
-        → HasNumber 0 MOST_TURNS (one_text (found_of given.now) (codes "turns"))
-        → HasNumber 1 MOST_WORKERS (one_text (found_of given.now) (codes "workers"))
-        → HasNumber 1 MOST_CALLS (one_text (found_of given.now) (codes "calls"))
-        → HasNumber 1 GREATEST_ATTEMPT (one_text (found_of given.now) (codes "attempts"))
+        → HasNumberWithin 1 65535 (one_text (found_of given.now) (codes "port"))
+        → HasNumberWithin 1 MOST_SESSIONS (one_text (found_of given.now) (codes "sessions"))
+        → HasNumberWithin 0 MOST_TURNS (one_text (found_of given.now) (codes "turns"))
+        → HasNumberWithin 1 MOST_WORKERS (one_text (found_of given.now) (codes "workers"))
+        → HasNumberWithin 1 MOST_CALLS (one_text (found_of given.now) (codes "calls"))
+        → HasNumberWithin 1 GREATEST_ATTEMPT (one_text (found_of given.now) (codes "attempts"))
         → HasPace (found_of given.now) → IsSome result }
 {
     let port = u16::try_from(number_within(given, "port", 1, u64::from(u16::MAX))?).ok()?;
@@ -85,9 +85,9 @@ fn run_options(given: &ArgMatches<'_>) -> Option<ServeOptions>
     ensures pace { IfSome result (λ options.
         pace_in (one_text (found_of given.now) (codes "delay")) (one_text (found_of given.now) (codes "rate"))
         ≡ Some options.policy.pace) }
-    ensures given { HasNumber 1 MOST_WORKERS (one_text (found_of given.now) (codes "workers"))
-        → HasNumber 1 MOST_CALLS (one_text (found_of given.now) (codes "calls"))
-        → HasNumber 1 GREATEST_ATTEMPT (one_text (found_of given.now) (codes "attempts"))
+    ensures given { HasNumberWithin 1 MOST_WORKERS (one_text (found_of given.now) (codes "workers"))
+        → HasNumberWithin 1 MOST_CALLS (one_text (found_of given.now) (codes "calls"))
+        → HasNumberWithin 1 GREATEST_ATTEMPT (one_text (found_of given.now) (codes "attempts"))
         → HasPace (found_of given.now) → IsSome result }
 {
     let workers = number_within(given, "workers", 1, MOST_WORKERS)?;
@@ -104,7 +104,7 @@ fn run_options(given: &ArgMatches<'_>) -> Option<ServeOptions>
 fn number_within(given: &ArgMatches<'_>, id: &str, least: u64, most: u64) -> Option<u64>
     ensures number { IfSome result (λ number. number_in (one_text (found_of given.now) id.now) ≡ Some number) }
     ensures range { IfSome result (λ number. (least ≤ number) × (number ≤ most)) }
-    ensures read { HasNumber least most (one_text (found_of given.now) id.now) → IsSome result }
+    ensures read { HasNumberWithin least most (one_text (found_of given.now) id.now) → IsSome result }
 {
     let number = number(given, id)?;
     if !(least..=most).contains(&number) {

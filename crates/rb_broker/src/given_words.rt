@@ -3,7 +3,7 @@ ghost use Rattle.clap.specs.Words.{first_value, found_of, one_text, rows_of};
 ghost use Rattle.rb_delayed.specs.declared.moment.TheConstants.{GREATEST_MOMENT};
 ghost use Rattle.rb_delayed.specs.declared.element.TheConstants.{GREATEST_ATTEMPT};
 ghost use Rattle.rb_retry.specs.Retry.{AreAttempts};
-ghost use Rattle.rb_broker.specs.CommandLine.{FoundChains, HasNumber, HasPace, IsAskedBy, number_in, pace_in};
+ghost use Rattle.rb_broker.specs.CommandLine.{FoundChains, HasNumberWithin, HasPace, IsAskedBy, number_in, pace_in};
 ghost use Rattle.rb_broker.specs.TimerKind.{name_of};
 
 use crate::given_server::serve;
@@ -75,8 +75,8 @@ fn script_options(given: &ArgMatches<'_>) -> Option<ScriptOptions>
         pace_in (one_text (found_of given.now) (codes "delay")) (one_text (found_of given.now) (codes "rate"))
         ≡ Some options.policy.pace) }
     ensures given { (kind : TimerKind) → first_value (found_of given.now) (codes "timer") ≡ Some (name_of kind)
-        → HasNumber 1 MOST_CALLS (one_text (found_of given.now) (codes "calls"))
-        → HasNumber 1 GREATEST_ATTEMPT (one_text (found_of given.now) (codes "attempts"))
+        → HasNumberWithin 1 MOST_CALLS (one_text (found_of given.now) (codes "calls"))
+        → HasNumberWithin 1 GREATEST_ATTEMPT (one_text (found_of given.now) (codes "attempts"))
         → HasPace (found_of given.now) → IsSome result }
 {
     let calls = number(given, "calls")?;
@@ -95,7 +95,7 @@ fn script_options(given: &ArgMatches<'_>) -> Option<ScriptOptions>
 // The options that were given to `replay`.
 fn replay_options(given: &ArgMatches<'_>) -> Option<ReplayOptions>
     ensures chains { IfSome result (λ options. FoundChains (found_of given.now) options.chains) }
-    ensures given { HasNumber 1 GREATEST_ATTEMPT (one_text (found_of given.now) (codes "attempts"))
+    ensures given { HasNumberWithin 1 GREATEST_ATTEMPT (one_text (found_of given.now) (codes "attempts"))
         → HasPace (found_of given.now) → IsSome result }
 {
     let chains = if is_set(given, "chains") {
@@ -123,7 +123,7 @@ pub(crate) fn given_policy(given: &ArgMatches<'_>) -> Option<Policy>
     ensures pace { IfSome result (λ policy.
         pace_in (one_text (found_of given.now) (codes "delay")) (one_text (found_of given.now) (codes "rate"))
         ≡ Some policy.pace) }
-    ensures given { HasNumber 1 GREATEST_ATTEMPT (one_text (found_of given.now) (codes "attempts"))
+    ensures given { HasNumberWithin 1 GREATEST_ATTEMPT (one_text (found_of given.now) (codes "attempts"))
         → HasPace (found_of given.now) → IsSome result }
 {
     let attempts = u32::try_from(number(given, "attempts")?).ok()?;
@@ -157,7 +157,7 @@ fn pace(given: &ArgMatches<'_>) -> Option<Pace>
 /// The number that an option's value spells.
 pub(crate) fn number(given: &ArgMatches<'_>, id: &str) -> Option<u64>
     ensures number { IfSome result (λ number. number_in (one_text (found_of given.now) id.now) ≡ Some number) }
-    ensures read { HasNumber 0 GREATEST_MOMENT (one_text (found_of given.now) id.now) → IsSome result }
+    ensures read { HasNumberWithin 0 GREATEST_MOMENT (one_text (found_of given.now) id.now) → IsSome result }
 {
     given.get_one::<u64>(id)
 }

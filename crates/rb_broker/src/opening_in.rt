@@ -2,7 +2,7 @@ ghost use Rattle.std.specs.Prelude.{List};
 ghost use Rattle.rb_queue.specs.declared.event.Event.{Event};
 ghost use Rattle.rb_replay.specs.Ranges.{IsRightOpening, AreRightEvents};
 ghost use Rattle.rb_replay.specs.Readings.{IsTextOf};
-ghost use Rattle.rb_broker.specs.Beginning.{BeginsIn, GoesOn};
+ghost use Rattle.rb_broker.specs.Beginning.{BeginsIn, Continues};
 
 use crate::broker_fault::BrokerFault;
 use rb_queue::Opening;
@@ -16,7 +16,7 @@ use std::alloc::Global;
 pub fn opening_in(alloc: Global, text: &[u8]) -> Result<Opening, BrokerFault>
     ensures begins { BeginsIn text.now result }
     ensures each { (from : Opening) (events : List Event) → IsRightOpening from → AreRightEvents events
-        → IsTextOf from events text.now → GoesOn from events result }
+        → IsTextOf from events text.now → Continues from events result }
 {
     let history = match read_history(alloc, text) {
         Ok(history) => history,

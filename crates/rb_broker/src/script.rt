@@ -1,6 +1,6 @@
 ghost use Rattle.std.specs.Prelude.{◌≡◌, ◌≤◌, ℕ, List, Some};
 ghost use Rattle.rb_kept.specs.declared.kept.TheConstants.{MOST_CALLS};
-ghost use Rattle.rb_broker.specs.Script.{Finishes, RanScript, Records, RecordsBroken};
+ghost use Rattle.rb_broker.specs.Script.{Finishes, RanScript, RecordsRun, RecordsBroken};
 
 use crate::broker_fault::BrokerFault;
 use crate::gathered::run_gathered;
@@ -119,7 +119,7 @@ pub(crate) fn record<T: Timer, H: Write>(
     kept: &Kept<T>,
     history: &mut Option<H>,
 ) -> Result<(), HistoryFault>
-    ensures { Records H.contents kept.now result history.old history.new }
+    ensures { RecordsRun H.contents kept.now result history.old history.new }
 {
     // The proof reads here how long the history may get.
     let _ = kept.capacity();

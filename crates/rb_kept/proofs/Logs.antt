@@ -21,7 +21,7 @@ use Rattle.rb_queue.proofs.Histories.{legal_next, state_from-append}
 use Rattle.rb_queue.proofs.Leavings.{is_balanced}
 use Rattle.rb_queue.proofs.OfferedElements.{reply_of_last}
 use Rattle.rb_kept.specs.Log.{Log, state_at, HasRoom, with_event, with_events}
-use Rattle.rb_kept.specs.Layout.{IsKept}
+use Rattle.rb_kept.specs.KeptInvariant.{IsKept}
 use Rattle.rb_kept.specs.Shares.{totals_of, amount_of, share_with, Grows}
 use Rattle.rb_kept.specs.Tries.{IsActOf, Records, StepsTo, StepsAlong}
 use Rattle.rb_kept.specs.declared.tries.Try.{Try}

@@ -14,4 +14,4 @@ pub mod Log
 pub mod Tries
 pub mod Shares
 pub mod Performing
-pub mod Layout
+pub mod KeptInvariant

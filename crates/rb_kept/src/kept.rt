@@ -43,7 +43,7 @@ impl<T: Timer> Model for Kept<T> {
 
     ghost coded = { log_code };
 
-    ghost use Rattle.rb_kept.specs.Layout.{IsKept};
+    ghost use Rattle.rb_kept.specs.KeptInvariant.{IsKept};
 
     ghost view = { λ k. record { opening = k.opening; history = k.history.items; capacity = k.capacity } };
 

@@ -14,7 +14,7 @@ use Rattle.rb_lock.specs.Rule.{home_of}
 use Rattle.rb_lock.specs.LockSteps.{Sat, Found, Got, MayGive, in_hand}
 use Rattle.rb_lock.specs.declared.home.Home.{Home}
 use Rattle.rb_lock.specs.declared.stage.Stage.TheVariants.{Idle}
-use Rattle.rb_lock.proofs.Sums.{times-append}
+use Rattle.rb_lock.proofs.Sums.{times_in-append}
 use Rattle.rb_lock.proofs.LongerHistories.{grown_none}
 use Rattle.rb_lock.proofs.GatheredCalls.{all_gathered, not_gathered}
 use Rattle.rb_lock.proofs.RestingPasses.{learned, seen_as, found_pair, HasLooked, looked_counted}
@@ -37,7 +37,7 @@ module _ {T : Type 0} (pass : Seen) (seat0 seat1 : Sat T) (rest : seat0 ≡ (idl
 
   -- no name stands twice among the gathered passes
   different : AreDifferent (names_of (gathered pass))
-  different name = omega (arith, looked.found.once name, times-append name (names_of pass.folded) [])
+  different name = omega (arith, looked.found.once name, times_in-append name (names_of pass.folded) [])
 
   pub gathers : tally_of pass ≡ totals_of home.kept.history → IsGathered home.kept (gathered pass)
   gathers same = record {

@@ -10,7 +10,7 @@ use Rattle.rb_queue.specs.declared.event.Event.{Event}
 use Rattle.rb_kept.specs.Shares.{totals_of}
 use Rattle.rb_ledger.specs.declared.totals.Totals.{Totals}
 use Rattle.rb_ledger.specs.declared.totals.TheConstants.{GREATEST_COUNT}
-use Rattle.rb_lock.specs.Records.{bit, times, names_of, calls_of, AreDifferent, AreRecords}
+use Rattle.rb_lock.specs.Records.{bit, times_in, names_of, calls_of, AreDifferent, AreRecords}
 use Rattle.rb_lock.specs.Passes.{capped}
 use Rattle.rb_lock.specs.Gatherings.{AreCounts}
 use Rattle.rb_lock.specs.declared.record.Record.{Record}
@@ -50,44 +50,44 @@ module _ (f : Event → ℕ) where
       ap (λ (b : Bool). weigh (cond b (event ∷ events_of history name) (events_of history name))) (eq-eqb event.seat name (sym is))
 
   -- an event of none of the seats changes nothing
-  over_apart : (event : Event) (history : List Event) (names : List ℕ) → times event.seat names ≡ 0 → over (event ∷ history) names ≡ over history names
+  over_apart : (event : Event) (history : List Event) (names : List ℕ) → times_in event.seat names ≡ 0 → over (event ∷ history) names ≡ over history names
   over_apart event history [] none = refl
   over_apart event history (name ∷ names) none =
       dite (ℕ_discrete name event.seat)
       (λ (is : name ≡ event.seat). let one : bit (name == event.seat) ≡ 1 = ap bit (eq-eqb name event.seat is) in absurd (omega arith))
       (λ (apart : name ≢ event.seat).
-      let rest : times event.seat names ≡ 0 = omega (arith, ap bit (ne_eqb name event.seat apart), none) in
+      let rest : times_in event.seat names ≡ 0 = omega (arith, ap bit (ne_eqb name event.seat apart), none) in
       omega (arith, other_seat event history name apart, over_apart event history names rest))
 
   -- and one of just one of them adds its weight
-  over_among : (event : Event) (history : List Event) (names : List ℕ) → times event.seat names ≡ 1 → over (event ∷ history) names ≡ f event + over history names
+  over_among : (event : Event) (history : List Event) (names : List ℕ) → times_in event.seat names ≡ 1 → over (event ∷ history) names ≡ f event + over history names
   over_among event history [] one = absurd (omega arith)
   over_among event history (name ∷ names) one =
       dite (ℕ_discrete name event.seat)
       (λ (is : name ≡ event.seat).
-      let rest : times event.seat names ≡ 0 = omega (arith, ap bit (eq-eqb name event.seat is), one) in
+      let rest : times_in event.seat names ≡ 0 = omega (arith, ap bit (eq-eqb name event.seat is), one) in
       omega (arith, same_seat event history name is, over_apart event history names rest))
       (λ (apart : name ≢ event.seat).
-      let rest : times event.seat names ≡ 1 = omega (arith, ap bit (ne_eqb name event.seat apart), one) in
+      let rest : times_in event.seat names ≡ 1 = omega (arith, ap bit (ne_eqb name event.seat apart), one) in
       omega (arith, other_seat event history name apart, over_among event history names rest))
 
   -- what the events of all other seats weigh
   abbrev left_out : List Event → List ℕ → ℕ
   left_out [] names = 0
-  left_out (event ∷ history) names = left_if (times event.seat names) (f event) + left_out history names
+  left_out (event ∷ history) names = left_if (times_in event.seat names) (f event) + left_out history names
 
   -- the shares and what is left out make the whole
   shares : (history : List Event) (names : List ℕ) → AreDifferent names → over history names + left_out history names ≡ weigh history
   shares [] names different = omega (arith, over_none names)
-  shares (event ∷ history) names different = by_times (times event.seat names) refl (different event.seat) (shares history names different)
+  shares (event ∷ history) names different = by_times (times_in event.seat names) refl (different event.seat) (shares history names different)
     where
-      by_times : (often : ℕ) → times event.seat names ≡ often → often ≤ 1 → over history names + left_out history names ≡ weigh history
-          → over (event ∷ history) names + (left_if (times event.seat names) (f event) + left_out history names) ≡ f event + weigh history
+      by_times : (often : ℕ) → times_in event.seat names ≡ often → often ≤ 1 → over history names + left_out history names ≡ weigh history
+          → over (event ∷ history) names + (left_if (times_in event.seat names) (f event) + left_out history names) ≡ f event + weigh history
       by_times zero is few rest =
-          let left : left_if (times event.seat names) (f event) ≡ f event = ap (λ (k : ℕ). left_if k (f event)) is in
+          let left : left_if (times_in event.seat names) (f event) ≡ f event = ap (λ (k : ℕ). left_if k (f event)) is in
           omega (arith, left, over_apart event history names is, rest)
       by_times (suc zero) is few rest =
-          let left : left_if (times event.seat names) (f event) ≡ 0 = ap (λ (k : ℕ). left_if k (f event)) is in
+          let left : left_if (times_in event.seat names) (f event) ≡ 0 = ap (λ (k : ℕ). left_if k (f event)) is in
           omega (arith, left, over_among event history names is, rest)
       by_times (suc (suc often)) is few rest = absurd (omega arith)
 
@@ -102,13 +102,13 @@ module _ (f : Event → ℕ) where
 none_left : (f : Event → ℕ) (history : List Event) (names : List ℕ) → left_out (λ event. 1) history names ≡ 0 → left_out f history names ≡ 0
 none_left f [] names none = refl
 none_left f (event ∷ history) names none =
-    by_times (times event.seat names) refl (none_left f history names (omega (arith, none)))
+    by_times (times_in event.seat names) refl (none_left f history names (omega (arith, none)))
   where
-    by_times : (often : ℕ) → times event.seat names ≡ often → left_out f history names ≡ 0 → left_if (times event.seat names) (f event) + left_out f history names ≡ 0
+    by_times : (often : ℕ) → times_in event.seat names ≡ often → left_out f history names ≡ 0 → left_if (times_in event.seat names) (f event) + left_out f history names ≡ 0
     by_times zero is rest =
-        let one : left_if (times event.seat names) 1 ≡ 1 = ap (λ (k : ℕ). left_if k 1) is in absurd (omega (arith, one, none))
+        let one : left_if (times_in event.seat names) 1 ≡ 1 = ap (λ (k : ℕ). left_if k 1) is in absurd (omega (arith, one, none))
     by_times (suc often) is rest =
-        let left : left_if (times event.seat names) (f event) ≡ 0 = ap (λ (k : ℕ). left_if k (f event)) is in omega (arith, left, rest)
+        let left : left_if (times_in event.seat names) (f event) ≡ 0 = ap (λ (k : ℕ). left_if k (f event)) is in omega (arith, left, rest)
 
 -- a weight of 1 counts the events, and a sum is a weight
 weigh_one : (events : List Event) → weigh (λ event. 1) events ≡ length events

@@ -17,7 +17,7 @@ use Rattle.rb_kept.specs.declared.outcome.Outcome.TheVariants.{Done, Later}
 use Rattle.rb_kept.specs.declared.fault.CallFault.{CallFault}
 use Rattle.rb_kept.specs.declared.fault.CallFault.TheVariants.{Full, Memory}
 use Rattle.rb_lock.specs.Records.{calls_of}
-use Rattle.rb_lock.specs.Passes.{Seen, IsSound, Learns, log_at, capped, tally_of}
+use Rattle.rb_lock.specs.Passes.{Seen, IsSoundPass, Learns, log_at, capped, tally_of}
 use Rattle.rb_lock.specs.SharedCalls.{Answered}
 use Rattle.rb_lock.specs.Views.{idle, pass_of, holder_of, settled}
 use Rattle.rb_lock.specs.Rule.{home_of}
@@ -132,7 +132,7 @@ module _ (pass : Seen) (try : Try) (step : Result Outcome CallFault) (share shar
       ap (λ (h : List Event). events_of h pass.name) grown.is ∙ events_of-append log.history made.grows.more pass.name
       ∙ (λ i. made.found.fits.records.0.all i ++ more_of.own i)
 
-  pub learns : IsSound pass → Learns pass (learned pass names new.history)
+  pub learns : IsSoundPass pass → Learns pass (learned pass names new.history)
   learns sound = record {
     table = refl;
     name = refl;
@@ -207,15 +207,15 @@ module _ {T : Type 0} (pass : Seen) (try : Try) (step : Result Outcome CallFault
     view3 : pass_of table seat3.0 ≡ learned pass got.names acts.acts.after.kept.history
     view3 i = pass_of (of_pass i) (seat3_is i).0
 
-    pub called_pass : (name : ℕ) → name ≡ pass.name → share ≡ tally_of pass → IsSound pass → IsPass table seat3 name share'
+    pub called_pass : (name : ℕ) → name ≡ pass.name → share ≡ tally_of pass → IsSoundPass pass → IsPass table seat3 name share'
     called_pass name is was sound = record {
       rest = seat3_is ∙ sym (ap (λ (m : Sat T). (idle (pass_of table m.0), [])) seat3_is);
       name_is = is ∙ sym (ap (λ (m : Sat T). m.0.name) seat3_is);
       counted = counted pass try step share share' got.names got.log acts.acts.after.kept made named was ∙ sym (ap tally_of view3);
-      sound = subst IsSound (sym view3) (learns pass try step share share' got.names got.log acts.acts.after.kept made named sound).sound;
+      sound = subst IsSoundPass (sym view3) (learns pass try step share share' got.names got.log acts.acts.after.kept made named sound).sound;
     }
 
-    pub called_learns : IsSound pass → Learns pass (pass_of table seat3.0)
+    pub called_learns : IsSoundPass pass → Learns pass (pass_of table seat3.0)
     called_learns sound = subst (Learns pass) (sym view3) (learns pass try step share share' got.names got.log acts.acts.after.kept made named sound)
 
     pub called_answered : Answered pass (pass_of table seat3.0) try step

@@ -7,7 +7,7 @@ use Rattle.rb_queue.specs.Counts.{events_of}
 use Rattle.rb_queue.specs.History.{IsLegal}
 use Rattle.rb_queue.specs.declared.event.Event.{Event}
 use Rattle.rb_kept.specs.Log.{Log}
-use Rattle.rb_lock.specs.Passes.{Seen, IsSound, tally_of}
+use Rattle.rb_lock.specs.Passes.{Seen, IsSoundPass, tally_of}
 use Rattle.rb_lock.specs.Views.{idle, pass_of}
 use Rattle.rb_lock.specs.Rule.{home_of}
 use Rattle.rb_lock.specs.LockSteps.{Sat, AtRest, IsPass, Found, Got}
@@ -26,12 +26,12 @@ module _ {T : Type 0} (table : TableId) (seat : Sat T) (pass : Seen) (of_pass : 
   pub at_rest : AtRest table seat
   at_rest = is ∙ sym (ap (λ (m : Sat T). (idle (pass_of table m.0), [])) is)
 
-  pub is_pass : (name : ℕ) (tally : Totals) → name ≡ pass.name → tally ≡ tally_of pass → IsSound pass → IsPass table seat name tally
+  pub is_pass : (name : ℕ) (tally : Totals) → name ≡ pass.name → tally ≡ tally_of pass → IsSoundPass pass → IsPass table seat name tally
   is_pass name tally named counted sound = record {
     rest = at_rest;
     name_is = named ∙ sym (ap (λ (m : Sat T). m.0.name) is);
     counted = counted ∙ sym (ap tally_of seen_as);
-    sound = subst IsSound (sym seen_as) sound;
+    sound = subst IsSoundPass (sym seen_as) sound;
   }
 
 -- the pair that lies in the slot in hand is the one that was found

@@ -11,7 +11,7 @@ use Rattle.atomic_table.proofs.Lists.{at_set}
 use Rattle.rb_queue.specs.Counts.{events_of}
 use Rattle.rb_queue.specs.declared.event.Event.{Event}
 use Rattle.rb_kept.specs.Log.{Log}
-use Rattle.rb_lock.specs.Records.{bit, times, names_of}
+use Rattle.rb_lock.specs.Records.{bit, times_in, names_of}
 use Rattle.rb_lock.specs.Passes.{Seen}
 use Rattle.rb_lock.specs.Views.{idle, records_of, weight, holders, is_held, drawn, total, holder_of, settled}
 use Rattle.rb_lock.specs.Rule.{AtStage, IsThere, Fits, Locked, IsFree, IsHeld, home_of}
@@ -21,7 +21,7 @@ use Rattle.rb_lock.specs.declared.home.TheConstants.{MOST_NAMES}
 use Rattle.rb_lock.specs.declared.stage.Stage.{Stage}
 use Rattle.rb_lock.specs.declared.stage.Stage.TheVariants.{Idle, Holds, Drew, Meets, Gone}
 use Rattle.rb_lock.specs.declared.view.View.{View}
-use Rattle.rb_lock.proofs.Sums.{total_set, total_at, total_two, bit_same, bit_other, bit_small, bit_apart, times-append}
+use Rattle.rb_lock.proofs.Sums.{total_set, total_at, total_two, bit_same, bit_other, bit_small, bit_apart, times_in-append}
 use Rattle.rb_lock.proofs.Beginnings.{prefix_self}
 use Rattle.rb_lock.proofs.LongerHistories.{grown_none, others_stay, begins_stay, records_stay}
 
@@ -30,9 +30,9 @@ pub record IsNext (names after : ℕ) (log : Log) (next : Stage) : Type 0 where
   pub more : names ≤ after
   pub few : after ≤ MOST_NAMES
   pub free : is_held next ≡ 0
-  pub once : (n : ℕ) → times n (drawn next) ≤ 1
-  pub old : (n : ℕ) → n < names → times n (drawn next) ≡ 0
-  pub below : (n : ℕ) → after ≤ n → times n (drawn next) ≡ 0
+  pub once : (n : ℕ) → times_in n (drawn next) ≤ 1
+  pub old : (n : ℕ) → n < names → times_in n (drawn next) ≡ 0
+  pub below : (n : ℕ) → after ≤ n → times_in n (drawn next) ≡ 0
   pub there : IsThere next
   pub stage : ((n : ℕ) → names ≤ n → events_of log.history n ≡ []) → AtStage log after names next
 
@@ -85,7 +85,7 @@ module _ {T : Type 0} (pass : Seen) (found new : Log) (names after : ℕ) (next 
   same_start = sym (own.opening tt) ∙ sym opening
 
   -- what another seat is about to do still fits
-  stage_stays : (noted : ℕ) (stage : Stage) → is_held stage ≡ 0 → times pass.name (drawn stage) ≡ 0
+  stage_stays : (noted : ℕ) (stage : Stage) → is_held stage ≡ 0 → times_in pass.name (drawn stage) ≡ 0
       → AtStage law.log law.names noted stage → AtStage new after noted stage
   stage_stays noted Idle quiet other fits = tt
   stage_stays noted (Holds h) quiet other fits = absurd (omega arith)
@@ -106,8 +106,8 @@ module _ {T : Type 0} (pass : Seen) (found new : Log) (names after : ℕ) (next 
   fits_stay : (by : ℕ) (u : View) → by ≢ id → get_elem? s.views by ≡ some u → Fits new after u
   fits_stay by u other there =
       let fits = law.fits by u there in
-      let away : times pass.name (names_of (records_of u) ++ drawn u.stage) ≡ 0 = apart by u other there in
-      let split = times-append pass.name (names_of (records_of u)) (drawn u.stage) in
+      let away : times_in pass.name (names_of (records_of u) ++ drawn u.stage) ≡ 0 = apart by u other there in
+      let split = times_in-append pass.name (names_of (records_of u)) (drawn u.stage) in
       record {
         capacity = λ live. fits.capacity live ∙ same_room;
         opening = λ live. fits.opening live ∙ same_start;
@@ -129,8 +129,8 @@ module _ {T : Type 0} (pass : Seen) (found new : Log) (names after : ℕ) (next 
   -- the view of the seat itself fits
   own_fits : Fits new after (after_it pass found.history names new.history next)
   own_fits =
-      let folded_none : times pass.name (names_of pass.folded) ≡ 0 =
-      omega (arith, law.once pass.name, total_at (weight pass.name) s.views id (before pass found.history names) at, bit_same pass.name, times-append pass.name (names_of pass.folded) []) in
+      let folded_none : times_in pass.name (names_of pass.folded) ≡ 0 =
+      omega (arith, law.once pass.name, total_at (weight pass.name) s.views id (before pass found.history names) at, bit_same pass.name, times_in-append pass.name (names_of pass.folded) []) in
       record {
         capacity = λ live. sym capacity;
         opening = λ live. sym opening;
@@ -143,10 +143,10 @@ module _ {T : Type 0} (pass : Seen) (found new : Log) (names after : ℕ) (next 
       }
 
   -- how often a name stands in the view now
-  weighs : (n : ℕ) → weight n (after_it pass found.history names new.history next) ≡ weight n (before pass found.history names) + times n (drawn next)
-  weighs n = omega (arith, times-append n (names_of pass.folded) [], times-append n (names_of pass.folded) (drawn next))
+  weighs : (n : ℕ) → weight n (after_it pass found.history names new.history next) ≡ weight n (before pass found.history names) + times_in n (drawn next)
+  weighs n = omega (arith, times_in-append n (names_of pass.folded) [], times_in-append n (names_of pass.folded) (drawn next))
 
-  now_total : (n : ℕ) → total (weight n) (set s.views id (after_it pass found.history names new.history next)) ≡ total (weight n) s.views + times n (drawn next)
+  now_total : (n : ℕ) → total (weight n) (set s.views id (after_it pass found.history names new.history next)) ≡ total (weight n) s.views + times_in n (drawn next)
   now_total n = omega (arith, total_set (weight n) s.views id (before pass found.history names) (after_it pass found.history names new.history next) at, weighs n)
 
   now_held : total holders (set s.views id (after_it pass found.history names new.history next)) ≡ 0

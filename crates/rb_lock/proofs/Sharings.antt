@@ -3,14 +3,14 @@ use Rattle.std.proofs.Common.{◌≡◌, ℕ, List, [], ◌∷◌, ◌++◌, ref
 use Rattle.atomic_table.specs.Table.{Splits, Joins}
 use Rattle.rb_queue.specs.declared.event.Event.{Event}
 use Rattle.rb_kept.specs.Log.{Log}
-use Rattle.rb_lock.specs.Records.{times, names_of, AreRecords}
+use Rattle.rb_lock.specs.Records.{times_in, names_of, AreRecords}
 use Rattle.rb_lock.specs.Passes.{Seen, gathered}
 use Rattle.rb_lock.specs.Views.{idle, rested, cut_off, folding, nobody}
 use Rattle.rb_lock.specs.Rule.{Fits, Locked}
 use Rattle.rb_lock.specs.declared.record.Record.{Record}
 use Rattle.rb_lock.specs.declared.stage.Stage.TheVariants.{Drew}
 use Rattle.rb_lock.specs.declared.view.View.{View}
-use Rattle.rb_lock.proofs.Sums.{times-append}
+use Rattle.rb_lock.proofs.Sums.{times_in-append}
 use Rattle.rb_lock.proofs.Beginnings.{prefix_none}
 use Rattle.rb_lock.proofs.LongerHistories.{none_before}
 use Rattle.rb_lock.proofs.SharedViews.{cut_in_two, made_one}
@@ -24,7 +24,7 @@ pub cuts : {T : Type 0} (id : ℕ) (pass : Seen) (name : ℕ) → Splits (Locked
 cuts id pass name s law at =
     let fits = law.fits id (drawing pass name) at in
     cut_in_two s law id (drawing pass name) at (rested (drawing pass name)) (cut_off (drawing pass name))
-    (λ n. omega (arith, times-append n (names_of pass.folded) [], times-append n (names_of pass.folded) (name ∷ []))) refl
+    (λ n. omega (arith, times_in-append n (names_of pass.folded) [], times_in-append n (names_of pass.folded) (name ∷ []))) refl
     (record { capacity = fits.capacity; opening = fits.opening; begins = fits.begins; records = fits.records; stage = tt })
     (record {
       capacity = fits.capacity;
@@ -51,11 +51,11 @@ folds id other one two s law at apart there =
     made_one s law id (idle one) at other (idle two) (folding (idle one) (idle two)) nobody apart there
     (λ n. omega (
       arith,
-      times-append n (names_of (one.folded ++ gathered two)) [],
-      ap (times n) (names_of-append one.folded (gathered two)),
-      times-append n (names_of one.folded) (names_of (gathered two)),
-      times-append n (names_of one.folded) [],
-      times-append n (names_of two.folded) [],
+      times_in-append n (names_of (one.folded ++ gathered two)) [],
+      ap (times_in n) (names_of-append one.folded (gathered two)),
+      times_in-append n (names_of one.folded) (names_of (gathered two)),
+      times_in-append n (names_of one.folded) [],
+      times_in-append n (names_of two.folded) [],
     )) refl
     (λ first second. record {
       capacity = first.capacity;

@@ -2,7 +2,7 @@
 use Rattle.std.proofs.Common.{◌≡◌, ◌≢◌, ℕ, zero, suc, ◌+◌, ◌≤◌, ◌==◌, List, [], ◌∷◌, ◌++◌, set, refl, ap, sym, arith, eq-eqb, ne_eqb, Bool, true, false}
 use mathlib.Core.Option.{some, some-injective, some-ne-none}
 use lib.ListN.{get_elem?}
-use Rattle.rb_lock.specs.Records.{bit, times}
+use Rattle.rb_lock.specs.Records.{bit, times_in}
 use Rattle.rb_lock.specs.Views.{total}
 
 module _ {V : Type 0} (f : V → ℕ) where
@@ -47,6 +47,6 @@ pub bit_small : (b : Bool) → bit b ≤ 1
 bit_small true = omega arith
 bit_small false = omega arith
 
-pub times-append : (n : ℕ) (xs ys : List ℕ) → times n (xs ++ ys) ≡ times n xs + times n ys
-times-append n [] ys = omega arith
-times-append n (x ∷ xs) ys = omega (arith, times-append n xs ys)
+pub times_in-append : (n : ℕ) (xs ys : List ℕ) → times_in n (xs ++ ys) ≡ times_in n xs + times_in n ys
+times_in-append n [] ys = omega arith
+times_in-append n (x ∷ xs) ys = omega (arith, times_in-append n xs ys)

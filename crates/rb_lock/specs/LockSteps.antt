@@ -14,7 +14,7 @@ use Rattle.rb_kept.specs.Shares.{Grows}
 use Rattle.rb_kept.specs.declared.tries.Try.{Try}
 use Rattle.rb_kept.specs.declared.outcome.Outcome.{Outcome}
 use Rattle.rb_kept.specs.declared.fault.CallFault.{CallFault}
-use Rattle.rb_lock.specs.Passes.{Seen, IsSound, tally_of}
+use Rattle.rb_lock.specs.Passes.{Seen, IsSoundPass, tally_of}
 use Rattle.rb_lock.specs.Views.{weight, idle, pass_of, holder_of, settled, rested, longer}
 use Rattle.rb_lock.specs.Rule.{Fits, home_of}
 use Rattle.rb_lock.specs.declared.home.Home.{Home}
@@ -105,7 +105,7 @@ module _ {T : Type 0} where
     pub rest : AtRest table seat
     pub name_is : name ≡ seat.0.name
     pub counted : tally ≡ tally_of (pass_of table seat.0)
-    pub sound : IsSound (pass_of table seat.0)
+    pub sound : IsSoundPass (pass_of table seat.0)
 
   -- the seat holds the lock, and has in hand the pair that it found, or one that has grown by its events
   pub record MayGive (seat : Sat T) : Type 0 where

@@ -83,7 +83,7 @@ tally_of pass = capped (totals_of (calls_of (gathered pass)))
 
 -- What every pass keeps true: it has seen a legal history with room for it, in which its events are exactly
 -- its calls.
-pub record IsSound (pass : Seen) : Type 0 where
+pub record IsSoundPass (pass : Seen) : Type 0 where
   pub legal : IsLegal pass.opening pass.seen
   pub few : length pass.seen ≤ pass.capacity
   pub most : pass.capacity ≤ MOST_CALLS
@@ -98,7 +98,7 @@ pub record Learns (old new : Seen) : Type 0 where
   pub opening : new.opening ≡ old.opening
   pub folded : new.folded ≡ old.folded
   pub begins : IsPrefix old.seen new.seen
-  pub sound : IsSound new
+  pub sound : IsSoundPass new
 
 -- the first pass of a queue: it has name 0, and has seen nothing
 abbrev pub first_pass : TableId → Log → Seen
@@ -114,8 +114,8 @@ first_pass table start = record {
 }
 
 -- a pass split off: it has seen the same, under the name that was next, and made no call
-abbrev pub child_of : Seen → Seen
-child_of pass = record pass { name = pass.noted; mine = []; folded = [] }
+abbrev pub split_from : Seen → Seen
+split_from pass = record pass { name = pass.noted; mine = []; folded = [] }
 
 -- a pass with another folded into it: the other's record and those folded into that follow its own
 abbrev pub folded_with : Seen → Seen → Seen

@@ -11,13 +11,13 @@ bit true = 1
 bit false = 0
 
 -- how often a number stands in a list
-abbrev pub times : ℕ → List ℕ → ℕ
-times number [] = 0
-times number (first ∷ numbers) = bit (first == number) + times number numbers
+abbrev pub times_in : ℕ → List ℕ → ℕ
+times_in number [] = 0
+times_in number (first ∷ numbers) = bit (first == number) + times_in number numbers
 
 -- no number stands twice
 abbrev pub AreDifferent : List ℕ → Type 0
-AreDifferent numbers = (number : ℕ) → times number numbers ≤ 1
+AreDifferent numbers = (number : ℕ) → times_in number numbers ≤ 1
 
 -- the names, in the order of the records
 abbrev pub names_of : List Record → List ℕ

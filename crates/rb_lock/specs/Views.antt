@@ -7,7 +7,7 @@ use Rattle.rb_queue.specs.Counts.{events_of}
 use Rattle.rb_queue.specs.declared.event.Event.{Event}
 use Rattle.rb_queue.specs.Opening.{IsOpening}
 use Rattle.rb_kept.specs.Log.{Log}
-use Rattle.rb_lock.specs.Records.{times, names_of}
+use Rattle.rb_lock.specs.Records.{times_in, names_of}
 use Rattle.rb_lock.specs.Passes.{Seen}
 use Rattle.rb_lock.specs.declared.record.Record.{Record}
 use Rattle.rb_lock.specs.declared.stage.Stage.{Stage}
@@ -60,7 +60,7 @@ drawn Gone = []
 
 -- how often the name stands in the view
 abbrev pub weight : ℕ → View → ℕ
-weight name v = times name (names_of (records_of v) ++ drawn v.stage)
+weight name v = times_in name (names_of (records_of v) ++ drawn v.stage)
 
 -- 1 where the stage is that of a holder
 abbrev pub is_held : Stage → ℕ

@@ -1,5 +1,5 @@
 ghost use Rattle.std.specs.Prelude.{◌≡◌};
-ghost use Rattle.rb_lock.specs.Passes.{IsSound, tally_of};
+ghost use Rattle.rb_lock.specs.Passes.{IsSoundPass, tally_of};
 
 use crate::law::PassSeat;
 use rb_ledger::Tally;
@@ -36,7 +36,7 @@ impl<T: Timer> Pass<T> {
     /// The seat of its events: 0 for the first pass of a queue, and no name is given twice.
     pub fn name(&self) -> u64
         ensures name { result ≡ self.now.name }
-        ensures sound { IsSound self.now }
+        ensures sound { IsSoundPass self.now }
     {
         self.name
     }

@@ -1,7 +1,7 @@
 ghost use Rattle.std.specs.Prelude.{◌≡◌, [], ◌∷◌, ℕ, Some, IfOk, IfErr, OnErr};
 ghost use Rattle.rb_ledger.specs.Totals.{nothing};
 ghost use Rattle.rb_queue.specs.Counts.{events_of, audit_of};
-ghost use Rattle.rb_lock.specs.Passes.{first_pass, child_of, folded_with, gathered, tally_of, Learns};
+ghost use Rattle.rb_lock.specs.Passes.{first_pass, split_from, folded_with, gathered, tally_of, Learns};
 ghost use Rattle.rb_kept.specs.Shares.{totals_of};
 ghost use Rattle.rb_lock.specs.SharedCalls.{Answered};
 ghost use Rattle.rb_lock.specs.Gatherings.{IsGathered, IsRefused, AreCounts};
@@ -90,7 +90,7 @@ impl<T: Timer> Shared<T> {
         requires pass { pass.old.table ≡ self.now }
         ensures learns { Learns pass.old pass.new }
         ensures mine { pass.new.mine ≡ pass.old.mine }
-        ensures child { IfOk result (λ child. child ≡ child_of pass.new) }
+        ensures child { IfOk result (λ child. child ≡ split_from pass.new) }
         ensures unheard { IfOk result (λ child. events_of child.seen child.name ≡ []) }
         ensures names { OnErr result (pass.new.noted ≡ MOST_NAMES) }
     {

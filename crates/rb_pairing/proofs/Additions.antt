@@ -5,7 +5,7 @@ use Rattle.std.proofs.Props.{props}
 use Rattle.std.proofs.lemmas.Bool.{cases_eq}
 use Rattle.rb_pairing.specs.declared.node.Node.{Node}
 use Rattle.rb_pairing.specs.Nodes.{expiry_of, previous_of}
-use Rattle.rb_pairing.specs.Forest.{HasNoLinks, IsLinked, IsTop, IsTree}
+use Rattle.rb_pairing.specs.Forest.{HasNoLinks, LieAsTrees, IsTop, IsTree}
 use Rattle.rb_pairing.proofs.Entries.{written, expiry_here, expiry_elsewhere, same_previous, written_forest}
 
 module _ (nodes : List Node) (slot expiry : ℕ) (root : Option ℕ) (tree : IsTree nodes root)
@@ -16,7 +16,7 @@ module _ (nodes : List Node) (slot expiry : ℕ) (root : Option ℕ) (tree : IsT
   pub free : HasNoLinks nodes slot
   free = ∥∥₁_elim tree.linked (hlevel props) (λ forest. forest.is_forest.vacant slot absent)
 
-  pub added_linked : IsLinked added
+  pub added_linked : LieAsTrees added
   added_linked =
       ∥∥₁_map tree.linked
       (λ forest. record {

@@ -6,7 +6,7 @@ use Rattle.std.proofs.Props.{props}
 use Rattle.std.specs.FinMap as map
 use Rattle.std.specs.Prelude.{count_by}
 use Rattle.std.proofs.lemmas.List.{length-map, get_or_read}
-use Rattle.rb_timer.specs.Content.{IsLeast}
+use Rattle.rb_timer.specs.Content.{IsLeastSlot}
 use Rattle.rb_timer.specs.Slots.{content_of, get-content_of, content_empty, content_of-insert, content_of-remove}
 use Rattle.rb_pairing.specs.declared.node.Node.{Node}
 use Rattle.rb_pairing.specs.Nodes.{vacant, expiry_of, previous_of, expiries, moment_of}
@@ -113,7 +113,7 @@ module _ (nodes : List Node) (root : Option ℕ) (tree : IsTree nodes root) wher
 
   -- the root is an entry of least expiry
   pub root_is_least : (top : ℕ) → root ≡ Some top
-      → IsLeast (content_of (expiries nodes)) top (moment_of nodes top)
+      → IsLeastSlot (content_of (expiries nodes)) top (moment_of nodes top)
   root_is_least top is = record {
     present = get-content nodes top ∙ expiry_is nodes top (tree.top top is).present;
     least = λ other. subst (λ at. IfSome at (λ another. moment_of nodes top ≤ another))

@@ -4,7 +4,7 @@ use Rattle.std.proofs.Math.Logic.{∥∥₁_map}
 use Rattle.std.proofs.lemmas.Bool.{cases_eq}
 use Rattle.rb_pairing.specs.declared.node.Node.{Node}
 use Rattle.rb_pairing.specs.Nodes.{expiry_of, child_of, next_of, previous_of, moment_of}
-use Rattle.rb_pairing.specs.Forest.{HasNoLinks, IsForest, IsLinked}
+use Rattle.rb_pairing.specs.Forest.{HasNoLinks, IsForest, LieAsTrees}
 use Rattle.rb_pairing.specs.Changes.{Cuts}
 use Rattle.rb_pairing.proofs.Expiries.{same_expiry, same_moment, same_length}
 use Rattle.rb_pairing.proofs.LinkTests.{cases_link, is_some-unless}
@@ -186,8 +186,8 @@ module _ (old new : List Node) (slot : ℕ) (long : length new ≡ length old) (
       (λ off stays apart. ap is_some stays)
 
 -- a cut leaves trees
-pub linked_after_cut : (old new : List Node) (slot : ℕ) → IsLinked old → Cuts old new slot
-    → IsLinked new
+pub linked_after_cut : (old new : List Node) (slot : ℕ) → LieAsTrees old → Cuts old new slot
+    → LieAsTrees new
 linked_after_cut old new slot linked cuts =
     ∥∥₁_map linked
     (λ forest. record {

@@ -4,7 +4,7 @@ use Rattle.std.proofs.Math.Logic.{∥∥₁_elim, ∥∥₁_map}
 use Rattle.std.proofs.Props.{props}
 use Rattle.rb_pairing.specs.declared.node.Node.{Node}
 use Rattle.rb_pairing.specs.Nodes.{expiry_of, previous_of}
-use Rattle.rb_pairing.specs.Forest.{HasNoLinks, IsLinked, IsTop, IsTree}
+use Rattle.rb_pairing.specs.Forest.{HasNoLinks, LieAsTrees, IsTop, IsTree}
 use Rattle.rb_pairing.specs.Changes.{Cuts, TakesChildren}
 use Rattle.rb_pairing.proofs.CutTrees.{cut_tops, linked_after_cut}
 use Rattle.rb_pairing.proofs.Entries.{written, expiry_here, expiry_elsewhere, same_previous, written_forest}
@@ -24,7 +24,7 @@ module _ (old between cut : List Node) (slot : ℕ) (root below : Option ℕ) (t
     previous = cuts.previous_own;
   }
 
-  pub vacated_linked : IsLinked vacated
+  pub vacated_linked : LieAsTrees vacated
   vacated_linked =
       ∥∥₁_map (linked_after_cut between cut slot takes.linked cuts)
       (λ forest. record {

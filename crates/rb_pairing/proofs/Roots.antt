@@ -4,13 +4,13 @@ use Rattle.std.proofs.Math.Logic.{∥∥₁_elim, ∥∥₁_map}
 use Rattle.std.proofs.Props.{props}
 use Rattle.rb_pairing.specs.declared.node.Node.{Node}
 use Rattle.rb_pairing.specs.Nodes.{previous_of, moment_of}
-use Rattle.rb_pairing.specs.Forest.{IsLinked, IsTop}
+use Rattle.rb_pairing.specs.Forest.{LieAsTrees, IsTop}
 use Rattle.rb_pairing.specs.Changes.{Adopts, Melds}
 use Rattle.rb_pairing.proofs.Expiries.{same_expiry, same_length}
 use Rattle.rb_pairing.proofs.Steps.{not_before_itself}
 use Rattle.rb_pairing.proofs.AdoptedTrees.{MayAdopt, new_parent, new_rank, adopted_forest, adopted_tops}
 
-module _ (old new : List Node) (above slot : ℕ) (linked : IsLinked old) (top_above : IsTop old above)
+module _ (old new : List Node) (above slot : ℕ) (linked : LieAsTrees old) (top_above : IsTop old above)
     (top_slot : IsTop old slot) (apart : above ≢ slot) (ordered : moment_of old above ≤ moment_of old slot)
     (adopts : Adopts old new above slot) where
   long : length new ≡ length old
@@ -25,7 +25,7 @@ module _ (old new : List Node) (above slot : ℕ) (linked : IsLinked old) (top_a
     under = λ other is. let none = top_above.alone in absurd (cc);
   }
 
-  after : IsLinked new
+  after : LieAsTrees new
   after =
       ∥∥₁_map linked
       (λ forest. record {

@@ -4,7 +4,7 @@ use Rattle.std.proofs.Math.Logic.{∥∥₁_elim, ∥∥₁_map}
 use Rattle.std.proofs.Props.{props}
 use Rattle.rb_pairing.specs.declared.node.Node.{Node}
 use Rattle.rb_pairing.specs.Nodes.{child_of, next_of, previous_of}
-use Rattle.rb_pairing.specs.Forest.{Forest, IsLinked, Row}
+use Rattle.rb_pairing.specs.Forest.{Forest, LieAsTrees, Row}
 use Rattle.rb_pairing.specs.Changes.{Joins, Relinks}
 use Rattle.rb_pairing.proofs.Expiries.{same_length}
 use Rattle.rb_pairing.proofs.InRoom.{in_room-row}
@@ -21,7 +21,7 @@ pub record RankTo (nodes : List Node) (parent slot count : ℕ) : Type 0 where
   pub sunk : row.forest.rank slot + count < length nodes
 
 -- nothing is joined yet
-pub relinks_none : (nodes : List Node) → IsLinked nodes → Relinks nodes nodes
+pub relinks_none : (nodes : List Node) → LieAsTrees nodes → Relinks nodes nodes
 relinks_none nodes linked = record {
   linked = linked;
   expiries = refl;
@@ -80,7 +80,7 @@ module _ (old new : List Node) (left right stays : ℕ) (neighbours : next_of ol
       let now = join forest in
       record { parent = now.parents; rank = now.ranks; is_forest = now.forest }
 
-  pub relinks_join : IsLinked old → Relinks old new
+  pub relinks_join : LieAsTrees old → Relinks old new
   relinks_join linked = record {
     linked = ∥∥₁_map linked after;
     expiries = ∥∥₁_elim linked (hlevel props) (λ forest. (join forest).expiries);
@@ -88,7 +88,7 @@ module _ (old new : List Node) (left right stays : ℕ) (neighbours : next_of ol
   }
 
   -- what was behind the two is behind the one
-  pub next_join : IsLinked old → next_of new stays ≡ next_of old right
+  pub next_join : LieAsTrees old → next_of new stays ≡ next_of old right
   next_join linked = ∥∥₁_elim linked (hlevel props) (λ forest. (join forest).next)
 
   module _ (parent count : ℕ) where

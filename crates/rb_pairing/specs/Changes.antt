@@ -2,7 +2,7 @@
 use Rattle.std.specs.Prelude.{◌≡◌, ℕ, ◌≤◌, ◌≢◌, ◌⊎◌, List, Option, Some, None, is_some, true}
 use Rattle.rb_pairing.specs.declared.node.Node.{Node}
 use Rattle.rb_pairing.specs.Nodes.{child_of, next_of, previous_of, expiries, moment_of}
-use Rattle.rb_pairing.specs.Forest.{IsLinked, IsTop}
+use Rattle.rb_pairing.specs.Forest.{LieAsTrees, IsTop}
 
 -- what is before the slot, if there is one, is set
 pub record SetsPrevious (old new : List Node) (slot previous : Option ℕ) : Type 0 where
@@ -90,13 +90,13 @@ pub record IsRest (root rest : Option ℕ) (slot : ℕ) : Type 0 where
 
 -- the trees are linked otherwise, of the same entries and with the same ones in no row
 pub record Relinks (old new : List Node) : Type 0 where
-  pub linked : IsLinked new
+  pub linked : LieAsTrees new
   pub expiries : expiries new ≡ expiries old
   pub tops : (slot : ℕ) → is_some (previous_of new slot) ≡ is_some (previous_of old slot)
 
 -- the entries under `parent` hang under one of them, which is in no row, or there are none
 pub record TakesChildren (old new : List Node) (parent : ℕ) (taken : Option ℕ) : Type 0 where
-  pub linked : IsLinked new
+  pub linked : LieAsTrees new
   pub expiries : expiries new ≡ expiries old
   pub childless : child_of new parent ≡ None
   pub other : taken ≢ Some parent
@@ -107,7 +107,7 @@ pub record TakesChildren (old new : List Node) (parent : ℕ) (taken : Option �
 
 -- of two entries in no row one is put under the other, which is left
 pub record Melds (old new : List Node) (one other left : Option ℕ) : Type 0 where
-  pub linked : IsLinked new
+  pub linked : LieAsTrees new
   pub expiries : expiries new ≡ expiries old
   pub top : (slot : ℕ) → left ≡ Some slot → IsTop new slot
   pub of_one : (slot : ℕ) → one ≡ Some slot → previous_of new slot ≡ None → left ≡ Some slot

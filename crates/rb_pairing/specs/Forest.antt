@@ -39,8 +39,8 @@ pub record Forest (nodes : List Node) : Type 0 where
   pub is_forest : IsForest nodes parent rank
 
 -- the nodes lie as trees
-abbrev pub IsLinked : List Node → Type 0
-IsLinked nodes = ∥ Forest nodes ∥₁
+abbrev pub LieAsTrees : List Node → Type 0
+LieAsTrees nodes = ∥ Forest nodes ∥₁
 
 -- the entry is in no row
 pub record IsTop (nodes : List Node) (slot : ℕ) : Type 0 where
@@ -58,6 +58,6 @@ IsInRow nodes parent slot = ∥ Row nodes parent slot ∥₁
 
 -- one tree of all entries: what is in no row is the root, and nothing else
 pub record IsTree (nodes : List Node) (root : Option ℕ) : Type 0 where
-  pub linked : IsLinked nodes
+  pub linked : LieAsTrees nodes
   pub top : (slot : ℕ) → root ≡ Some slot → IsTop nodes slot
   pub only : (slot : ℕ) → IsTop nodes slot → root ≡ Some slot

@@ -1,6 +1,6 @@
 pub mod Fields
-pub mod Words
+pub mod NodeWords
 pub mod Nodes
 pub mod Forest
 pub mod Changes
-pub mod Room
+pub mod NodeRoom

@@ -1,6 +1,6 @@
 ghost use Rattle.std.specs.Prelude.{◌≡◌, ℕ, ◌<◌, ◌≢◌, ◌↔◌, Some, None, IsTrue, IsSome, IfSome, IfNone, length};
 ghost use Rattle.rb_pairing.specs.Nodes.{expiry_of, child_of, next_of, previous_of, moment_of};
-ghost use Rattle.rb_pairing.specs.Forest.{IsLinked, IsTop, IsInRow};
+ghost use Rattle.rb_pairing.specs.Forest.{LieAsTrees, IsTop, IsInRow};
 ghost use Rattle.rb_pairing.specs.Changes.{Cuts, Adopts, Joins, Relinks, TakesChildren, Melds};
 
 use crate::node::{
@@ -9,7 +9,7 @@ use crate::node::{
 
 /// Takes the entry, with all that hang under it, out of its row, if it is in one.
 pub(crate) fn cut(nodes: &mut [Node], slot: usize)
-    requires linked { IsLinked nodes.old }
+    requires linked { LieAsTrees nodes.old }
     requires in_room { slot < length nodes.old }
     ensures { Cuts nodes.old nodes.new slot }
 {
@@ -22,7 +22,7 @@ pub(crate) fn cut(nodes: &mut [Node], slot: usize)
 
 // Puts the entry, which is in no row, first into the row under `parent`.
 fn adopt(nodes: &mut [Node], parent: usize, slot: usize)
-    requires linked { IsLinked nodes.old }
+    requires linked { LieAsTrees nodes.old }
     requires in_room { slot < length nodes.old }
     requires present { IsSome (expiry_of nodes.old parent) }
     requires alone { previous_of nodes.old slot ≡ None }
@@ -45,7 +45,7 @@ fn is_earlier(nodes: &[Node], right: usize, left: usize) -> bool
 
 // Hangs the later of two neighbours under the other, which keeps their place in the row.
 fn join(nodes: &mut [Node], left: usize, right: usize) -> usize
-    requires linked { IsLinked nodes.old }
+    requires linked { LieAsTrees nodes.old }
     requires neighbours { next_of nodes.old left ≡ Some right }
     ensures { Joins nodes.old nodes.new left right result }
 {
@@ -64,7 +64,7 @@ fn join(nodes: &mut [Node], left: usize, right: usize) -> usize
 //
 // A row is no longer than the room, so the loop is left before its range ends.
 fn join_pairs(nodes: &mut [Node], parent: usize) -> Option<usize>
-    requires linked { IsLinked nodes.old }
+    requires linked { LieAsTrees nodes.old }
     requires in_room { parent < length nodes.old }
     ensures relinks { Relinks nodes.old nodes.new }
     ensures none { IfNone result (child_of nodes.new parent ≡ None) }
@@ -106,7 +106,7 @@ fn join_back(nodes: &mut [Node], parent: usize, mut last: usize) -> usize
 
 /// Takes the entries from under `parent`, joined into one, which is in no row then.
 pub(crate) fn take_children(nodes: &mut [Node], parent: usize) -> Option<usize>
-    requires linked { IsLinked nodes.old }
+    requires linked { LieAsTrees nodes.old }
     requires in_room { parent < length nodes.old }
     ensures { TakesChildren nodes.old nodes.new parent result }
 {
@@ -118,7 +118,7 @@ pub(crate) fn take_children(nodes: &mut [Node], parent: usize) -> Option<usize>
 
 /// Hangs the later of two entries that are in no row under the other, which it gives.
 pub(crate) fn meld(nodes: &mut [Node], one: Option<usize>, other: Option<usize>) -> Option<usize>
-    requires linked { IsLinked nodes.old }
+    requires linked { LieAsTrees nodes.old }
     requires one { (slot : ℕ) → one ≡ Some slot → IsTop nodes.old slot }
     requires other { (slot : ℕ) → other ≡ Some slot → IsTop nodes.old slot }
     requires apart { (slot : ℕ) → one ≡ Some slot → other ≢ Some slot }

@@ -32,7 +32,7 @@ impl Model for Node {
 
     ghost Value = { Fields };
 
-    ghost use Rattle.rb_pairing.specs.Words.{fields_of, node_of, IsNode, node_of-fields};
+    ghost use Rattle.rb_pairing.specs.NodeWords.{fields_of, node_of, IsNode, node_of-fields};
 
     ghost view = { fields_of };
 

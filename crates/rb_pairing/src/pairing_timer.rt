@@ -25,13 +25,13 @@ impl Timer for PairingTimer {
     ghost use Rattle.std.specs.Prelude.{length};
     ghost use Rattle.rb_timer.specs.Slots.{content_of};
     ghost use Rattle.rb_pairing.specs.Nodes.{expiries};
-    ghost use Rattle.rb_pairing.specs.Room.{in_room_of_content};
+    ghost use Rattle.rb_pairing.specs.NodeRoom.{in_nodes_of_content};
 
     ghost content = { λ timer. content_of (expiries timer.nodes.items) };
 
     ghost room = { λ timer. length timer.nodes.items };
 
-    ghost slots_below_room = { λ timer. in_room_of_content timer.nodes.items };
+    ghost slots_below_room = { λ timer. in_nodes_of_content timer.nodes.items };
 
     fn new(alloc: Global) -> Self {
         PairingTimer {

@@ -6,7 +6,7 @@ use Rattle.std.specs.FinMap.{get-empty}
 use Rattle.std.specs.Ordering.{nat_cmp}
 use Rattle.rb_delayed.specs.declared.element.Element.{Element}
 use Rattle.rb_queue.specs.Bag.{Bag}
-use Rattle.rb_queue.specs.Slots.{bag_of}
+use Rattle.rb_queue.specs.Filing.{bag_of}
 use Rattle.rb_queue.proofs.Options.{same_or_not}
 use Rattle.rb_queue.proofs.Bags.{get_inserted_same, get_inserted_other, get_removed_same, get_removed_other, same_bag}
 

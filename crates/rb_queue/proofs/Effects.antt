@@ -16,7 +16,7 @@ use Rattle.rb_queue.specs.Queue.{Queue}
 use Rattle.rb_queue.specs.Effect.{Effect, inserts, gives, discards, empties, effect_of, queue_after, inserted, given, discarded, cleared}
 use Rattle.rb_queue.specs.Calls.{Permits, AreHeads}
 use Rattle.rb_queue.specs.Leaving.{times, standing, offers_of, leavings_of}
-use Rattle.rb_queue.specs.Slots.{AreBelow}
+use Rattle.rb_queue.specs.Filing.{AreBelow}
 use Rattle.rb_queue.proofs.Options.{same_or_not, value_and}
 use Rattle.rb_queue.proofs.Bags.{get_inserted_same, get_inserted_other, get_removed_same, get_removed_other}
 use Rattle.rb_queue.proofs.Queues.{below_empty, below_insert, below_remove, next_absent}

@@ -15,7 +15,7 @@ use Rattle.rb_queue.specs.Effect.{Effect, inserts, gives, discards, empties, eff
 use Rattle.rb_queue.specs.History.{State, start_of, state_after, state_from, AllowsAll}
 use Rattle.rb_queue.specs.Counts.{offer_count, give_count, removed_count, cleared_from}
 use Rattle.rb_queue.specs.Leaving.{times, standing, offers_of, offer_times, leaving_times_from, IsOfferedOnce, LeavesOnce, IsBalanced}
-use Rattle.rb_queue.specs.Slots.{AreBelow}
+use Rattle.rb_queue.specs.Filing.{AreBelow}
 use Rattle.rb_queue.proofs.Effects.{FitsIn, bit, times_cons, permitted_fits, below_after, standing_after, len_after}
 use Rattle.rb_queue.specs.Opening.{AreInOrder}
 use Rattle.rb_queue.proofs.Options.{same_or_not}

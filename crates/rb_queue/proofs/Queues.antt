@@ -14,7 +14,7 @@ use Rattle.rb_queue.specs.Opening.{ids_of, AreInOrder}
 use Rattle.rb_queue.specs.Queue.{Queue}
 use Rattle.rb_queue.specs.Effect.{effect_of, queue_after}
 use Rattle.rb_queue.specs.Calls.{Acts}
-use Rattle.rb_queue.specs.Slots.{AreBelow}
+use Rattle.rb_queue.specs.Filing.{AreBelow}
 use Rattle.rb_queue.proofs.Options.{same_or_not}
 use Rattle.rb_queue.proofs.Bags.{get_inserted_other, get_removed_same, get_removed_other, remove_absent}
 

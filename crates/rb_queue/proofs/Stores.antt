@@ -16,7 +16,7 @@ use Rattle.rb_timer.specs.Content as timer
 use Rattle.rb_timer.specs.Content.{Content, IsDueEntry}
 use Rattle.rb_queue.specs.Bag.{NoneExpired}
 use Rattle.rb_queue.specs.Head.{IsLeast, IsHead, IsLeastExpiry}
-use Rattle.rb_queue.specs.Slots.{Directory, slot_of, bag_of, IsSound}
+use Rattle.rb_queue.specs.Filing.{Directory, slot_of, bag_of, IsFiled}
 use Rattle.rb_queue.proofs.Bags.{same_bag}
 use Rattle.rb_queue.proofs.Options.{same_or_not, mapped_some, of_each, at_value, has_and, value_and, matches_some}
 use Rattle.rb_queue.proofs.BagsInSlots.{AreDistinct, Holds, Holds-bag_of, Holds-unique, Holds-insert, Holds-remove}
@@ -27,7 +27,7 @@ late expiry now before expired = omega (arith, ints)
 early : (expiry now : ℕ) → expiry ≤ now → IsExpired expiry now
 early expiry now before = omega (arith, ints)
 
-module _ (s : Slab Element) (content : Content) (directory : Directory) (sound : IsSound s content directory) where
+module _ (s : Slab Element) (content : Content) (directory : Directory) (sound : IsFiled s content directory) where
   -- no two elements have one id, as the directory names one slot for it
   pub distinct : AreDistinct s.slots
   distinct slot other a b here there same =
@@ -131,7 +131,7 @@ module _ (s : Slab Element) (content : Content) (directory : Directory) (sound :
   filed_element id slot found = value_and _ _ (sound.filed id slot found)
 
 -- an empty slab, timer and directory
-pub sound_empty : (s : Slab Element) (content : Content) (directory : Directory) → s.slots ≡ [] → content ≡ map.empty → ((id : ℕ) → slot_of directory id ≡ None) → IsSound s content directory
+pub sound_empty : (s : Slab Element) (content : Content) (directory : Directory) → s.slots ≡ [] → content ≡ map.empty → ((id : ℕ) → slot_of directory id ≡ None) → IsFiled s content directory
 sound_empty s content directory none empty unlisted = record {
   timed = λ slot. ap (λ c. map.get c slot) empty ∙ get-empty nat_cmp slot ∙ sym (ap (option_map (λ (e : Element). e.expiry)) (nothing slot));
   listed = λ slot element here. let vacant = nothing slot in absurd (cc);
@@ -167,7 +167,7 @@ updated_other old new id other slot updates differ =
 
 -- one element more, under an id that the bag lacks
 module _ (old new : Slab Element) (content content' : Content) (directory directory' : Directory) (slot : ℕ) (element : Element)
-    (sound : IsSound old content directory) (absent : map.get (bag_of old.slots) element.id ≡ None)
+    (sound : IsFiled old content directory) (absent : map.get (bag_of old.slots) element.id ≡ None)
     (vacant : get old slot ≡ None) (updates : Updates old new slot (Some element))
     (timed : content' ≡ map.insert content slot element.expiry) (listed : UpdatesSlot directory directory' element.id (Some slot)) where
   listed-insert : (place : ℕ) (e : Element) → get new place ≡ Some e → slot_of directory' e.id ≡ Some place
@@ -192,7 +192,7 @@ module _ (old new : Slab Element) (content content' : Content) (directory direct
   bag-insert = Holds-unique new.slots _ _ (Holds-bag_of new.slots distinct-insert)
       (Holds-insert old.slots new.slots slot element (bag_of old.slots) (lying old content directory sound) updates.others vacant updates.changed absent)
 
-  pub sound-insert : slab_len new ≡ slab_len old + 1 → IsSound new content' directory'
+  pub sound-insert : slab_len new ≡ slab_len old + 1 → IsFiled new content' directory'
   sound-insert len = record {
     timed = λ place. timed_at place (same_or_not place slot);
     listed = listed-insert;
@@ -231,7 +231,7 @@ module _ (old new : Slab Element) (content content' : Content) (directory direct
 
 -- one element fewer
 module _ (old new : Slab Element) (content content' : Content) (directory directory' : Directory) (slot : ℕ) (element : Element)
-    (sound : IsSound old content directory) (filled : get old slot ≡ Some element) (updates : Updates old new slot None)
+    (sound : IsFiled old content directory) (filled : get old slot ≡ Some element) (updates : Updates old new slot None)
     (timed : content' ≡ map.remove content slot) (unlisted : UpdatesSlot directory directory' element.id None) where
   -- what is left lay in another slot
   was : (place : ℕ) (e : Element) → get new place ≡ Some e → get old place ≡ Some e
@@ -247,7 +247,7 @@ module _ (old new : Slab Element) (content content' : Content) (directory direct
   bag-remove = Holds-unique new.slots _ _ (Holds-bag_of new.slots distinct-remove)
       (Holds-remove old.slots new.slots slot element (bag_of old.slots) (lying old content directory sound) updates.others (distinct old content directory sound) filled updates.changed)
 
-  pub sound-remove : slab_len new + 1 ≡ slab_len old → IsSound new content' directory'
+  pub sound-remove : slab_len new + 1 ≡ slab_len old → IsFiled new content' directory'
   sound-remove len = record {
     timed = λ place. timed_at place (same_or_not place slot);
     listed = λ place e here. listed_at place e here;
@@ -299,9 +299,9 @@ module _ (old new : Slab Element) (content content' : Content) (directory direct
               has_and _ _ e (updates.others place elsewhere ∙ here) named
 
 -- more capacity changes nothing of what lies in the slots
-pub sound-capacity : (old new : Slab Element) (content : Content) (directory : Directory) → IsSound old content directory → new ≡ record old { capacity = new.capacity } → IsSound new content directory
+pub sound-capacity : (old new : Slab Element) (content : Content) (directory : Directory) → IsFiled old content directory → new ≡ record old { capacity = new.capacity } → IsFiled new content directory
 sound-capacity old new content directory sound same =
-    subst (λ s. IsSound s content directory) (sym same)
+    subst (λ s. IsFiled s content directory) (sym same)
     (record { timed = sound.timed; listed = sound.listed; filed = sound.filed; counted = sound.counted })
 
 pub bag-capacity : (old new : Slab Element) → new ≡ record old { capacity = new.capacity } → bag_of new.slots ≡ bag_of old.slots

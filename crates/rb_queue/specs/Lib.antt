@@ -10,4 +10,4 @@ pub mod History
 pub mod Replies
 pub mod Counts
 pub mod Leaving
-pub mod Slots
+pub mod Filing

@@ -35,7 +35,7 @@ impl<T: Timer> Model for DelayQueue<T> {
 
     ghost coded = { queue_code };
 
-    ghost use Rattle.rb_queue.specs.Slots.{AreBelow};
+    ghost use Rattle.rb_queue.specs.Filing.{AreBelow};
 
     ghost view = { λ q. record { bag = q.store; next_id = q.next_id } };
 

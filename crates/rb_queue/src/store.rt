@@ -30,11 +30,11 @@ impl<T: Timer> Model for Store<T> {
 
     ghost coded = { bag_code };
 
-    ghost use Rattle.rb_queue.specs.Slots.{bag_of, IsSound};
+    ghost use Rattle.rb_queue.specs.Filing.{bag_of, IsFiled};
 
     ghost view = { λ s. bag_of s.elements.slots };
 
-    ghost invariant = { λ s. IsSound s.elements (T.content s.timer) s.directory };
+    ghost invariant = { λ s. IsFiled s.elements (T.content s.timer) s.directory };
 }
 
 impl<T: Timer> Store<T> {

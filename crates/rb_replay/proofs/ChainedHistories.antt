@@ -23,7 +23,7 @@ use Rattle.rb_replay.specs.Tests.{Test, NoTest}
 use Rattle.rb_replay.specs.Links.{Past, is_attempt, parent_in, CameBefore, Begins, Follows, GoesOn, IsLinked}
 use Rattle.rb_replay.specs.LinkTests.{FollowTests, ParentTests, BeginTests, GoOnTests, LinkTests}
 use Rattle.rb_replay.specs.Chaining.{past_of, IsChained, Unchains}
-use Rattle.rb_replay.specs.Registering.{attempt_of, Recalls, Keeps, past_after, EventIsLinked, EventTests}
+use Rattle.rb_replay.specs.Registering.{attempt_of, Recalls, Keeps, past_after, EventIsLinked, ChainTests}
 use Rattle.rb_replay.specs.declared.attempt.Attempt.{Attempt}
 use Rattle.rb_replay.specs.declared.chain_reason.ChainReason.{ChainReason}
 use Rattle.rb_replay.specs.declared.chain_reason.ChainReason.TheVariants.{NoParent, Twice}
@@ -156,7 +156,7 @@ not_linked policy past asked element reason (inr (later, inr (on, tests))) linke
 -- an event offers an element that is not linked
 pub unchained_at : (policy : Policy) (opening : Opening) (events : List Event) (i : ℕ) (event : Event) (register : Register) (reason : ChainReason)
     → i < length events → event ≡ get_or events i event → Looked policy opening (take i events) register
-    → EventTests policy (past_of opening (take i events)) event reason → Unchains policy opening events i reason
+    → ChainTests policy (past_of opening (take i events)) event reason → Unchains policy opening events i reason
 unchained_at policy opening events i event register reason within is so_far (element, offers, tests) = record {
   front = take i events;
   event = event;
@@ -258,7 +258,7 @@ right_retry policy past asked element parent few is follows once = record {
 -- an event that offers an element is judged as that element is
 pub linked_event : {X : Type 0} (policy : Policy) (past : Past) (event : Event) (element : Element) (r : Result X ChainReason) → event.act ≡ Offer element
     → MatchResult r (λ _. IsLinked policy past event.asked element) (LinkTests policy past event.asked element)
-    → MatchResult r (λ _. EventIsLinked policy past event) (EventTests policy past event)
+    → MatchResult r (λ _. EventIsLinked policy past event) (ChainTests policy past event)
 linked_event policy past event element (Ok x) offers linked = λ other others.
     subst (λ (e : Element). IsLinked policy past event.asked e) (same_Offer element other (sym offers ∙ others)) linked
 linked_event policy past event element (Err reason) offers tests = (element, offers, tests)

@@ -8,7 +8,7 @@ use Rattle.rb_delayed.specs.declared.element.TheConstants.{GREATEST_ATTEMPT}
 use Rattle.rb_queue.specs.declared.act.Act.{Act}
 use Rattle.rb_queue.specs.declared.act.Act.TheVariants.{Offer, Poll, Take, PollFor, Peek, Remove, Drain, Clear, Size}
 use Rattle.rb_queue.specs.declared.event.Event.{Event}
-use Rattle.rb_replay.specs.EventText.{first_words, element_words, given_words, act_words, event_words, header_words, keep_words, end_words}
+use Rattle.rb_replay.specs.EventText.{first_words, whole_element_words, given_words, act_words, event_words, header_words, keep_words, end_words}
 use Rattle.rb_replay.specs.OpeningReading.{numbers_words}
 use Rattle.rb_replay.specs.Ranges.{IsWord, AreWords, IsRightElement, IsRightGiven, IsRightAct, IsRightEvent, AreRightElements, AreRightEvents}
 use Rattle.rb_replay.specs.declared.version.Version.{Version}
@@ -43,7 +43,7 @@ told_event version event = record event { act = told_act version event.act }
 ending_plain : (attempt : ℕ) (payload : List ℕ) → attempt ≤ GREATEST_ATTEMPT → IsPayload payload → ArePlain (decimal attempt ∷ payload ∷ [])
 ending_plain attempt payload few right = (number_plain attempt (omega arith), (payload_plain payload right, tt))
 
-element_plain : (version : Version) (element : Element) → IsRightElement element → ArePlain (element_words version element)
+element_plain : (version : Version) (element : Element) → IsRightElement element → ArePlain (whole_element_words version element)
 element_plain version e right =
     (number_plain e.id right.id, (number_plain e.expiry right.expiry, (number_plain e.origin right.origin, behind version)))
   where
@@ -115,7 +115,7 @@ same_version version other is = absurd (omega (arith, ap (λ (words : List (List
 
 -- the words tell the element, so far as the version does
 element_told : (version : Version) (one other : Element) → IsRightElement one → IsRightElement other
-    → element_words version one ≡ element_words version other → told version one ≡ told version other
+    → whole_element_words version one ≡ whole_element_words version other → told version one ≡ told version other
 element_told One one other right fits is =
     let behind = tail_of _ _ _ _ is in let rest = tail_of _ _ _ _ behind in let last = tail_of _ _ _ _ rest in
     same_element (told One one) (told One other) (decimal_injective one.id other.id right.id fits.id (head_of _ _ _ _ is))

@@ -10,7 +10,7 @@ use Rattle.rb_delayed.specs.declared.element.Element.{Element}
 use Rattle.rb_queue.specs.Opening.{ids_of, AreInOrder}
 use Rattle.rb_queue.proofs.Orders.{InOrderSoFar, so_far_none, so_far_more, out_of_order, in_order}
 use Rattle.rb_replay.specs.BodyReading.{KeepsNext, KeepsNone, KeepsAll, StopsKeeping}
-use Rattle.rb_replay.specs.EventText.{element_words, keep_words}
+use Rattle.rb_replay.specs.EventText.{whole_element_words, keep_words}
 use Rattle.rb_replay.specs.Feeds.{LacksFeed}
 use Rattle.rb_replay.specs.HistoryText.{line_text, lines_text}
 use Rattle.rb_replay.specs.Ranges.{IsRightElement, AreRightElements}
@@ -24,8 +24,8 @@ use Rattle.rb_replay.proofs.Spelled.{same_number}
 keeps_id : (version : Version) (words : List (List ℕ)) (one other : Element) → IsRightElement one → IsRightElement other
     → words ≡ keep_words version one → words ≡ keep_words version other → one.id ≡ other.id
 keeps_id version words one other right low is named =
-    let rest : element_words version one ≡ element_words version other = cc in
-    same_number (element_words version one) _ _ one.id other.id right.id low.id refl rest
+    let rest : whole_element_words version one ≡ whole_element_words version other = cc in
+    same_number (whole_element_words version one) _ _ one.id other.id right.id low.id refl rest
 
 -- an element with this id may not come next, and so none that its line keeps
 pub keeps_none : (version : Version) (least end : ℕ) (words : List (List ℕ)) (element : Element) → words ≡ keep_words version element → IsRightElement element

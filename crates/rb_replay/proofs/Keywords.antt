@@ -5,7 +5,7 @@ use Rattle.rb_delayed.specs.declared.element.Element.{Element}
 use Rattle.rb_queue.specs.declared.act.Act.{Act}
 use Rattle.rb_queue.specs.declared.act.Act.TheVariants.{Offer, Poll, Take, PollFor, Peek, Remove, Drain, Clear, Size}
 use Rattle.rb_replay.specs.declared.version.Version.{Version}
-use Rattle.rb_replay.specs.EventText.{act_words, element_words, given_words}
+use Rattle.rb_replay.specs.EventText.{act_words, whole_element_words, given_words}
 use Rattle.rb_replay.specs.Ranges.{IsWord, AreWords, IsRightElement, IsRightGiven, IsRightAct}
 
 -- the first words of the same lists are the same
@@ -19,7 +19,7 @@ tails_same one other words behind is = cc
 abbrev pub mark : List ℕ → ℕ
 mark word = length word * 65536 + get_or word 0 0 * 256 + get_or word 1 0
 
-pub only_offer : (version : Version) (behind : List (List ℕ)) → ((element : Element) → IsRightElement element → behind ≢ element_words version element) → (act : Act) → IsRightAct act
+pub only_offer : (version : Version) (behind : List (List ℕ)) → ((element : Element) → IsRightElement element → behind ≢ whole_element_words version element) → (act : Act) → IsRightAct act
     → codes "offer" ∷ behind ≢ act_words version act
 only_offer version behind none (Offer element) right is = none element right (tails_same _ _ _ _ is)
 only_offer version behind none (Poll given) right is = absurd (omega (arith, ap mark (heads _ _ _ _ is)))

@@ -15,8 +15,8 @@ first_words Two first = []
 first_words Three first = decimal first ∷ []
 
 -- an element
-abbrev pub element_words : Version → Element → List (List ℕ)
-element_words version e =
+abbrev pub whole_element_words : Version → Element → List (List ℕ)
+whole_element_words version e =
     decimal e.id ∷ decimal e.expiry ∷ decimal e.origin ∷ (first_words version e.first ++ (decimal e.attempt ∷ e.payload ∷ []))
 
 -- the id, or that there was none
@@ -26,7 +26,7 @@ given_words (Some id) = decimal id ∷ []
 
 -- what was done
 abbrev pub act_words : Version → Act → List (List ℕ)
-act_words version (Offer element) = codes "offer" ∷ element_words version element
+act_words version (Offer element) = codes "offer" ∷ whole_element_words version element
 act_words version (Poll given) = codes "poll" ∷ given_words given
 act_words version (Take id) = codes "take" ∷ decimal id ∷ []
 act_words version (PollFor start timeout given) =
@@ -56,7 +56,7 @@ open_words opening =
 
 -- an element of an opening
 abbrev pub keep_words : Version → Element → List (List ℕ)
-keep_words version element = codes "keep" ∷ element_words version element
+keep_words version element = codes "keep" ∷ whole_element_words version element
 
 -- how many events there were
 abbrev pub end_words : ℕ → List (List ℕ)

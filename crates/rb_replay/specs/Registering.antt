@@ -63,6 +63,6 @@ abbrev pub EventIsLinked : Policy → Past → Event → Type 0
 EventIsLinked policy past event = (element : Element) → event.act ≡ Offer element → IsLinked policy past event.asked element
 
 -- the event offers an element that is not, for this reason
-abbrev pub EventTests : Policy → Past → Event → ChainReason → Type 0
-EventTests policy past event reason =
+abbrev pub ChainTests : Policy → Past → Event → ChainReason → Type 0
+ChainTests policy past event reason =
     (element : Element) × (event.act ≡ Offer element) × LinkTests policy past event.asked element reason

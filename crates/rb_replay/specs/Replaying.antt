@@ -11,8 +11,8 @@ use Rattle.rb_replay.specs.declared.replay_fault.ReplayFault.{ReplayFault}
 use Rattle.rb_replay.specs.declared.replay_fault.ReplayFault.TheVariants.{At, Memory}
 
 -- what stands, and the moment
-abbrev pub state_at : End → State
-state_at end = record { queue = end.standing; moment = end.moment }
+abbrev pub end_state : End → State
+end_state end = record { queue = end.standing; moment = end.moment }
 
 -- the event was allowed and is done, or it has this as the reason of the first test that fails
 abbrev pub Redoes : {X : Type 0} → State → Event → Result X JudgeFault → State → Type 0
@@ -22,7 +22,7 @@ Redoes old event (Err faults.Memory) new = Unit {0}
 
 -- all events were allowed and are done, or one is refused
 abbrev pub Replays : Opening → List Event → Result End ReplayFault → Type 0
-Replays opening events (Ok end) = IsLegal opening events × (state_at end ≡ state_of opening events)
+Replays opening events (Ok end) = IsLegal opening events × (end_state end ≡ state_of opening events)
 Replays opening events (Err (At index reason)) = Refuses opening events index reason
 Replays opening events (Err Memory) = Unit {0}
 

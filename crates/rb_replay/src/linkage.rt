@@ -5,7 +5,7 @@ ghost use Rattle.rb_replay.specs.Tests.{NoTest};
 ghost use Rattle.rb_replay.specs.Links.{Past, Begins, Follows, GoesOn, IsLinked};
 ghost use Rattle.rb_replay.specs.LinkTests.{BeginTests, FollowTests, GoOnTests, LinkTests};
 ghost use Rattle.rb_replay.specs.Chaining.{Chains};
-ghost use Rattle.rb_replay.specs.Registering.{Recalls, EventIsLinked, EventTests};
+ghost use Rattle.rb_replay.specs.Registering.{Recalls, EventIsLinked, ChainTests};
 
 use crate::attempt::Attempt;
 use crate::chain_fault::ChainFault;
@@ -52,7 +52,7 @@ pub fn chains(
 fn check_event(register: &Register, policy: &Policy, event: &Event) -> Result<(), ChainReason>
     ensures { (came : Bag) (past : Past) → Recalls came past register.now → MatchResult result
         (λ _. EventIsLinked policy.now past event.now)
-        (EventTests policy.now past event.now) }
+        (ChainTests policy.now past event.now) }
 {
     match &event.act {
         Act::Offer(element) => check_offer(register, policy, event.asked, element),

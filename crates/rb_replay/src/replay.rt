@@ -1,5 +1,5 @@
 ghost use Rattle.std.specs.Prelude.{◌≡◌, ◌<◌, ◌≤◌, length};
-ghost use Rattle.rb_replay.specs.Replaying.{state_at, fault_at, Redoes, Replays};
+ghost use Rattle.rb_replay.specs.Replaying.{end_state, fault_at, Redoes, Replays};
 
 use crate::judge::{JudgeFault, judge};
 use crate::reason::Reason;
@@ -41,7 +41,7 @@ pub(crate) fn replay(alloc: Global, opening: &Opening, events: &[Event]) -> Resu
 // Lets the queue do one event again.
 fn redo(end: &mut End, event: &Event) -> Result<(), JudgeFault>
     requires { end.old.standing.next_id < u64.MAX }
-    ensures { Redoes (state_at end.old) event.now result (state_at end.new) }
+    ensures { Redoes (end_state end.old) event.now result (end_state end.new) }
 {
     if event.at != event.asked.max(end.moment) {
         return Err(JudgeFault::Refused(Reason::BadMoment));

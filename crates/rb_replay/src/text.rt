@@ -1,5 +1,5 @@
 ghost use Rattle.std.specs.Prelude.{◌≡◌, ◌∷◌, [], ◌++◌, codes, decimal, map, OnOk, if◌then◌else◌};
-ghost use Rattle.rb_replay.specs.EventText.{element_words, given_words, act_words, event_words};
+ghost use Rattle.rb_replay.specs.EventText.{whole_element_words, given_words, act_words, event_words};
 ghost use Rattle.rb_replay.specs.HistoryText.{line_text};
 ghost use Rattle.rb_protocol.specs.Line.{spaced};
 ghost use Rattle.rb_replay.specs.Tails.{tails};
@@ -50,7 +50,7 @@ pub(crate) fn push_element(
     element: &Element,
 ) -> Result<(), AllocError>
     ensures { OnOk result (text.new.items
-        ≡ text.old.items ++ (front.now ++ spaced (element_words Three element.now))) }
+        ≡ text.old.items ++ (front.now ++ spaced (whole_element_words Three element.now))) }
 {
     push_number(text, front, element.id)?;
     push_number(text, b" ", element.expiry)?;

@@ -1,7 +1,7 @@
 ghost use Rattle.std.specs.Prelude.{◌≡◌, ◌≢◌, ◌≤◌, ℕ, List, Option, [], ◌∷◌, ◌++◌, decimal, IfSome, IfNone};
 ghost use Rattle.rb_protocol.specs.Line.{words_of};
 ghost use Rattle.rb_protocol.specs.Words.{first_space, words_behind};
-ghost use Rattle.rb_replay.specs.EventText.{given_words, first_words, element_words};
+ghost use Rattle.rb_replay.specs.EventText.{given_words, first_words, whole_element_words};
 ghost use Rattle.rb_replay.specs.Ranges.{IsWord, IsRightGiven, IsRightElement};
 ghost use Rattle.rb_delayed.specs.Payload.{IsPayload};
 ghost use Rattle.rb_delayed.specs.declared.element.TheConstants.{GREATEST_ATTEMPT};
@@ -113,10 +113,10 @@ pub(crate) fn last_given(words: Option<&[u8]>) -> Option<Option<u64>>
 
 /// The element that the words that are left are.
 pub(crate) fn last_element(version: Version, words: Option<&[u8]>) -> Option<Element>
-    ensures some { IfSome result (λ element. words_behind words.entry ≡ element_words version element) }
+    ensures some { IfSome result (λ element. words_behind words.entry ≡ whole_element_words version element) }
     ensures right { IfSome result IsRightElement }
     ensures none { IfNone result ((element : Element) → IsRightElement element
-        → words_behind words.entry ≢ element_words version element) }
+        → words_behind words.entry ≢ whole_element_words version element) }
 {
     let (id, words) = take_number(words)?;
     let (expiry, words) = take_number(words)?;

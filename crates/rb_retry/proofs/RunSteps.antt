@@ -8,14 +8,14 @@ use Rattle.rb_queue.specs.declared.reply.Reply.TheVariants.{Item, Offered}
 use Rattle.rb_retry.specs.Made.{Made}
 use Rattle.rb_retry.specs.Asked.{Makes, MayGet}
 use Rattle.rb_retry.specs.KeptSteps.{fault_of}
-use Rattle.rb_retry.specs.Runs.{Run, RunEnd, done, failed, EndsRun, RunsAlong, counted, report_after}
+use Rattle.rb_retry.specs.WorkRuns.{WorkRun, RunEnd, done, failed, EndsRun, RunsAlong, counted, report_after}
 use Rattle.rb_retry.specs.declared.policy.Policy.{Policy}
 use Rattle.rb_retry.specs.declared.desk_fault.DeskFault.{DeskFault}
 use Rattle.rb_retry.specs.declared.verdict.Verdict.TheVariants.{Again, Dead}
 use Rattle.rb_retry.specs.declared.work_report.WorkReport.{WorkReport}
 
 -- a run behind others is counted last
-pub report_after-append : (report : WorkReport) (runs : List Run) (run : Run) → report_after report (runs ++ run ∷ []) ≡ counted (report_after report runs) run.end
+pub report_after-append : (report : WorkReport) (runs : List WorkRun) (run : WorkRun) → report_after report (runs ++ run ∷ []) ≡ counted (report_after report runs) run.end
 report_after-append report [] run = refl
 report_after-append report (first ∷ runs) run = report_after-append (counted report first.end) runs run
 
@@ -28,7 +28,7 @@ one_more report (failed (Err refused)) = refl
 
 module _ {S : Type 0} (gives : S → ℕ → Type 0) (Steps : S → ℕ → Ask → Result Reply DeskFault → S → Type 0) (may : Element → Bool → Type 0) (policy : Policy) where
   -- a run behind others
-  pub along_more : (old last taken after : S) (runs : List Run) (element : Element) (end : RunEnd) → RunsAlong gives Steps may policy old runs last
+  pub along_more : (old last taken after : S) (runs : List WorkRun) (element : Element) (end : RunEnd) → RunsAlong gives Steps may policy old runs last
       → Steps last 0 Take (Ok (Item element)) taken → EndsRun gives Steps may policy element taken end after
       → RunsAlong gives Steps may policy old (runs ++ record { element = element; end = end } ∷ []) after
   along_more old last taken after [] element end along take ends =

@@ -17,4 +17,4 @@ pub mod KeptLaws
 pub mod SharedSteps
 pub mod SharedLaws
 pub mod Jobs
-pub mod Runs
+pub mod WorkRuns

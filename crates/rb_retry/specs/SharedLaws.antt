@@ -10,7 +10,7 @@ use Rattle.rb_queue.specs.declared.ask.Ask.{Ask}
 use Rattle.rb_queue.specs.declared.event.Event.{Event}
 use Rattle.rb_queue.specs.declared.opening.Opening.{Opening}
 use Rattle.rb_queue.specs.declared.reply.Reply.{Reply}
-use Rattle.rb_lock.specs.Passes.{Seen, IsSound, Learns, log_at}
+use Rattle.rb_lock.specs.Passes.{Seen, IsSoundPass, Learns, log_at}
 use Rattle.rb_lock.specs.SharedCalls.{Replied}
 use Rattle.rb_blocking.specs.WaitingCalls.{try_of}
 use Rattle.rb_retry.specs.Made.{Made, made_after, made_by}
@@ -60,7 +60,7 @@ counted : (seat : ℕ) (events more : List Event) → length (events_of (events 
 counted seat events more =
     ap length (filter-append (λ (event : Event). event.seat == seat) events more) ∙ length-append (events_of events seat) (events_of more seat)
 
-module _ (old new : Seen) (sound : IsSound old) (learns : Learns old new) where
+module _ (old new : Seen) (sound : IsSoundPass old) (learns : Learns old new) where
   -- what was made is read off the new history
   own_at : made_by new.name new.opening new.seen ≡ made_by old.name old.opening new.seen
   own_at = ap₂ (λ (seat : ℕ) (opening : Opening). made_by seat opening new.seen) learns.name learns.opening

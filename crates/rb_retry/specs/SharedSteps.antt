@@ -6,7 +6,7 @@ use Rattle.rb_queue.specs.declared.opening.Opening.{Opening}
 use Rattle.rb_queue.specs.declared.reply.Reply.{Reply}
 use Rattle.rb_kept.specs.Log.{HasRoom}
 use Rattle.rb_kept.specs.Tries.{TakesMemory}
-use Rattle.rb_lock.specs.Passes.{Seen, IsSound, Learns, log_of}
+use Rattle.rb_lock.specs.Passes.{Seen, IsSoundPass, Learns, log_of}
 use Rattle.rb_lock.specs.SharedCalls.{Replied}
 use Rattle.rb_lock.specs.declared.record.Record.{Record}
 use Rattle.rb_blocking.specs.WaitingCalls.{try_of, IsStopped, EndsFull}
@@ -74,7 +74,7 @@ module _ {C G : Type 0} where
     -- changed.
     pub record SharedSteps (old : SharedState C G) (handed : ℕ) (ask : Ask) (result : Result Reply DeskFault) (new : SharedState C G) : Type 0 where
       pub earlier : old.before ≤ length old.pass.mine
-      pub sound : IsSound old.pass
+      pub sound : IsSoundPass old.pass
       pub learns : Learns old.pass new.pass
       pub ends : Ends (gives old.clock) (stops old.gate) old.pass new.pass handed ask result
       pub gate : (turns : ℕ) → stops new.gate turns ↔ stops old.gate turns

@@ -3,7 +3,7 @@ ghost use Rattle.rb_delayed.specs.declared.element.Element.{Element};
 ghost use Rattle.rb_queue.specs.declared.ask.Ask.TheVariants as asks;
 ghost use Rattle.rb_kept.specs.declared.kept.TheConstants.{MOST_CALLS};
 ghost use Rattle.rb_retry.specs.declared.desk_fault.DeskFault.{DeskFault};
-ghost use Rattle.rb_retry.specs.Runs.{Run, RunEnd, EndsRun, RunsAlong, IsSum, no_runs, counted, report_after};
+ghost use Rattle.rb_retry.specs.WorkRuns.{WorkRun, RunEnd, EndsRun, RunsAlong, IsSum, no_runs, counted, report_after};
 
 use crate::desk::Desk;
 use crate::endings::{done, fail};
@@ -29,7 +29,7 @@ pub trait Work {
 ///
 /// It takes no memory but what is offered again.
 pub fn work_off<D: Desk, W: Work>(desk: &mut D, policy: &Policy, work: &W) -> WorkReport
-    ensures runs { (runs : List Run) × (last : D.State) × (fault : DeskFault)
+    ensures runs { (runs : List WorkRun) × (last : D.State) × (fault : DeskFault)
         × RunsAlong D.gives D.Steps (W.may work.now) policy.now (D.state desk.old) runs last
         × D.Steps last 0 asks.Take (Err fault) (D.state desk.new)
         × (result ≡ report_after no_runs runs) }

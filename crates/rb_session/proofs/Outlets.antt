@@ -9,7 +9,7 @@ use Rattle.rb_session.specs.Turn.{Point}
 use Rattle.rb_session.specs.Session.{bytes_of, answers_of}
 use Rattle.rb_session.specs.Ran.{IsWhole, BreaksOff, FailsToWrite, Ran}
 use Rattle.rb_session.specs.Outlet.{ServesSome, FailsToSend, RanThrough, HandedOn}
-use Rattle.rb_session.specs.Progress.{Stands, Stops, IsClearAt, IsClearAtRead, Ends, ServesLines, end_of}
+use Rattle.rb_session.specs.Progress.{Stands, Stops, IsClearAt, IsClearAtRead, AnswersEnd, ServesLines, end_of}
 use Rattle.rb_session.specs.declared.line_buffer.LineBuffer.{LineBuffer}
 use Rattle.rb_session.specs.declared.ended.Ended.{Ended}
 use Rattle.rb_session.specs.declared.ended.Ended.TheVariants as ends
@@ -35,7 +35,7 @@ handed_on clear stops.Write lost is = tt
 handed_on clear stops.ReadTurns lost is = is
 
 -- the end of the input is no failing read
-pub clear_at_end : (clear : Type 0) (stop : Stop) (before bytes : List ℕ) (written : Option (List ℕ)) → Ends stop before bytes written → IsClearAtRead clear stop
+pub clear_at_end : (clear : Type 0) (stop : Stop) (before bytes : List ℕ) (written : Option (List ℕ)) → AnswersEnd stop before bytes written → IsClearAtRead clear stop
 clear_at_end clear stops.Quit before bytes written ends = tt
 clear_at_end clear stops.EndOfInput before bytes written ends = tt
 clear_at_end clear stops.Read before bytes written ends = absurd ends

@@ -14,7 +14,7 @@ use Rattle.rb_session.specs.Lines.{HasNoFeed}
 use Rattle.rb_session.specs.Turn.{Point}
 use Rattle.rb_session.specs.Session.{Turn, ServesToQuit, bytes_of, answers_of, rest_text}
 use Rattle.rb_session.specs.Ran.{IsWhole, BreaksOff, FailsToWrite}
-use Rattle.rb_session.specs.Progress.{Stands, FailsAtLine, ServesLines, Ends, Stops}
+use Rattle.rb_session.specs.Progress.{Stands, FailsAtLine, ServesLines, AnswersEnd, Stops}
 use Rattle.rb_session.specs.declared.line_buffer.LineBuffer.{LineBuffer}
 use Rattle.rb_session.specs.declared.stop.Stop.{Stop}
 use Rattle.rb_session.specs.declared.stop.Stop.TheVariants as stops
@@ -41,14 +41,14 @@ module _ {S : Type 0} (gives : S → ℕ → Type 0) (Sets : S → ℕ → Optio
   }
 
   -- the input ends
-  pub ran_end : (HoldsBack : Type 0) → HasNoFeed stands.rest → left ≡ [] → (stop : Stop) (remaining written' : Option (List ℕ)) → Ends stop (before ++ answers_of stands.turns) stands.rest written'
+  pub ran_end : (HoldsBack : Type 0) → HasNoFeed stands.rest → left ≡ [] → (stop : Stop) (remaining written' : Option (List ℕ)) → AnswersEnd stop (before ++ answers_of stands.turns) stands.rest written'
       → Stops gives Sets Steps policy HoldsBack from stream before stop here remaining written'
   ran_end HoldsBack no_feed none stop remaining written' ends = of_stop stop ends
     where
       whole : stream ≡ bytes_of stands.turns ++ stands.rest
       whole = split ∙ ap (λ b. bytes ++ b) none ∙ append-nil bytes ∙ stands.split
 
-      of_stop : (stop : Stop) → Ends stop (before ++ answers_of stands.turns) stands.rest written' → Stops gives Sets Steps policy HoldsBack from stream before stop here remaining written'
+      of_stop : (stop : Stop) → AnswersEnd stop (before ++ answers_of stands.turns) stands.rest written' → Stops gives Sets Steps policy HoldsBack from stream before stop here remaining written'
       of_stop stops.EndOfInput wrote = record {
         text = answers_of stands.turns ++ rest_text stands.rest;
         session = record { turns = stands.turns; rest = stands.rest; split = whole; no_line = no_feed; serves = stands.serves; answers = refl };

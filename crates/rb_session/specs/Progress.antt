@@ -56,11 +56,11 @@ Sends (Err fault) before text written =
     (sent : List ℕ) × (unsent : List ℕ) × (text ≡ sent ++ unsent) × (written ≡ Some (before ++ sent))
 
 -- the end of the input is answered, or its answer could not be written whole
-abbrev pub Ends : Stop → List ℕ → List ℕ → Option (List ℕ) → Type 0
-Ends EndOfInput before bytes written = written ≡ Some (before ++ rest_text bytes)
-Ends Write before bytes written =
+abbrev pub AnswersEnd : Stop → List ℕ → List ℕ → Option (List ℕ) → Type 0
+AnswersEnd EndOfInput before bytes written = written ≡ Some (before ++ rest_text bytes)
+AnswersEnd Write before bytes written =
     (0 < length bytes) × (sent : List ℕ) × (unsent : List ℕ) × (rest_text bytes ≡ sent ++ unsent) × (written ≡ Some (before ++ sent))
-Ends _ before bytes written = ⊥
+AnswersEnd _ before bytes written = ⊥
 
 -- nothing is held back, unless a write failed
 abbrev pub IsClearAt : Type 0 → Stop → Type 0

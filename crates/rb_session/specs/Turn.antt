@@ -79,7 +79,7 @@ held_after (Ok verdict) held place = remove held place
 held_after (Err refused) held place = held
 
 -- the draft of a first element with this expiry and this payload
-pub record IsFirst (draft : Draft) (expires : ℕ) (bytes : List ℕ) : Type 0 where
+pub record IsFirstDraft (draft : Draft) (expires : ℕ) (bytes : List ℕ) : Type 0 where
   pub expiry : draft.expiry ≡ expires
   pub origin : draft.origin ≡ None
   pub first : draft.first ≡ None
@@ -95,8 +95,8 @@ abbrev pub point : {S : Type 0} → S → List Element → Point S
 point desk held = record { desk = desk; held = held }
 
 -- the desk is left alone, and this is the one line
-abbrev pub IsAnswered : {S : Type 0} → LineReply → Point S → List LineReply → Point S → Type 0
-IsAnswered due old replies new = (replies ≡ due ∷ []) × (new ≡ old)
+abbrev pub AnswersAlone : {S : Type 0} → LineReply → Point S → List LineReply → Point S → Type 0
+AnswersAlone due old replies new = (replies ≡ due ∷ []) × (new ≡ old)
 
 -- the job at this place is done, and the desk is left alone
 abbrev pub IsDone : {S : Type 0} → Point S → ℕ → ℕ → List LineReply → Point S → Type 0
@@ -120,12 +120,12 @@ module _ {S : Type 0} (Steps : S → ℕ → Ask → Result Reply DeskFault → 
   abbrev pub IsFetch : Point S → ℕ → Ask → List LineReply → Point S → Type 0
   IsFetch old handed ask replies new = MatchBool (nat_lt (length old.held) MOST_HELD)
       (IsCall old handed ask replies new)
-      (IsAnswered (lines.Error words.Held) old replies new)
+      (AnswersAlone (lines.Error words.Held) old replies new)
 
   -- a first element that expires at this moment is offered
   abbrev pub IsOffer : Point S → ℕ → ℕ → List ℕ → List LineReply → Point S → Type 0
   IsOffer old now expiry payload replies new =
-      (draft : Draft) × IsFirst draft expiry payload × IsCall old now (asks.Offer draft) replies new
+      (draft : Draft) × IsFirstDraft draft expiry payload × IsCall old now (asks.Offer draft) replies new
 
   -- the job at this place fails
   abbrev pub IsFailure : Policy → Point S → ℕ → ℕ → List LineReply → Point S → Type 0
@@ -141,7 +141,7 @@ module _ {S : Type 0} (gives : S → ℕ → Type 0) (Sets : S → ℕ → Optio
   abbrev pub IsServed : Point S → ℕ → Request → List LineReply → Point S → Type 0
   IsServed old now (requests.Offer delay payload) replies new = MatchBool (nat_le (now + delay) GREATEST_MOMENT)
       (IsOffer Steps old now (now + delay) payload replies new)
-      (IsAnswered (lines.Error words.Range) old replies new)
+      (AnswersAlone (lines.Error words.Range) old replies new)
   IsServed old now (requests.OfferAt expiry payload) replies new = IsOffer Steps old now expiry payload replies new
   IsServed old now requests.Poll replies new = IsFetch Steps old now asks.Poll replies new
   IsServed old now (requests.PollFor timeout) replies new = IsFetch Steps old now (asks.PollFor now timeout) replies new
@@ -153,15 +153,15 @@ module _ {S : Type 0} (gives : S → ℕ → Type 0) (Sets : S → ℕ → Optio
   IsServed old now requests.Clear replies new = IsCall Steps old now asks.Clear replies new
   IsServed old now requests.Size replies new = IsCall Steps old now asks.Size replies new
   IsServed old now (requests.Done id) replies new = MatchOption (place_of old.held id)
-      (IsAnswered (lines.Error words.NotHeld) old replies new)
+      (AnswersAlone (lines.Error words.NotHeld) old replies new)
       (λ place. IsDone old id place replies new)
   IsServed old now (requests.Fail id) replies new = MatchOption (place_of old.held id)
-      (IsAnswered (lines.Error words.NotHeld) old replies new)
+      (AnswersAlone (lines.Error words.NotHeld) old replies new)
       (λ place. IsFailure Steps policy old now place replies new)
   IsServed old now (requests.At moment) replies new = IsSetting Sets old moment replies new
-  IsServed old now requests.Quit replies new = IsAnswered lines.Bye old replies new
+  IsServed old now requests.Quit replies new = AnswersAlone lines.Bye old replies new
 
   -- What a line gets, by what it is read as.
   abbrev pub IsTurn : Point S → Result Request LineFault → List LineReply → Point S → Type 0
-  IsTurn old (Err fault) replies new = IsAnswered (lines.Error (word_for fault)) old replies new
+  IsTurn old (Err fault) replies new = AnswersAlone (lines.Error (word_for fault)) old replies new
   IsTurn old (Ok request) replies new = (now : ℕ) × gives old.desk now × IsServed old now request replies new

@@ -6,7 +6,7 @@ ghost use Rattle.rb_queue.specs.declared.reply.Reply.{Reply};
 ghost use Rattle.rb_retry.specs.declared.desk_fault.DeskFault.{DeskFault};
 ghost use Rattle.rb_protocol.specs.declared.line_reply.LineReply.TheVariants as lines;
 ghost use Rattle.rb_protocol.specs.declared.error_word.ErrorWord.TheVariants as words;
-ghost use Rattle.rb_session.specs.Turn.{IsFirst, fault_line, reply_line};
+ghost use Rattle.rb_session.specs.Turn.{IsFirstDraft, fault_line, reply_line};
 ghost use Rattle.rb_session.specs.Progress.{IsPlain, answer_line};
 
 use rb_delayed::{Payload, add_delay};
@@ -28,7 +28,7 @@ pub(crate) fn call<D: Desk>(desk: &mut D, now: u64, ask: Ask) -> LineReply
 /// An offer that expires `delay` nanoseconds from now, unless that passes the greatest moment.
 pub(crate) fn offer<D: Desk>(desk: &mut D, now: u64, delay: u64, payload: Payload) -> LineReply
     ensures offered { MatchBool (nat_le (now + delay) GREATEST_MOMENT)
-        ((draft : Draft) × IsFirst draft (now + delay) payload
+        ((draft : Draft) × IsFirstDraft draft (now + delay) payload
         × (answer : Result Reply DeskFault) × D.Steps (D.state desk.old) now (asks.Offer draft) answer (D.state desk.new) × (result ≡ answer_line answer))
         ((result ≡ lines.Error words.Range) × (D.state desk.new ≡ D.state desk.old)) }
     ensures name { D.name (D.state desk.new) ≡ D.name (D.state desk.old) }
@@ -41,7 +41,7 @@ pub(crate) fn offer<D: Desk>(desk: &mut D, now: u64, delay: u64, payload: Payloa
 
 /// An offer that expires at this moment.
 pub(crate) fn offer_at<D: Desk>(desk: &mut D, now: u64, expiry: u64, payload: Payload) -> LineReply
-    ensures offered { (draft : Draft) × IsFirst draft expiry payload
+    ensures offered { (draft : Draft) × IsFirstDraft draft expiry payload
         × (answer : Result Reply DeskFault) × D.Steps (D.state desk.old) now (asks.Offer draft) answer (D.state desk.new) × (result ≡ answer_line answer) }
     ensures name { D.name (D.state desk.new) ≡ D.name (D.state desk.old) }
 {

@@ -2,7 +2,7 @@ ghost use Rattle.std.specs.Prelude.{◌≡◌, ◌∷◌, [], MatchOption, remov
 ghost use Rattle.rb_protocol.specs.declared.line_reply.LineReply.TheVariants as lines;
 ghost use Rattle.rb_protocol.specs.declared.error_word.ErrorWord.TheVariants as words;
 ghost use Rattle.rb_session.specs.Held.{place_of};
-ghost use Rattle.rb_session.specs.Turn.{point, IsAnswered, IsFailure};
+ghost use Rattle.rb_session.specs.Turn.{point, AnswersAlone, IsFailure};
 ghost use Rattle.rb_session.specs.Closing.{Closes};
 ghost use Rattle.rb_session.specs.Progress.{replies_of};
 
@@ -36,7 +36,7 @@ pub(crate) fn fail_job<D: Desk>(
     id: u64,
 ) -> LineReply
     ensures failed { MatchOption (place_of held.old id)
-        (IsAnswered (lines.Error words.NotHeld) (point (D.state desk.old) held.old) (replies_of result held.new) (point (D.state desk.new) held.new))
+        (AnswersAlone (lines.Error words.NotHeld) (point (D.state desk.old) held.old) (replies_of result held.new) (point (D.state desk.new) held.new))
         (λ place. IsFailure D.Steps policy.now (point (D.state desk.old) held.old) now place (replies_of result held.new) (point (D.state desk.new) held.new)) }
     ensures name { D.name (D.state desk.new) ≡ D.name (D.state desk.old) }
 {

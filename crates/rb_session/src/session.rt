@@ -5,7 +5,7 @@ ghost use Rattle.rb_session.specs.Lines.{HasNoFeed};
 ghost use Rattle.rb_session.specs.Turn.{point};
 ghost use Rattle.rb_session.specs.Ran.{Ran};
 ghost use Rattle.rb_session.specs.Outlet.{RanThrough, HandedOn};
-ghost use Rattle.rb_session.specs.Progress.{ServesLines, Ends, Stops, IsClearAt, IsClearAtRead, end_of};
+ghost use Rattle.rb_session.specs.Progress.{ServesLines, AnswersEnd, Stops, IsClearAt, IsClearAtRead, end_of};
 
 use crate::answer::answer;
 use crate::direct::Direct;
@@ -210,7 +210,7 @@ fn finish<O: Outlet>(
 ) -> Stop
     requires { REPLY_ROOM ≤ vec_capacity text.old }
     ensures ends { (bytes before : List ℕ) → IsUnserved buffer.now bytes → O.contents outlet.old ≡ Some before
-        → Ends result before bytes (O.contents outlet.new) }
+        → AnswersEnd result before bytes (O.contents outlet.new) }
     ensures becomes { O.Becomes outlet.old outlet.new }
 {
     if buffer.has_rest() {

@@ -6,7 +6,7 @@ use Rattle.std.specs.Ordering.{nat_cmp}
 use Rattle.std.proofs.lemmas.List.{get_or_past}
 use Rattle.std.proofs.lemmas.Bool.{cases_lt, leb-true, leb-false}
 use Rattle.std.proofs.lemmas.Option.{IfSome_then}
-use Rattle.rb_timer.specs.Content.{Content, IsLeast, IsLeastEntry, IsDueEntry}
+use Rattle.rb_timer.specs.Content.{Content, IsLeastSlot, IsLeastEntry, IsDueEntry}
 use Rattle.rb_timer.specs.Slots.{content_of, get-content_of, content_empty}
 
 -- an expiry in the row, and no slot below `end` has a smaller one
@@ -38,11 +38,11 @@ module _ (expiries : List (Option ℕ)) (end : ℕ) where
   }
 
 -- no entry is due where the least is not
-none_due : (content : Content) (now slot expiry : ℕ) → IsLeast content slot expiry → now < expiry → IsDueEntry content now None
+none_due : (content : Content) (now slot expiry : ℕ) → IsLeastSlot content slot expiry → now < expiry → IsDueEntry content now None
 none_due content now slot expiry least later other =
     IfSome_then (map.get content other) (least.least other) (λ another larger. omega arith)
 
-due_of_some : (content : Content) (now : ℕ) (entry : ℕ × ℕ) (is_due : Bool) → IsLeast content entry.0 entry.1 → nat_le entry.1 now ≡ is_due → IsDueEntry content now (then_some is_due entry)
+due_of_some : (content : Content) (now : ℕ) (entry : ℕ × ℕ) (is_due : Bool) → IsLeastSlot content entry.0 entry.1 → nat_le entry.1 now ≡ is_due → IsDueEntry content now (then_some is_due entry)
 due_of_some content now entry true least tested = (least, leb-true entry.1 now tested)
 due_of_some content now entry false least tested =
     none_due content now entry.0 entry.1 least (leb-false entry.1 now tested)

@@ -8,16 +8,16 @@ abbrev pub Content : Type 0
 Content = map.FinMap nat_cmp ℕ
 
 -- the entry is there, and no entry has a smaller expiry
-pub record IsLeast (content : Content) (slot expiry : ℕ) : Type 0 where
+pub record IsLeastSlot (content : Content) (slot expiry : ℕ) : Type 0 where
   pub present : map.get content slot ≡ Some expiry
   pub least : (other : ℕ) → IfSome (map.get content other) (λ another. expiry ≤ another)
 
 -- an entry of least expiry, or none where the content is empty
 abbrev pub IsLeastEntry : Content → Option (ℕ × ℕ) → Type 0
 IsLeastEntry content None = content ≡ map.empty
-IsLeastEntry content (Some entry) = IsLeast content entry.0 entry.1
+IsLeastEntry content (Some entry) = IsLeastSlot content entry.0 entry.1
 
 -- an entry of least expiry where that is at most `now`, or none where every expiry is later
 abbrev pub IsDueEntry : Content → ℕ → Option (ℕ × ℕ) → Type 0
 IsDueEntry content now None = (slot : ℕ) → IfSome (map.get content slot) (λ expiry. now < expiry)
-IsDueEntry content now (Some entry) = IsLeast content entry.0 entry.1 × (entry.1 ≤ now)
+IsDueEntry content now (Some entry) = IsLeastSlot content entry.0 entry.1 × (entry.1 ≤ now)

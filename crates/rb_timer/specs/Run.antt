@@ -27,7 +27,7 @@ Step room old (Remove slot) Refused new = (map.get old slot ≡ None) × (new �
 Step room old _ _ new = ⊥
 
 -- one step leads to what the timer contains between it and the rest
-pub record GoesOn (step rest : Content → Type 0) : Type 0 where
+pub record StepsOn (step rest : Content → Type 0) : Type 0 where
   pub between : Content
   pub first : step between
   pub others : rest between
@@ -36,5 +36,5 @@ pub record GoesOn (step rest : Content → Type 0) : Type 0 where
 abbrev pub Run : ℕ → Content → List TimerCommand → List TimerAnswer → Content → Type 0
 Run room old [] [] new = new ≡ old
 Run room old (command ∷ commands) (answer ∷ answers) new =
-    GoesOn (λ between. Step room old command answer between) (λ between. Run room between commands answers new)
+    StepsOn (λ between. Step room old command answer between) (λ between. Run room between commands answers new)
 Run room old _ _ new = ⊥

@@ -9,7 +9,7 @@ use Rattle.std.proofs.lemmas.Option.{none-some, same_Some}
 use Rattle.rb_timer.specs.Content.{Content}
 use Rattle.rb_timer.specs.Slots.{content_of, len-content_of, same_content, content_of-none}
 use Rattle.rb_wheel.specs.Cells.{IsCellOf}
-use Rattle.rb_wheel.specs.Lists.{cell_at, expiry_at}
+use Rattle.rb_wheel.specs.Lists.{cell_at, slot_expiry}
 use Rattle.rb_wheel.specs.Wheel.{LiesRight, early_of, IsWheel}
 use Rattle.rb_wheel.proofs.Rooms.{get_or-padded}
 use Rattle.std.proofs.lemmas.List.{length-replicate}
@@ -75,31 +75,31 @@ module _ (expiries cells new_cells : List (Option ℕ)) (early new_early : Conte
     (early_here : map.get new_early slot ≡ early_of expiry (cell_at new_cells slot))
     (cells_other : (other : ℕ) → other ≢ slot → cell_at new_cells other ≡ cell_at cells other)
     (early_other : (other : ℕ) → other ≢ slot → map.get new_early other ≡ map.get early other)
-    (count : new_len + cond (is_some (expiry_at expiries slot)) 1 0 ≡ len + cond (is_some expiry) 1 0) where
+    (count : new_len + cond (is_some (slot_expiry expiries slot)) 1 0 ≡ len + cond (is_some expiry) 1 0) where
   abbrev written : List (Option ℕ)
   written = set expiries slot expiry
 
-  here : expiry_at written slot ≡ expiry
+  here : slot_expiry written slot ≡ expiry
   here = get_or-set_same expiries slot expiry None within
 
-  elsewhere : (other : ℕ) → other ≢ slot → expiry_at written other ≡ expiry_at expiries other
+  elsewhere : (other : ℕ) → other ≢ slot → slot_expiry written other ≡ slot_expiry expiries other
   elsewhere other apart = get_or-set_other expiries slot other expiry None apart
 
   pub IsWheel-written : IsWheel written new_cells new_early new_room base new_len
   IsWheel-written = record {
     right = record {
-      each = each_slot (λ s. LiesRight base (expiry_at written s) (cell_at new_cells s)) slot
-          (LiesRight-same base expiry (expiry_at written slot) (cell_at new_cells slot) (cell_at new_cells slot) here refl lies)
-          (λ other apart. LiesRight-same base (expiry_at expiries other) (expiry_at written other) (cell_at cells other) (cell_at new_cells other)
+      each = each_slot (λ s. LiesRight base (slot_expiry written s) (cell_at new_cells s)) slot
+          (LiesRight-same base expiry (slot_expiry written slot) (cell_at new_cells slot) (cell_at new_cells slot) here refl lies)
+          (λ other apart. LiesRight-same base (slot_expiry expiries other) (slot_expiry written other) (cell_at cells other) (cell_at new_cells other)
           (elsewhere other apart) (cells_other other apart) (wheel.right.each other));
     };
-    moments = each_slot (λ s. IfSome (expiry_at written s) (λ e. e < 2 ^ 64)) slot
+    moments = each_slot (λ s. IfSome (slot_expiry written s) (λ e. e < 2 ^ 64)) slot
         (subst (λ e. IfSome e (λ x. x < 2 ^ 64)) (sym here) moment)
         (λ other apart. subst (λ e. IfSome e (λ x. x < 2 ^ 64)) (sym (elsewhere other apart)) (wheel.moments other));
-    early_entries = each_slot (λ s. map.get new_early s ≡ early_of (expiry_at written s) (cell_at new_cells s)) slot
-        (early_here ∙ early_of-same expiry (expiry_at written slot) (cell_at new_cells slot) (cell_at new_cells slot) here refl)
+    early_entries = each_slot (λ s. map.get new_early s ≡ early_of (slot_expiry written s) (cell_at new_cells s)) slot
+        (early_here ∙ early_of-same expiry (slot_expiry written slot) (cell_at new_cells slot) (cell_at new_cells slot) here refl)
         (λ other apart. early_other other apart ∙ wheel.early_entries other
-        ∙ early_of-same (expiry_at expiries other) (expiry_at written other) (cell_at cells other) (cell_at new_cells other) (elsewhere other apart) (cells_other other apart));
+        ∙ early_of-same (slot_expiry expiries other) (slot_expiry written other) (cell_at cells other) (cell_at new_cells other) (elsewhere other apart) (cells_other other apart));
     in_lists = let fits = wheel.in_lists in let same = length-set expiries slot expiry in omega arith;
     in_early = let fits = wheel.in_early in let same = length-set expiries slot expiry in omega arith;
     counted =
@@ -110,12 +110,12 @@ module _ (expiries cells new_cells : List (Option ℕ)) (early new_early : Conte
 module _ (expiries cells : List (Option ℕ)) (early : Content) (room base len : ℕ)
     (wheel : IsWheel expiries cells early room base len) (slot : ℕ) (within : slot < length expiries) where
   -- a slot with no entry lies nowhere, and there are fewer entries than slots
-  module _ (absent : expiry_at expiries slot ≡ None) where
+  module _ (absent : slot_expiry expiries slot ≡ None) where
     pub free : cell_at cells slot ≡ None
-    free = none_lies base (expiry_at expiries slot) (cell_at cells slot) (wheel.right.each slot) absent
+    free = none_lies base (slot_expiry expiries slot) (cell_at cells slot) (wheel.right.each slot) absent
 
     pub not_early : map.get early slot ≡ None
-    not_early = wheel.early_entries slot ∙ ap (early_of (expiry_at expiries slot)) free ∙ absent
+    not_early = wheel.early_entries slot ∙ ap (early_of (slot_expiry expiries slot)) free ∙ absent
 
     pub fewer : len < length expiries
     fewer =
@@ -125,14 +125,14 @@ module _ (expiries cells : List (Option ℕ)) (early : Content) (room base len :
         let was = wheel.counted in
         let none : ℕ = 0 in
         let one : ℕ = 1 in
-        let gone : cond (is_some (expiry_at expiries slot)) one none ≡ none = ap (λ e. cond (is_some e) one none) absent in
+        let gone : cond (is_some (slot_expiry expiries slot)) one none ≡ none = ap (λ e. cond (is_some e) one none) absent in
         omega (arith, counts, most, same, was, gone)
 
-    count_one : (len + 1) + cond (is_some (expiry_at expiries slot)) 1 0 ≡ len + 1
+    count_one : (len + 1) + cond (is_some (slot_expiry expiries slot)) 1 0 ≡ len + 1
     count_one =
         let none : ℕ = 0 in
         let one : ℕ = 1 in
-        let gone : cond (is_some (expiry_at expiries slot)) one none ≡ none = ap (λ e. cond (is_some e) one none) absent in
+        let gone : cond (is_some (slot_expiry expiries slot)) one none ≡ none = ap (λ e. cond (is_some e) one none) absent in
         omega (arith, gone)
 
     pub insert_early : (e new_room : ℕ) (new_early : Content) → e < 2 ^ 64 → e < base → new_early ≡ map.insert early slot e → new_room ≡ room
@@ -159,33 +159,33 @@ module _ (expiries cells : List (Option ℕ)) (early : Content) (room base len :
         count_one
 
   -- a slot with an entry
-  module _ (e : ℕ) (present : expiry_at expiries slot ≡ Some e) where
+  module _ (e : ℕ) (present : slot_expiry expiries slot ≡ Some e) where
     pub some_left : 0 < len
     some_left =
         let counts = sum_by-set (λ x. cond (is_some x) 1 0) expiries slot None None within in
         let was = wheel.counted in
         let none : ℕ = 0 in
         let one : ℕ = 1 in
-        let here : cond (is_some (expiry_at expiries slot)) one none ≡ one = ap (λ x. cond (is_some x) one none) present in
+        let here : cond (is_some (slot_expiry expiries slot)) one none ≡ one = ap (λ x. cond (is_some x) one none) present in
         omega (arith, counts, was, here)
 
-    count_less : (len - 1) + cond (is_some (expiry_at expiries slot)) 1 0 ≡ len + 0
+    count_less : (len - 1) + cond (is_some (slot_expiry expiries slot)) 1 0 ≡ len + 0
     count_less =
         let none : ℕ = 0 in
         let one : ℕ = 1 in
-        let here : cond (is_some (expiry_at expiries slot)) one none ≡ one = ap (λ x. cond (is_some x) one none) present in
+        let here : cond (is_some (slot_expiry expiries slot)) one none ≡ one = ap (λ x. cond (is_some x) one none) present in
         let some = some_left in
         omega (arith, here)
 
     pub in_no_cell : e < base → cell_at cells slot ≡ None
-    in_no_cell before = early_lies base (expiry_at expiries slot) (cell_at cells slot) e (wheel.right.each slot) present before
+    in_no_cell before = early_lies base (slot_expiry expiries slot) (cell_at cells slot) e (wheel.right.each slot) present before
 
     pub is_early : e < base → map.get early slot ≡ Some e
     is_early before =
-        wheel.early_entries slot ∙ ap (early_of (expiry_at expiries slot)) (in_no_cell before) ∙ present
+        wheel.early_entries slot ∙ ap (early_of (slot_expiry expiries slot)) (in_no_cell before) ∙ present
 
     pub in_cell : base ≤ e → IsSome (cell_at cells slot)
-    in_cell after = late_lies base (expiry_at expiries slot) (cell_at cells slot) e (wheel.right.each slot) present after
+    in_cell after = late_lies base (slot_expiry expiries slot) (cell_at cells slot) e (wheel.right.each slot) present after
 
     pub remove_early : (new_room : ℕ) (new_early : Content) → e < base → new_early ≡ map.remove early slot → new_room ≡ room
         → IsWheel (set expiries slot None) cells new_early new_room base (len - 1)
@@ -197,7 +197,7 @@ module _ (expiries cells : List (Option ℕ)) (early : Content) (room base len :
         (λ other apart. ap (λ m. map.get m other) is ∙ get-remove_other early slot other apart)
         count_less
 
-    early_some : (cell : Option ℕ) → IsSome cell → early_of (expiry_at expiries slot) cell ≡ None
+    early_some : (cell : Option ℕ) → IsSome cell → early_of (slot_expiry expiries slot) cell ≡ None
     early_some None some = absurd (is_some-none some)
     early_some (Some at) some = refl
 
@@ -216,17 +216,17 @@ module _ (expiries cells : List (Option ℕ)) (early : Content) (room base len :
 
 -- the wheel has more room, and the same entries
 pub IsWheel-reserved : (expiries new_expiries cells new_cells : List (Option ℕ)) (early new_early : Content) (room new_room base len : ℕ)
-    → ((slot : ℕ) → expiry_at new_expiries slot ≡ expiry_at expiries slot) → ((slot : ℕ) → cell_at new_cells slot ≡ cell_at cells slot)
+    → ((slot : ℕ) → slot_expiry new_expiries slot ≡ slot_expiry expiries slot) → ((slot : ℕ) → cell_at new_cells slot ≡ cell_at cells slot)
     → new_early ≡ early → length new_expiries ≤ length new_cells → length new_expiries ≤ new_room
     → IsWheel expiries cells early room base len → IsWheel new_expiries new_cells new_early new_room base len
 IsWheel-reserved expiries new_expiries cells new_cells early new_early room new_room base len same_expiries same_cells same_early lists_fit early_fit wheel = record {
   right = record {
-    each = λ slot. LiesRight-same base (expiry_at expiries slot) (expiry_at new_expiries slot) (cell_at cells slot) (cell_at new_cells slot)
+    each = λ slot. LiesRight-same base (slot_expiry expiries slot) (slot_expiry new_expiries slot) (cell_at cells slot) (cell_at new_cells slot)
         (same_expiries slot) (same_cells slot) (wheel.right.each slot);
   };
   moments = λ slot. subst (λ e. IfSome e (λ x. x < 2 ^ 64)) (sym (same_expiries slot)) (wheel.moments slot);
   early_entries = λ slot. ap (λ m. map.get m slot) same_early ∙ wheel.early_entries slot
-      ∙ early_of-same (expiry_at expiries slot) (expiry_at new_expiries slot) (cell_at cells slot) (cell_at new_cells slot) (same_expiries slot) (same_cells slot);
+      ∙ early_of-same (slot_expiry expiries slot) (slot_expiry new_expiries slot) (cell_at cells slot) (cell_at new_cells slot) (same_expiries slot) (same_cells slot);
   in_lists = lists_fit;
   in_early = early_fit;
   counted =
@@ -239,17 +239,17 @@ pub IsWheel-none : (expiries new_expiries cells new_cells : List (Option ℕ)) (
     → new_expiries ≡ replicate (length expiries) None → new_cells ≡ replicate (length cells) None → new_early ≡ map.empty → new_room ≡ room
     → IsWheel expiries cells early room base len → IsWheel new_expiries new_cells new_early new_room base 0
 IsWheel-none expiries new_expiries cells new_cells early new_early room new_room base len no_expiries no_cells no_early same_room wheel =
-    let no_expiry = λ (slot : ℕ). ap (λ es. expiry_at es slot) no_expiries ∙ get_or-padded [] (length expiries) slot None in
+    let no_expiry = λ (slot : ℕ). ap (λ es. slot_expiry es slot) no_expiries ∙ get_or-padded [] (length expiries) slot None in
     let no_cell = λ (slot : ℕ). ap (λ cs. cell_at cs slot) no_cells ∙ get_or-padded [] (length cells) slot None in
     let long_expiries : length new_expiries ≡ length expiries = ap length no_expiries ∙ length-replicate (length expiries) None in
     let long_cells : length new_cells ≡ length cells = ap length no_cells ∙ length-replicate (length cells) None in
     let lists_fit = wheel.in_lists in
     let early_fit = wheel.in_early in
     record {
-      right = record { each = λ slot. LiesRight-same base None (expiry_at new_expiries slot) None (cell_at new_cells slot) (no_expiry slot) (no_cell slot) refl };
+      right = record { each = λ slot. LiesRight-same base None (slot_expiry new_expiries slot) None (cell_at new_cells slot) (no_expiry slot) (no_cell slot) refl };
       moments = λ slot. subst (λ e. IfSome e (λ x. x < 2 ^ 64)) (sym (no_expiry slot)) tt;
       early_entries = λ slot. ap (λ m. map.get m slot) no_early ∙ map.get-empty nat_cmp slot
-          ∙ early_of-same None (expiry_at new_expiries slot) None (cell_at new_cells slot) (no_expiry slot) (no_cell slot);
+          ∙ early_of-same None (slot_expiry new_expiries slot) None (cell_at new_cells slot) (no_expiry slot) (no_cell slot);
       in_lists = omega arith;
       in_early = omega arith;
       counted = sym (map.len-empty nat_cmp ℕ) ∙ ap map.len (sym (content_of-none (length expiries)) ∙ ap content_of (sym no_expiries)) ∙ len-content_of new_expiries;

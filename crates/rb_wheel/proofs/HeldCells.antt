@@ -5,7 +5,7 @@ use Rattle.rb_wheel.specs.declared.lists.Link.{Link}
 use Rattle.rb_wheel.specs.declared.marks.Marks.{Marks}
 use Rattle.rb_wheel.specs.Marks.{mark_of, IsFirstMarked}
 use Rattle.rb_wheel.specs.Lists.{cell_at, IsVacant, IsFirstCell}
-use Rattle.rb_wheel.specs.Links.{head_at, cells_of, IsSound}
+use Rattle.rb_wheel.specs.WheelLinks.{head_at, cells_of, AreSoundLists}
 use Rattle.rb_wheel.proofs.Linked.{cases_option}
 use Rattle.rb_wheel.proofs.Members.{met}
 use Rattle.rb_wheel.proofs.Viewed.{cell_at-viewed, if_some}
@@ -23,7 +23,7 @@ mark_of-some None slot is = absurd (none-some slot is)
 mark_of-some (Some other) slot is = refl
 
 module _ (heads : List (Option ℕ)) (marks : Marks) (links : List Link) (cells : List (Option ℕ))
-    (sound : IsSound heads marks links) (view : cells_of links ≡ cells) where
+    (sound : AreSoundLists heads marks links) (view : cells_of links ≡ cells) where
   -- a cell with no first slot holds none
   pub vacant : (at : ℕ) → head_at heads at ≡ None → IsVacant cells at
   vacant at none slot lies =

@@ -3,10 +3,10 @@ use Rattle.std.proofs.Common.{◌≡◌, ℕ, ◌<◌, ◌≢◌, List, length, 
 use Rattle.std.proofs.lemmas.Bool.{cases_eq}
 use Rattle.std.proofs.lemmas.List.{map-set}
 use Rattle.rb_wheel.specs.declared.lists.Link.{Link}
-use Rattle.rb_wheel.specs.Written.{unlinked, link_at, with_previous}
-use Rattle.rb_wheel.specs.Links.{head_at, cell_in, next_in, previous_in, cells_of, AreLinked}
+use Rattle.rb_wheel.specs.LinkWrites.{unlinked, link_at, with_previous}
+use Rattle.rb_wheel.specs.WheelLinks.{head_at, cell_in, next_in, previous_in, cells_of, AreLinked}
 use Rattle.rb_wheel.specs.Marks.{mark_of}
-use Rattle.rb_wheel.proofs.Linked.{PutsFirst, IsLinked-put, rank_below, cases_some}
+use Rattle.rb_wheel.proofs.Linked.{PutsFirst, LinksAgree-put, rank_below, cases_some}
 use Rattle.rb_wheel.proofs.WrittenLinks.{in_room, length-with_previous, with_previous_here, with_previous_other, cells_of-with_previous}
 
 -- the link of a slot that is first in its cell, and the links with it
@@ -62,7 +62,7 @@ module _ (heads : List (Option ℕ)) (links : List Link) (at slot : ℕ) (rank :
   }
 
   pub AreLinked-insert : AreLinked (set heads at (Some slot)) (with_put heads links at slot) (rank_below slot rank)
-  AreLinked-insert = IsLinked-put _ _ _ _ _ _ _ _ at slot rank linked puts
+  AreLinked-insert = LinksAgree-put _ _ _ _ _ _ _ _ at slot rank linked puts
 
   pub cells_of-insert : cells_of (with_put heads links at slot) ≡ set (cells_of links) slot (Some at)
   cells_of-insert =

@@ -4,10 +4,10 @@ use Rattle.std.specs.FinMap as map
 use Rattle.std.specs.Ordering.{nat_cmp}
 use Rattle.std.proofs.lemmas.Bool.{cases_lt}
 use Rattle.std.proofs.lemmas.Option.{none-some, same_Some}
-use Rattle.rb_timer.specs.Content.{Content, IsLeast, IsLeastEntry, IsDueEntry}
+use Rattle.rb_timer.specs.Content.{Content, IsLeastSlot, IsLeastEntry, IsDueEntry}
 use Rattle.rb_timer.specs.Slots.{content_of, get-content_of, content_empty}
 use Rattle.rb_wheel.specs.Cells.{IsCellOf}
-use Rattle.rb_wheel.specs.Lists.{cell_at, expiry_at, IsVacant, IsFirstCell, IsLeastIn}
+use Rattle.rb_wheel.specs.Lists.{cell_at, slot_expiry, IsVacant, IsFirstCell, IsLeastIn}
 use Rattle.rb_wheel.specs.Wheel.{LiesRight, LieRight, SameInCells, IsNoneDue, IsDueCell, early_of, IsWheel}
 use Rattle.rb_wheel.proofs.Linked.{cases_option}
 use Rattle.rb_wheel.proofs.Moves.{entry_at}
@@ -34,32 +34,32 @@ empty_where_none early (Some entry) least none = absurd (cc)
 
 module _ (expiries value cells : List (Option ℕ)) (early : Content) (room base len : ℕ)
     (wheel : IsWheel expiries cells early room base len) (same : expiries ≡ value) where
-  at_slot : (slot : ℕ) → map.get (content_of value) slot ≡ expiry_at expiries slot
-  at_slot slot = get-content_of value slot ∙ ap (λ es. expiry_at es slot) (sym same)
+  at_slot : (slot : ℕ) → map.get (content_of value) slot ≡ slot_expiry expiries slot
+  at_slot slot = get-content_of value slot ∙ ap (λ es. slot_expiry es slot) (sym same)
 
   -- what holds of each entry's expiry
-  each_entry : (P : ℕ → Type 0) → ((slot e : ℕ) → expiry_at expiries slot ≡ Some e → P e) → (slot : ℕ) → IfSome (map.get (content_of value) slot) P
-  each_entry P each slot = subst (λ o. IfSome o P) (sym (at_slot slot)) (if_some (expiry_at expiries slot) P (each slot))
+  each_entry : (P : ℕ → Type 0) → ((slot e : ℕ) → slot_expiry expiries slot ≡ Some e → P e) → (slot : ℕ) → IfSome (map.get (content_of value) slot) P
+  each_entry P each slot = subst (λ o. IfSome o P) (sym (at_slot slot)) (if_some (slot_expiry expiries slot) P (each slot))
 
   -- an entry in a cell expires no earlier than the base
-  cell_entry : (slot e at : ℕ) → expiry_at expiries slot ≡ Some e → cell_at cells slot ≡ Some at → (base ≤ e) × IsCellOf base e at
+  cell_entry : (slot e at : ℕ) → slot_expiry expiries slot ≡ Some e → cell_at cells slot ≡ Some at → (base ≤ e) × IsCellOf base e at
   cell_entry slot e at is lies =
-      let it = entry_at base (expiry_at expiries slot) (cell_at cells slot) at lies (wheel.right.each slot) in
+      let it = entry_at base (slot_expiry expiries slot) (cell_at cells slot) at lies (wheel.right.each slot) in
       let same_expiry : it.at ≡ e = same_Some it.at e (sym it.is ∙ is) in
       subst (λ x. (base ≤ x) × IsCellOf base x at) same_expiry (it.after, it.in_cell)
 
   -- each entry is early or in a cell
-  where_entry : (slot e : ℕ) → expiry_at expiries slot ≡ Some e → ((at : ℕ) × (cell_at cells slot ≡ Some at)) ⊎ (map.get early slot ≡ Some e)
+  where_entry : (slot e : ℕ) → slot_expiry expiries slot ≡ Some e → ((at : ℕ) × (cell_at cells slot ≡ Some at)) ⊎ (map.get early slot ≡ Some e)
   where_entry slot e is = ⊎_elim (λ lies. inl lies)
       (λ is_early. inr (wheel.early_entries slot ∙ is_early))
-      (in_cell_or_early base (expiry_at expiries slot) (cell_at cells slot) e (wheel.right.each slot) is)
+      (in_cell_or_early base (slot_expiry expiries slot) (cell_at cells slot) e (wheel.right.each slot) is)
 
-  early_entry : (slot e : ℕ) → map.get early slot ≡ Some e → (expiry_at expiries slot ≡ Some e) × (e < base)
+  early_entry : (slot e : ℕ) → map.get early slot ≡ Some e → (slot_expiry expiries slot ≡ Some e) × (e < base)
   early_entry slot e is =
-      early_before base (expiry_at expiries slot) (cell_at cells slot) e (wheel.right.each slot) (sym (wheel.early_entries slot) ∙ is)
+      early_before base (slot_expiry expiries slot) (cell_at cells slot) e (wheel.right.each slot) (sym (wheel.early_entries slot) ∙ is)
 
   -- the least of the early entries is the least of all
-  pub least_early : (slot e : ℕ) → IsLeast early slot e → IsLeast (content_of value) slot e
+  pub least_early : (slot e : ℕ) → IsLeastSlot early slot e → IsLeastSlot (content_of value) slot e
   least_early slot e least =
       let here = early_entry slot e least.present in
       record {
@@ -87,14 +87,14 @@ module _ (expiries value cells : List (Option ℕ)) (early : Content) (room base
 
   -- no entry is early
   module _ (no_early : early ≡ map.empty) where
-    in_cell : (slot e : ℕ) → expiry_at expiries slot ≡ Some e → (at : ℕ) × (cell_at cells slot ≡ Some at)
+    in_cell : (slot e : ℕ) → slot_expiry expiries slot ≡ Some e → (at : ℕ) × (cell_at cells slot ≡ Some at)
     in_cell slot e is = ⊎_elim (λ lies. lies)
         (λ is_early. absurd (none-some e (sym (ap (λ m. map.get m slot) no_early ∙ map.get-empty nat_cmp slot) ∙ is_early)))
         (where_entry slot e is)
 
     pub none_least : ((at : ℕ) → IsVacant cells at) → content_of value ≡ map.empty
-    none_least vacant = content_empty value (λ slot. cases_option (expiry_at value slot ≡ None) (expiry_at value slot) (λ none. none)
-        (λ e is. let lies = in_cell slot e (ap (λ es. expiry_at es slot) same ∙ is) in absurd (vacant lies.0 slot lies.1)))
+    none_least vacant = content_empty value (λ slot. cases_option (slot_expiry value slot ≡ None) (slot_expiry value slot) (λ none. none)
+        (λ e is. let lies = in_cell slot e (ap (λ es. slot_expiry es slot) same ∙ is) in absurd (vacant lies.0 slot lies.1)))
 
     -- the least of the first cell is the least of all
     pub least_of_first : (cell : ℕ) → IsFirstCell cells cell → (least : Option (ℕ × ℕ))
@@ -116,7 +116,7 @@ module _ (expiries value cells : List (Option ℕ)) (early : Content) (room base
     }
 
     -- what was in a cell is in one after the base has moved
-    in_new_cell : (new_cells : List (Option ℕ)) → SameInCells cells new_cells → (slot e : ℕ) → expiry_at expiries slot ≡ Some e → IsSome (cell_at new_cells slot)
+    in_new_cell : (new_cells : List (Option ℕ)) → SameInCells cells new_cells → (slot e : ℕ) → slot_expiry expiries slot ≡ Some e → IsSome (cell_at new_cells slot)
     in_new_cell new_cells moved slot e is = moved.each slot ∙ ap is_some (in_cell slot e is).1
 
     pub none_due : (now : ℕ) (new_cells : List (Option ℕ)) → SameInCells cells new_cells → IsNoneDue now expiries new_cells
@@ -126,14 +126,14 @@ module _ (expiries value cells : List (Option ℕ)) (early : Content) (room base
 
     pub due_from_cell : (now new_base cell slot : ℕ) (new_cells : List (Option ℕ)) → SameInCells cells new_cells → LieRight new_base expiries new_cells
         → IsDueCell new_base now cell expiries new_cells → cell_at new_cells slot ≡ Some cell
-        → IsLeast (content_of value) slot new_base × (new_base ≤ now)
+        → IsLeastSlot (content_of value) slot new_base × (new_base ≤ now)
     due_from_cell now new_base cell slot new_cells moved right due lies = (
       record {
         present = at_slot slot ∙ due.expires slot lies;
         least = each_entry (λ x. new_base ≤ x) (λ other x is. cases_option (new_base ≤ x) (cell_at new_cells other)
             (λ none. absurd (is_some-none (subst (λ o. IsSome o) none (in_new_cell new_cells moved other x is))))
             (λ at in_it.
-            let it = entry_at new_base (expiry_at expiries other) (cell_at new_cells other) at in_it (right.each other) in
+            let it = entry_at new_base (slot_expiry expiries other) (cell_at new_cells other) at in_it (right.each other) in
             let same_expiry : it.at ≡ x = same_Some it.at x (sym it.is ∙ is) in
             let after = it.after in
             omega arith));

@@ -1,10 +1,10 @@
 -- The least expiry of a cell, as far as a walk over it has come.
 use Rattle.std.proofs.Common.{◌≡◌, ℕ, ◌<◌, ◌≤◌, List, length, Option, Some, None, IfSome, MatchOption, sym, ◌∙◌, subst, arith, ⊎_elim, ◌⊎◌, inl, inr}
-use Rattle.rb_wheel.specs.Lists.{cell_at, expiry_at, IsVacant, IsLeastIn}
+use Rattle.rb_wheel.specs.Lists.{cell_at, slot_expiry, IsVacant, IsLeastIn}
 use Rattle.std.proofs.lemmas.Option.{IfSome_then}
 use Rattle.rb_wheel.specs.declared.lists.Link.{Link}
 use Rattle.rb_wheel.specs.declared.marks.Marks.{Marks}
-use Rattle.rb_wheel.specs.Links.{head_at, next_in, cells_of, IsSound}
+use Rattle.rb_wheel.specs.WheelLinks.{head_at, next_in, cells_of, AreSoundLists}
 use Rattle.rb_wheel.proofs.HeldCells.{holds}
 use Rattle.rb_wheel.proofs.Members.{Reaches, met, left, left-next}
 use Rattle.rb_wheel.proofs.Members.Reaches.{here, later}
@@ -14,12 +14,12 @@ use Rattle.rb_wheel.proofs.WrittenLinks.{in_room}
 -- the slot's expiry is no earlier than the best
 abbrev pub IsPassed : List (Option ℕ) → Option (ℕ × ℕ) → ℕ → Type 0
 IsPassed expiries None slot = ⊥
-IsPassed expiries (Some best) slot = IfSome (expiry_at expiries slot) (λ expiry. best.1 ≤ expiry)
+IsPassed expiries (Some best) slot = IfSome (slot_expiry expiries slot) (λ expiry. best.1 ≤ expiry)
 
 -- the best is an entry of the cell
 pub record IsEntryOf (cells expiries : List (Option ℕ)) (at : ℕ) (best : ℕ × ℕ) : Type 0 where
   pub lies : cell_at cells best.0 ≡ Some at
-  pub expires : expiry_at expiries best.0 ≡ Some best.1
+  pub expires : slot_expiry expiries best.0 ≡ Some best.1
 
 pub record IsLeastSoFar (cells expiries : List (Option ℕ)) (at : ℕ) (next : ℕ → Option ℕ) (cursor : Option ℕ) (best : Option (ℕ × ℕ)) : Type 0 where
   pub comes : IfSome cursor (λ slot. cell_at cells slot ≡ Some at)
@@ -27,7 +27,7 @@ pub record IsLeastSoFar (cells expiries : List (Option ℕ)) (at : ℕ) (next : 
   pub each : (slot : ℕ) → cell_at cells slot ≡ Some at → IsPassed expiries best slot ⊎ Reaches next cursor slot
 
 module _ (heads : List (Option ℕ)) (marks : Marks) (links : List Link) (cells expiries : List (Option ℕ)) (at : ℕ)
-    (sound : IsSound heads marks links) (view : cells_of links ≡ cells) where
+    (sound : AreSoundLists heads marks links) (view : cells_of links ≡ cells) where
   abbrev next : ℕ → Option ℕ
   next = next_in links
 
@@ -45,7 +45,7 @@ module _ (heads : List (Option ℕ)) (marks : Marks) (links : List Link) (cells 
       → IsPassed expiries best slot → IsPassed expiries (Some now) slot
   passed_again None now slot no_worse passed = absurd passed
   passed_again (Some best) now slot no_worse passed =
-      IfSome_then (expiry_at expiries slot) passed (λ expiry later. omega arith)
+      IfSome_then (slot_expiry expiries slot) passed (λ expiry later. omega arith)
 
   best_among : (best : Option (ℕ × ℕ)) (now entry : ℕ × ℕ) → (now ≡ entry) ⊎ (best ≡ Some now)
       → IfSome best (IsEntryOf cells expiries at) → IsEntryOf cells expiries at entry → IsEntryOf cells expiries at now
@@ -56,7 +56,7 @@ module _ (heads : List (Option ℕ)) (marks : Marks) (links : List Link) (cells 
 
   module _ (cursor : Option ℕ) (best : Option (ℕ × ℕ)) (slot expiry : ℕ) (now : ℕ × ℕ)
       (so_far : IsLeastSoFar cells expiries at next cursor best) (is : cursor ≡ Some slot)
-      (expires : expiry_at expiries slot ≡ Some expiry) (no_later : now.1 ≤ expiry)
+      (expires : slot_expiry expiries slot ≡ Some expiry) (no_later : now.1 ≤ expiry)
       (no_worse : IfSome best (λ b. now.1 ≤ b.1)) (either : (now ≡ (slot, expiry)) ⊎ (best ≡ Some now)) where
     lies_here : cell_at cells slot ≡ Some at
     lies_here = subst (λ o. IfSome o (λ s. cell_at cells s ≡ Some at)) is so_far.comes

@@ -2,7 +2,7 @@
 use Rattle.std.proofs.Common.{◌≡◌, ℕ, ◌+◌, ◌<◌, ◌≢◌, Option, Some, None, cond, eqb, sym, ap, ◌∙◌, refl, arith, ⊎_elim, ◌⊎◌, inl, inr}
 use Rattle.std.proofs.lemmas.Bool.{cases_eq, eq-eqb, ne_eqb}
 use Rattle.std.proofs.lemmas.Option.{none-some, same_Some}
-use Rattle.rb_wheel.specs.Links.{IsLinked}
+use Rattle.rb_wheel.specs.WheelLinks.{LinksAgree}
 
 -- an option is none, or some number
 pub cases_option : (P : Type 0) (o : Option ℕ) → (o ≡ None → P) → ((k : ℕ) → o ≡ Some k → P) → P
@@ -39,7 +39,7 @@ cases_some None k = inr (λ is. none-some k is)
 cases_some (Some j) k = ⊎_elim (λ same. inl (ap Some same)) (λ apart. inr (λ is. apart (same_Some j k is))) (cases_eq j k)
 
 module _ (head cell next previous new_head new_cell new_next new_previous : ℕ → Option ℕ) (at slot : ℕ) (rank : ℕ → ℕ)
-    (linked : IsLinked head cell next previous rank)
+    (linked : LinksAgree head cell next previous rank)
     (puts : PutsFirst head cell next previous new_head new_cell new_next new_previous at slot) where
   -- what is linked is not the free slot
   has_cell : (s c : ℕ) → cell s ≡ Some c → s ≢ slot
@@ -137,8 +137,8 @@ module _ (head cell next previous new_head new_cell new_next new_previous : ℕ 
       ∙ linked.free_previous s was)
       (cases_eq s slot)
 
-  pub IsLinked-put : IsLinked new_head new_cell new_next new_previous (rank_below slot rank)
-  IsLinked-put = record {
+  pub LinksAgree-put : LinksAgree new_head new_cell new_next new_previous (rank_below slot rank)
+  LinksAgree-put = record {
     head_cell = put_head_cell;
     head_first = put_head_first;
     first_head = put_first_head;
@@ -166,7 +166,7 @@ pub record TakesOut (head cell next previous new_head new_cell new_next new_prev
   pub previous_other : (s : ℕ) → s ≢ slot → next slot ≢ Some s → new_previous s ≡ previous s
 
 module _ (head cell next previous new_head new_cell new_next new_previous : ℕ → Option ℕ) (at slot : ℕ) (rank : ℕ → ℕ)
-    (linked : IsLinked head cell next previous rank)
+    (linked : LinksAgree head cell next previous rank)
     (takes : TakesOut head cell next previous new_head new_cell new_next new_previous at slot) where
   next_apart : (s t : ℕ) → next s ≡ Some t → t ≢ s
   next_apart s t is same =
@@ -285,8 +285,8 @@ module _ (head cell next previous new_head new_cell new_next new_previous : ℕ 
       takes.previous_other s apart (λ after. none-some slot (sym free ∙ linked.next_previous slot s after)) ∙ free)
       (cases_eq s slot)
 
-  pub IsLinked-taken : IsLinked new_head new_cell new_next new_previous rank
-  IsLinked-taken = record {
+  pub LinksAgree-taken : LinksAgree new_head new_cell new_next new_previous rank
+  LinksAgree-taken = record {
     head_cell = taken_head_cell;
     head_first = taken_head_first;
     first_head = taken_first_head;

@@ -4,7 +4,7 @@ use Rattle.std.specs.List.{IsDistinct, AllByRecursion, list_any}
 use Rattle.std.proofs.lemmas.Bool.{cases_eq, ne_eqb}
 use Rattle.std.proofs.lemmas.Map.Steps.{length-le_from_distinct_below}
 use Rattle.std.proofs.lemmas.Option.{none-some, same_Some}
-use Rattle.rb_wheel.specs.Links.{IsLinked}
+use Rattle.rb_wheel.specs.WheelLinks.{LinksAgree}
 use Rattle.rb_wheel.proofs.Linked.{cases_option}
 
 -- a slot is met from another, or from none, by going on to the next
@@ -27,7 +27,7 @@ walk next (suc fuel) (Some slot) = slot ∷ walk next fuel (next slot)
 abbrev pub left : (ℕ → Option ℕ) → ℕ → Option ℕ → ℕ
 left next room from = length (walk next (suc room) from)
 
-module _ (head cell next previous : ℕ → Option ℕ) (rank : ℕ → ℕ) (linked : IsLinked head cell next previous rank) where
+module _ (head cell next previous : ℕ → Option ℕ) (rank : ℕ → ℕ) (linked : LinksAgree head cell next previous rank) where
   -- a cell's first slot, from which this one is met
   pub record IsMet (at slot : ℕ) : Type 0 where
     pub first : ℕ

@@ -4,7 +4,7 @@ use Rattle.std.specs.Prelude.{IsSomeAnd}
 use Rattle.std.proofs.lemmas.Bool.{cases_lt}
 use Rattle.std.proofs.lemmas.Option.{none-some, same_Some}
 use Rattle.rb_wheel.specs.Cells.{IsCellOf, start, level_of}
-use Rattle.rb_wheel.specs.Lists.{cell_at, expiry_at, IsVacant, IsFirstCell}
+use Rattle.rb_wheel.specs.Lists.{cell_at, slot_expiry, IsVacant, IsFirstCell}
 use Rattle.rb_wheel.specs.Wheel.{LiesRight, LieRight, MaySpread, SameInCells, LieLower, IsNoneDue, IsDueCell}
 use Rattle.rb_wheel.proofs.Order.{start_le, start_lowest, base_le_start, lower_from_start, next_le, IsCellOf-next}
 use Rattle.rb_wheel.proofs.Linked.{cases_option}
@@ -46,19 +46,19 @@ lies_in base (Some expiry) (Some cell) e at is lies after in_cell =
     (subst (λ c. LiesRight base (Some e) (Some c)) (sym (same_Some cell at lies)) (after, in_cell))
 
 module _ (base : ℕ) (expiries cells : List (Option ℕ)) (right : LieRight base expiries cells) where
-  entry : (slot at : ℕ) → cell_at cells slot ≡ Some at → IsEntryAt base (expiry_at expiries slot) at
-  entry slot at lies = entry_at base (expiry_at expiries slot) (cell_at cells slot) at lies (right.each slot)
+  entry : (slot at : ℕ) → cell_at cells slot ≡ Some at → IsEntryAt base (slot_expiry expiries slot) at
+  entry slot at lies = entry_at base (slot_expiry expiries slot) (cell_at cells slot) at lies (right.each slot)
 
   -- a later base, where no entry lies in a cell
   pub right_none : (next : ℕ) → base ≤ next → ((at : ℕ) → IsVacant cells at) → LieRight next expiries cells
   right_none next up vacant = record {
-    each = λ slot. cases_option (LiesRight next (expiry_at expiries slot) (cell_at cells slot)) (cell_at cells slot)
-        (λ none. lies_later base next (expiry_at expiries slot) (cell_at cells slot) up none (right.each slot))
+    each = λ slot. cases_option (LiesRight next (slot_expiry expiries slot) (cell_at cells slot)) (cell_at cells slot)
+        (λ none. lies_later base next (slot_expiry expiries slot) (cell_at cells slot) up none (right.each slot))
         (λ at lies. absurd (vacant at slot lies));
   }
 
   module _ (cell : ℕ) (first : IsFirstCell cells cell) where
-    pub held : IsEntryAt base (expiry_at expiries first.held.0) cell
+    pub held : IsEntryAt base (slot_expiry expiries first.held.0) cell
     held = entry first.held.0 cell first.held.1
 
     pub start_fits : start base cell ≤ held.at
@@ -72,13 +72,13 @@ module _ (base : ℕ) (expiries cells : List (Option ℕ)) (right : LieRight bas
 
     module _ (next : ℕ) (up : base ≤ next) (within : next ≤ start base cell) where
       moved : (slot : ℕ) → ((at : ℕ) → cell_at cells slot ≡ Some at → (next < start base cell) ⊎ ((cell < at) ⊎ (level_of at ≡ 0)))
-          → LiesRight next (expiry_at expiries slot) (cell_at cells slot)
-      moved slot either = cases_option (LiesRight next (expiry_at expiries slot) (cell_at cells slot)) (cell_at cells slot)
-          (λ none. lies_later base next (expiry_at expiries slot) (cell_at cells slot) up none (right.each slot))
+          → LiesRight next (slot_expiry expiries slot) (cell_at cells slot)
+      moved slot either = cases_option (LiesRight next (slot_expiry expiries slot) (cell_at cells slot)) (cell_at cells slot)
+          (λ none. lies_later base next (slot_expiry expiries slot) (cell_at cells slot) up none (right.each slot))
           (λ at lies.
           let it = entry slot at lies in
           let low = not_before slot at lies in
-          lies_in next (expiry_at expiries slot) (cell_at cells slot) it.at at it.is lies
+          lies_in next (slot_expiry expiries slot) (cell_at cells slot) it.at at it.is lies
           (next_le base next held.at cell up within held.in_cell it.at at it.after it.in_cell low)
           (IsCellOf-next base next held.at cell up within held.in_cell it.at at it.after it.in_cell low (either at lies)))
 
@@ -88,7 +88,7 @@ module _ (base : ℕ) (expiries cells : List (Option ℕ)) (right : LieRight bas
 
     -- and then nothing is due
     pub none_before : (now : ℕ) → now < start base cell → IsNoneDue now expiries cells
-    none_before now before slot lies = cases_option (IfSome (expiry_at expiries slot) (λ expiry. now < expiry)) (cell_at cells slot)
+    none_before now before slot lies = cases_option (IfSome (slot_expiry expiries slot) (λ expiry. now < expiry)) (cell_at cells slot)
         (λ none. absurd (is_some-none (subst (λ o. IsSome o) none lies)))
         (λ at is.
         let it = entry slot at is in

@@ -3,14 +3,14 @@ use Rattle.std.proofs.Common.{◌≡◌, ℕ, ◌<◌, ◌≢◌, List, length, 
 use Rattle.std.proofs.lemmas.List.{map-set, get_or_read}
 use Rattle.std.proofs.lemmas.Option.{none-some}
 use Rattle.rb_wheel.specs.declared.lists.Link.{Link}
-use Rattle.rb_wheel.specs.Written.{unlinked, link_at, with_next, with_previous, with_first}
-use Rattle.rb_wheel.specs.Links.{head_at, cell_in, next_in, previous_in, cells_of, AreLinked, IsSound}
+use Rattle.rb_wheel.specs.LinkWrites.{unlinked, link_at, with_next, with_previous, with_first}
+use Rattle.rb_wheel.specs.WheelLinks.{head_at, cell_in, next_in, previous_in, cells_of, AreLinked, AreSoundLists}
 use Rattle.rb_wheel.specs.declared.marks.Marks.{Marks}
 use Rattle.rb_wheel.specs.declared.cells.TheConstants.{CELLS}
 use Rattle.rb_wheel.specs.Lists.{cell_at}
 use Rattle.rb_wheel.proofs.Members.{met}
 use Rattle.rb_wheel.proofs.Viewed.{in_room_viewed, if_some, in_heads_of}
-use Rattle.rb_wheel.proofs.Linked.{TakesOut, IsLinked-taken, cases_some}
+use Rattle.rb_wheel.proofs.Linked.{TakesOut, LinksAgree-taken, cases_some}
 use Rattle.rb_wheel.proofs.WrittenLinks.{in_room, length-with_previous, with_previous_here, with_previous_other, cells_of-with_previous, length-with_next, with_next_here, with_next_other, cells_of-with_next}
 
 -- its neighbours know one another
@@ -122,7 +122,7 @@ module _ (heads : List (Option ℕ)) (links : List Link) (at slot : ℕ) (rank :
   }
 
   pub AreLinked-remove : AreLinked (with_first heads at before after) (without links slot) rank
-  AreLinked-remove = IsLinked-taken _ _ _ _ _ _ _ _ at slot rank linked takes
+  AreLinked-remove = LinksAgree-taken _ _ _ _ _ _ _ _ at slot rank linked takes
 
   pub cells_of-remove : cells_of (without links slot) ≡ set (cells_of links) slot None
   cells_of-remove =
@@ -143,7 +143,7 @@ with_first_other heads at (Some s) next c apart = refl
 
 -- a slot of sound lists is taken out: its link was read, and its cell is known from that
 module _ (heads : List (Option ℕ)) (marks : Marks) (links : List Link) (cells : List (Option ℕ))
-    (slot at : ℕ) (link : Link) (sound : IsSound heads marks links) (view : cells_of links ≡ cells)
+    (slot at : ℕ) (link : Link) (sound : AreSoundLists heads marks links) (view : cells_of links ≡ cells)
     (lies : IsSome (cell_at cells slot)) (reads : link ≡ get_or links slot link) (in_cell : link.cell ≡ Some at) where
   link_is : link ≡ link_at links slot
   link_is = get_or_read links slot link (in_room_viewed links cells view slot lies) reads unlinked

@@ -2,12 +2,12 @@
 use Rattle.std.proofs.Common.{◌≡◌, ℕ, zero, suc, ◌+◌, ◌++◌, List, [], ◌∷◌, length, get_or, take, replicate, length-append, Option, None, sym, ap, ◌∙◌, refl, subst, arith}
 use Rattle.std.proofs.lemmas.Option.{none-some}
 use Rattle.rb_wheel.specs.declared.lists.Link.{Link}
-use Rattle.rb_wheel.specs.Written.{unlinked, link_at}
+use Rattle.rb_wheel.specs.LinkWrites.{unlinked, link_at}
 use Rattle.std.proofs.lemmas.List.{take_all, length-replicate}
 use Rattle.rb_wheel.specs.declared.cells.TheConstants.{CELLS}
 use Rattle.rb_wheel.specs.declared.marks.Marks.{Marks}
 use Rattle.rb_wheel.specs.Marks.{mark_at, mark_of}
-use Rattle.rb_wheel.specs.Links.{head_at, cells_of, IsLinked, AreLinked, IsSound}
+use Rattle.rb_wheel.specs.WheelLinks.{head_at, cells_of, LinksAgree, AreLinked, AreSoundLists}
 
 -- lists that look the same are linked the same way
 pub AreLinked-same : (heads new_heads : List (Option ℕ)) (links new_links : List Link) (rank : ℕ → ℕ)
@@ -16,8 +16,8 @@ pub AreLinked-same : (heads new_heads : List (Option ℕ)) (links new_links : Li
 AreLinked-same heads new_heads links new_links rank same_heads same_links linked =
     let heads_are : head_at heads ≡ head_at new_heads = λ i at. sym (same_heads at) i in
     let links_are : link_at links ≡ link_at new_links = λ i slot. sym (same_links slot) i in
-    subst (λ (link : ℕ → Link). IsLinked (head_at new_heads) (λ s. (link s).cell) (λ s. (link s).next) (λ s. (link s).previous) rank) links_are
-    (subst (λ (head : ℕ → Option ℕ). IsLinked head (λ s. (link_at links s).cell) (λ s. (link_at links s).next) (λ s. (link_at links s).previous) rank) heads_are linked)
+    subst (λ (link : ℕ → Link). LinksAgree (head_at new_heads) (λ s. (link s).cell) (λ s. (link s).next) (λ s. (link s).previous) rank) links_are
+    (subst (λ (head : ℕ → Option ℕ). LinksAgree head (λ s. (link_at links s).cell) (λ s. (link_at links s).next) (λ s. (link_at links s).previous) rank) heads_are linked)
 
 nothing_linked : AreLinked [] [] (λ slot. 0)
 nothing_linked = record {
@@ -46,10 +46,10 @@ get_or-padded (x ∷ xs) more zero d = refl
 get_or-padded (x ∷ xs) more (suc i) d = get_or-padded xs more i d
 
 -- the lists stay sound where there are heads for all cells, and no slot's link changes
-pub IsSound-reserved : (heads new_heads : List (Option ℕ)) (marks : Marks) (links new_links : List Link) (pad : ℕ)
+pub AreSoundLists-reserved : (heads new_heads : List (Option ℕ)) (marks : Marks) (links new_links : List Link) (pad : ℕ)
     → length heads + pad ≡ CELLS → new_heads ≡ take CELLS heads ++ replicate pad None
-    → ((slot : ℕ) → link_at new_links slot ≡ link_at links slot) → IsSound heads marks links → IsSound new_heads marks new_links
-IsSound-reserved heads new_heads marks links new_links pad fits padded same_links sound =
+    → ((slot : ℕ) → link_at new_links slot ≡ link_at links slot) → AreSoundLists heads marks links → AreSoundLists new_heads marks new_links
+AreSoundLists-reserved heads new_heads marks links new_links pad fits padded same_links sound =
     let whole : take CELLS heads ≡ heads = take_all CELLS heads sound.few_heads in
     let now : new_heads ≡ heads ++ replicate pad None = padded ∙ ap (λ hs. hs ++ replicate pad None) whole in
     let same_heads = λ (at : ℕ). ap (λ hs. head_at hs at) now ∙ get_or-padded heads pad at None in
@@ -67,10 +67,10 @@ cells_of-free zero = refl
 cells_of-free (suc n) = ap (λ cells. None ∷ cells) (cells_of-free n)
 
 -- as many heads and links as before, of which none is taken
-pub IsSound-none : (heads new_heads : List (Option ℕ)) (marks new_marks : Marks) (links new_links : List Link)
+pub AreSoundLists-none : (heads new_heads : List (Option ℕ)) (marks new_marks : Marks) (links new_links : List Link)
     → new_heads ≡ replicate (length heads) None → new_links ≡ replicate (length links) unlinked
-    → ((at : ℕ) → mark_at new_marks at ≡ 0) → IsSound heads marks links → IsSound new_heads new_marks new_links
-IsSound-none heads new_heads marks new_marks links new_links no_heads no_links no_marks sound =
+    → ((at : ℕ) → mark_at new_marks at ≡ 0) → AreSoundLists heads marks links → AreSoundLists new_heads new_marks new_links
+AreSoundLists-none heads new_heads marks new_marks links new_links no_heads no_links no_marks sound =
     let none = λ (at : ℕ). ap (λ hs. head_at hs at) no_heads ∙ get_or-padded [] (length heads) at None in
     let heads_long : length new_heads ≡ length heads = ap length no_heads ∙ length-replicate (length heads) None in
     let links_long : length new_links ≡ length links = ap length no_links ∙ length-replicate (length links) unlinked in

@@ -4,9 +4,9 @@ use Rattle.std.proofs.lemmas.Bool.{cases_lt}
 use Rattle.std.proofs.lemmas.List.{length-map, take_at, get_or_past}
 use Rattle.std.proofs.Math.ListN.{get_or-map}
 use Rattle.rb_wheel.specs.declared.lists.Link.{Link}
-use Rattle.rb_wheel.specs.Written.{unlinked}
+use Rattle.rb_wheel.specs.LinkWrites.{unlinked}
 use Rattle.rb_wheel.specs.Lists.{cell_at}
-use Rattle.rb_wheel.specs.Links.{head_at, cell_in, cells_of}
+use Rattle.rb_wheel.specs.WheelLinks.{head_at, cell_in, cells_of}
 use Rattle.std.proofs.lemmas.Option.{none-some}
 
 -- none is not some number

@@ -5,8 +5,8 @@ use Rattle.std.proofs.lemmas.List.{get_or_past}
 use Rattle.std.proofs.Math.Seq.{map-set_same}
 use Rattle.std.proofs.lemmas.Option.{none-some, same_Some}
 use Rattle.rb_wheel.specs.declared.lists.Link.{Link}
-use Rattle.rb_wheel.specs.Written.{unlinked, link_at, with_next, with_previous}
-use Rattle.rb_wheel.specs.Links.{cell_in, cells_of}
+use Rattle.rb_wheel.specs.LinkWrites.{unlinked, link_at, with_next, with_previous}
+use Rattle.rb_wheel.specs.WheelLinks.{cell_in, cells_of}
 
 -- a slot that lies in a cell has a link
 pub in_room : (links : List Link) (slot at : ℕ) → cell_in links slot ≡ Some at → slot < length links

@@ -1,6 +1,6 @@
 pub mod Cells
-pub mod Links
+pub mod WheelLinks
 pub mod Lists
 pub mod Marks
 pub mod Wheel
-pub mod Written
+pub mod LinkWrites

@@ -6,8 +6,8 @@ abbrev pub cell_at : List (Option ℕ) → ℕ → Option ℕ
 cell_at cells slot = slice_index_or cells slot None
 
 -- a slot's expiry
-abbrev pub expiry_at : List (Option ℕ) → ℕ → Option ℕ
-expiry_at expiries slot = slice_index_or expiries slot None
+abbrev pub slot_expiry : List (Option ℕ) → ℕ → Option ℕ
+slot_expiry expiries slot = slice_index_or expiries slot None
 
 -- no slot lies in the cell
 abbrev pub IsVacant : List (Option ℕ) → ℕ → Type 0
@@ -21,9 +21,9 @@ pub record IsFirstCell (cells : List (Option ℕ)) (cell : ℕ) : Type 0 where
 -- the slot lies in the cell, and no slot of that cell expires before it
 pub record IsLeastIn (cells expiries : List (Option ℕ)) (cell slot expiry : ℕ) : Type 0 where
   pub lies : cell_at cells slot ≡ Some cell
-  pub expires : expiry_at expiries slot ≡ Some expiry
-  pub least : (other : ℕ) → cell_at cells other ≡ Some cell → IfSome (expiry_at expiries other) (λ another. expiry ≤ another)
+  pub expires : slot_expiry expiries slot ≡ Some expiry
+  pub least : (other : ℕ) → cell_at cells other ≡ Some cell → IfSome (slot_expiry expiries other) (λ another. expiry ≤ another)
 
 -- each slot of the cell has an expiry
 abbrev pub HasExpiries : List (Option ℕ) → List (Option ℕ) → ℕ → Type 0
-HasExpiries cells expiries cell = (slot : ℕ) → cell_at cells slot ≡ Some cell → IsSome (expiry_at expiries slot)
+HasExpiries cells expiries cell = (slot : ℕ) → cell_at cells slot ≡ Some cell → IsSome (slot_expiry expiries slot)

@@ -3,11 +3,11 @@ use Rattle.std.specs.Prelude.{◌≡◌, ◌≢◌, ◌^◌, ℕ, ◌<◌, ◌�
 use Rattle.std.specs.FinMap as map
 use Rattle.rb_timer.specs.Content.{Content}
 use Rattle.rb_wheel.specs.Cells.{IsCellOf}
-use Rattle.rb_wheel.specs.Lists.{cell_at, expiry_at}
+use Rattle.rb_wheel.specs.Lists.{cell_at, slot_expiry}
 
 -- each expiry is a moment
 abbrev pub AreMoments : List (Option ℕ) → Type 0
-AreMoments expiries = (slot : ℕ) → IfSome (expiry_at expiries slot) (λ expiry. expiry < 2 ^ 64)
+AreMoments expiries = (slot : ℕ) → IfSome (slot_expiry expiries slot) (λ expiry. expiry < 2 ^ 64)
 
 -- an entry lies right: in the cell of its expiry, or in none where it expires before the base
 abbrev pub LiesRight : ℕ → Option ℕ → Option ℕ → Type 0
@@ -17,13 +17,13 @@ LiesRight base (Some expiry) (Some cell) = (base ≤ expiry) × IsCellOf base ex
 
 -- each entry lies right
 pub record LieRight (base : ℕ) (expiries cells : List (Option ℕ)) : Type 0 where
-  pub each : (slot : ℕ) → LiesRight base (expiry_at expiries slot) (cell_at cells slot)
+  pub each : (slot : ℕ) → LiesRight base (slot_expiry expiries slot) (cell_at cells slot)
 
 -- each entry lies right but those of one cell, and these belong in cells before it
 pub record MaySpread (base cell : ℕ) (expiries cells : List (Option ℕ)) : Type 0 where
-  pub others : (slot : ℕ) → cell_at cells slot ≢ Some cell → LiesRight base (expiry_at expiries slot) (cell_at cells slot)
+  pub others : (slot : ℕ) → cell_at cells slot ≢ Some cell → LiesRight base (slot_expiry expiries slot) (cell_at cells slot)
   pub inside : (slot : ℕ) → cell_at cells slot ≡ Some cell
-      → IsSomeAnd (expiry_at expiries slot) (λ expiry. (base ≤ expiry) × ((lower : ℕ) → IsCellOf base expiry lower → lower < cell))
+      → IsSomeAnd (slot_expiry expiries slot) (λ expiry. (base ≤ expiry) × ((lower : ℕ) → IsCellOf base expiry lower → lower < cell))
 
 -- the slots that lie in some cell are the same
 pub record SameInCells (cells new_cells : List (Option ℕ)) : Type 0 where
@@ -36,13 +36,13 @@ LieLower cell cells new_cells = (slot : ℕ) → cell_at cells slot ≡ Some cel
 
 -- no entry of the wheel is due
 abbrev pub IsNoneDue : ℕ → List (Option ℕ) → List (Option ℕ) → Type 0
-IsNoneDue now expiries cells = (slot : ℕ) → IsSome (cell_at cells slot) → IfSome (expiry_at expiries slot) (λ expiry. now < expiry)
+IsNoneDue now expiries cells = (slot : ℕ) → IsSome (cell_at cells slot) → IfSome (slot_expiry expiries slot) (λ expiry. now < expiry)
 
 -- the cell holds a slot, and its entries all expire at the base
 pub record IsDueCell (base now cell : ℕ) (expiries cells : List (Option ℕ)) : Type 0 where
   pub due : base ≤ now
   pub held : (slot : ℕ) × (cell_at cells slot ≡ Some cell)
-  pub expires : (slot : ℕ) → cell_at cells slot ≡ Some cell → expiry_at expiries slot ≡ Some base
+  pub expires : (slot : ℕ) → cell_at cells slot ≡ Some cell → slot_expiry expiries slot ≡ Some base
 
 -- the expiry of an entry that lies in no cell
 abbrev pub early_of : Option ℕ → Option ℕ → Option ℕ
@@ -54,7 +54,7 @@ early_of expiry (Some cell) = None
 pub record IsWheel (expiries cells : List (Option ℕ)) (early : Content) (room base len : ℕ) : Type 0 where
   pub right : LieRight base expiries cells
   pub moments : AreMoments expiries
-  pub early_entries : (slot : ℕ) → map.get early slot ≡ early_of (expiry_at expiries slot) (cell_at cells slot)
+  pub early_entries : (slot : ℕ) → map.get early slot ≡ early_of (slot_expiry expiries slot) (cell_at cells slot)
   pub in_lists : length expiries ≤ length cells
   pub in_early : length expiries ≤ room
   pub counted : len ≡ count_by is_some expiries

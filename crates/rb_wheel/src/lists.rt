@@ -1,7 +1,7 @@
 ghost use Rattle.std.specs.Prelude.{◌≡◌, ◌≢◌, ◌⊎◌, ◌<◌, ◌≤◌, ◌-◌, ◌++◌, ℕ, List, [], Option, Some, None, IsSome, OnOk, OnErr, IfSome, MatchOption, length, replicate, slice_set, slice_index_or};
-ghost use Rattle.rb_wheel.specs.Written.{with_next, with_previous, with_first};
+ghost use Rattle.rb_wheel.specs.LinkWrites.{with_next, with_previous, with_first};
 ghost use Rattle.rb_wheel.specs.Marks.{mark_at, mark_of};
-ghost use Rattle.rb_wheel.specs.Lists.{cell_at, expiry_at, IsVacant, IsFirstCell, IsLeastIn, HasExpiries};
+ghost use Rattle.rb_wheel.specs.Lists.{cell_at, slot_expiry, IsVacant, IsFirstCell, IsLeastIn, HasExpiries};
 
 use crate::cells::CELLS;
 use crate::marks::Marks;
@@ -37,11 +37,11 @@ impl Model for Lists {
 
     ghost Value = { List (Option ℕ) };
 
-    ghost use Rattle.rb_wheel.specs.Links.{cells_of, IsSound};
+    ghost use Rattle.rb_wheel.specs.WheelLinks.{cells_of, AreSoundLists};
 
     ghost view = { λ lists. cells_of lists.links.items };
 
-    ghost invariant = { λ lists. IsSound lists.heads.items lists.marks lists.links.items };
+    ghost invariant = { λ lists. AreSoundLists lists.heads.items lists.marks lists.links.items };
 }
 
 impl Lists {

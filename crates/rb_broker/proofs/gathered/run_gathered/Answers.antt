@@ -1,5 +1,5 @@
 use Rattle.std.proofs.Common.{rules, sym, ap, subst, ◌∙◌, Option, List, ℕ}
-use Rattle.rb_broker.specs.Growth.{Grows}
+use Rattle.rb_broker.specs.Growth.{KeepsFront}
 use Rattle.rb_broker.specs.Gathered.{RanGathered}
 use Rattle.rb_broker.proofs.Gatherings.{all_known, ran_gathered}
 use Rattle.rb_broker.proofs.gathered.run_gathered.Goals as goal
@@ -12,7 +12,7 @@ returns-clause-ran g c stream before readable writable =
     let last = ran.new.outlet in
     let fresh = ap g.W.Write.contents made.same ∙ writable in
     let known = all_known (g.W.Write.contents c.new-outlet.result.writer.now) c.new-outlet.result.gathered.items before made.empty fresh in
-    let grows = subst (λ (old : Option (List ℕ)). Grows old (g.W.Write.contents last.writer.now)) fresh ran.ensures.becomes.1 in
+    let grows = subst (λ (old : Option (List ℕ)). KeepsFront old (g.W.Write.contents last.writer.now)) fresh ran.ensures.becomes.1 in
     let whole = ran_gathered gives Sets Steps c.args.policy.now (g.D.Desk.state c.args.desk.now) (g.D.Desk.state ran.new.desk) stream before (g.R.Read.remaining ran.new.reader)
     (g.W.Write.contents last.writer.now) last.gathered.items grows _ ran.result (ran.ensures.handed_on stream before readable known) (ran.ensures.ran stream before readable known) in
     let back = subst (λ w. RanGathered gives Sets Steps c.args.policy.now (g.D.Desk.state c.args.desk.now) stream before ran.result (g.D.Desk.state ran.new.desk)

@@ -1,7 +1,7 @@
 use Rattle.std.proofs.Common.{sym, subst}
 use Rattle.rb_queue.specs.Opening.{AreInOrder, IsOpening}
 use Rattle.rb_replay.specs.Opens.{IsTooLarge}
-use Rattle.rb_replay.specs.Replaying.{state_at}
+use Rattle.rb_replay.specs.Replaying.{end_state}
 use Rattle.rb_replay.proofs.Ordered.{too_large}
 use Rattle.rb_replay.proofs.next_opening.opening_of.Goals as goal
 
@@ -13,5 +13,5 @@ returns c =
     let none : ¬ IsOpening c.in-Ok-elements.elements c.next_id.result = λ h. let some = c.in-None.ensures.opening.1 h in absurd (cc) in (
       replayed.0,
       subst IsTooLarge replayed.1
-          (too_large c.in-Ok-elements.elements (state_at c.in-Ok.end) c.next_id.result order c.in-Ok-elements.ensures.counted c.next_id.ensures none),
+          (too_large c.in-Ok-elements.elements (end_state c.in-Ok.end) c.next_id.result order c.in-Ok-elements.ensures.counted c.next_id.ensures none),
     )

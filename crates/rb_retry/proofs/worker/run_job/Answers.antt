@@ -2,7 +2,7 @@ use Rattle.std.proofs.Common.{Bool, Ok, Err, Result, ap, refl, subst, ◌∙◌}
 use Rattle.rb_delayed.specs.declared.element.Element.{Element}
 use Rattle.rb_kept.specs.declared.fault.CallFault.{CallFault}
 use Rattle.rb_retry.specs.Jobs.{FailsTo}
-use Rattle.rb_retry.specs.Runs.{failed}
+use Rattle.rb_retry.specs.WorkRuns.{failed}
 use Rattle.rb_retry.specs.declared.verdict.Verdict.{Verdict}
 use Rattle.rb_retry.specs.declared.verdict.Verdict.TheVariants.{Again, Dead}
 use Rattle.rb_retry.proofs.worker.run_job.Goals as goal

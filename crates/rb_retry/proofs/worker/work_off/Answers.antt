@@ -1,5 +1,5 @@
 use Rattle.std.proofs.Common.{◌∷◌, ◌++◌, [], ◌∙◌, sym, ap, arith}
-use Rattle.rb_retry.specs.Runs.{no_runs, counted}
+use Rattle.rb_retry.specs.WorkRuns.{no_runs, counted}
 use Rattle.rb_retry.proofs.RunSteps.{report_after-append, one_more, along_more, took_more, ended_more}
 use Rattle.rb_retry.proofs.worker.work_off.Goals as goal
 

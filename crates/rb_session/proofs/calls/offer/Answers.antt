@@ -6,7 +6,7 @@ use Rattle.rb_queue.specs.declared.draft.Draft.{Draft}
 use Rattle.rb_queue.specs.declared.ask.Ask.TheVariants as asks
 use Rattle.rb_queue.specs.declared.reply.Reply.{Reply}
 use Rattle.rb_retry.specs.declared.desk_fault.DeskFault.{DeskFault}
-use Rattle.rb_session.specs.Turn.{IsFirst}
+use Rattle.rb_session.specs.Turn.{IsFirstDraft}
 use Rattle.rb_session.specs.Progress.{answer_line}
 use Rattle.rb_session.proofs.calls.offer.Goals as goal
 
@@ -20,6 +20,6 @@ pub returns-in-Some-clause-offered : goal.returns-in-Some-clause-offered
 returns-in-Some-clause-offered g c =
     within_range (c.args.now + c.args.delay) _ _ c.in-Some.ensures.0
     (subst
-    (λ expiry. (draft : Draft) × IsFirst draft expiry c.args.payload
+    (λ expiry. (draft : Draft) × IsFirstDraft draft expiry c.args.payload
     × (answer : Result Reply DeskFault) × g.D.Desk.Steps (g.D.Desk.state c.args.desk.now) c.args.now (asks.Offer draft) answer (g.D.Desk.state c.offer_at.new.desk) × (c.offer_at.result ≡ answer_line answer))
     c.in-Some.ensures.1 c.offer_at.ensures.offered)

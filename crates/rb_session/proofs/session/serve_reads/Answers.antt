@@ -6,7 +6,7 @@ use Rattle.std.specs.Prelude.{OnOk, OnErr, is_err}
 use Rattle.rb_session.specs.Buffer.{TakesMore}
 use Rattle.rb_session.specs.Turn.{point}
 use Rattle.rb_session.specs.Session.{answers_of}
-use Rattle.rb_session.specs.Progress.{ServesLines, Ends}
+use Rattle.rb_session.specs.Progress.{ServesLines, AnswersEnd}
 use Rattle.rb_session.specs.declared.stop.Stop.{Stop}
 use Rattle.rb_session.proofs.Turns.{stands_first}
 use Rattle.rb_session.proofs.StreamRuns.{breaks_off, ran_end, stream_split, stands_on, stopped}
@@ -53,7 +53,7 @@ returns-in-Ok-eq0-clause-stops g c stream before readable writable =
     let none : s.0 ≡ [] = more.5 zero in
     let nothing : more.0 ≡ [] = nothing_left more.0 more.1 (sym more.2 ∙ none) in
     let rest = ap (λ m. now.rest ++ m) nothing ∙ append-nil now.rest in
-    let ends = subst (λ bytes. Ends c.finish.result (before ++ answers_of now.turns) bytes (g.O.Outlet.contents c.finish.new.outlet)) rest
+    let ends = subst (λ bytes. AnswersEnd c.finish.result (before ++ answers_of now.turns) bytes (g.O.Outlet.contents c.finish.new.outlet)) rest
     (c.finish.ensures.ends (now.rest ++ more.0) (before ++ answers_of now.turns) more.4 now.wrote) in
     ran_end g.D.Desk.gives g.D.Desk.Sets g.D.Desk.Steps c.args.policy.now _ (point (g.D.Desk.state c.loop.desk) c.loop.held) stream s.1 before s.0 _ now s.3 g.O.Outlet.HoldsBack s.5 none c.finish.result _ _ ends
 

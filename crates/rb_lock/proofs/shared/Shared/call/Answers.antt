@@ -1,7 +1,7 @@
 use Rattle.std.proofs.Common.{◌≡◌, ℕ, refl, ap, ◌∙◌, subst, [], ◌∷◌}
 use Rattle.std.specs.Prelude.{Some}
 use Rattle.rb_lock.specs.LockSteps.{Sat, ActsIn}
-use Rattle.rb_lock.specs.Passes.{Seen, IsSound}
+use Rattle.rb_lock.specs.Passes.{Seen, IsSoundPass}
 use Rattle.rb_lock.specs.Views.{idle, pass_of}
 use Rattle.rb_lock.specs.Rule.{home_of}
 use Rattle.rb_lock.proofs.MadeCalls.{may_give, called_pass, called_learns, called_answered}
@@ -31,7 +31,7 @@ returns-clause-learns g c =
     let rest = c.pass.invariant.rest ∙ ap (λ (p : Seen). (idle p, [])) seen in
     let table = c.give.ensures.table ∙ (c.act-outcome.ensures.table ∙ (c.take.ensures.table ∙ ap (λ (p : Seen). p.table) seen)) in
     let name = c.pass.invariant.name_is ∙ ap (λ (p : Seen). p.name) seen in
-    called_learns {T = g.row.T.Denot} pass _ _ _ _ _ _ _ rest c.take.ensures.got c.act-outcome.ensures.acts name _ _ table c.give.ensures.seen (subst IsSound seen c.pass.invariant.sound)
+    called_learns {T = g.row.T.Denot} pass _ _ _ _ _ _ _ rest c.take.ensures.got c.act-outcome.ensures.acts name _ _ table c.give.ensures.seen (subst IsSoundPass seen c.pass.invariant.sound)
 
 pub returns-clause-answered : goal.returns-clause-answered
 returns-clause-answered g c =

@@ -1,6 +1,6 @@
 -- The root is an entry of least expiry.
 use Rattle.std.proofs.Common.{◌≡◌, ◌<◌, ◌∙◌, length, sym, ap, is_some, Some, subst, arith}
-use Rattle.rb_timer.specs.Content.{IsLeast}
+use Rattle.rb_timer.specs.Content.{IsLeastSlot}
 use Rattle.rb_timer.specs.Slots.{content_of}
 use Rattle.rb_pairing.specs.Nodes.{expiries, moment_of}
 use Rattle.rb_pairing.proofs.Contents.{content_empty-no_root, root_is_least, expiry_is, expiry_read}
@@ -35,5 +35,5 @@ returns c =
     let same : Some c.unwrap.result ≡ Some (moment_of timer.nodes.items root) =
     sym c.unwrap.ensures ∙ c.expiry.ensures ∙ read ∙ expiry_is timer.nodes.items root present in
     let moment : c.unwrap.result ≡ moment_of timer.nodes.items root = cc in
-    subst (IsLeast (content_of (expiries timer.nodes.items)) root) (sym moment)
+    subst (IsLeastSlot (content_of (expiries timer.nodes.items)) root) (sym moment)
     (root_is_least timer.nodes.items timer.root timer.tree root c.in_ok-root.was)

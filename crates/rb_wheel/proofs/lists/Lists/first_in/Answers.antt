@@ -1,5 +1,5 @@
 use Rattle.std.proofs.Common.{◌∙◌, ap, sym}
-use Rattle.rb_wheel.specs.Links.{head_at}
+use Rattle.rb_wheel.specs.WheelLinks.{head_at}
 use Rattle.rb_wheel.proofs.HeldCells.{first_slot}
 use Rattle.rb_wheel.proofs.lists.Lists.first_in.Goals as goal
 

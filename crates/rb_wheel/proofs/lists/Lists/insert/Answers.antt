@@ -2,8 +2,8 @@
 use Rattle.std.proofs.Common.{◌≡◌, ◌<◌, ℕ, ◌++◌, length, set, take, drop, Option, Some, None, sym, ap, ◌∙◌, subst, arith, length-set, get_or-set_same, get_or-set_other}
 use Rattle.std.proofs.lemmas.List.{get_or_read}
 use Rattle.rb_wheel.specs.declared.lists.Link.{Link}
-use Rattle.rb_wheel.specs.Written.{with_previous}
-use Rattle.rb_wheel.specs.Links.{head_at, cell_in, cells_of, AreLinked}
+use Rattle.rb_wheel.specs.LinkWrites.{with_previous}
+use Rattle.rb_wheel.specs.WheelLinks.{head_at, cell_in, cells_of, AreLinked}
 use Rattle.rb_wheel.proofs.Linked.{rank_below}
 use Rattle.rb_wheel.proofs.Insertions.{with_put, AreLinked-insert, cells_of-insert, marks_again}
 use Rattle.rb_wheel.proofs.Viewed.{length-viewed, cell_at-viewed, if_some, written_back}

@@ -1,8 +1,8 @@
 use Rattle.std.proofs.Common.{◌≡◌, ◌∙◌, ◌<◌, length, ap}
 use Rattle.std.proofs.lemmas.List.{get_or_read}
 use Rattle.rb_wheel.specs.declared.lists.Link.{Link}
-use Rattle.rb_wheel.specs.Links.{next_in, head_at}
-use Rattle.rb_wheel.specs.Written.{unlinked}
+use Rattle.rb_wheel.specs.WheelLinks.{next_in, head_at}
+use Rattle.rb_wheel.specs.LinkWrites.{unlinked}
 use Rattle.rb_wheel.proofs.LeastOnWay.{so_far_none, so_far_more, least_found, cursor_low, fewer_left}
 use Rattle.rb_wheel.proofs.lists.Lists.least_in.Goals as goal
 use Rattle.rb_wheel.proofs.lists.Lists.least_in.Goals.{After-index}

@@ -1,6 +1,6 @@
 -- Each slot of the cell has been looked at, or is still to come.
 use Rattle.std.proofs.Common.{length}
-use Rattle.rb_wheel.specs.Links.{next_in}
+use Rattle.rb_wheel.specs.WheelLinks.{next_in}
 use Rattle.rb_wheel.proofs.Members.{left}
 use Rattle.rb_wheel.proofs.LeastOnWay.{IsLeastSoFar}
 use Rattle.rb_wheel.proofs.lists.Lists.least_in.Given as goal

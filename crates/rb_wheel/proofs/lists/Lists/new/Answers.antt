@@ -1,6 +1,6 @@
 -- Nothing is linked, and nothing is marked.
 use Rattle.std.proofs.Common.{ℕ, sym, ap, ◌∙◌, arith, length, get_or, None}
-use Rattle.rb_wheel.specs.Written.{unlinked}
+use Rattle.rb_wheel.specs.LinkWrites.{unlinked}
 use Rattle.rb_wheel.proofs.Rooms.{AreLinked-none}
 use Rattle.rb_wheel.specs.Marks.{mark_of}
 use Rattle.rb_wheel.proofs.lists.Lists.new.Goals as goal

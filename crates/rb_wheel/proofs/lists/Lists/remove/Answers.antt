@@ -2,8 +2,8 @@
 use Rattle.std.proofs.Common.{◌≡◌, get_or, ◌<◌, ℕ, ◌++◌, List, length, set, take, drop, Option, None, IfSome, sym, ap, ◌∙◌, subst, arith}
 use Rattle.std.proofs.lemmas.List.{get_or_read}
 use Rattle.rb_wheel.specs.declared.lists.Link.{Link}
-use Rattle.rb_wheel.specs.Written.{unlinked, with_next, with_previous, with_first}
-use Rattle.rb_wheel.specs.Links.{head_at, cells_of, IsSound}
+use Rattle.rb_wheel.specs.LinkWrites.{unlinked, with_next, with_previous, with_first}
+use Rattle.rb_wheel.specs.WheelLinks.{head_at, cells_of, AreSoundLists}
 use Rattle.rb_wheel.specs.Marks.{mark_at, mark_of}
 use Rattle.rb_wheel.specs.declared.marks.Marks.{Marks}
 use Rattle.rb_wheel.proofs.Insertions.{marks_again}
@@ -79,9 +79,9 @@ mark_held-requires c =
     c.self.invariant c.self.view_is c.requires c.index-link.ensures c.unwrap-cell.ensures
 
 sound_moved : {heads new_heads : List (Option ℕ)} {marks : Marks} {links new_links : List Link}
-    → new_heads ≡ heads → new_links ≡ links → IsSound heads marks links → IsSound new_heads marks new_links
+    → new_heads ≡ heads → new_links ≡ links → AreSoundLists heads marks links → AreSoundLists new_heads marks new_links
 sound_moved {heads} {new_heads} {marks} {links} {new_links} heads_are links_are sound =
-    subst (λ hs. IsSound hs marks new_links) (sym heads_are) (subst (λ ls. IsSound heads marks ls) (sym links_are) sound)
+    subst (λ hs. AreSoundLists hs marks new_links) (sym heads_are) (subst (λ ls. AreSoundLists heads marks ls) (sym links_are) sound)
 
 pub invariant_of-self : goal.invariant_of-self
 invariant_of-self c =
@@ -108,7 +108,7 @@ invariant_of-self c =
     let marked = marks_again (head_at heads) (head_at (with_first heads at link.previous link.next)) (mark_at lists.marks) mark_new at
     sound.marked (with_first_other heads at link.previous link.next)
     (c.mark_held.ensures.here ∙ ap mark_of first_is) c.mark_held.ensures.elsewhere in
-    let sound_now : IsSound (with_first heads at link.previous link.next) c.mark_held.new.marks (set (with_next (with_previous links link.next link.previous) link.previous link.next) slot unlinked) = record {
+    let sound_now : AreSoundLists (with_first heads at link.previous link.next) c.mark_held.new.marks (set (with_next (with_previous links link.next link.previous) link.previous link.next) slot unlinked) = record {
       linked = (rank, linked);
       marked = marked;
       few_heads = omega arith;

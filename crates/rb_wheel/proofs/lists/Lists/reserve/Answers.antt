@@ -2,9 +2,9 @@
 use Rattle.std.proofs.Common.{◌≡◌, ◌-◌, ◌++◌, ℕ, Option, None, length, take, replicate, ap, ◌∙◌, arith}
 use Rattle.std.proofs.lemmas.List.{take_all, map-append}
 use Rattle.rb_wheel.specs.declared.lists.Link.{Link}
-use Rattle.rb_wheel.specs.Written.{unlinked, link_at}
-use Rattle.rb_wheel.specs.Links.{cells_of}
-use Rattle.rb_wheel.proofs.Rooms.{IsSound-reserved, get_or-padded, cells_of-free}
+use Rattle.rb_wheel.specs.LinkWrites.{unlinked, link_at}
+use Rattle.rb_wheel.specs.WheelLinks.{cells_of}
+use Rattle.rb_wheel.proofs.Rooms.{AreSoundLists-reserved, get_or-padded, cells_of-free}
 use Rattle.rb_wheel.proofs.Viewed.{length-viewed}
 use Rattle.rb_wheel.proofs.lists.Lists.reserve.Goals as goal
 
@@ -14,7 +14,7 @@ invariant_of-self-in-Continue-branch-2 c =
     let links = lists.links.items in
     let few = c.self.invariant.few_heads in
     let whole : take c.args.wanted links ≡ links = take_all c.args.wanted links (omega arith) in
-    IsSound-reserved lists.heads.items c.resize.new.self.items lists.marks links c.resize-then-wanted-len.new.self.items (704 - lists.heads.len)
+    AreSoundLists-reserved lists.heads.items c.resize.new.self.items lists.marks links c.resize-then-wanted-len.new.self.items (704 - lists.heads.len)
     (omega arith) c.in_ok-resize.ensures.items
     (λ slot. ap (λ ls. link_at ls slot) (c.in_ok-resize-2.ensures.items ∙ ap (λ ls. ls ++ replicate (c.args.wanted - lists.links.len) unlinked) whole)
     ∙ get_or-padded links (c.args.wanted - lists.links.len) slot unlinked)
@@ -24,7 +24,7 @@ pub invariant_of-self-in_err-resize-2 : goal.invariant_of-self-in_err-resize-2
 invariant_of-self-in_err-resize-2 c =
     let lists = c.self.inside in
     let few = c.self.invariant.few_heads in
-    IsSound-reserved lists.heads.items c.resize.new.self.items lists.marks lists.links.items c.resize-then-wanted-len.new.self.items (704 - lists.heads.len)
+    AreSoundLists-reserved lists.heads.items c.resize.new.self.items lists.marks lists.links.items c.resize-then-wanted-len.new.self.items (704 - lists.heads.len)
     (omega arith) c.in_ok-resize.ensures.items (λ slot. ap (λ ls. link_at ls slot) c.in_err-resize-2.ensures.items) c.self.invariant
 
 pub returns-in_ok-resize-2-clause-ok : goal.returns-in_ok-resize-2-clause-ok

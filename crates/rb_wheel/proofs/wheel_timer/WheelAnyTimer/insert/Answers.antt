@@ -2,13 +2,13 @@
 use Rattle.std.proofs.Common.{◌≡◌, ◌<◌, ◌∙◌, ℕ, List, Option, Some, None, length, set, sym, ap, subst, arith}
 use Rattle.std.specs.FinMap as map
 use Rattle.rb_timer.specs.Slots.{content_of, get-content_of, content_of-insert}
-use Rattle.rb_wheel.specs.Lists.{expiry_at}
+use Rattle.rb_wheel.specs.Lists.{slot_expiry}
 use Rattle.rb_wheel.proofs.Entries.{fewer, free, not_early, insert_early, insert_late}
 use Rattle.rb_wheel.proofs.wheel_timer.WheelAnyTimer.insert.Goals as goal
 
 -- a slot with no entry has no expiry
-absent_in : (expiries value : List (Option ℕ)) (slot : ℕ) → expiries ≡ value → map.get (content_of value) slot ≡ None → expiry_at expiries slot ≡ None
-absent_in expiries value slot same absent = ap (λ es. expiry_at es slot) same ∙ sym (get-content_of value slot) ∙ absent
+absent_in : (expiries value : List (Option ℕ)) (slot : ℕ) → expiries ≡ value → map.get (content_of value) slot ≡ None → slot_expiry expiries slot ≡ None
+absent_in expiries value slot same absent = ap (λ es. slot_expiry es slot) same ∙ sym (get-content_of value slot) ∙ absent
 
 -- such a slot of the room is one of the wheel's
 within : (expiries value : List (Option ℕ)) (slot : ℕ) → expiries ≡ value → slot < length value → slot < length expiries

@@ -3,7 +3,7 @@ use Rattle.std.proofs.Common.{◌≡◌, ◌<◌, ◌∙◌, ℕ, List, Option, 
 use Rattle.std.specs.FinMap as map
 use Rattle.std.proofs.lemmas.List.{get_or_read}
 use Rattle.rb_timer.specs.Slots.{content_of, get-content_of, in_range_of_content, content_of-remove}
-use Rattle.rb_wheel.specs.Lists.{expiry_at}
+use Rattle.rb_wheel.specs.Lists.{slot_expiry}
 use Rattle.rb_wheel.proofs.Entries.{some_left, is_early, in_cell, remove_early, remove_late}
 use Rattle.rb_wheel.proofs.wheel_timer.WheelAnyTimer.remove.Goals as goal
 
@@ -14,19 +14,19 @@ module _ (expiries value : List (Option ℕ)) (slot : ℕ) (same : expiries ≡ 
   within : slot < length expiries
   within = subst (λ (es : List (Option ℕ)). slot < length es) (sym same) in_value
 
-  content_is : map.get (content_of value) slot ≡ expiry_at expiries slot
-  content_is = get-content_of value slot ∙ ap (λ es. expiry_at es slot) (sym same)
+  content_is : map.get (content_of value) slot ≡ slot_expiry expiries slot
+  content_is = get-content_of value slot ∙ ap (λ es. slot_expiry es slot) (sym same)
 
   -- the expiry that was read and taken is the slot's
   module _ (read taken : Option ℕ) (reads : read ≡ get_or expiries slot read) (takes : taken ≡ read) where
-    taken_is : taken ≡ expiry_at expiries slot
+    taken_is : taken ≡ slot_expiry expiries slot
     taken_is = takes ∙ get_or_read expiries slot read within reads None
 
     taken_some : IsSome taken
     taken_some = ap is_some (taken_is ∙ sym content_is) ∙ lies
 
     module _ (expiry : ℕ) (is : taken ≡ Some expiry) where
-      present : expiry_at expiries slot ≡ Some expiry
+      present : slot_expiry expiries slot ≡ Some expiry
       present = sym taken_is ∙ is
 
       content_has : map.get (content_of value) slot ≡ Some expiry

@@ -2,7 +2,7 @@
 use Rattle.std.proofs.Common.{◌≡◌, ◌+◌, ◌-◌, ◌++◌, ℕ, List, Option, None, length, take, replicate, ap, ◌∙◌, arith, length-append}
 use Rattle.std.proofs.lemmas.List.{take_all, length-replicate}
 use Rattle.rb_timer.specs.Slots.{content_of, content_of-more}
-use Rattle.rb_wheel.specs.Lists.{cell_at, expiry_at}
+use Rattle.rb_wheel.specs.Lists.{cell_at, slot_expiry}
 use Rattle.rb_wheel.proofs.Entries.{IsWheel-reserved}
 use Rattle.rb_wheel.proofs.Rooms.{get_or-padded}
 use Rattle.rb_wheel.proofs.wheel_timer.WheelAnyTimer.reserve.Goals as goal
@@ -40,7 +40,7 @@ invariant_of-self-in_err-resize g c =
     let room = c.in_ok-reserve.ensures.ok in
     let row_long = ap length c.in_err-resize.ensures.items in
     IsWheel-reserved expiries c.resize.new.self.items wheel.lists c.reserve-then-wanted-len.new.self _ _ _ _ wheel.base wheel.len
-    (λ slot. ap (λ es. expiry_at es slot) c.in_err-resize.ensures.items)
+    (λ slot. ap (λ es. slot_expiry es slot) c.in_err-resize.ensures.items)
     (same_at wheel.lists c.reserve-then-wanted-len.new.self (c.args.wanted - length wheel.lists) cells)
     c.in_ok-reserve.ensures.content (omega arith) (omega arith) c.self.invariant
 

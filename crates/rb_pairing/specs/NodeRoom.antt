@@ -8,8 +8,8 @@ use Rattle.rb_pairing.specs.declared.node.Node.{Node}
 use Rattle.rb_pairing.specs.Nodes.{expiries}
 
 -- a slot that has an entry is in the room
-pub in_room_of_content : (nodes : List Node) (slot : ℕ)
+pub in_nodes_of_content : (nodes : List Node) (slot : ℕ)
     → IsSome (map.get (content_of (expiries nodes)) slot) → slot < length nodes
-in_room_of_content nodes slot present =
+in_nodes_of_content nodes slot present =
     subst (λ room. slot < room) (length-map nodes (λ (node : Node). node.expiry))
     (in_range_of_content (expiries nodes) slot present)

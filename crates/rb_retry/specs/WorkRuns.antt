@@ -19,7 +19,7 @@ pub data RunEnd : Type 0 where
   failed : Result Verdict (Element × CallFault) → RunEnd
 
 -- an element that was taken, and how its run ended
-pub record Run : Type 0 where
+pub record WorkRun : Type 0 where
   pub element : Element
   pub end : RunEnd
 
@@ -39,7 +39,7 @@ counted report (failed (Ok (Dead dead))) = record report { runs = report.runs + 
 counted report (failed (Err refused)) = record report { runs = report.runs + 1; lost = report.lost + 1 }
 
 -- what these runs come to, behind those of a report
-abbrev pub report_after : WorkReport → List Run → WorkReport
+abbrev pub report_after : WorkReport → List WorkRun → WorkReport
 report_after report [] = report
 report_after report (run ∷ runs) = report_after (counted report run.end) runs
 
@@ -51,7 +51,7 @@ module _ {S : Type 0} (gives : S → ℕ → Type 0) (Steps : S → ℕ → Ask 
       may element false × (now : ℕ) × gives old now × FailsTo Steps policy element now old result new
 
   -- these runs, one after the other: each takes an element, and ends
-  abbrev pub RunsAlong : S → List Run → S → Type 0
+  abbrev pub RunsAlong : S → List WorkRun → S → Type 0
   RunsAlong old [] new = new ≡ old
   RunsAlong old (run ∷ runs) new =
       (taken : S) × Steps old 0 Take (Ok (Item run.element)) taken

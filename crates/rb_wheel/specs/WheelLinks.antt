@@ -4,7 +4,7 @@ use Rattle.rb_wheel.specs.declared.lists.Link.{Link}
 use Rattle.rb_wheel.specs.declared.marks.Marks.{Marks}
 use Rattle.rb_wheel.specs.declared.cells.TheConstants.{CELLS}
 use Rattle.rb_wheel.specs.Marks.{mark_at, mark_of}
-use Rattle.rb_wheel.specs.Written.{link_at}
+use Rattle.rb_wheel.specs.LinkWrites.{link_at}
 
 -- a cell's first slot
 abbrev pub head_at : List (Option ℕ) → ℕ → Option ℕ
@@ -25,7 +25,7 @@ abbrev pub cells_of : List Link → List (Option ℕ)
 cells_of links = map (λ (link : Link). link.cell) links
 
 -- neighbours agree, each list begins at its cell's head, and ranks rise along it, so that it ends
-pub record IsLinked (head cell next previous : ℕ → Option ℕ) (rank : ℕ → ℕ) : Type 0 where
+pub record LinksAgree (head cell next previous : ℕ → Option ℕ) (rank : ℕ → ℕ) : Type 0 where
   pub head_cell : (at slot : ℕ) → head at ≡ Some slot → cell slot ≡ Some at
   pub head_first : (at slot : ℕ) → head at ≡ Some slot → previous slot ≡ None
   pub first_head : (at slot : ℕ) → cell slot ≡ Some at → previous slot ≡ None → head at ≡ Some slot
@@ -38,11 +38,11 @@ pub record IsLinked (head cell next previous : ℕ → Option ℕ) (rank : ℕ �
 
 -- the lists are linked
 abbrev pub AreLinked : List (Option ℕ) → List Link → (ℕ → ℕ) → Type 0
-AreLinked heads links rank = IsLinked (head_at heads) (cell_in links) (next_in links) (previous_in links) rank
+AreLinked heads links rank = LinksAgree (head_at heads) (cell_in links) (next_in links) (previous_in links) rank
 
 -- the lists are linked, the cells that hold a slot are marked, and there are heads for all cells
 -- once there is room for a slot
-pub record IsSound (heads : List (Option ℕ)) (marks : Marks) (links : List Link) : Type 0 where
+pub record AreSoundLists (heads : List (Option ℕ)) (marks : Marks) (links : List Link) : Type 0 where
   pub linked : (rank : ℕ → ℕ) × AreLinked heads links rank
   pub marked : (at : ℕ) → mark_at marks at ≡ mark_of (head_at heads at)
   pub few_heads : length heads ≤ CELLS
