@@ -51,7 +51,7 @@ module _ (s : Slab Element) (content : Content) (directory : Directory) (sound :
   expiry_at slot element found = sound.timed slot ∙ ap (option_map (λ (e : Element). e.expiry)) found
 
   -- what is least for the timer is least in the bag
-  pub is_least : (slot expiry : ℕ) (element : Element) → timer.IsLeast content slot expiry → get s slot ≡ Some element → IsLeast (bag_of s.slots) element
+  pub is_least : (slot expiry : ℕ) (element : Element) → timer.IsLeastSlot content slot expiry → get s slot ≡ Some element → IsLeast (bag_of s.slots) element
   is_least slot expiry element first found = record {
     present = lying.each slot element found;
     least = λ id. of_each _ _ (λ other there.
@@ -90,13 +90,13 @@ module _ (s : Slab Element) (content : Content) (directory : Directory) (sound :
           absurd (cc)
 
   -- what lies in the slot of the least entry is least in the bag
-  pub shown : (slot expiry : ℕ) (Q : Type 0) → timer.IsLeast content slot expiry → MatchOption (get s slot) Q (IsLeast (bag_of s.slots))
+  pub shown : (slot expiry : ℕ) (Q : Type 0) → timer.IsLeastSlot content slot expiry → MatchOption (get s slot) Q (IsLeast (bag_of s.slots))
   shown slot expiry Q first = of_there (element_at slot expiry first.present)
     where
       of_there : (there : (a : Element) × (get s slot ≡ Some a) × (a.expiry ≡ expiry)) → MatchOption (get s slot) Q (IsLeast (bag_of s.slots))
       of_there (a, here, same) = matches_some (get s slot) Q (IsLeast (bag_of s.slots)) (has_and _ _ a here (is_least slot expiry a first here))
 
-  pub least_expiry : (slot expiry : ℕ) → timer.IsLeast content slot expiry → IsLeastExpiry (bag_of s.slots) expiry
+  pub least_expiry : (slot expiry : ℕ) → timer.IsLeastSlot content slot expiry → IsLeastExpiry (bag_of s.slots) expiry
   least_expiry slot expiry first = of_there (element_at slot expiry first.present)
     where
       of_there : (there : (a : Element) × (get s slot ≡ Some a) × (a.expiry ≡ expiry)) → IsLeastExpiry (bag_of s.slots) expiry
