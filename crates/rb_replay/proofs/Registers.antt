@@ -99,6 +99,7 @@ arrival_at-push first (arrival ∷ arrivals) last id =
   where
     same : first + 1 + length arrivals ≡ first + length (arrival ∷ arrivals)
     same = omega arith
+
     by_test : (b : Bool) → (id == first) ≡ b
         → cond b (Some arrival) (cond (id == first + length (arrival ∷ arrivals)) (Some last) (arrival_at (first + 1) arrivals id))
         ≡ cond (id == first + length (arrival ∷ arrivals)) (Some last) (cond b (Some arrival) (arrival_at (first + 1) arrivals id))
@@ -127,6 +128,7 @@ arrival_at-set first (other ∷ arrivals) (suc place) arrival id within =
   where
     same : first + 1 + place ≡ first + suc place
     same = omega arith
+
     by_test : (b : Bool) → (id == first) ≡ b
         → cond b (Some other) (cond (id == first + suc place) (Some arrival) (arrival_at (first + 1) arrivals id))
         ≡ cond (id == first + suc place) (Some arrival) (cond b (Some other) (arrival_at (first + 1) arrivals id))
@@ -262,16 +264,19 @@ keeps_offered element old new arrivals first_id opened given next later = record
   where
     arrival : Arrival
     arrival = record { element = element; is_given_first = false }
+
     pushed : (id : ℕ) → arrival_of new id ≡ cond (id == element.id) (Some arrival) (arrival_of old id)
     pushed id =
         ap (λ f. arrival_at f new.arrivals.items id) first_id ∙ ap (λ l. arrival_at old.first_id l id) arrivals
         ∙ arrival_at-push old.first_id old.arrivals.items arrival id
         ∙ ap (λ n. cond (id == n) (Some arrival) (arrival_of old id)) (sym next)
+
     here_or_before : (id : ℕ) (b : Bool)
         → option_or (option_map (λ (a : Arrival). a.element) (cond b (Some arrival) (arrival_of old id))) (tree.get nat_cmp old.opened id)
         ≡ cond b (Some element) (element_of old id)
     here_or_before id true = refl
     here_or_before id false = refl
+
     not_given : (id : ℕ) (b : Bool) → (id == element.id) ≡ b
         → option_and_then given_of (cond b (Some arrival) (arrival_of old id)) ≡ option_and_then given_of (arrival_of old id)
     not_given id true is =
@@ -387,14 +392,17 @@ keeps_in_map id element old new known none filed opened first_id arrivals offere
   where
     same : (other : ℕ) → arrival_of new other ≡ arrival_of old other
     same other = ap (λ f. arrival_at f new.arrivals.items other) first_id ∙ ap (λ a. arrival_at old.first_id a.items other) arrivals
+
     same_begun : (attempt : Attempt) → begun new attempt ≡ begun old attempt
     same_begun attempt = ap (λ o. cond (attempt.number == 1) (option_and_then given_of o) None) (same attempt.origin)
+
     behind : (o before : Option Element) (b : Bool) → (b ≡ true → is_some (option_or o before) ≡ false)
         → option_or o (cond b (Some element) before) ≡ cond b (Some element) (option_or o before)
     behind None before true none = refl
     behind None before false none = refl
     behind (Some other) before true none = let wrong : true ≡ false = none refl in absurd (cc)
     behind (Some other) before false none = refl
+
     first : (attempt : Attempt) → given_first new attempt ≡ cond (is_at (attempt_cmp (attempt_of element)) attempt) (Some element) (given_first old attempt)
     first attempt =
         ap (λ o. option_or o (tree.get attempt_cmp new.given attempt)) (same_begun attempt)
@@ -421,21 +429,26 @@ keeps_at_place id place element arrival old new known none at is first own arriv
   where
     marked : Arrival
     marked = record arrival { is_given_first = true }
+
     there : arrival_of old id ≡ Some arrival
     there = placed old id place arrival at is
+
     element_is : arrival.element ≡ element
     element_is = same_Some _ _ (sym (ap (λ o. option_or (option_map (λ (a : Arrival). a.element) o) (tree.get nat_cmp old.opened id)) there) ∙ known)
+
     changed : (other : ℕ) → arrival_of new other ≡ cond (other == id) (Some marked) (arrival_of old other)
     changed other =
         ap (λ f. arrival_at f new.arrivals.items other) first_id ∙ ap (λ l. arrival_at old.first_id l other) arrivals
         ∙ arrival_at-set old.first_id old.arrivals.items place marked other at.within
         ∙ ap (λ n. cond (other == n) (Some marked) (arrival_of old other)) at.placed
+
     same_element_at : (other : ℕ) (b : Bool) → (other == id) ≡ b
         → option_map (λ (a : Arrival). a.element) (cond b (Some marked) (arrival_of old other)) ≡ option_map (λ (a : Arrival). a.element) (arrival_of old other)
     same_element_at other true here =
         let same : other ≡ id = grind (arith, nat_tests) in
         sym (ap (λ n. option_map (λ (a : Arrival). a.element) (arrival_of old n)) same ∙ ap (option_map (λ (a : Arrival). a.element)) there)
     same_element_at other false here = refl
+
     given_at : (attempt : Attempt) (same_origin same_number : Bool) → (attempt.origin == id) ≡ same_origin → (attempt.number == 1) ≡ same_number
         → option_or (cond same_number (option_and_then given_of (cond same_origin (Some marked) (arrival_of old attempt.origin))) None) (tree.get attempt_cmp old.given attempt)
         ≡ cond (same_origin && same_number) (Some element) (option_or (cond same_number (option_and_then given_of (arrival_of old attempt.origin)) None) (tree.get attempt_cmp old.given attempt))
@@ -443,11 +456,13 @@ keeps_at_place id place element arrival old new known none at is first own arriv
     given_at attempt true false origin number = refl
     given_at attempt false true origin number = refl
     given_at attempt false false origin number = refl
+
     tests : (attempt : Attempt) → ((attempt.origin == id) && (attempt.number == 1)) ≡ is_at (attempt_cmp (attempt_of element)) attempt
     tests attempt =
         let same_origin : (attempt.origin == id) ≡ (element.origin == attempt.origin) = grind (arith, nat_tests) in
         let same_number : (attempt.number == 1) ≡ (element.attempt == attempt.number) = grind (arith, nat_tests) in
         ap (λ b. b && (attempt.number == 1)) same_origin ∙ ap (λ b. (element.origin == attempt.origin) && b) same_number ∙ sym (tied (attempt_of element) attempt)
+
     filed : (attempt : Attempt) → given_first new attempt ≡ cond (is_at (attempt_cmp (attempt_of element)) attempt) (Some element) (given_first old attempt)
     filed attempt =
         ap (λ o. option_or (cond (attempt.number == 1) (option_and_then given_of o) None) (tree.get attempt_cmp new.given attempt)) (changed attempt.origin)

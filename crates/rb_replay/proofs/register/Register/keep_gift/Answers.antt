@@ -1,6 +1,5 @@
 use Rattle.std.proofs.Common.{refl, sym, ap, ◌∙◌}
 use Rattle.std.specs.Prelude.{is_some}
-use Rattle.rb_replay.specs.Registering.{given_first}
 use Rattle.rb_replay.specs.declared.attempt.Attempt.{Attempt}
 use Rattle.rb_replay.proofs.Registers.{keeps_old_gift, keeps_at_place, keeps_in_map}
 use Rattle.rb_replay.proofs.register.Register.keep_gift.Goals as goal

@@ -1,6 +1,6 @@
 use Rattle.std.proofs.Common.{refl, sym, subst}
 use Rattle.rb_queue.specs.Opening.{AreInOrder}
-use Rattle.rb_replay.proofs.Registers.{opened_none, opened_next, opened_next_id}
+use Rattle.rb_replay.proofs.Registers.{opened_none, opened_next}
 use Rattle.rb_replay.proofs.register.Register.new_from.Goals as goal
 
 pub loop-element-init : goal.loop-element-init
