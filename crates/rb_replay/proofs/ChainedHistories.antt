@@ -1,5 +1,5 @@
 -- A history whose offers are checked one after the other.
-use Rattle.std.proofs.Common.{◌≡◌, ◌≢◌, ℕ, suc, ◌+◌, ◌-◌, ◌<◌, ◌≤◌, ◌⊎◌, inl, inr, List, [], ◌∷◌, ◌++◌, length, take, drop, get_or, refl, sym, ap, subst, ◌∙◌, arith, append_assoc, length-append, Bool, true, false, cond, Option, Some, None, Result, Ok, Err}
+use Rattle.std.proofs.Common.{◌≡◌, ◌≢◌, ℕ, zero, suc, ◌+◌, ◌-◌, ◌<◌, ◌≤◌, ◌⊎◌, inl, inr, List, [], ◌∷◌, ◌++◌, length, take, drop, get_or, refl, sym, ap, subst, ◌∙◌, arith, append_assoc, length-append, Bool, true, false, cond, Option, Some, None, Result, Ok, Err}
 use Rattle.std.proofs.lemmas.Bool.Decides.{nat_tests}
 use Rattle.std.proofs.lemmas.List.{append-nil, take_more, take_at, take-append-drop, length-take}
 use Rattle.std.proofs.lemmas.Option.{same_Some}
@@ -10,7 +10,11 @@ use Rattle.std.specs.List.{find, list_any, filter_map}
 use Rattle.std.specs.FinMap as map
 use Rattle.rb_delayed.specs.declared.element.Element.{Element}
 use Rattle.rb_queue.specs.Bag.{Bag, bag_from}
-use Rattle.rb_queue.specs.Effect.{effect_of, inserted, given}
+use Rattle.rb_queue.specs.Queue.{Queue}
+use Rattle.rb_queue.specs.Effect.{Effect, inserts, gives, discards, empties, effect_of, queue_after, inserted, given}
+use Rattle.rb_queue.specs.Calls.{Permits}
+use Rattle.rb_queue.specs.History.{State, start_of, state_after, state_from, state_of, Allows, AllowsAll, IsLegal}
+use Rattle.rb_queue.proofs.Histories.{state_from-append}
 use Rattle.rb_queue.specs.Replies.{with_inserted, offered_from, offered}
 use Rattle.rb_queue.specs.declared.act.Act.{Act}
 use Rattle.rb_queue.specs.declared.act.Act.TheVariants.{Offer, Poll, Take, PollFor, Peek, Remove, Drain, Clear, Size}
@@ -23,7 +27,7 @@ use Rattle.rb_replay.specs.Tests.{Test, NoTest}
 use Rattle.rb_replay.specs.Links.{Past, is_attempt, parent_in, CameBefore, Begins, Follows, GoesOn, IsLinked}
 use Rattle.rb_replay.specs.LinkTests.{FollowTests, ParentTests, BeginTests, GoOnTests, LinkTests}
 use Rattle.rb_replay.specs.Chaining.{past_of, IsChained, Unchains}
-use Rattle.rb_replay.specs.Registering.{attempt_of, Recalls, Keeps, past_after, EventIsLinked, ChainTests}
+use Rattle.rb_replay.specs.Registering.{attempt_of, next_id_of, Recalls, IsNext, Keeps, past_after, EventIsLinked, ChainTests}
 use Rattle.rb_replay.specs.declared.attempt.Attempt.{Attempt}
 use Rattle.rb_replay.specs.declared.chain_reason.ChainReason.{ChainReason}
 use Rattle.rb_replay.specs.declared.chain_reason.ChainReason.TheVariants.{NoParent, Twice}
@@ -101,17 +105,45 @@ chained_more policy opening events event chained linked = record {
         (linked element (sym (ap (λ (e : Event). e.act) last) ∙ offers)))
     at_place front other element offers (inr (rest, split)) = chained.linked front rest other element split offers
 
--- the events so far are chained, and the register has what they tell
+-- the events so far are chained, and the register has what they tell, and knows the next id
 pub record Looked (policy : Policy) (opening : Opening) (events : List Event) (register : Register) : Type 0 where
   pub chained : IsChained policy opening events
   pub recalls : Recalls (offered opening events) (past_of opening events) register
+  pub next_id : next_id_of register ≡ (state_of opening events).queue.next_id
 
 pub looked_none : (policy : Policy) (opening : Opening) (register : Register)
-    → Recalls (bag_from opening.elements) (record { offers = opening.elements; gifts = [] }) register → Looked policy opening [] register
-looked_none policy opening register recalls = record {
+    → Recalls (bag_from opening.elements) (record { offers = opening.elements; gifts = [] }) register
+    → next_id_of register ≡ opening.next_id → Looked policy opening [] register
+looked_none policy opening register recalls next_id = record {
   chained = chained_none policy opening;
   recalls = subst (λ l. Recalls (bag_from opening.elements) (record { offers = l; gifts = [] }) register) (sym (append-nil opening.elements)) recalls;
+  next_id = next_id;
 }
+
+-- each event of a legal history is allowed where it stands
+allowed_at : (from : State) (events : List Event) (i : ℕ) (event : Event) → AllowsAll from events → i < length events
+    → event ≡ get_or events i event → Allows (state_from from (take i events)) event
+allowed_at from [] i event allows within is = absurd (omega (arith, within))
+allowed_at from (first ∷ events) zero event allows within is = subst (Allows from) (sym is) allows.0
+allowed_at from (first ∷ events) (suc i) event allows within is =
+    allowed_at (state_after from first) events i event allows.1 (omega (arith, within)) is
+
+-- so an offer gives its element the next id
+pub offers_next_id : (policy : Policy) (opening : Opening) (events : List Event) (i : ℕ) (event : Event) (register : Register)
+    → IsLegal opening events → i < length events → event ≡ get_or events i event → Looked policy opening (take i events) register
+    → IsNext event.act register
+offers_next_id policy opening events i event register legal within is so_far element offers =
+    let allowed = allowed_at (start_of opening) events i event legal within is in
+    let next : element.id ≡ (state_of opening (take i events)).queue.next_id =
+    subst (Permits (state_of opening (take i events)).queue event.at) offers allowed.act in
+    next ∙ sym so_far.next_id
+
+-- an event moves the next id on by what it offers
+next_id_after : (queue : Queue) (effect : Effect) → (queue_after queue effect).next_id ≡ queue.next_id + length (inserted effect)
+next_id_after queue (inserts element) = refl
+next_id_after queue (gives ids) = omega arith
+next_id_after queue (discards ids) = omega arith
+next_id_after queue empties = omega arith
 
 pub looked_more : (policy : Policy) (opening : Opening) (events : List Event) (i : ℕ) (event : Event) (old new : Register)
     → i < length events → event ≡ get_or events i event → Looked policy opening (take i events) old
@@ -124,7 +156,10 @@ looked_more policy opening events i event old new within is so_far linked keeps 
           (sym (offered_from-append (bag_from opening.elements) (take i events) event))
           (subst (λ past. Recalls (with_inserted (offered opening (take i events)) (effect_of event.act)) past new)
           (sym (past_more opening (take i events) event))
-          (keeps (offered opening (take i events)) (past_of opening (take i events)) so_far.recalls));
+          (keeps.recalls (offered opening (take i events)) (past_of opening (take i events)) so_far.recalls));
+      next_id = keeps.next_id ∙ ap (λ n. n + length (inserted (effect_of event.act))) so_far.next_id
+          ∙ sym (next_id_after (state_of opening (take i events)).queue (effect_of event.act))
+          ∙ ap (λ (s : State). s.queue.next_id) (sym (state_from-append (start_of opening) (take i events) event));
     })
 
 -- an element whose tests fail is not linked

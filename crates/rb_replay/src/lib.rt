@@ -5,6 +5,7 @@
 //! offer begins a job or goes on with one as a policy says. Moments and delays are nanoseconds.
 #![tactic(auto)]
 
+mod arrival;
 mod attempt;
 mod chain_fault;
 mod chain_reason;

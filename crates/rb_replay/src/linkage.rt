@@ -95,6 +95,7 @@ fn check_later(
     asked: u64,
     element: &Element,
 ) -> Result<(), ChainReason>
+    requires { 2 ≤ element.now.attempt }
     ensures { (came : Bag) (past : Past) → Recalls came past register.now → MatchResult result
         (λ _. GoesOn policy.now past asked element.now)
         (GoOnTests policy.now past asked element.now) }

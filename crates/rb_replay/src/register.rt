@@ -1,10 +1,10 @@
-ghost use Rattle.std.specs.Prelude.{◌≡◌, ◌∷◌, [], IfOk, OnOk};
+ghost use Rattle.std.specs.Prelude.{◌≡◌, ◌≤◌, ◌∷◌, [], None, IfOk, OnOk, IfSome, IfNone};
 ghost use Rattle.std.specs.List.{find, list_any};
-ghost use Rattle.rb_queue.specs.Bag.{bag_from};
+ghost use Rattle.rb_queue.specs.Bag.{Bag, bag_from};
 ghost use Rattle.rb_replay.specs.Links.{Past, is_attempt};
-ghost use Rattle.rb_replay.specs.Registering.{Recalls, Keeps, KeepsOffer, KeepsGifts};
-ghost use Rattle.rb_queue.specs.Bag.{Bag};
+ghost use Rattle.rb_replay.specs.Registering.{next_id_of, arrival_of, element_of, begun, given_first, Recalls, IsNext, IsPlaceOf, MarksLater, Keeps, KeepsOpened, KeepsOffer, KeepsGifts};
 
+use crate::arrival::Arrival;
 use crate::attempt::Attempt;
 use rb_delayed::Element;
 use rb_queue::{Act, Opening};
@@ -12,35 +12,46 @@ use std::alloc::{AllocError, Global};
 use std::collections::{BTreeMap, BTreeSet};
 
 /// What the events so far tell of the jobs.
+///
+/// Most elements are offered, and are a job's first attempt: each stands at the place of its id, and
+/// needs no entry in a map.
 #[derive(Drop)]
 pub(crate) struct Register {
-    /// Each element that came in, under its id.
-    elements: BTreeMap<u64, Element>,
-    /// The attempts of which an element came in.
+    /// The elements that stood at the start, under their ids.
+    opened: BTreeMap<u64, Element>,
+    /// The id of the first element that was offered.
+    first_id: u64,
+    /// The elements that were offered. Their ids follow one another.
+    arrivals: Vec<Arrival>,
+    /// The attempts, other than first ones, of which an element came in.
     offered: BTreeSet<Attempt>,
-    /// The element that was given first of each attempt.
+    /// The element that was given first of each attempt, where no arrival says that it is the one.
     given: BTreeMap<Attempt, Element>,
 }
 
 impl Register {
     /// What the opening of a run tells.
     pub(crate) fn new_from(alloc: Global, opening: &Opening) -> Result<Register, AllocError>
-        ensures { IfOk result (Recalls (bag_from opening.now.elements)
+        ensures recalls { IfOk result (Recalls (bag_from opening.now.elements)
             (record { offers = opening.now.elements; gifts = [] })) }
+        ensures next_id { IfOk result (λ register. next_id_of register ≡ opening.now.next_id) }
     {
         let mut register = Register {
-            elements: BTreeMap::new(alloc),
+            opened: BTreeMap::new(alloc),
+            first_id: opening.next_id,
+            arrivals: Vec::new(alloc),
             offered: BTreeSet::new(alloc),
             given: BTreeMap::new(alloc),
         };
         for element in opening.elements.as_slice() {
-            register.keep_offer(element)?;
+            register.keep_opened(element)?;
         }
         Ok(register)
     }
 
-    /// Whether an element of the attempt came in.
+    /// Whether an element of the attempt, which is not a first one, came in.
     pub(crate) fn is_offered(&self, attempt: Attempt) -> bool
+        requires { 2 ≤ attempt.number }
         ensures { (came : Bag) (past : Past) → Recalls came past self.now
             → result ≡ list_any (is_attempt attempt.origin attempt.number) past.offers }
     {
@@ -49,14 +60,20 @@ impl Register {
 
     /// The element of the attempt that was given first.
     pub(crate) fn first_given(&self, attempt: Attempt) -> Option<Element>
-        ensures { (came : Bag) (past : Past) → Recalls came past self.now
+        ensures first { result ≡ given_first self.now attempt }
+        ensures found { (came : Bag) (past : Past) → Recalls came past self.now
             → result ≡ find (is_attempt attempt.origin attempt.number) past.gifts }
     {
-        self.given.get(&attempt).copied()
+        match self.first_begun(attempt) {
+            Some(element) => Some(element),
+            None => self.given.get(&attempt).copied(),
+        }
     }
 
-    /// Keeps what an event did. After an `Err` the register has a part of it.
+    /// Keeps what an event did, which offers no other id than the next one. After an `Err` the register
+    /// has a part of it.
     pub(crate) fn keep(&mut self, act: &Act) -> Result<(), AllocError>
+        requires { IsNext act.now self.old }
         ensures { OnOk result (Keeps act.now self.old self.new) }
     {
         match act {
@@ -69,13 +86,25 @@ impl Register {
         }
     }
 
-    // Keeps that the element came in.
+    // Keeps that the element stood at the start, where none was offered yet.
+    fn keep_opened(&mut self, element: &Element) -> Result<(), AllocError>
+        requires { self.old.arrivals.items ≡ [] }
+        ensures { OnOk result (KeepsOpened element.now self.old self.new) }
+    {
+        self.opened.insert(element.id, *element)?;
+        mark_later(&mut self.offered, Attempt::of(element))
+    }
+
+    // Keeps that the element was offered.
     fn keep_offer(&mut self, element: &Element) -> Result<(), AllocError>
+        requires { element.now.id ≡ next_id_of self.old }
         ensures { OnOk result (KeepsOffer element.now self.old self.new) }
     {
-        self.elements.insert(element.id, *element)?;
-        self.offered.insert(Attempt::of(element))?;
-        Ok(())
+        self.arrivals.push(Arrival {
+            element: *element,
+            is_given_first: false,
+        })?;
+        mark_later(&mut self.offered, Attempt::of(element))
     }
 
     // Keeps that the elements of these ids were given, one after the other.
@@ -92,13 +121,67 @@ impl Register {
     fn keep_gift(&mut self, id: u64) -> Result<(), AllocError>
         ensures { OnOk result (KeepsGifts (id ∷ []) self.old self.new) }
     {
-        let Some(element) = self.elements.get(&id).copied() else {
+        let Some(element) = self.element(id) else {
             return Ok(());
         };
         let attempt = Attempt::of(&element);
-        if !self.given.contains_key(&attempt) {
-            self.given.insert(attempt, element)?;
+        if self.first_given(attempt).is_some() {
+            return Ok(());
+        }
+        match self.place_of(id) {
+            Some(place) if attempt.number == 1 && attempt.origin == id => {
+                self.arrivals[place].is_given_first = true;
+            }
+            _ => {
+                self.given.insert(attempt, element)?;
+            }
         }
         Ok(())
     }
+
+    // The element of the id, if one came in.
+    fn element(&self, id: u64) -> Option<Element>
+        ensures { result ≡ element_of self.now id }
+    {
+        match self.place_of(id) {
+            Some(place) => Some(self.arrivals[place].element),
+            None => self.opened.get(&id).copied(),
+        }
+    }
+
+    // The element of the attempt, if it is the first attempt of its own job and was given first.
+    fn first_begun(&self, attempt: Attempt) -> Option<Element>
+        ensures { result ≡ begun self.now attempt }
+    {
+        if attempt.number != 1 {
+            return None;
+        }
+        let arrival = &self.arrivals[self.place_of(attempt.origin)?];
+        arrival.is_given_first.then_some(arrival.element)
+    }
+
+    // The place of the arrival that has the id.
+    fn place_of(&self, id: u64) -> Option<usize>
+        ensures some { IfSome result (IsPlaceOf self.now id) }
+        ensures none { IfNone result (arrival_of self.now id ≡ None) }
+    {
+        if id < self.first_id {
+            return None;
+        }
+        let place = (id - self.first_id) as usize;
+        if place >= self.arrivals.len() {
+            return None;
+        }
+        Some(place)
+    }
+}
+
+// Marks that the attempt came in, where it is not a first one.
+fn mark_later(offered: &mut BTreeSet<Attempt>, attempt: Attempt) -> Result<(), AllocError>
+    ensures { OnOk result (MarksLater attempt offered.old offered.new) }
+{
+    if attempt.number >= 2 {
+        offered.insert(attempt)?;
+    }
+    Ok(())
 }

@@ -1,7 +1,9 @@
 use Rattle.std.proofs.Common.{refl}
-use Rattle.rb_replay.proofs.Registers.{recalls_offer}
+use Rattle.std.proofs.lemmas.Result.{on_ok_weaker}
+use Rattle.rb_replay.proofs.Registers.{keeps_offered}
 use Rattle.rb_replay.proofs.register.Register.keep_offer.Goals as goal
 
 pub returns : goal.returns
 returns c =
-    recalls_offer c.args.element.now _ _ c.in_ok-insert.ensures.updates.0 (rw c.of.ensures at c.in_ok-insert-2.ensures.updates.0) refl
+    on_ok_weaker c.mark_later.result (keeps_offered c.args.element.now c.args.self.now _ c.in_ok-push.ensures.items refl refl refl c.requires)
+    (rw c.of.ensures at c.mark_later.ensures)

@@ -1,10 +1,7 @@
-use Rattle.std.proofs.Common.{[], take}
-use Rattle.rb_queue.specs.Bag.{bag_from}
-use Rattle.rb_replay.specs.Registering.{Recalls}
+use Rattle.std.proofs.Common.{take}
+use Rattle.rb_replay.proofs.Registers.{HasOpened}
 use Rattle.rb_replay.proofs.register.Register.new_from.Given as goal
 
--- the elements so far came in
+-- the elements so far came in, and none was offered
 abbrev pub invariant-loop-element : goal.invariant-loop-element
-invariant-loop-element l =
-    let elements = take l.element-index l.element-items in
-    Recalls (bag_from elements) (record { offers = elements; gifts = [] }) l.register
+invariant-loop-element l = HasOpened (take l.element-index l.element-items) l.fn.opening.next_id l.register
