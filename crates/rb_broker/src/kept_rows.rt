@@ -2,10 +2,10 @@
 use rb_binary::BinaryTimer;
 use rb_delayed::{Element, Payload};
 use rb_kept::{CallFault, Kept, NewFault, Outcome, Step, Try};
-use rb_ledger::Tally;
+use rb_ledger::{Tally, Totals};
 use rb_pairing::PairingTimer;
 use rb_queue::{Ask, Audit, Draft, Items, Opening, Reply};
-use rb_replay::write_history;
+use rb_replay::{MOST_EVENTS, write_history};
 use rb_timer::{ListTimer, Timer};
 use rb_wheel::WheelTimer;
 use std::alloc::{AllocError, Global};
@@ -115,11 +115,21 @@ fn run<T: Timer>(
 }
 
 fn expect_history<T: Timer>(rt: &impl Abort, alloc: Global, kept: &Kept<T>, text: &[u8]) {
+    let (opening, events) = (kept.opening(), kept.history());
+    assert!(rt; events.len() <= MOST_EVENTS);
     let mut written = Vec::new(alloc);
-    assert!(rt; kept.history().len() <= 1_000_000);
-    let is_written = write_history(alloc, kept.opening(), kept.history(), &mut written).is_ok();
+    let is_written = write_history(alloc, opening, events, &mut written).is_ok();
     assert!(rt; is_written);
     assert_eq!(rt; written.as_slice(), text);
+}
+
+// What is in the one share of a whole run.
+fn totals_of(audit: Audit) -> Totals {
+    Totals {
+        calls: audit.calls,
+        offered: audit.offered,
+        given: audit.given,
+    }
 }
 
 fn expect_run<T: Timer>(rt: &impl Abort, alloc: Global, timer: &str, row: Row<'_>) {
@@ -127,6 +137,7 @@ fn expect_run<T: Timer>(rt: &impl Abort, alloc: Global, timer: &str, row: Row<'_
     let steps = run(rt, alloc, &mut kept, &mut tally, row.tries);
     assert_eq!(rt; steps.as_slice(), row.steps, "{timer}");
     assert_eq!(rt; kept.audit(), row.audit, "{timer}");
+    assert_eq!(rt; tally.totals(), totals_of(row.audit), "{timer}");
     expect_history(rt, alloc, &kept, row.history);
 }
 
@@ -292,17 +303,21 @@ fn equal_expiries_come_in_either_order(rt: HostRuntime) {
     expect_both::<WheelTimer>(&rt, rt.alloc(), "wheel");
 }
 
-fn expect_refused<T: Timer>(rt: &impl Abort, alloc: Global, capacity: u64) {
-    let fault = Kept::<T>::new(alloc, capacity).err();
-    assert_eq!(rt; fault, Some(NewFault::BadCapacity), "{capacity}");
+fn expect_capacities<T: Timer>(rt: &impl Abort, alloc: Global, timer: &str) {
+    for (capacity, fault) in [
+        (0, Some(NewFault::BadCapacity)),
+        (1, None),
+        (1_000_001, Some(NewFault::BadCapacity)),
+    ] {
+        let made = Kept::<T>::new(alloc, capacity).err();
+        assert_eq!(rt; made, fault, "{timer} {capacity}");
+    }
 }
 
 #[test]
 fn a_capacity_is_1_to_1_000_000(rt: HostRuntime) {
-    for capacity in [0, 1_000_001] {
-        expect_refused::<ListTimer>(&rt, rt.alloc(), capacity);
-        expect_refused::<BinaryTimer>(&rt, rt.alloc(), capacity);
-        expect_refused::<PairingTimer>(&rt, rt.alloc(), capacity);
-        expect_refused::<WheelTimer>(&rt, rt.alloc(), capacity);
-    }
+    expect_capacities::<ListTimer>(&rt, rt.alloc(), "list");
+    expect_capacities::<BinaryTimer>(&rt, rt.alloc(), "heap");
+    expect_capacities::<PairingTimer>(&rt, rt.alloc(), "pairing");
+    expect_capacities::<WheelTimer>(&rt, rt.alloc(), "wheel");
 }
