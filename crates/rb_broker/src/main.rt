@@ -23,6 +23,8 @@ mod given_words;
 #[cfg(test)]
 mod history_rows;
 #[cfg(test)]
+mod kept_rows;
+#[cfg(test)]
 mod large_rows;
 mod opening_in;
 mod read_all;

@@ -1,4 +1,4 @@
-use super::{element, event, offer, offered};
+use super::{element, offer, offered};
 use crate::{CallFault, Kept, NewFault, Outcome, Step, Try};
 use rb_delayed::Element;
 use rb_ledger::{Tally, Totals};
@@ -24,9 +24,22 @@ fn numbered(rt: &impl Abort, id: u64) -> Element {
     element(rt, id, expiry_of(id), b"a")
 }
 
-// What a refused call must leave. The elements are shown by the calls after it.
-fn standing<T: Timer>(kept: &Kept<T>, tally: &Tally) -> (Audit, usize, Totals) {
-    (kept.audit(), kept.history().len(), tally.totals())
+// The numbers that a refused call must leave.
+fn standing<T: Timer>(kept: &Kept<T>, tally: &Tally) -> (Audit, usize, u64, Totals) {
+    let events = kept.history().len();
+    (kept.audit(), events, kept.capacity(), tally.totals())
+}
+
+// A refused call has left these numbers, the opening and each event. The elements are shown by the
+// calls after it, up to the last.
+fn expect_unchanged<T: Timer>(
+    rt: &impl Abort,
+    kept: &Kept<T>,
+    tally: &Tally,
+    before: (Audit, usize, u64, Totals),
+) {
+    assert_eq!(rt; standing(kept, tally), before);
+    expect_events(rt, kept.opening(), kept.history());
 }
 
 // The opening of the first elements.
@@ -89,7 +102,7 @@ fn answered<T: Timer>(
         Ok(outcome) => Ok(outcome),
         Err(fault) => {
             assert_eq!(rt; fault, CallFault::Memory);
-            assert_eq!(rt; standing(kept, tally), before);
+            expect_unchanged(rt, kept, tally, before);
             *met = met.saturating_add(1);
             kept.act(tally, 0, 95, again)
         }
@@ -126,11 +139,7 @@ fn drains<T: Timer>(
     let Outcome::Done(Reply::Drained(items)) = outcome else {
         return Err(Fail::from("the drain gave nothing"));
     };
-    let Some(Act::Drain { ids, .. }) = kept.history().last().map(|event| &event.act) else {
-        return Err(Fail::from("the drain is not recorded"));
-    };
     expect_items(rt, items.as_slice());
-    expect_ids(rt, ids.as_slice());
     Ok(())
 }
 
@@ -172,19 +181,19 @@ fn runs<T: Timer>(
         {
             return Ok(());
         }
-        assert_eq!(rt; standing(kept, tally), before);
+        expect_unchanged(rt, kept, tally, before);
         *met = met.saturating_add(1);
     }
     Err(Fail::from("no memory for a run"))
 }
 
-// Offers elements 0 to 19, and finds them in the history.
+// Offers elements 0 to 19.
 fn offers_many<T: Timer>(
     rt: &impl Abort,
     kept: &mut Kept<T>,
     tally: &mut Tally,
     met: &mut u32,
-) -> Result<(), Fail> {
+) -> Result<(), CallFault> {
     for id in 0..MANY {
         let ask = offer(rt, expiry_of(id), b"a");
         let outcome = answered(rt, kept, tally, ask, met)?;
@@ -193,16 +202,40 @@ fn offers_many<T: Timer>(
             Outcome::Done(offered(rt, id, expiry_of(id), b"a"))
         );
     }
-    expect_events(rt, kept.history());
     Ok(())
 }
 
-fn expect_events(rt: &impl Abort, history: &[Event]) {
-    assert_eq!(rt; history.len(), MANY as usize);
-    let mut id = 0_u64;
-    for offer in history {
-        assert_eq!(rt; *offer, event(0, 95, 95, Act::Offer(numbered(rt, id))));
-        id = id.saturating_add(1);
+// The opening has elements from 0 on, and no other. Answers how many.
+fn expect_opening(rt: &impl Abort, opening: &Opening) -> u64 {
+    let mut count = 0_u64;
+    for element in opening.elements.as_slice() {
+        assert_eq!(rt; *element, numbered(rt, count));
+        count = count.saturating_add(1);
+    }
+    assert_eq!(rt; (opening.next_id, opening.last_at), (count, 0));
+    count
+}
+
+// Elements 0 to 19 stand in the opening or were offered. Then comes the drain, and then element 20.
+fn expect_events(rt: &impl Abort, opening: &Opening, history: &[Event]) {
+    let mut place = expect_opening(rt, opening);
+    for event in history {
+        expect_event(rt, event, place);
+        place = place.saturating_add(1);
+    }
+}
+
+// Places count the opening's elements and the events behind them.
+fn expect_event(rt: &impl Abort, found: &Event, place: u64) {
+    assert_eq!(rt; (found.seat, found.asked, found.at), (0, 95, 95));
+    match &found.act {
+        Act::Offer(element) if place < MANY => assert_eq!(rt; *element, numbered(rt, place)),
+        Act::Offer(element) => assert_eq!(rt; (place, *element), (21, numbered(rt, 20))),
+        Act::Drain { max, ids } => {
+            assert_eq!(rt; (place, *max), (MANY, MANY));
+            expect_ids(rt, ids.as_slice());
+        }
+        other => assert!(rt; false, "{other:?}"),
     }
 }
 
@@ -218,7 +251,27 @@ fn goes_on<T: Timer>(
     let next = answered(rt, kept, tally, Ask::Take, &mut met)?;
     assert_eq!(rt; next, Outcome::Later(Some(96)));
     runs(rt, alloc, kept, tally, &mut met)?;
+    expect_events(rt, kept.opening(), kept.history());
+    polls_the_rest(rt, kept, tally)?;
     Ok(met)
+}
+
+// Elements 20 and 4 to 0 are left, which expire in this order.
+fn polls_the_rest<T: Timer>(
+    rt: &impl Abort,
+    kept: &mut Kept<T>,
+    tally: &mut Tally,
+) -> Result<(), CallFault> {
+    for id in [20, 4, 3, 2, 1, 0] {
+        let polled = kept.act(tally, 0, 100, Ask::Poll)?;
+        assert_eq!(rt; polled, Outcome::Done(Reply::Item(numbered(rt, id))));
+    }
+    assert_eq!(rt;
+        kept.act(tally, 0, 100, Ask::Poll)?,
+        Outcome::Done(Reply::Nothing)
+    );
+    assert_eq!(rt; kept.audit().left, 0);
+    Ok(())
 }
 
 // The same from a queue that is empty.
@@ -232,9 +285,9 @@ fn begins<T: Timer>(
     offers_many(rt, kept, tally, &mut met)?;
     let met = goes_on(rt, alloc, kept, tally, met)?;
     let audit = kept.audit();
-    assert_eq!(rt; (audit.calls, audit.offered, audit.given), (22, 21, 15));
+    assert_eq!(rt; (audit.calls, audit.offered, audit.given), (29, 21, 21));
     let totals = tally.totals();
-    assert_eq!(rt; (totals.calls, totals.offered, totals.given), (22, 21, 15));
+    assert_eq!(rt; (totals.calls, totals.offered, totals.given), (29, 21, 21));
     Ok(met)
 }
 
