@@ -66,7 +66,7 @@ start_server() {
 # One run: the peer, clients, batches of each client, and requests in a batch. Its line is that of the clients.
 run_once() {
     start_server "$1" "$2"
-    "$room/clients" measure "$1" "$port" "$2" "$3" "$4"
+    "$room/clients" measure "$1" "$port" "$2" "$3" "$4" || { kill "$server" && exit 1; }
     [[ $1 != beanstalkd ]] || kill "$server"
     wait "$server" || [[ $1 == beanstalkd ]]
 }
