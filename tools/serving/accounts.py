@@ -97,8 +97,10 @@ class Account:
                 self.expected.append(Expected("size", words[1]))
             case "AGAIN":
                 self.fails(int(asked[1]), *numbers)
-            case "DONE" | "DEAD":
+            case "DONE" if words == asked:
                 del self.held[int(asked[1])]
+            case "DEAD" if asked == ["FAIL", words[1]] and self.held[int(words[1])].attempt == ATTEMPTS:
+                del self.held[int(words[1])]
             case _ if not self.may_be_so(replies[0], asked):
                 raise AssertionError(f"{request!r} was answered {replies[0]!r}")
 
