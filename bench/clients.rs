@@ -1,0 +1,248 @@
+//! Clients that measure a server of jobs, and an echo server to compare it with. bench/serve.sh runs them. They
+//! are no part of the product, and prove nothing.
+//!
+//!     rustc --edition 2021 -O -o clients bench/clients.rs
+//!     ./clients measure broker|echo|lines|beanstalkd PORT CLIENTS BATCHES BATCH
+//!     ./clients echo-server PORT THREADS CONNECTIONS
+//!     ./clients lines-server PORT THREADS CONNECTIONS
+//!
+//! Each client does BATCHES times: it sends BATCH offers in one piece and reads their replies, then so many
+//! takes, and then says that the jobs it took are done. A round is one offer, take and done; an exchange is one
+//! sending with its replies. Printed are the rounds in a second of all clients together, and the median and the
+//! 99th percentile of the exchanges in microseconds.
+//!
+//! Of an echo server the clients want the lines back that the broker is sent. It has so many threads, each of
+//! which serves one connection after the other, and it ends after so many connections. What a read gave is sent
+//! by one write, or by the second server by a write for each line, as the broker sends its replies.
+use std::io::{self, BufRead, BufReader, Read, Write};
+use std::net::{Ipv4Addr, TcpListener, TcpStream};
+use std::process::ExitCode;
+use std::sync::Barrier;
+use std::sync::atomic::{AtomicU64, Ordering};
+use std::time::{Duration, Instant};
+use std::{env, thread};
+
+/// How many batches each client makes before its time is taken.
+const WARM_UP: u64 = 20;
+
+#[derive(Clone, Copy, PartialEq, Eq)]
+enum Peer {
+    Broker,
+    Echo,
+    Beanstalkd,
+}
+
+#[derive(Clone, Copy, PartialEq, Eq)]
+enum Step {
+    Offer,
+    Take,
+    Done,
+}
+
+impl Peer {
+    fn named(name: &str) -> Option<Peer> {
+        match name {
+            "broker" => Some(Peer::Broker),
+            "echo" | "lines" => Some(Peer::Echo),
+            "beanstalkd" => Some(Peer::Beanstalkd),
+            _ => None,
+        }
+    }
+
+    /// Writes one request, where that is `Done` for the job of this id.
+    fn write_request(self, step: Step, id: u64, text: &mut Vec<u8>) {
+        let written = match (self, step) {
+            (Peer::Beanstalkd, Step::Offer) => text.write_all(b"put 0 0 60 8\r\na-letter\r\n"),
+            (Peer::Beanstalkd, Step::Take) => text.write_all(b"reserve\r\n"),
+            (Peer::Beanstalkd, Step::Done) => write!(text, "delete {id}\r\n"),
+            (_, Step::Offer) => text.write_all(b"OFFER 0 a-letter\n"),
+            (_, Step::Take) => text.write_all(b"TAKE\n"),
+            (_, Step::Done) => writeln!(text, "DONE {id}"),
+        };
+        written.expect("a vector takes all");
+    }
+
+    /// The first word of the reply.
+    fn keyword(self, step: Step) -> &'static str {
+        match (self, step) {
+            (Peer::Broker, Step::Offer) => "OFFERED",
+            (Peer::Broker, Step::Take) => "ITEM",
+            (Peer::Echo, Step::Offer) => "OFFER",
+            (Peer::Echo, Step::Take) => "TAKE",
+            (Peer::Beanstalkd, Step::Offer) => "INSERTED",
+            (Peer::Beanstalkd, Step::Take) => "RESERVED",
+            (Peer::Beanstalkd, Step::Done) => "DELETED",
+            (_, Step::Done) => "DONE",
+        }
+    }
+
+    /// Whether the reply has a line of the job's bytes behind its first one.
+    fn sends_payload(self, step: Step) -> bool {
+        self == Peer::Beanstalkd && step == Step::Take
+    }
+}
+
+struct Client {
+    peer: Peer,
+    requests: TcpStream,
+    replies: BufReader<TcpStream>,
+    /// The jobs of the batch.
+    ids: Vec<u64>,
+    /// What is sent at once, and one reply line.
+    text: Vec<u8>,
+    line: String,
+}
+
+impl Client {
+    fn connect(peer: Peer, port: u16, batch: usize) -> io::Result<Client> {
+        let requests = TcpStream::connect((Ipv4Addr::LOCALHOST, port))?;
+        requests.set_nodelay(true)?;
+        let replies = BufReader::with_capacity(64 * 1024, requests.try_clone()?);
+        Ok(Client { peer, requests, replies, ids: vec![1_000_000; batch], text: Vec::new(), line: String::new() })
+    }
+
+    /// Makes one exchange, and tells how long it took.
+    fn exchange(&mut self, step: Step) -> io::Result<Duration> {
+        self.text.clear();
+        for id in &self.ids {
+            self.peer.write_request(step, *id, &mut self.text);
+        }
+        let begun = Instant::now();
+        self.requests.write_all(&self.text)?;
+        for place in 0..self.ids.len() {
+            self.read_reply(step, place)?;
+        }
+        Ok(begun.elapsed())
+    }
+
+    fn read_reply(&mut self, step: Step, place: usize) -> io::Result<()> {
+        self.read_line()?;
+        let mut words = self.line.trim_end().split(' ');
+        let id = match (words.next(), words.next()) {
+            (Some(word), id) if word == self.peer.keyword(step) => id,
+            _ => return Err(io::Error::other(format!("not a reply to wait for: {:?}", self.line))),
+        };
+        if step == Step::Take && self.peer != Peer::Echo {
+            self.ids[place] = id.and_then(|id| id.parse().ok()).ok_or(io::ErrorKind::InvalidData)?;
+        }
+        if self.peer.sends_payload(step) { self.read_line() } else { Ok(()) }
+    }
+
+    fn read_line(&mut self) -> io::Result<()> {
+        self.line.clear();
+        match self.replies.read_line(&mut self.line)? {
+            0 => Err(io::ErrorKind::UnexpectedEof.into()),
+            _ => Ok(()),
+        }
+    }
+
+    fn exchange_batches(&mut self, batches: u64) -> io::Result<Vec<Duration>> {
+        let mut times = Vec::new();
+        for _ in 0..batches {
+            for step in [Step::Offer, Step::Take, Step::Done] {
+                times.push(self.exchange(step)?);
+            }
+        }
+        Ok(times)
+    }
+}
+
+/// Lets all clients make so many batches at the same time: how long each exchange took, and the whole.
+fn run_together(clients: &mut [Client], batches: u64) -> io::Result<(Vec<Duration>, Duration)> {
+    let start = Barrier::new(clients.len() + 1);
+    thread::scope(|scope| {
+        let mut runs = Vec::new();
+        for client in clients {
+            runs.push(scope.spawn(|| {
+                let warm = client.exchange_batches(WARM_UP);
+                start.wait();
+                warm.and_then(|_| client.exchange_batches(batches))
+            }));
+        }
+        start.wait();
+        let begun = Instant::now();
+        let mut times = Vec::new();
+        for run in runs {
+            times.extend(run.join().expect("a client panicked")?);
+        }
+        Ok((times, begun.elapsed()))
+    })
+}
+
+fn measure(peer: Peer, port: u16, clients: usize, batches: u64, batch: usize) -> io::Result<()> {
+    let mut ready = Vec::new();
+    for _ in 0..clients {
+        ready.push(Client::connect(peer, port, batch)?);
+    }
+    let (mut times, elapsed) = run_together(&mut ready, batches)?;
+    times.sort_unstable();
+    let rounds_per_second = clients as f64 * batches as f64 * batch as f64 / elapsed.as_secs_f64();
+    let microseconds = |place: usize| times[place].as_secs_f64() * 1e6;
+    let (median, late) = (microseconds(times.len() / 2), microseconds(times.len() * 99 / 100));
+    println!("{rounds_per_second:.0} {median:.1} {late:.1}");
+    Ok(())
+}
+
+fn echo(mut stream: TcpStream, by_line: bool) -> io::Result<()> {
+    stream.set_nodelay(true)?;
+    let mut bytes = vec![0; 64 * 1024];
+    loop {
+        match stream.read(&mut bytes)? {
+            0 => return Ok(()),
+            count if by_line => {
+                for piece in bytes[..count].split_inclusive(|&byte| byte == b'\n') {
+                    stream.write_all(piece)?;
+                }
+            }
+            count => stream.write_all(&bytes[..count])?,
+        }
+    }
+}
+
+fn serve_echo(port: u16, threads: u64, connections: u64, by_line: bool) -> io::Result<()> {
+    let listener = TcpListener::bind((Ipv4Addr::LOCALHOST, port))?;
+    println!("listening 127.0.0.1:{port}");
+    let asked = AtomicU64::new(0);
+    thread::scope(|scope| {
+        for _ in 0..threads {
+            scope.spawn(|| {
+                while asked.fetch_add(1, Ordering::SeqCst) < connections {
+                    if let Err(fault) = listener.accept().and_then(|(stream, _)| echo(stream, by_line)) {
+                        eprintln!("clients: echo: {fault}");
+                    }
+                }
+            });
+        }
+    });
+    Ok(())
+}
+
+fn run(words: &[String]) -> Option<io::Result<()>> {
+    let number = |place: usize| words.get(place)?.parse::<u64>().ok();
+    let port = |place: usize| u16::try_from(number(place)?).ok();
+    match words.first()?.as_str() {
+        "measure" => {
+            let (clients, batch) = (number(3)? as usize, number(5)? as usize);
+            Some(measure(Peer::named(words.get(1)?)?, port(2)?, clients, number(4)?, batch))
+        }
+        server @ ("echo-server" | "lines-server") => {
+            Some(serve_echo(port(1)?, number(2)?, number(3)?, server == "lines-server"))
+        }
+        _ => None,
+    }
+}
+
+fn main() -> ExitCode {
+    let words: Vec<String> = env::args().skip(1).collect();
+    match run(&words) {
+        Some(Ok(())) => ExitCode::SUCCESS,
+        Some(Err(fault)) => {
+            eprintln!("clients: {fault}");
+            ExitCode::FAILURE
+        }
+        None => {
+            eprintln!("clients: the words are not those of the first lines of bench/clients.rs");
+            ExitCode::from(2)
+        }
+    }
+}

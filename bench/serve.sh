@@ -1,0 +1,99 @@
+#!/usr/bin/env bash
+# Measures `rb_broker serve` beside an echo server, and beside beanstalkd where that is installed:
+# bench/serve.sh, from any folder. It needs rustc for the clients, bench/clients.rs, which say what they do.
+#
+#   ROUNDS        rounds (offer, take and done) of each run one by one, of all its clients together (default 60000)
+#   BATCH_ROUNDS  rounds of each run in batches of 32 (default and greatest 400000)
+#   RUNS          runs of each kind, of which the median by rounds a second counts (default 3)
+#
+# Each run has a server of its own, whose workers, or threads of the echo server, are as many as the clients.
+# The times are those of an exchange, which is one request, or 32 in one piece, until its last reply. In batches
+# there is a second echo server, which sends each line by a write of its own.
+set -euo pipefail
+export LC_ALL=C
+
+ROUNDS=${ROUNDS:-60000} BATCH_ROUNDS=${BATCH_ROUNDS:-320000} RUNS=${RUNS:-3}
+if ((ROUNDS < 1600 || ROUNDS > 400000 || BATCH_ROUNDS < 1600 || BATCH_ROUNDS > 400000 || RUNS < 1)); then
+    echo "bench: ROUNDS and BATCH_ROUNDS are 1600 to 400000, RUNS from 1" >&2 && exit 2
+fi
+
+top=$(readlink -f -- "${BASH_SOURCE[0]}") && top=${top%/*/*}
+program=$top/crates/rb_broker/out/rb_broker
+"$top/broker" --help > /dev/null # builds it where it has to
+room=$(mktemp -d) && trap 'rm -rf -- "$room"' EXIT
+rustc --edition 2021 -O -o "$room/clients" "$top/bench/clients.rs"
+peers=(echo lines broker)
+! command -v beanstalkd > /dev/null || peers+=(beanstalkd)
+
+# The command of a peer's server: the peer, and the number of clients. Its words stand in $command.
+command_of() {
+    case $1 in
+        broker) command=("$program" serve --port "$port" --workers "$2" --sessions "$2" --calls 1000000) ;;
+        echo | lines) command=("$room/clients" "$1-server" "$port" "$2" "$2") ;;
+        beanstalkd) command=(beanstalkd -l 127.0.0.1 -p "$port") ;;
+    esac
+}
+
+# Whether a peer's server at $port can be connected to. The broker and the echo servers, which count their
+# clients, say so by a line.
+is_ready() {
+    case $1 in
+        beanstalkd) (exec 3<> "/dev/tcp/127.0.0.1/$port") 2> /dev/null ;;
+        *) [[ -s $room/served ]] ;;
+    esac
+}
+
+# Starts a peer's server for so many clients, at a port of its own choice, $port. Its process is $server.
+start_server() {
+    local tries looks command
+    for ((tries = 0; tries < 20; tries++)); do
+        port=$((20000 + RANDOM % 12000)) # below those that the system gives to clients
+        : > "$room/served"
+        command_of "$1" "$2"
+        "${command[@]}" > "$room/served" 2> "$room/errors" &
+        server=$!
+        for ((looks = 0; looks < 100; looks++)); do
+            kill -0 "$server" 2> /dev/null || break
+            ! is_ready "$1" || return 0
+            sleep 0.05
+        done
+        kill "$server" 2> /dev/null || true
+        wait "$server" || true
+    done
+    echo "bench: no server of $1 could be started" >&2 && exit 1
+}
+
+# One run: the peer, clients, batches of each client, and requests in a batch. Its line is that of the clients.
+run_once() {
+    start_server "$1" "$2"
+    "$room/clients" measure "$1" "$port" "$2" "$3" "$4" || { kill "$server" && exit 1; }
+    [[ $1 != beanstalkd ]] || kill "$server"
+    wait "$server" || [[ $1 == beanstalkd ]]
+}
+
+# Runs of one kind, and a line of the table: the peer, clients, requests in a batch.
+declare -A rounds
+measure() {
+    local peer=$1 clients=$2 batch=$3 all=$ROUNDS line
+    ((batch == 1)) || all=$BATCH_ROUNDS
+    for ((run = 0; run < RUNS; run++)); do
+        run_once "$peer" "$clients" $((all / batch / clients)) "$batch"
+    done | sort -n > "$room/runs"
+    line=$(sed -n "$(((RUNS + 1) / 2))p" "$room/runs")
+    rounds[$peer-$clients-$batch]=${line%% *}
+    printf '%-10s %7d %5d %9d %9.1f %9.1f   %s\n' "$peer" "$clients" "$batch" $line "$(cut -d' ' -f1 "$room/runs" | tr '\n' ' ')"
+}
+
+ratio() { awk "BEGIN { printf \"%.2f\", ${rounds[$1]} / ${rounds[$2]} }"; }
+
+printf '%-10s %7s %5s %9s %9s %9s   %s\n' server clients batch rounds/s 'median us' '99th us' 'rounds/s of each run'
+for batch in 1 32; do
+    for clients in 1 4 16; do
+        for peer in "${peers[@]}"; do
+            [[ $peer-$batch == lines-1 ]] || measure "$peer" "$clients" "$batch"
+        done
+    done
+done
+for kind in "${!rounds[@]}"; do
+    [[ $kind == broker-* ]] || echo "broker to ${kind%%-*}, clients and batch ${kind#*-}: $(ratio "broker-${kind#*-}" "$kind")"
+done | sort -V

@@ -1,0 +1,271 @@
+"""Clients of a server, good and bad, which keep what they sent and what they were answered."""
+import collections
+import random
+import socket
+import struct
+import time
+
+from serving import FIRST_MARK, PATIENCE
+
+
+class Client:
+    """One client's session: what it sent, and what it was answered."""
+
+    def __init__(self, number, kind, seed):
+        self.number, self.kind, self.rng = number, kind, random.Random(f"{seed} {number}")
+        self.answers = []  # the requests that were answered, each with its reply lines
+        self.unanswered = collections.deque()
+        self.sent_at, self.got_at = {}, {}  # of the first attempts of payloads, by the machine's clock
+        self.is_heard = True  # whether it read all that it was answered
+        self.is_reset = False  # whether its session surely ended by a fault
+        self.offered = 0
+
+    def connect(self, port):
+        self.socket = socket.create_connection(("127.0.0.1", port), timeout=PATIENCE)
+        self.socket.setsockopt(socket.IPPROTO_TCP, socket.TCP_NODELAY, 1)
+        self.lines = self.socket.makefile("rb")
+
+    def send(self, *requests):
+        """Sends requests in one piece."""
+        self.unanswered += requests
+        self.socket.sendall(b"".join(it + b"\n" for it in requests))
+
+    def read(self):
+        """Reads the reply to the first request that has none yet. The words of its first line."""
+        replies = [self.line()]
+        words = replies[0].split(" ")
+        if words[0] == "DRAINED":
+            replies += [self.line() for _ in range(int(words[1]))]
+        for line in replies:
+            if line.startswith("ITEM ") and line.split(" ")[3] == "1":
+                self.got_at[line.split(" ")[4]] = time.monotonic_ns()
+        self.answers.append((self.unanswered.popleft(), replies))
+        return words
+
+    def line(self):
+        line = self.lines.readline()
+        if not line.endswith(b"\n"):
+            raise EOFError(f"the connection ended where the reply to {self.unanswered[0]!r} was due")
+        return line[:-1].decode("ascii")
+
+    def ask(self, request):
+        self.send(request)
+        return self.read()
+
+    def read_all(self):
+        while self.unanswered:
+            self.read()
+
+    def offer(self, delay):
+        """A request that offers an element, whose payload nobody else offers."""
+        payload = f"{self.number}-{self.offered}"
+        self.offered += 1
+        self.sent_at[payload] = (time.monotonic_ns(), delay)
+        return b"OFFER %d %s" % (delay, payload.encode())
+
+    def any_offer(self):
+        if self.rng.random() < 0.1:
+            return b"OFFERAT %d %s" % (self.rng.randrange(10**10), self.offer(0).split(b" ")[2])
+        return self.offer(self.rng.choice([0, 10**6, 10**7, 10**8]) * self.rng.randrange(1, 5))
+
+    def fetch(self):
+        """Asks for a job in some way. Its id, if there was one."""
+        request = self.rng.choice([b"TAKE", b"TAKE", b"POLL", b"POLLFOR 20000000", b"DRAIN 1"])
+        words = self.ask(request)
+        if words[0] == "DRAINED" and words[1] == "1":
+            words = self.answers[-1][1][1].split(" ")
+        return int(words[1]) if words[0] == "ITEM" else None
+
+    def settle(self, job, chance_of_done):
+        """Finishes a job or fails it."""
+        return self.ask(b"%s %d" % (b"DONE" if self.rng.random() < chance_of_done else b"FAIL", job))
+
+    def quit(self):
+        self.ask(b"QUIT")
+        self.expect_end()
+
+    def end_input(self):
+        """Ends its side, and reads to the end of the other's."""
+        self.socket.shutdown(socket.SHUT_WR)
+        self.read_all()
+        self.expect_end()
+
+    def expect_end(self):
+        rest = self.lines.read()
+        if rest:
+            raise AssertionError(f"bytes behind the last reply: {rest[:100]!r}")
+        self.hang_up()
+
+    def hang_up(self):
+        self.lines.close()
+        self.socket.close()
+
+    def reset(self):
+        """Hangs up so that the server's next read or write fails."""
+        self.is_reset = True
+        self.socket.setsockopt(socket.SOL_SOCKET, socket.SO_LINGER, struct.pack("ii", 1, 0))
+        self.hang_up()
+
+
+# What a client does, behind its mark. Each ends its session in its own way.
+
+
+def gives(client):
+    for _ in range(client.rng.randrange(5, 20)):
+        client.ask(client.any_offer())
+    client.quit()
+
+
+def gives_in_batches(client):
+    for _ in range(4):
+        client.send(*[client.any_offer() for _ in range(client.rng.randrange(1, 33))])
+        client.read_all()
+    client.end_input()
+
+
+def works(client):
+    for _ in range(client.rng.randrange(5, 30)):
+        job = client.fetch()
+        if job is None:
+            client.ask(client.any_offer())
+        else:
+            client.settle(job, 0.7)
+    client.quit()
+
+
+def works_in_batches(client):
+    for _ in range(5):
+        client.send(*[client.offer(0) for _ in range(8)], b"SIZE", b"DRAIN 40", b"PEEK", b"DRAIN 0")
+        client.read_all()
+        held = [int(it.split(" ")[1]) for it in client.answers[-3][1][1:]]
+        client.send(*[b"DONE %d" % it for it in held[::2]], *[b"FAIL %d" % it for it in held[1::2]])
+        client.read_all()
+    client.end_input()
+
+
+def holds_too_many(client):
+    client.send(*[client.offer(0) for _ in range(70)], b"DRAIN 1000", b"DRAIN 1", b"POLL", b"TAKE", b"POLLFOR 5")
+    client.read_all()
+    client.end_input()
+
+
+def looks(client):
+    for _ in range(10):
+        client.ask(client.rng.choice([b"SIZE", b"PEEK", b"POLLFOR 0", b"AT 5", b"DONE 7", b"FAIL 7", b"poll", b""]))
+    client.ask(b"REMOVE %d" % client.rng.randrange(500))
+    client.quit()
+
+
+def clears(client):
+    client.ask(b"CLEAR")
+    client.quit()
+
+
+def says_nothing(client):
+    time.sleep(client.rng.random() / 5)
+    client.hang_up()
+
+
+def dribbles(client):
+    for request in (client.any_offer(), b"POLL", client.any_offer(), b"SIZE"):
+        client.unanswered.append(request)
+        for byte in request + b"\n":
+            client.socket.sendall(bytes([byte]))
+        client.read()
+    client.quit()
+
+
+def hangs_up(client):
+    """It holds jobs, all its replies are read, and it sends no more."""
+    client.send(*[client.offer(0) for _ in range(5)], b"TAKE", b"POLL", b"DRAIN 3")
+    client.read_all()
+    client.hang_up()
+
+
+def hangs_up_on_its_replies(client):
+    client.is_heard = False
+    client.send(*[client.offer(0) for _ in range(5)], b"TAKE", b"TAKE", *[b"SIZE"] * 50)
+    for _ in range(client.rng.randrange(8)):
+        client.read()
+    client.hang_up()
+
+
+def leaves_while_it_waits(client):
+    client.is_heard = False
+    client.send(b"TAKE")
+    time.sleep(client.rng.random() / 50)
+    client.hang_up()
+
+
+def resets(client):
+    client.send(client.offer(0), b"TAKE", b"DRAIN 4")
+    client.read_all()
+    client.reset()
+
+
+def resets_while_it_waits(client):
+    client.is_heard = False
+    client.send(client.offer(0), b"TAKE", b"OFFER 5000000 last", b"TAKE")
+    client.read()
+    client.reset()
+
+
+def sends_half_a_line(client):
+    client.send(client.offer(0), b"TAKE")
+    client.read_all()
+    client.socket.sendall(b"DONE")
+    client.unanswered.append(b"DONE (half)")
+    client.end_input()
+
+
+def sends_noise(client):
+    noise = client.rng.randbytes(client.rng.randrange(1, 100_000)) + b"\n" + b"x" * 100_000 + b"\nOFFER 1 \xff"
+    client.unanswered += noise.split(b"\n")
+    client.socket.sendall(noise)
+    client.end_input()
+
+
+def reads_no_more(client):
+    """It sends until the server reads no more, since what that writes is not taken."""
+    client.is_heard = False
+    client.send(client.offer(0), b"TAKE")
+    noise = b"x\n" * 10_000
+    client.socket.settimeout(1)
+    try:
+        for _ in range(10_000):
+            client.socket.sendall(noise)
+        raise AssertionError("the server reads on, though its replies are not read")
+    except TimeoutError:
+        client.reset()
+
+
+KINDS = [
+    gives, gives_in_batches, works, works, works_in_batches, holds_too_many, looks, clears, says_nothing, dribbles,
+    hangs_up, hangs_up_on_its_replies, leaves_while_it_waits, resets, resets_while_it_waits, sends_half_a_line,
+    sends_noise, works, gives, works,
+]
+
+
+def run_client(number, port, seed):
+    """Runs a client to its end. The client, and what went wrong, if something did."""
+    kind = reads_no_more if number % 50 == 25 else KINDS[number % len(KINDS)]
+    client = Client(number, kind, seed)
+    try:
+        client.connect(port)
+        if kind is not says_nothing:
+            client.ask(b"REMOVE %d" % (FIRST_MARK + number))
+        kind(client)
+        return client, None
+    except Exception as fault:  # whatever it is, it is told
+        client.is_heard = False
+        return client, f"{type(fault).__name__}: {fault}"
+
+
+def early(clients):
+    """Which payloads were got before their delay had passed, by the machine's clock."""
+    sent = {payload: it for client in clients for payload, it in client.sent_at.items()}
+    for client in clients:
+        for payload, got in client.got_at.items():
+            at, delay = sent.get(payload, (0, 0))
+            if got - at < delay:
+                yield f"{payload} was got {got - at} ns after it was offered with a delay of {delay}"
