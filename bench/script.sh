@@ -48,7 +48,7 @@ def random_delays():
         heapq.heappush(standing, (now + delay, at))
         lines.append(f"OFFER {delay} p{at}")
         if at >= size:
-            lines += ["POLL", f"DONE {heapq.heappop(standing)[1]}"]
+            lines.extend(["POLL", f"DONE {heapq.heappop(standing)[1]}"])
 
 def timeouts():
     standing, place, first, now = list(range(size)), list(range(size)), 0, 0
@@ -61,7 +61,7 @@ def timeouts():
                 gone.discard(first)
                 first += 1
             lines.append(f"AT {1_000_000 + first}")
-            lines += ["POLL", f"DONE {first}"]
+            lines.extend(["POLL", f"DONE {first}"])
             leaves = first
         else:
             leaves = standing[rng.randrange(len(standing))]
