@@ -66,11 +66,9 @@ fn least_child(heap: &[Entry], place: usize) -> usize
 {
     let left = 2 * place + 1;
     let right = left + 1;
-    if right < heap.len() && heap[right].expiry < heap[left].expiry {
-        right
-    } else {
-        left
-    }
+    let is_right = right < heap.len() && heap[right].expiry < heap[left].expiry;
+    // A branch would be guessed wrong every other time.
+    left + usize::from(is_right)
 }
 
 /// Moves the entry up or down to where it belongs. Its place need not be noted yet.

@@ -8,7 +8,7 @@ ghost use Rattle.rb_kept.specs.Shares.{Grows};
 
 use crate::fault::{CallFault, NewFault};
 use crate::outcome::{Outcome, Step};
-use crate::perform::{Performed, perform};
+use crate::perform::{Answer, Performed, perform};
 use crate::tries::Try;
 use rb_ledger::{Books, Tally};
 use rb_queue::{Ask, Audit, DelayQueue, Event, Opening};
@@ -131,9 +131,8 @@ impl<T: Timer> Kept<T> {
         }
         let at = asked.max(last_moment(&self.opening, &self.history));
         let standing = self.queue.size();
-        match perform(self.alloc, &mut self.queue, at, ask)? {
-            Performed::Done(answer) => {
-                let act = answer.act;
+        match perform(self.alloc, &mut self.queue, at, ask) {
+            Performed::Done(Answer { act, reply }) => {
                 self.books.note(tally, act.offered(), act.given());
                 self.removed += act.removed();
                 self.cleared += act.cleared(standing);
@@ -143,9 +142,10 @@ impl<T: Timer> Kept<T> {
                     at,
                     act,
                 });
-                Ok(Outcome::Done(answer.reply))
+                Ok(Outcome::Done(reply))
             }
             Performed::Later(next) => Ok(Outcome::Later(next)),
+            Performed::NoMemory => Err(CallFault::Memory),
         }
     }
 

@@ -1,12 +1,11 @@
-ghost use Rattle.std.specs.Prelude.{◌≡◌, ◌<◌, ◌≤◌, ℕ, [], length, IfOk, OnErr, vec_capacity};
+ghost use Rattle.std.specs.Prelude.{◌≡◌, ◌<◌, ◌≤◌, ℕ, [], length, vec_capacity};
 ghost use Rattle.rb_queue.specs.Opening.{ids_of};
-ghost use Rattle.rb_kept.specs.Tries.{TakesMemory};
-ghost use Rattle.rb_kept.specs.Performing.{DoesAsk, Performs};
+ghost use Rattle.rb_kept.specs.Performing.{Performs};
 
 use rb_delayed::{Delayed, Element, add_capped};
 use rb_queue::{Act, Ask, DelayQueue, Draft, Ids, Reply};
 use rb_timer::Timer;
-use std::alloc::{AllocError, Global};
+use std::alloc::Global;
 
 /// What the queue did, and what the caller is answered.
 #[derive(Debug, Drop)]
@@ -15,65 +14,67 @@ pub(crate) struct Answer {
     pub(crate) reply: Reply,
 }
 
-/// How an ask of the queue ended.
+/// How an ask of the queue ended. It is no `Result`: an answer has the size of two elements, and each
+/// wrapping on its way would copy it.
 #[derive(Debug, Drop)]
 pub(crate) enum Performed {
     /// It was answered.
     Done(Answer),
     /// It would wait, at most until this expiry.
     Later(Option<u64>),
+    /// There is no memory for it, and the queue is as before.
+    NoMemory,
 }
 
-/// Asks the queue at this moment. After an `Err` the queue is as before.
+/// Asks the queue at this moment.
 pub(crate) fn perform<T: Timer>(
     alloc: Global,
     queue: &mut DelayQueue<T>,
     at: u64,
     ask: Ask,
-) -> Result<Performed, AllocError>
+) -> Performed
     requires { queue.old.next_id < u64.MAX }
-    ensures performs { IfOk result (λ performed. Performs queue.old at ask performed queue.new) }
-    ensures memory { OnErr result (TakesMemory ask) }
-    ensures err { OnErr result (queue.new ≡ queue.old) }
+    ensures { Performs queue.old at ask result queue.new }
 {
     match ask {
-        Ask::Offer(draft) => Ok(Performed::Done(offer(queue, draft)?)),
-        Ask::Poll => Ok(Performed::Done(poll(queue, at))),
-        Ask::Take => Ok(take(queue, at)),
-        Ask::PollFor { start, timeout } => Ok(poll_for(queue, at, start, timeout)),
-        Ask::Peek => Ok(Performed::Done(peek(queue))),
-        Ask::Remove(id) => Ok(Performed::Done(remove(queue, id))),
-        Ask::Drain(max) => Ok(Performed::Done(drain(alloc, queue, at, max)?)),
-        Ask::Clear => Ok(Performed::Done(clear(queue))),
-        Ask::Size => Ok(Performed::Done(size(queue))),
+        Ask::Offer(draft) => offer(queue, draft),
+        Ask::Poll => poll(queue, at),
+        Ask::Take => take(queue, at),
+        Ask::PollFor { start, timeout } => poll_for(queue, at, start, timeout),
+        Ask::Peek => peek(queue),
+        Ask::Remove(id) => remove(queue, id),
+        Ask::Drain(max) => drain(alloc, queue, at, max),
+        Ask::Clear => clear(queue),
+        Ask::Size => size(queue),
     }
 }
 
-fn offer<T: Timer>(queue: &mut DelayQueue<T>, draft: Draft) -> Result<Answer, AllocError>
+fn offer<T: Timer>(queue: &mut DelayQueue<T>, draft: Draft) -> Performed
     requires { queue.old.next_id < u64.MAX }
-    ensures does { IfOk result (λ answer. (now : ℕ) → DoesAsk queue.old now (Ask.Offer draft) answer queue.new) }
-    ensures err { OnErr result (queue.new ≡ queue.old) }
+    ensures { (now : ℕ) → Performs queue.old now (Ask.Offer draft) result queue.new }
 {
-    let element = queue.offer(draft)?;
+    let Ok(element) = queue.offer(draft) else {
+        return Performed::NoMemory;
+    };
     let recorded = element;
-    Ok(Answer {
+    Performed::Done(Answer {
         act: Act::Offer(recorded),
         reply: Reply::Offered(element),
     })
 }
 
-fn poll<T: Timer>(queue: &mut DelayQueue<T>, at: u64) -> Answer
-    ensures { DoesAsk queue.old at Ask.Poll result queue.new }
+fn poll<T: Timer>(queue: &mut DelayQueue<T>, at: u64) -> Performed
+    ensures { Performs queue.old at Ask.Poll result queue.new }
 {
     match queue.poll(at) {
-        Some(element) => Answer {
+        Some(element) => Performed::Done(Answer {
             act: Act::Poll(Some(element.id())),
             reply: Reply::Item(element),
-        },
-        None => Answer {
+        }),
+        None => Performed::Done(Answer {
             act: Act::Poll(None),
             reply: Reply::Nothing,
-        },
+        }),
     }
 }
 
@@ -118,46 +119,44 @@ fn poll_for<T: Timer>(queue: &mut DelayQueue<T>, at: u64, start: u64, timeout: u
     })
 }
 
-fn peek<T: Timer>(queue: &DelayQueue<T>) -> Answer
-    ensures { (now : ℕ) → DoesAsk queue.now now Ask.Peek result queue.now }
+fn peek<T: Timer>(queue: &DelayQueue<T>) -> Performed
+    ensures { (now : ℕ) → Performs queue.now now Ask.Peek result queue.now }
 {
     match queue.peek() {
-        Some(element) => Answer {
+        Some(element) => Performed::Done(Answer {
             act: Act::Peek(Some(element.id())),
             reply: Reply::Head(element),
-        },
-        None => Answer {
+        }),
+        None => Performed::Done(Answer {
             act: Act::Peek(None),
             reply: Reply::Nothing,
-        },
+        }),
     }
 }
 
-fn remove<T: Timer>(queue: &mut DelayQueue<T>, id: u64) -> Answer
-    ensures { (now : ℕ) → DoesAsk queue.old now (Ask.Remove id) result queue.new }
+fn remove<T: Timer>(queue: &mut DelayQueue<T>, id: u64) -> Performed
+    ensures { (now : ℕ) → Performs queue.old now (Ask.Remove id) result queue.new }
 {
     let found = queue.remove(id);
-    Answer {
+    Performed::Done(Answer {
         act: Act::Remove { id, found },
         reply: Reply::Removed(found),
-    }
+    })
 }
 
 // Room for the ids is asked for before anything is taken out.
-fn drain<T: Timer>(
-    alloc: Global,
-    queue: &mut DelayQueue<T>,
-    at: u64,
-    max: u64,
-) -> Result<Answer, AllocError>
-    ensures does { IfOk result (λ answer. DoesAsk queue.old at (Ask.Drain max) answer queue.new) }
-    ensures err { OnErr result (queue.new ≡ queue.old) }
+fn drain<T: Timer>(alloc: Global, queue: &mut DelayQueue<T>, at: u64, max: u64) -> Performed
+    ensures { Performs queue.old at (Ask.Drain max) result queue.new }
 {
     let most = max.min(queue.size()) as usize;
-    let room = Vec::with_capacity(alloc, most)?;
-    let items = queue.drain(at, max)?;
+    let Ok(room) = Vec::with_capacity(alloc, most) else {
+        return Performed::NoMemory;
+    };
+    let Ok(items) = queue.drain(at, max) else {
+        return Performed::NoMemory;
+    };
     let ids = ids_of(items.as_slice(), room);
-    Ok(Answer {
+    Performed::Done(Answer {
         act: Act::Drain { max, ids },
         reply: Reply::Drained(items),
     })
@@ -175,22 +174,22 @@ fn ids_of(elements: &[Element], mut ids: Vec<u64>) -> Ids
     Ids::new(ids)
 }
 
-fn clear<T: Timer>(queue: &mut DelayQueue<T>) -> Answer
-    ensures { (now : ℕ) → DoesAsk queue.old now Ask.Clear result queue.new }
+fn clear<T: Timer>(queue: &mut DelayQueue<T>) -> Performed
+    ensures { (now : ℕ) → Performs queue.old now Ask.Clear result queue.new }
 {
     queue.clear();
-    Answer {
+    Performed::Done(Answer {
         act: Act::Clear,
         reply: Reply::Cleared,
-    }
+    })
 }
 
-fn size<T: Timer>(queue: &DelayQueue<T>) -> Answer
-    ensures { (now : ℕ) → DoesAsk queue.now now Ask.Size result queue.now }
+fn size<T: Timer>(queue: &DelayQueue<T>) -> Performed
+    ensures { (now : ℕ) → Performs queue.now now Ask.Size result queue.now }
 {
     let count = queue.size();
-    Answer {
+    Performed::Done(Answer {
         act: Act::Size(count),
         reply: Reply::Size(count),
-    }
+    })
 }

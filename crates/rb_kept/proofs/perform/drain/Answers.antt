@@ -9,8 +9,8 @@ ids_of-ids-requires-clause-room g c =
       arith,
       (c.size.ensures 0).permitted,
       c.min-most.ensures,
-      c.in_ok-room.ensures.capacity,
-      c.in_ok-items.ensures.drains.permitted.at_most,
-      c.in_ok-items.ensures.few,
-      length-map c.in_ok-items.items (λ (e : Element). e.id),
+      c.in-Ok.ensures.capacity,
+      c.in-Ok-drain.ensures.drains.permitted.at_most,
+      c.in-Ok-drain.ensures.few,
+      length-map c.in-Ok-drain.items (λ (e : Element). e.id),
     ))

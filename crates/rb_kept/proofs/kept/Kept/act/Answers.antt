@@ -18,8 +18,8 @@ perform-requires g c =
 pub overflow_add-self : goal.overflow_add-self
 overflow_add-self g c =
     let log : Log = record { opening = c.self.inside.opening; history = c.self.inside.history.items; capacity = c.self.inside.capacity } in
-    let event : Event = record { seat = c.args.seat; asked = c.args.asked; at = c.max-at.result; act = c.in-Done.answer.act } in
-    let does : DoesAsk c.self.inside.queue c.max-at.result c.args.ask c.in-Done.answer c.perform.new.queue = rw c.in-Done.is at c.in_ok-answer.ensures.performs in
+    let event : Event = record { seat = c.args.seat; asked = c.args.asked; at = c.max-at.result; act = c.in-Done.field-0.act } in
+    let does : DoesAsk c.self.inside.queue c.max-at.result c.args.ask c.in-Done.field-0 c.perform.new.queue = rw c.in-Done.is at c.perform.ensures in
     let next : IsNext c.self.inside.queue c.perform.new.queue log event =
     is_next _ _ log event c.last_moment.result c.len.result _ c.max-at.ensures c.last_moment.ensures c.deref.ensures.value c.if-len-self.false
     (c.len.ensures ∙ sym c.deref.ensures.len ∙ ap length c.deref.ensures.value) c.self.invariant.few does.acts in
@@ -29,24 +29,24 @@ overflow_add-self g c =
 pub overflow_add-self-in-Done : goal.overflow_add-self-in-Done
 overflow_add-self-in-Done g c =
     let log : Log = record { opening = c.self.inside.opening; history = c.self.inside.history.items; capacity = c.self.inside.capacity } in
-    let event : Event = record { seat = c.args.seat; asked = c.args.asked; at = c.max-at.result; act = c.in-Done.answer.act } in
-    let does : DoesAsk c.self.inside.queue c.max-at.result c.args.ask c.in-Done.answer c.perform.new.queue = rw c.in-Done.is at c.in_ok-answer.ensures.performs in
+    let event : Event = record { seat = c.args.seat; asked = c.args.asked; at = c.max-at.result; act = c.in-Done.field-0.act } in
+    let does : DoesAsk c.self.inside.queue c.max-at.result c.args.ask c.in-Done.field-0 c.perform.new.queue = rw c.in-Done.is at c.perform.ensures in
     let next : IsNext c.self.inside.queue c.perform.new.queue log event =
     is_next _ _ log event c.last_moment.result c.len.result _ c.max-at.ensures c.last_moment.ensures c.deref.ensures.value c.if-len-self.false
     (c.len.ensures ∙ sym c.deref.ensures.len ∙ ap length c.deref.ensures.value) c.self.invariant.few does.acts in
     let fits = cleared_fits _ _ log event _ _ _ _ c.self.invariant next in
-    let away = c.cleared.ensures ∙ ap (cleared (effect_of c.in-Done.answer.act)) (c.size-standing.ensures 0).permitted in
+    let away = c.cleared.ensures ∙ ap (cleared (effect_of c.in-Done.field-0.act)) (c.size-standing.ensures 0).permitted in
     omega (arith, fits, away)
 
-pub invariant_of-self-in-Done : goal.invariant_of-self-in-Done
-invariant_of-self-in-Done g c =
+pub invariant_of-self : goal.invariant_of-self
+invariant_of-self g c =
     let log : Log = record { opening = c.self.inside.opening; history = c.self.inside.history.items; capacity = c.self.inside.capacity } in
-    let event : Event = record { seat = c.args.seat; asked = c.args.asked; at = c.max-at.result; act = c.in-Done.answer.act } in
-    let does : DoesAsk c.self.inside.queue c.max-at.result c.args.ask c.in-Done.answer c.perform.new.queue = rw c.in-Done.is at c.in_ok-answer.ensures.performs in
+    let event : Event = record { seat = c.args.seat; asked = c.args.asked; at = c.max-at.result; act = c.in-Done.field-0.act } in
+    let does : DoesAsk c.self.inside.queue c.max-at.result c.args.ask c.in-Done.field-0 c.perform.new.queue = rw c.in-Done.is at c.perform.ensures in
     let next : IsNext c.self.inside.queue c.perform.new.queue log event =
     is_next _ _ log event c.last_moment.result c.len.result _ c.max-at.ensures c.last_moment.ensures c.deref.ensures.value c.if-len-self.false
     (c.len.ensures ∙ sym c.deref.ensures.len ∙ ap length c.deref.ensures.value) c.self.invariant.few does.acts in
-    let away = c.cleared.ensures ∙ ap (cleared (effect_of c.in-Done.answer.act)) (c.size-standing.ensures 0).permitted in
+    let away = c.cleared.ensures ∙ ap (cleared (effect_of c.in-Done.field-0.act)) (c.size-standing.ensures 0).permitted in
     let booked = rw (c.offered.ensures, c.given.ensures) at c.note.ensures.books in
     rw c.push_reserved.ensures.capacity
     (kept_more _ _ log event _ _ _ _ c.self.invariant next c.push_reserved.new.self.items c.note.new.self _ _ c.push_reserved.ensures.items booked
@@ -55,8 +55,8 @@ invariant_of-self-in-Done g c =
 pub returns-in-Done-clause-step : goal.returns-in-Done-clause-step
 returns-in-Done-clause-step g c =
     let log : Log = record { opening = c.self.inside.opening; history = c.self.inside.history.items; capacity = c.self.inside.capacity } in
-    let event : Event = record { seat = c.args.seat; asked = c.args.asked; at = c.max-at.result; act = c.in-Done.answer.act } in
-    let does : DoesAsk c.self.inside.queue c.max-at.result c.args.ask c.in-Done.answer c.perform.new.queue = rw c.in-Done.is at c.in_ok-answer.ensures.performs in
+    let event : Event = record { seat = c.args.seat; asked = c.args.asked; at = c.max-at.result; act = c.in-Done.field-0.act } in
+    let does : DoesAsk c.self.inside.queue c.max-at.result c.args.ask c.in-Done.field-0 c.perform.new.queue = rw c.in-Done.is at c.perform.ensures in
     let next : IsNext c.self.inside.queue c.perform.new.queue log event =
     is_next _ _ log event c.last_moment.result c.len.result _ c.max-at.ensures c.last_moment.ensures c.deref.ensures.value c.if-len-self.false
     (c.len.ensures ∙ sym c.deref.ensures.len ∙ ap length c.deref.ensures.value) c.self.invariant.few does.acts in
@@ -65,6 +65,6 @@ returns-in-Done-clause-step g c =
       (
         event,
         ap (λ (items : List Event). record log { history = items }) c.push_reserved.ensures.items,
-        recorded _ _ log event _ _ _ _ c.self.invariant next (record { seat = c.args.seat; asked = c.args.asked; ask = c.args.ask }) c.in-Done.answer.reply refl refl does.of_ask does.reply,
+        recorded _ _ log event _ _ _ _ c.self.invariant next (record { seat = c.args.seat; asked = c.args.asked; ask = c.args.ask }) c.in-Done.field-0.reply refl refl does.of_ask does.reply,
       ),
     )
