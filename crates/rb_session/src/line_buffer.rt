@@ -105,6 +105,7 @@ impl LineBuffer {
 }
 
 // How many bytes stand before the first line feed.
+#[tactic(auto, using(crate::proofs::LineFeeds::first_feed))]
 fn find_feed(held: &[u8]) -> Option<usize>
     ensures { MatchOption result (HasNoFeed held.now) (λ len.
         (len < length held.now) × HasNoFeed (take len held.now) × (slice_index held.now len ≡ 10)) }
