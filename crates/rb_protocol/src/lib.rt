@@ -12,6 +12,7 @@ mod line_fault;
 mod line_reply;
 mod line_words;
 mod number;
+mod reply_line;
 #[cfg(test)]
 mod reply_rows;
 mod request;

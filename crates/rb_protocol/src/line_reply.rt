@@ -1,10 +1,11 @@
 ghost use Rattle.std.specs.Prelude.{◌≡◌, ◌+◌, ◌<◌, ◌≤◌, [], ◌∷◌, ◌++◌, length, codes, decimal, OnOk, OnErr, IsOk, vec_len, vec_capacity};
 ghost use Rattle.rb_protocol.specs.Line.{spaced};
 ghost use Rattle.rb_protocol.specs.ReplyText.{text_of, reply_words, element_words, error_words};
+ghost use Rattle.rb_protocol.specs.ReplyLine.{written};
 
 use crate::error_word::ErrorWord;
-use crate::format::{LINE_FEED, SPACE};
-use itoa::{Buffer, Integer};
+use crate::format::SPACE;
+use crate::reply_line::{MOST_DIGITS, ReplyLine};
 use rb_delayed::Element;
 use std::alloc::AllocError;
 
@@ -61,37 +62,34 @@ pub fn write_reply(reply: &LineReply, text: &mut Vec<u8>) -> Result<(), AllocErr
     ensures capacity { vec_capacity text.old ≤ vec_capacity text.new }
     ensures longest { OnOk result (vec_len text.new ≤ vec_len text.old + MOST_REPLY_BYTES) }
 {
-    // Only this can fail, and it changes no byte of the text.
-    text.reserve(REPLY_ROOM)?;
-    push_words(text, reply);
-    push_bytes(text, &[LINE_FEED]);
-    Ok(())
+    let mut line = ReplyLine::new();
+    put_words(&mut line, reply);
+    text.extend_from_slice(line.as_bytes())
 }
 
-// Appends the line without its end.
-fn push_words(text: &mut Vec<u8>, reply: &LineReply)
-    requires { vec_len text.old + REPLY_ROOM ≤ vec_capacity text.old }
-    ensures items { text.new.items ≡ text.old.items ++ spaced (reply_words reply.now) }
-    ensures len { vec_len text.new < vec_len text.old + MOST_REPLY_BYTES }
-    ensures capacity { vec_capacity text.old ≤ vec_capacity text.new }
+// Puts the words in front of the line's end.
+fn put_words(line: &mut ReplyLine, reply: &LineReply)
+    requires { MOST_REPLY_BYTES ≤ line.old.start }
+    ensures written { written line.new ≡ spaced (reply_words reply.now) ++ written line.old }
+    ensures start { line.old.start < line.new.start + MOST_REPLY_BYTES }
 {
     match reply {
-        LineReply::Offered { id, expiry } => push_numbers(text, b"OFFERED ", *id, *expiry),
-        LineReply::Item(element) => push_element(text, b"ITEM ", element),
-        LineReply::Head(element) => push_element(text, b"HEAD ", element),
-        LineReply::Nothing => push_bytes(text, b"NONE"),
-        LineReply::Removed(true) => push_bytes(text, b"REMOVED yes"),
-        LineReply::Removed(false) => push_bytes(text, b"REMOVED no"),
-        LineReply::Drained(count) => push_number(text, b"DRAINED ", *count),
-        LineReply::Cleared => push_bytes(text, b"CLEARED"),
-        LineReply::Size(count) => push_number(text, b"SIZE ", *count),
-        LineReply::Done(id) => push_number(text, b"DONE ", *id),
-        LineReply::Again { id, expiry } => push_numbers(text, b"AGAIN ", *id, *expiry),
-        LineReply::Dead(id) => push_number(text, b"DEAD ", *id),
-        LineReply::Now(moment) => push_number(text, b"NOW ", *moment),
-        LineReply::Stopped => push_bytes(text, b"STOPPED"),
-        LineReply::Bye => push_bytes(text, b"BYE"),
-        LineReply::Error(word) => push_bytes(text, error_text(*word)),
+        LineReply::Offered { id, expiry } => put_numbers(line, b"OFFERED ", *id, *expiry),
+        LineReply::Item(element) => put_element(line, b"ITEM ", element),
+        LineReply::Head(element) => put_element(line, b"HEAD ", element),
+        LineReply::Nothing => line.put(b"NONE"),
+        LineReply::Removed(true) => line.put(b"REMOVED yes"),
+        LineReply::Removed(false) => line.put(b"REMOVED no"),
+        LineReply::Drained(count) => put_number(line, b"DRAINED ", *count),
+        LineReply::Cleared => line.put(b"CLEARED"),
+        LineReply::Size(count) => put_number(line, b"SIZE ", *count),
+        LineReply::Done(id) => put_number(line, b"DONE ", *id),
+        LineReply::Again { id, expiry } => put_numbers(line, b"AGAIN ", *id, *expiry),
+        LineReply::Dead(id) => put_number(line, b"DEAD ", *id),
+        LineReply::Now(moment) => put_number(line, b"NOW ", *moment),
+        LineReply::Stopped => line.put(b"STOPPED"),
+        LineReply::Bye => line.put(b"BYE"),
+        LineReply::Error(word) => line.put(error_text(*word)),
     }
 }
 
@@ -102,52 +100,38 @@ const NUMBERS_ROOM: usize = 41;
 // payload.
 const ELEMENT_ROOM: usize = 111;
 
-// Appends the front, id, expiry, attempt and payload.
-fn push_element(text: &mut Vec<u8>, front: &[u8], element: &Element)
-    requires room { vec_len text.old + length front.now + ELEMENT_ROOM ≤ vec_capacity text.old }
-    ensures items { text.new.items
-        ≡ text.old.items ++ (front.now ++ spaced (element_words element.now)) }
-    ensures len { vec_len text.new ≤ vec_len text.old + length front.now + ELEMENT_ROOM }
-    ensures capacity { vec_capacity text.old ≤ vec_capacity text.new }
+// Puts the front, id, expiry, attempt and payload.
+fn put_element(line: &mut ReplyLine, front: &[u8], element: &Element)
+    requires { length front.now + ELEMENT_ROOM ≤ line.old.start }
+    ensures written { written line.new ≡ (front.now ++ spaced (element_words element.now)) ++ written line.old }
+    ensures start { line.old.start ≤ line.new.start + length front.now + ELEMENT_ROOM }
 {
-    push_numbers(text, front, element.id, element.expiry);
-    push_number(text, &[SPACE], element.attempt);
-    push_bytes(text, &[SPACE]);
-    push_bytes(text, element.payload.as_bytes());
+    line.put(element.payload.as_bytes());
+    line.put(&[SPACE]);
+    line.put_number(u64::from(element.attempt));
+    line.put(&[SPACE]);
+    put_numbers(line, front, element.id, element.expiry);
 }
 
-// Appends the front and two numbers.
-fn push_numbers(text: &mut Vec<u8>, front: &[u8], one: u64, other: u64)
-    requires room { vec_len text.old + length front.now + NUMBERS_ROOM ≤ vec_capacity text.old }
-    ensures items { text.new.items
-        ≡ text.old.items ++ (front.now ++ spaced (decimal one ∷ decimal other ∷ [])) }
-    ensures len { vec_len text.new ≤ vec_len text.old + length front.now + NUMBERS_ROOM }
-    ensures capacity { vec_capacity text.old ≤ vec_capacity text.new }
+// Puts the front and two numbers.
+fn put_numbers(line: &mut ReplyLine, front: &[u8], one: u64, other: u64)
+    requires { length front.now + NUMBERS_ROOM ≤ line.old.start }
+    ensures written { written line.new ≡ (front.now ++ spaced (decimal one ∷ decimal other ∷ [])) ++ written line.old }
+    ensures start { line.old.start ≤ line.new.start + length front.now + NUMBERS_ROOM }
 {
-    push_number(text, front, one);
-    push_number(text, &[SPACE], other);
+    line.put_number(other);
+    line.put(&[SPACE]);
+    put_number(line, front, one);
 }
 
-// Appends the front and the number's digits.
-fn push_number<I: Integer>(text: &mut Vec<u8>, front: &[u8], number: I)
-    requires { vec_len text.old + length front.now + I.MAX_STR_LEN ≤ vec_capacity text.old }
-    ensures items { text.new.items ≡ text.old.items ++ (front.now ++ I.text number) }
-    ensures len { vec_len text.new ≤ vec_len text.old + length front.now + I.MAX_STR_LEN }
-    ensures capacity { vec_capacity text.old ≤ vec_capacity text.new }
+// Puts the front and a number.
+fn put_number(line: &mut ReplyLine, front: &[u8], number: u64)
+    requires { length front.now + MOST_DIGITS ≤ line.old.start }
+    ensures written { written line.new ≡ (front.now ++ decimal number) ++ written line.old }
+    ensures start { line.old.start ≤ line.new.start + length front.now + MOST_DIGITS }
 {
-    let mut buffer = Buffer::new();
-    push_bytes(text, front);
-    push_bytes(text, buffer.format(number).as_bytes());
-}
-
-// Appends bytes that there is room for.
-fn push_bytes(text: &mut Vec<u8>, bytes: &[u8])
-    requires { vec_len text.old + length bytes.now ≤ vec_capacity text.old }
-    ensures items { text.new.items ≡ text.old.items ++ bytes.now }
-    ensures len { vec_len text.new ≡ vec_len text.old + length bytes.now }
-    ensures capacity { vec_capacity text.old ≤ vec_capacity text.new }
-{
-    text.extend_from_slice(bytes).unwrap();
+    line.put_number(number);
+    line.put(front);
 }
 
 // The line of an error, without its end.

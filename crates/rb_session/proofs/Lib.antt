@@ -1,5 +1,6 @@
 pub mod Sending
 pub mod Buffers
+pub mod LineFeeds
 pub mod PlainCalls
 pub mod Closings
 pub mod ReplyTexts

@@ -3,6 +3,7 @@ ghost use Rattle.rb_session.specs.Lines.{HasNoFeed, line_of};
 ghost use Rattle.rb_protocol.specs.Reading.{IsReading};
 ghost use Rattle.rb_session.specs.declared.line_buffer.TheConstants.{MOST_RAW_BYTES};
 
+use memchr::memchr;
 use rb_protocol::{LINE_FEED, LineFault, MOST_LINE_BYTES, Request, read_request};
 use std::alloc::{AllocError, Global};
 use std::io;
@@ -104,11 +105,12 @@ impl LineBuffer {
 }
 
 // How many bytes stand before the first line feed.
+#[tactic(auto, using(crate::proofs::LineFeeds::first_feed))]
 fn find_feed(held: &[u8]) -> Option<usize>
     ensures { MatchOption result (HasNoFeed held.now) (λ len.
         (len < length held.now) × HasNoFeed (take len held.now) × (slice_index held.now len ≡ 10)) }
 {
-    held.iter().position(|&byte| byte == LINE_FEED)
+    memchr(LINE_FEED, held)
 }
 
 // The line, without a carriage return that belongs to its end.
