@@ -55,6 +55,8 @@ mod serving_rows;
 mod tcp_door;
 #[cfg(test)]
 mod tcp_rows;
+#[cfg(test)]
+mod tests;
 mod timer_kind;
 mod verdict;
 mod visit;

@@ -1,4 +1,4 @@
-ghost use Rattle.std.specs.Prelude.{◌≤◌};
+ghost use Rattle.std.specs.Prelude.{◌≡◌, ◌≤◌};
 
 use rb_blocking::{Clock, MachineClock};
 use rb_delayed::add_capped;
@@ -15,7 +15,9 @@ pub struct ServeClock<'a, R: time::Clock> {
 
 impl<'a, R: time::Clock> ServeClock<'a, R> {
     /// A clock that reads this moment now.
-    pub fn new(rt: &'a R, first: u64) -> ServeClock<'a, R> {
+    pub fn new(rt: &'a R, first: u64) -> ServeClock<'a, R>
+        ensures first { result.first ≡ first }
+    {
         ServeClock {
             first,
             passed: MachineClock::new(rt),

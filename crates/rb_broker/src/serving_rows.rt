@@ -1,178 +1,18 @@
 // Servers over visits that lie in memory, by a clock that always reads 7.
 
-ghost use Rattle.std.specs.Prelude.{◌≡◌, ◌≤◌};
+ghost use Rattle.std.specs.Prelude.{◌≤◌};
 
-use crate::door::{Door, DoorFault};
-use crate::serve_door::serve_door;
-use crate::serve_options::ServeOptions;
 use crate::serve_report::ServeReport;
-use crate::visit::Visit;
-use rb_blocking::{Clock, Gate};
-use rb_queue::{Audit, Opening};
-use rb_retry::Policy;
+use crate::tests::devices::{Plan, Sends, after, at_once, planned, served_plans};
+use rb_queue::Audit;
 use rb_timer::ListTimer;
 use std::alloc::Global;
-use std::io::{Read, Write};
 use std::process::Abort;
-use std::sync::atomic::{AtomicU64, Ordering};
+use std::sync::atomic::AtomicU64;
 use std::sync::{Mutex, Wait};
 use std::test::Fail;
 use std::thread::Threads;
-use std::time::Duration;
-use std::{io, thread, time};
-
-// How often a reader looks whether it may begin, a millisecond apart.
-const MOST_LOOKS: u64 = 10_000;
-
-// After how many turns a wait ends.
-const MOST_TURNS: u64 = 200;
-
-struct SevenClock;
-
-impl Clock for SevenClock {
-    ghost gives = { λ clock moment. moment ≡ 7 };
-
-    fn now(&self) -> u64 {
-        7
-    }
-}
-
-// A gate that ends a wait after so many turns, and counts them where a reader sees it.
-#[derive(Drop)]
-struct NotedGate<'a> {
-    turns: &'a AtomicU64,
-}
-
-impl<'a> Gate for NotedGate<'a> {
-    ghost use Rattle.rb_broker.specs.declared.serving_rows.TheConstants.{MOST_TURNS};
-
-    ghost stops = { λ gate turns. MOST_TURNS ≤ turns };
-
-    fn turn(&mut self, turns: u64) -> bool {
-        let _ = self.turns.fetch_add(1, Ordering::SeqCst);
-        turns < MOST_TURNS
-    }
-}
-
-// What a visitor does: it sends these lines at once, or after both counts have risen, or its first read fails.
-#[derive(Clone, Copy)]
-enum Sends<'a> {
-    AtOnce(&'a [u8]),
-    After(&'a [u8], &'a AtomicU64, &'a AtomicU64),
-    Nothing,
-}
-
-// Reads what a visitor sends.
-#[derive(Drop)]
-struct Sender<'a, R> {
-    rt: &'a R,
-    sends: Sends<'a>,
-}
-
-impl<'a, R: time::Clock> Sender<'a, R> {
-    // Waits until both counts have risen, and says whether they have.
-    fn sees_both(&self, first: &AtomicU64, second: &AtomicU64) -> bool {
-        for _ in 0..MOST_LOOKS {
-            if first.load(Ordering::SeqCst) > 0 && second.load(Ordering::SeqCst) > 0 {
-                return true;
-            }
-            thread::sleep(self.rt, Duration::from_millis(1));
-        }
-        false
-    }
-}
-
-impl<'a, R: time::Clock> Read for Sender<'a, R> {
-    fn read(&mut self, buf: &mut [u8]) -> io::Result<usize> {
-        let lines = match self.sends {
-            Sends::AtOnce(lines) => lines,
-            Sends::After(lines, first, second) if self.sees_both(first, second) => lines,
-            Sends::After(..) => &[],
-            Sends::Nothing => return Err(io::Error::from(io::ErrorKind::ConnectionReset)),
-        };
-        let (given, rest) = lines.split_at(lines.len().min(buf.len()));
-        buf[..given.len()].copy_from_slice(given);
-        self.sends = Sends::AtOnce(rest);
-        Ok(given.len())
-    }
-}
-
-// Keeps what a visitor is sent, where the test reads it.
-#[derive(Drop)]
-struct Receiver<'a, R> {
-    rt: &'a R,
-    text: &'a Mutex<Vec<u8>>,
-}
-
-impl<'a, R: Wait> Write for Receiver<'a, R> {
-    fn write(&mut self, buf: &[u8]) -> io::Result<usize> {
-        self.text.lock(self.rt).extend_from_slice(buf)?;
-        Ok(buf.len())
-    }
-
-    fn flush(&mut self) -> io::Result<()> {
-        Ok(())
-    }
-}
-
-// One visit, what it is sent, and how many turns its waits made; or one that is refused.
-#[derive(Drop)]
-struct Plan<'a> {
-    sends: Option<Sends<'a>>,
-    text: &'a Mutex<Vec<u8>>,
-    turns: &'a AtomicU64,
-}
-
-fn planned<'a>(
-    sends: Option<Sends<'a>>,
-    text: &'a Mutex<Vec<u8>>,
-    turns: &'a AtomicU64,
-) -> Plan<'a> {
-    Plan { sends, text, turns }
-}
-
-fn at_once<'a>(lines: &'a [u8]) -> Option<Sends<'a>> {
-    Some(Sends::AtOnce(lines))
-}
-
-fn after<'a>(lines: &'a [u8], first: &'a AtomicU64, second: &'a AtomicU64) -> Option<Sends<'a>> {
-    Some(Sends::After(lines, first, second))
-}
-
-// Gives one visit after the other.
-#[derive(Drop)]
-struct PlannedDoor<'a, R> {
-    rt: &'a R,
-    plans: &'a [Plan<'a>],
-    taken: AtomicU64,
-}
-
-impl<'a, R: Wait + time::Clock + Sync> Door for PlannedDoor<'a, R> {
-    type Reader = Sender<'a, R>;
-
-    type Writer = Receiver<'a, R>;
-
-    type Gate = NotedGate<'a>;
-
-    fn next<H: Wait>(
-        &self,
-        _rt: &H,
-    ) -> Option<Result<Visit<Sender<'a, R>, Receiver<'a, R>, NotedGate<'a>>, DoorFault>> {
-        let taken = self.taken.fetch_add(1, Ordering::SeqCst);
-        let plan = self.plans.get(usize::try_from(taken).ok()?)?;
-        let Some(sends) = plan.sends else {
-            return Some(Err(DoorFault));
-        };
-        Some(Ok(Visit {
-            reader: Sender { rt: self.rt, sends },
-            writer: Receiver {
-                rt: self.rt,
-                text: plan.text,
-            },
-            gate: NotedGate { turns: plan.turns },
-        }))
-    }
-}
+use std::time;
 
 fn served<R: Threads + Wait + time::Clock + Abort + Sync>(
     rt: &R,
@@ -183,27 +23,9 @@ fn served<R: Threads + Wait + time::Clock + Abort + Sync>(
     requires some { 1 ≤ workers }
     requires few { workers ≤ 16 }
 {
-    let door = PlannedDoor {
-        rt,
-        plans,
-        taken: AtomicU64::new(0),
-    };
-    let policy = Policy::fixed(1_000, 3).expect(rt, "a policy");
-    let options = ServeOptions {
-        workers,
-        calls: 100,
-        policy,
-    };
-    serve_door(
-        rt,
-        alloc,
-        &door,
-        &SevenClock,
-        &options,
-        Opening::empty(alloc),
-    )
-    .ok()
-    .expect(rt, "a report")
+    served_plans(rt, alloc, plans, workers)
+        .ok()
+        .expect(rt, "a report")
 }
 
 // What a visitor was sent.

@@ -1,3 +1,5 @@
+ghost use Rattle.std.specs.Prelude.{◌≡◌, IfOk};
+
 use crate::door::{Door, DoorFault};
 use crate::visit::Visit;
 use rb_blocking::TurnGate;
@@ -21,7 +23,10 @@ pub struct TcpDoor {
 
 impl TcpDoor {
     /// A door for so many sessions, each of whose waits ends after so many turns.
-    pub fn new(listener: TcpListener, sessions: u64, turns: u64) -> TcpDoor {
+    pub fn new(listener: TcpListener, sessions: u64, turns: u64) -> TcpDoor
+        ensures sessions { result.sessions ≡ sessions }
+        ensures turns { result.turns ≡ turns }
+    {
         TcpDoor {
             listener,
             sessions,
@@ -31,7 +36,9 @@ impl TcpDoor {
     }
 
     // Waits for a client. Its replies are sent at once, and not held back until more can go with them.
-    fn accept(&self) -> io::Result<Visit<TcpStream, TcpStream, TurnGate>> {
+    fn accept(&self) -> io::Result<Visit<TcpStream, TcpStream, TurnGate>>
+        ensures turns { IfOk result (λ visit. visit.gate.limit ≡ self.now.turns) }
+    {
         let (reader, _) = self.listener.accept()?;
         reader.set_nodelay(true)?;
         let writer = reader.try_clone()?;

@@ -1,12 +1,10 @@
 // A server over TCP on loopback, both ends in one process.
 
-ghost use Rattle.std.specs.Prelude.{◌≡◌};
-
 use crate::serve_door::serve_door;
 use crate::serve_options::ServeOptions;
 use crate::serve_report::ServeReport;
 use crate::tcp_door::TcpDoor;
-use rb_blocking::Clock;
+use crate::tests::devices::SevenClock;
 use rb_queue::Opening;
 use rb_retry::Policy;
 use rb_timer::ListTimer;
@@ -14,16 +12,6 @@ use std::alloc::Global;
 use std::io::{Read, Write};
 use std::net::{Ipv4Addr, SocketAddr, SocketAddrV4, TcpListener, TcpStream};
 use std::test::Fail;
-
-struct SevenClock;
-
-impl Clock for SevenClock {
-    ghost gives = { λ clock moment. moment ≡ 7 };
-
-    fn now(&self) -> u64 {
-        7
-    }
-}
 
 // A client that has sent these lines.
 fn client(rt: &HostRuntime, server: SocketAddr, lines: &[u8]) -> Result<TcpStream, Fail> {

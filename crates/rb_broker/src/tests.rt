@@ -1,0 +1,2 @@
+pub mod devices;
+mod refusals;
