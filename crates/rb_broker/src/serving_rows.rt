@@ -54,22 +54,40 @@ impl<'a> Gate for NotedGate<'a> {
     }
 }
 
-// What a visitor does: it sends these lines at once, or after both counts have risen, or its first read fails.
+/// What a visitor does: it sends these lines at once, or after both counts have risen, or when another
+/// was sent this text, or its first read fails.
 #[derive(Clone, Copy)]
-enum Sends<'a> {
+pub enum Sends<'a> {
     AtOnce(&'a [u8]),
     After(&'a [u8], &'a AtomicU64, &'a AtomicU64),
+    OnceSent(&'a [u8], &'a Mutex<Received>, &'a [u8]),
     Nothing,
+}
+
+/// What a visitor was sent, and by how many writes.
+#[derive(Drop)]
+pub struct Received {
+    pub text: Vec<u8>,
+    pub writes: u64,
+}
+
+impl Received {
+    pub fn none(alloc: Global) -> Mutex<Received> {
+        Mutex::new(Received {
+            text: Vec::new(alloc),
+            writes: 0,
+        })
+    }
 }
 
 // Reads what a visitor sends.
 #[derive(Drop)]
-struct Sender<'a, R> {
+pub struct Sender<'a, R> {
     rt: &'a R,
     sends: Sends<'a>,
 }
 
-impl<'a, R: time::Clock> Sender<'a, R> {
+impl<'a, R: Wait + time::Clock> Sender<'a, R> {
     // Waits until both counts have risen, and says whether they have.
     fn sees_both(&self, first: &AtomicU64, second: &AtomicU64) -> bool {
         for _ in 0..MOST_LOOKS {
@@ -80,14 +98,26 @@ impl<'a, R: time::Clock> Sender<'a, R> {
         }
         false
     }
+
+    // Waits until the other was sent this text, and says whether it was.
+    fn sees_text(&self, other: &Mutex<Received>, text: &[u8]) -> bool {
+        for _ in 0..MOST_LOOKS {
+            if other.lock(self.rt).text.as_slice() == text {
+                return true;
+            }
+            thread::sleep(self.rt, Duration::from_millis(1));
+        }
+        false
+    }
 }
 
-impl<'a, R: time::Clock> Read for Sender<'a, R> {
+impl<'a, R: Wait + time::Clock> Read for Sender<'a, R> {
     fn read(&mut self, buf: &mut [u8]) -> io::Result<usize> {
         let lines = match self.sends {
             Sends::AtOnce(lines) => lines,
             Sends::After(lines, first, second) if self.sees_both(first, second) => lines,
-            Sends::After(..) => &[],
+            Sends::OnceSent(lines, other, text) if self.sees_text(other, text) => lines,
+            Sends::After(..) | Sends::OnceSent(..) => &[],
             Sends::Nothing => return Err(io::Error::from(io::ErrorKind::ConnectionReset)),
         };
         let (given, rest) = lines.split_at(lines.len().min(buf.len()));
@@ -99,14 +129,16 @@ impl<'a, R: time::Clock> Read for Sender<'a, R> {
 
 // Keeps what a visitor is sent, where the test reads it.
 #[derive(Drop)]
-struct Receiver<'a, R> {
+pub struct Receiver<'a, R> {
     rt: &'a R,
-    text: &'a Mutex<Vec<u8>>,
+    received: &'a Mutex<Received>,
 }
 
 impl<'a, R: Wait> Write for Receiver<'a, R> {
     fn write(&mut self, buf: &[u8]) -> io::Result<usize> {
-        self.text.lock(self.rt).extend_from_slice(buf)?;
+        let mut received = self.received.lock(self.rt);
+        received.writes = received.writes.saturating_add(1);
+        received.text.extend_from_slice(buf)?;
         Ok(buf.len())
     }
 
@@ -115,23 +147,27 @@ impl<'a, R: Wait> Write for Receiver<'a, R> {
     }
 }
 
-// One visit, what it is sent, and how many turns its waits made; or one that is refused.
+/// One visit, what it is sent, and how many turns its waits made; or one that is refused.
 #[derive(Drop)]
-struct Plan<'a> {
+pub struct Plan<'a> {
     sends: Option<Sends<'a>>,
-    text: &'a Mutex<Vec<u8>>,
+    received: &'a Mutex<Received>,
     turns: &'a AtomicU64,
 }
 
-fn planned<'a>(
+pub fn planned<'a>(
     sends: Option<Sends<'a>>,
-    text: &'a Mutex<Vec<u8>>,
+    received: &'a Mutex<Received>,
     turns: &'a AtomicU64,
 ) -> Plan<'a> {
-    Plan { sends, text, turns }
+    Plan {
+        sends,
+        received,
+        turns,
+    }
 }
 
-fn at_once<'a>(lines: &'a [u8]) -> Option<Sends<'a>> {
+pub fn at_once<'a>(lines: &'a [u8]) -> Option<Sends<'a>> {
     Some(Sends::AtOnce(lines))
 }
 
@@ -167,14 +203,15 @@ impl<'a, R: Wait + time::Clock + Sync> Door for PlannedDoor<'a, R> {
             reader: Sender { rt: self.rt, sends },
             writer: Receiver {
                 rt: self.rt,
-                text: plan.text,
+                received: plan.received,
             },
             gate: NotedGate { turns: plan.turns },
         }))
     }
 }
 
-fn served<R: Threads + Wait + time::Clock + Abort + Sync>(
+/// Serves these visits.
+pub fn served<R: Threads + Wait + time::Clock + Abort + Sync>(
     rt: &R,
     alloc: Global,
     plans: &[Plan<'_>],
@@ -206,20 +243,25 @@ fn served<R: Threads + Wait + time::Clock + Abort + Sync>(
     .expect(rt, "a report")
 }
 
-// What a visitor was sent.
-fn expect_text<R: Wait + Abort>(rt: &R, text: &Mutex<Vec<u8>>, expected: &[u8]) {
-    assert_eq!(rt; text.lock(rt).as_slice(), expected);
+/// What a visitor was sent.
+pub fn expect_text<R: Wait + Abort>(rt: &R, received: &Mutex<Received>, expected: &[u8]) {
+    assert_eq!(rt; received.lock(rt).text.as_slice(), expected);
 }
 
-fn expect_counts<R: Abort>(rt: &R, report: &ServeReport<ListTimer>, sessions: u64, faults: u64) {
+pub fn expect_counts<R: Abort>(
+    rt: &R,
+    report: &ServeReport<ListTimer>,
+    sessions: u64,
+    faults: u64,
+) {
     assert_eq!(rt;
         (report.sessions, report.faults, report.lost),
         (sessions, faults, 0)
     );
 }
 
-// So many elements were offered, each was given, and nothing else was asked.
-fn all_given(offered: u64) -> Audit {
+/// So many elements were offered, each was given, and nothing else was asked.
+pub fn all_given(offered: u64) -> Audit {
     Audit {
         calls: offered.saturating_add(offered),
         offered,
@@ -243,7 +285,7 @@ fn expect_two<R: Threads + Wait + time::Clock + Abort + Sync>(
     requires few { workers ≤ 16 }
 {
     let (turns, others) = (AtomicU64::new(0), AtomicU64::new(0));
-    let (first, second) = (Mutex::new(Vec::new(alloc)), Mutex::new(Vec::new(alloc)));
+    let (first, second) = (Received::none(alloc), Received::none(alloc));
     let plans = [
         planned(at_once(b"TAKE\nDONE 0\nQUIT\n"), &first, &turns),
         planned(
@@ -280,14 +322,14 @@ fn one_worker_serves_in_turn(rt: HostRuntime) -> Result<(), Fail> {
 // Whether the two were sent these texts, in either order.
 fn are_sent<R: Wait>(
     rt: &R,
-    first: &Mutex<Vec<u8>>,
-    second: &Mutex<Vec<u8>>,
+    first: &Mutex<Received>,
+    second: &Mutex<Received>,
     one: &[u8],
     other: &[u8],
 ) -> bool {
     let first = first.lock(rt);
     let second = second.lock(rt);
-    let (first, second) = (first.as_slice(), second.as_slice());
+    let (first, second) = (first.text.as_slice(), second.text.as_slice());
     first == one && second == other || first == other && second == one
 }
 
@@ -296,8 +338,8 @@ fn are_sent<R: Wait>(
 fn each_taker_gets_its_own(rt: HostRuntime) -> Result<(), Fail> {
     let alloc = rt.alloc();
     let (turns, others, last) = (AtomicU64::new(0), AtomicU64::new(0), AtomicU64::new(0));
-    let (first, second) = (Mutex::new(Vec::new(alloc)), Mutex::new(Vec::new(alloc)));
-    let third = Mutex::new(Vec::new(alloc));
+    let (first, second) = (Received::none(alloc), Received::none(alloc));
+    let third = Received::none(alloc);
     let takes = at_once(b"TAKE\nDONE 0\nDONE 1\nQUIT\n");
     let offers = after(b"OFFER 0 a\nOFFER 0 b\nQUIT\n", &turns, &others);
     let plans = [
@@ -319,7 +361,7 @@ fn each_taker_gets_its_own(rt: HostRuntime) -> Result<(), Fail> {
 #[test]
 fn faults_are_counted(rt: HostRuntime) -> Result<(), Fail> {
     let turns = AtomicU64::new(0);
-    let text = Mutex::new(Vec::new(rt.alloc()));
+    let text = Received::none(rt.alloc());
     let plans = [
         planned(None, &text, &turns),
         planned(Some(Sends::Nothing), &text, &turns),
@@ -335,7 +377,7 @@ fn faults_are_counted(rt: HostRuntime) -> Result<(), Fail> {
 #[test]
 fn no_client_sets_the_clock(rt: HostRuntime) -> Result<(), Fail> {
     let turns = AtomicU64::new(0);
-    let text = Mutex::new(Vec::new(rt.alloc()));
+    let text = Received::none(rt.alloc());
     let plans = [planned(
         at_once(b"AT 9\nAT 01\nOFFERAT 8 a\nPOLL\nSIZE"),
         &text,
