@@ -2,7 +2,9 @@ ghost use Rattle.std.specs.Prelude.{◌≡◌, ◌≤◌, ◌+◌, ◌++◌, ℕ
 ghost use Rattle.std.specs.Io.KnownBytes.{append_known, Keeps};
 ghost use Rattle.std.proofs.Common.{refl, ◌∙◌};
 ghost use Rattle.rb_broker.specs.Growth.{KeepsFront, grows_same, grows_on};
+ghost use Rattle.rb_broker.specs.declared.hands_on.HandsOn.TheVariants.{BeforeReadsAndWaits};
 
+use crate::hands_on::HandsOn;
 use rb_session::{Outlet, WriteFault, flush, send_line, write_out};
 use std::io::Write;
 
@@ -14,19 +16,22 @@ use std::io::Write;
 pub struct Gathering<'a, W: Write> {
     writer: &'a mut W,
     gathered: Vec<u8>,
+    hands_on: HandsOn,
 }
 
 impl<'a, W: Write> Gathering<'a, W> {
     /// Gathers for this writer, in the room of an empty vector. It takes no more memory.
-    pub fn new(writer: &'a mut W, room: Vec<u8>) -> Gathering<'a, W>
+    pub fn new(writer: &'a mut W, room: Vec<u8>, hands_on: HandsOn) -> Gathering<'a, W>
         requires { room.items ≡ [] }
         ensures same_reference { result.writer.ghost_name ≡ writer.entry.ghost_name }
         ensures same { result.writer.now ≡ writer.old }
         ensures empty { result.gathered.items ≡ [] }
+        ensures hands_on { result.hands_on ≡ hands_on }
     {
         Gathering {
             writer,
             gathered: room,
+            hands_on,
         }
     }
 
@@ -52,6 +57,7 @@ impl<'a, W: Write> Gathering<'a, W> {
         ensures kept { Keeps (append_known (W.contents self.old.writer.now) self.old.gathered.items) (append_known (W.contents self.new.writer.now) self.new.gathered.items) }
         ensures same_reference { self.new.writer.ghost_name ≡ self.old.writer.ghost_name }
         ensures grows { KeepsFront (W.contents self.old.writer.now) (W.contents self.new.writer.now) }
+        ensures hands_on { self.new.hands_on ≡ self.old.hands_on }
     {
         if self.gathered.is_empty() {
             return Ok(());
@@ -70,9 +76,11 @@ impl<W: Write> Outlet for Gathering<'_, W> {
 
     ghost IsClear = { λ outlet. outlet.gathered.items ≡ [] };
 
+    ghost IsClearForWait = { λ outlet. outlet.hands_on ≡ BeforeReadsAndWaits → outlet.gathered.items ≡ [] };
+
     ghost HoldsBack = { Unit {0} };
 
-    ghost Becomes = { λ old new. (new.writer.ghost_name ≡ old.writer.ghost_name) × KeepsFront (W.contents old.writer.now) (W.contents new.writer.now) };
+    ghost Becomes = { λ old new. (new.writer.ghost_name ≡ old.writer.ghost_name) × KeepsFront (W.contents old.writer.now) (W.contents new.writer.now) × (new.hands_on ≡ old.hands_on) };
 
     fn send(&mut self, line: &[u8]) -> Result<(), WriteFault> {
         if line.len() > self.room() {
@@ -85,7 +93,7 @@ impl<W: Write> Outlet for Gathering<'_, W> {
         Ok(())
     }
 
-    /// More may come before the next read.
+    /// More may come before the next read or wait.
     fn flush(&mut self) -> Result<(), WriteFault> {
         Ok(())
     }
@@ -94,9 +102,16 @@ impl<W: Write> Outlet for Gathering<'_, W> {
         self.empty()
     }
 
-    ghost stays = { λ outlet. (refl, grows_same _) };
+    fn before_wait(&mut self) -> Result<(), WriteFault> {
+        match self.hands_on {
+            HandsOn::BeforeReads => Ok(()),
+            HandsOn::BeforeReadsAndWaits => self.empty(),
+        }
+    }
 
-    ghost goes_on = { λ one two three first second. (second.0 ∙ first.0, grows_on _ _ _ first.1 second.1) };
+    ghost stays = { λ outlet. (refl, grows_same _, refl) };
+
+    ghost goes_on = { λ one two three first second. (second.0 ∙ first.0, grows_on _ _ _ first.1 second.1, second.2 ∙ first.2) };
 }
 
 /// Writes a line and flushes. After an `Err` the writer has got the first bytes of it, perhaps none or all.

@@ -1,5 +1,6 @@
 use crate::broker_fault::BrokerFault;
 use crate::gathered::run_gathered;
+use crate::hands_on::HandsOn;
 use crate::script_rows::{AT_END, DEFAULT, feeds_of, first_lines, options, run_unrecorded};
 use crate::timer_kind::TimerKind;
 use rb_binary::BinaryTimer;
@@ -168,6 +169,25 @@ fn ten_thousand_requests_are_a_few_writes(rt: HostRuntime) -> Result<(), Fail> {
     Ok(())
 }
 
+// No take waits in a script, so none costs a write.
+#[test]
+fn a_hundred_takes_of_a_script_are_one_write(rt: HostRuntime) -> Result<(), Fail> {
+    let alloc = rt.alloc();
+    let (mut script, mut replies) = (Vec::new(alloc), Vec::new(alloc));
+    for _ in 0..100 {
+        script.extend_from_slice(b"TAKE\n")?;
+        replies.extend_from_slice(b"STOPPED\n")?;
+    }
+    let mut reader = Batch::of(&script, false);
+    let mut writer = Bounded::new(alloc, usize::MAX, true);
+    let options = options(&rt, TimerKind::Heap, 100, DEFAULT);
+    let result = run_unrecorded(alloc, &options, &mut reader, &mut writer);
+    assert_eq!(rt; result, Ok(AT_END));
+    assert!(rt; writer.bytes.as_slice() == replies.as_slice());
+    assert_eq!(rt; writer.writes, 1);
+    Ok(())
+}
+
 // Runs the conversation over a writer with room for so many bytes.
 fn expect_first_bytes(rt: &impl Abort, alloc: Global, room: usize, is_closed: bool) {
     let options = options(rt, TimerKind::Heap, 100, DEFAULT);
@@ -218,8 +238,38 @@ fn held_jobs_fail_after_a_late_write_fault(rt: HostRuntime) -> Result<(), Fail> 
     let mut desk = KeptDesk::new(&mut kept, &mut tally);
     let mut reader = Batch::of(b"OFFER 0 a\nOFFER 0 b\nPOLL\nPOLL\n", false);
     let mut writer = Bounded::new(alloc, 5, true);
-    let result = run_gathered(alloc, &mut reader, &mut writer, &mut desk, &policy);
+    let result = run_gathered(
+        alloc,
+        &mut reader,
+        &mut writer,
+        &mut desk,
+        &policy,
+        HandsOn::BeforeReads,
+    );
     assert_eq!(rt; result, Err(SessionFault::Write { lost: 0 }));
     assert_eq!(rt; kept.history().len(), 6);
+    Ok(())
+}
+
+// What a take would fetch stays in the queue where the replies before it can't be handed on.
+#[test]
+fn a_take_behind_a_write_fault_is_not_served(rt: HostRuntime) -> Result<(), Fail> {
+    let alloc = rt.alloc();
+    let policy = Policy::fixed(1_000, 3).expect(&rt, "a policy");
+    let (mut kept, mut tally) = Kept::<BinaryTimer>::new(alloc, 100)?;
+    let mut desk = KeptDesk::new(&mut kept, &mut tally);
+    let mut reader = Batch::of(b"OFFER 0 a\nTAKE\n", false);
+    let mut writer = Bounded::new(alloc, 5, true);
+    let result = run_gathered(
+        alloc,
+        &mut reader,
+        &mut writer,
+        &mut desk,
+        &policy,
+        HandsOn::BeforeReadsAndWaits,
+    );
+    assert_eq!(rt; result, Err(SessionFault::Write { lost: 0 }));
+    assert_eq!(rt; writer.bytes.as_slice(), b"OFFER".as_slice());
+    assert_eq!(rt; (kept.history().len(), kept.audit().left), (1, 1));
     Ok(())
 }

@@ -8,6 +8,8 @@
 
 mod arguments;
 mod audit_line;
+#[cfg(test)]
+mod batch_rows;
 mod broker_fault;
 mod command_line;
 #[cfg(test)]
@@ -20,6 +22,7 @@ mod gathering;
 mod gathering_rows;
 mod given_server;
 mod given_words;
+mod hands_on;
 #[cfg(test)]
 mod history_rows;
 #[cfg(test)]

@@ -4,6 +4,7 @@ ghost use Rattle.rb_broker.specs.Script.{Finishes, RanScript, RecordsRun, Record
 
 use crate::broker_fault::BrokerFault;
 use crate::gathered::run_gathered;
+use crate::hands_on::HandsOn;
 use crate::script_options::ScriptOptions;
 use crate::timer_kind::TimerKind;
 use rb_binary::BinaryTimer;
@@ -72,7 +73,14 @@ fn run_on<T: Timer, R: Read, W: Write, H: Write>(
         return Err(BrokerFault::Memory);
     };
     let mut desk = KeptDesk::new(&mut kept, &mut tally);
-    let ended = run_gathered(alloc, reader, writer, &mut desk, policy);
+    let ended = run_gathered(
+        alloc,
+        reader,
+        writer,
+        &mut desk,
+        policy,
+        HandsOn::BeforeReads,
+    );
     finish(alloc, &kept, ended, history)
 }
 

@@ -3,7 +3,7 @@
 ghost use Rattle.std.specs.Prelude.{◌≤◌};
 
 use crate::serve_report::ServeReport;
-use crate::tests::devices::{Plan, Sends, after, at_once, planned, served_plans};
+use crate::tests::devices::{Plan, Received, Sends, after, at_once, planned, served_plans};
 use rb_queue::Audit;
 use rb_timer::ListTimer;
 use std::alloc::Global;
@@ -14,7 +14,8 @@ use std::test::Fail;
 use std::thread::Threads;
 use std::time;
 
-fn served<R: Threads + Wait + time::Clock + Abort + Sync>(
+/// Serves these visits.
+pub fn served<R: Threads + Wait + time::Clock + Abort + Sync>(
     rt: &R,
     alloc: Global,
     plans: &[Plan<'_>],
@@ -28,20 +29,25 @@ fn served<R: Threads + Wait + time::Clock + Abort + Sync>(
         .expect(rt, "a report")
 }
 
-// What a visitor was sent.
-fn expect_text<R: Wait + Abort>(rt: &R, text: &Mutex<Vec<u8>>, expected: &[u8]) {
-    assert_eq!(rt; text.lock(rt).as_slice(), expected);
+/// What a visitor was sent.
+pub fn expect_text<R: Wait + Abort>(rt: &R, received: &Mutex<Received>, expected: &[u8]) {
+    assert_eq!(rt; received.lock(rt).text.as_slice(), expected);
 }
 
-fn expect_counts<R: Abort>(rt: &R, report: &ServeReport<ListTimer>, sessions: u64, faults: u64) {
+pub fn expect_counts<R: Abort>(
+    rt: &R,
+    report: &ServeReport<ListTimer>,
+    sessions: u64,
+    faults: u64,
+) {
     assert_eq!(rt;
         (report.sessions, report.faults, report.lost),
         (sessions, faults, 0)
     );
 }
 
-// So many elements were offered, each was given, and nothing else was asked.
-fn all_given(offered: u64) -> Audit {
+/// So many elements were offered, each was given, and nothing else was asked.
+pub fn all_given(offered: u64) -> Audit {
     Audit {
         calls: offered.saturating_add(offered),
         offered,
@@ -65,7 +71,7 @@ fn expect_two<R: Threads + Wait + time::Clock + Abort + Sync>(
     requires few { workers ≤ 16 }
 {
     let (turns, others) = (AtomicU64::new(0), AtomicU64::new(0));
-    let (first, second) = (Mutex::new(Vec::new(alloc)), Mutex::new(Vec::new(alloc)));
+    let (first, second) = (Received::none(alloc), Received::none(alloc));
     let plans = [
         planned(at_once(b"TAKE\nDONE 0\nQUIT\n"), &first, &turns),
         planned(
@@ -102,14 +108,14 @@ fn one_worker_serves_in_turn(rt: HostRuntime) -> Result<(), Fail> {
 // Whether the two were sent these texts, in either order.
 fn are_sent<R: Wait>(
     rt: &R,
-    first: &Mutex<Vec<u8>>,
-    second: &Mutex<Vec<u8>>,
+    first: &Mutex<Received>,
+    second: &Mutex<Received>,
     one: &[u8],
     other: &[u8],
 ) -> bool {
     let first = first.lock(rt);
     let second = second.lock(rt);
-    let (first, second) = (first.as_slice(), second.as_slice());
+    let (first, second) = (first.text.as_slice(), second.text.as_slice());
     first == one && second == other || first == other && second == one
 }
 
@@ -118,8 +124,8 @@ fn are_sent<R: Wait>(
 fn each_taker_gets_its_own(rt: HostRuntime) -> Result<(), Fail> {
     let alloc = rt.alloc();
     let (turns, others, last) = (AtomicU64::new(0), AtomicU64::new(0), AtomicU64::new(0));
-    let (first, second) = (Mutex::new(Vec::new(alloc)), Mutex::new(Vec::new(alloc)));
-    let third = Mutex::new(Vec::new(alloc));
+    let (first, second) = (Received::none(alloc), Received::none(alloc));
+    let third = Received::none(alloc);
     let takes = at_once(b"TAKE\nDONE 0\nDONE 1\nQUIT\n");
     let offers = after(b"OFFER 0 a\nOFFER 0 b\nQUIT\n", &turns, &others);
     let plans = [
@@ -141,7 +147,7 @@ fn each_taker_gets_its_own(rt: HostRuntime) -> Result<(), Fail> {
 #[test]
 fn faults_are_counted(rt: HostRuntime) -> Result<(), Fail> {
     let turns = AtomicU64::new(0);
-    let text = Mutex::new(Vec::new(rt.alloc()));
+    let text = Received::none(rt.alloc());
     let plans = [
         planned(None, &text, &turns),
         planned(Some(Sends::Nothing), &text, &turns),
@@ -157,7 +163,7 @@ fn faults_are_counted(rt: HostRuntime) -> Result<(), Fail> {
 #[test]
 fn no_client_sets_the_clock(rt: HostRuntime) -> Result<(), Fail> {
     let turns = AtomicU64::new(0);
-    let text = Mutex::new(Vec::new(rt.alloc()));
+    let text = Received::none(rt.alloc());
     let plans = [planned(
         at_once(b"AT 9\nAT 01\nOFFERAT 8 a\nPOLL\nSIZE"),
         &text,

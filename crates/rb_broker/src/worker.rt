@@ -2,13 +2,15 @@ ghost use Rattle.std.specs.Prelude.{◌≡◌};
 ghost use Rattle.rb_broker.specs.Serving.{IsWorked};
 
 use crate::door::{Door, DoorFault};
+use crate::gathered::run_gathered;
+use crate::hands_on::HandsOn;
 use crate::service::Service;
 use crate::visit::Visit;
 use crate::visit_counts::VisitCounts;
 use rb_blocking::{Clock, Gate};
 use rb_lock::Pass;
 use rb_retry::SharedDesk;
-use rb_session::{Ended, SessionFault, run_session};
+use rb_session::{Ended, SessionFault};
 use rb_timer::Timer;
 use std::io::{Read, Write};
 use std::sync::Wait;
@@ -41,6 +43,7 @@ pub(crate) fn work<T: Timer, D: Door, C: Clock, R: Wait + time::Clock>(
 }
 
 // Serves a visit to its end: one session at a desk of the pass, whose waits the visit's gate may end.
+// Its replies are gathered, but while a request waits none lies here.
 fn serve_visit<
     T: Timer,
     D: Door,
@@ -71,11 +74,12 @@ fn serve_visit<
         &mut gate,
         service.bell,
     );
-    run_session(
+    run_gathered(
         service.alloc,
         &mut reader,
         &mut writer,
         &mut desk,
         service.policy,
+        HandsOn::BeforeReadsAndWaits,
     )
 }

@@ -1,6 +1,7 @@
 -- Sessions through an outlet: what stays the same while what was held back is handed on.
-use Rattle.std.proofs.Common.{◌≡◌, ℕ, List, [], ◌++◌, Option, Some, Result, Ok, Err, refl, sym, ap, ◌∙◌, inl, inr, append_assoc}
+use Rattle.std.proofs.Common.{◌≡◌, ℕ, List, [], ◌++◌, Option, Some, Result, Ok, Err, true, false, refl, sym, ap, ◌∙◌, inl, inr, append_assoc}
 use Rattle.std.proofs.lemmas.List.{append-nil}
+use Rattle.std.specs.Prelude.{OnOk, OnErr, is_err}
 use Rattle.rb_queue.specs.declared.ask.Ask.{Ask}
 use Rattle.rb_queue.specs.declared.reply.Reply.{Reply}
 use Rattle.rb_retry.specs.declared.desk_fault.DeskFault.{DeskFault}
@@ -17,6 +18,15 @@ use Rattle.rb_session.specs.declared.session_fault.SessionFault.{SessionFault}
 use Rattle.rb_session.specs.declared.session_fault.SessionFault.TheVariants as faults
 use Rattle.rb_session.specs.declared.stop.Stop.{Stop}
 use Rattle.rb_session.specs.declared.stop.Stop.TheVariants as stops
+
+-- what holds where something failed, or went
+pub failed : {T E : Type 0} (r : Result T E) (P : Type 0) → is_err r ≡ true → OnErr r P → P
+failed (Ok x) P is holds = absurd (cc)
+failed (Err e) P is holds = holds
+
+pub went : {T E : Type 0} (r : Result T E) (P : Type 0) → is_err r ≡ false → OnOk r P → P
+went (Ok x) P is holds = holds
+went (Err e) P is holds = absurd (cc)
 
 -- what was handed on is clear, however the session stopped
 pub clear_at : (clear : Type 0) (stop : Stop) → clear → IsClearAt clear stop
@@ -45,13 +55,13 @@ clear_at_end clear stops.ReadTurns before bytes written ends = tt
 module _ {S : Type 0} (gives : S → ℕ → Type 0) (Sets : S → ℕ → Option ℕ → S → Type 0)
     (Steps : S → ℕ → Ask → Result Reply DeskFault → S → Type 0) (policy : Policy) where
   -- nor is a line
-  pub clear_at_line : (clear : Type 0) (from to : Point S) (bytes before : List ℕ) (stop : Stop) (buffer : LineBuffer) (written : Option (List ℕ))
-      → ServesLines gives Sets Steps policy from bytes before (Some stop) buffer to written → IsClearAtRead clear stop
-  clear_at_line clear from to bytes before stops.Quit buffer written served = tt
-  clear_at_line clear from to bytes before stops.EndOfInput buffer written served = tt
-  clear_at_line clear from to bytes before stops.Read buffer written served = absurd served
-  clear_at_line clear from to bytes before stops.Write buffer written served = tt
-  clear_at_line clear from to bytes before stops.ReadTurns buffer written served = tt
+  pub clear_at_line : (clear HoldsBack : Type 0) (from to : Point S) (bytes before : List ℕ) (stop : Stop) (buffer : LineBuffer) (written : Option (List ℕ))
+      → ServesLines gives Sets Steps policy HoldsBack from bytes before (Some stop) buffer to written → IsClearAtRead clear stop
+  clear_at_line clear HoldsBack from to bytes before stops.Quit buffer written served = tt
+  clear_at_line clear HoldsBack from to bytes before stops.EndOfInput buffer written served = tt
+  clear_at_line clear HoldsBack from to bytes before stops.Read buffer written served = absurd served
+  clear_at_line clear HoldsBack from to bytes before stops.Write buffer written served = tt
+  clear_at_line clear HoldsBack from to bytes before stops.ReadTurns buffer written served = tt
 
   module _ (sent sent' : Option (List ℕ)) (kept : (bytes : List ℕ) → sent ≡ Some bytes → sent' ≡ Some bytes) where
     -- the lines so far stay served

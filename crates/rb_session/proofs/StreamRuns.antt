@@ -19,6 +19,7 @@ use Rattle.rb_session.specs.declared.line_buffer.LineBuffer.{LineBuffer}
 use Rattle.rb_session.specs.declared.stop.Stop.{Stop}
 use Rattle.rb_session.specs.declared.stop.Stop.TheVariants as stops
 use Rattle.rb_session.proofs.Turns.{bytes_of-append, answers_of-append, serves_on}
+use Rattle.rb_session.proofs.Outlets.{stands_late}
 
 -- three parts of a text, the last two as one
 assoc_more : (before one two : List ℕ) → (before ++ one) ++ two ≡ before ++ (one ++ two)
@@ -151,10 +152,12 @@ module _ {S : Type 0} (gives : S → ℕ → Type 0) (Sets : S → ℕ → Optio
 
     -- a line stopped the session
     pub stopped : (HoldsBack : Type 0) (stop : Stop) (buffer : LineBuffer) (to : Point S) (remaining written' : Option (List ℕ))
-        → ServesLines gives Sets Steps policy here (stands.rest ++ more) (before ++ answers_of stands.turns) (Some stop) buffer to written'
+        → ServesLines gives Sets Steps policy HoldsBack here (stands.rest ++ more) (before ++ answers_of stands.turns) (Some stop) buffer to written'
         → Stops gives Sets Steps policy HoldsBack from stream before stop to remaining written'
     stopped HoldsBack stops.Quit buffer to remaining written' served = ran_quit to written' served
-    stopped HoldsBack stops.Write buffer to remaining written' served = inl (ran_fails to written' served)
+    stopped HoldsBack stops.Write buffer to remaining written' (inl fails) = inl (ran_fails to written' fails)
+    stopped HoldsBack stops.Write buffer to remaining written' (inr (late, on)) =
+        inr (late, stands_late gives Sets Steps policy written' written' (λ sent is. is) from to stream (bytes ++ more) before rest stream_split (stands_on to written' on))
     stopped HoldsBack stops.EndOfInput buffer to remaining written' served = absurd served
     stopped HoldsBack stops.Read buffer to remaining written' served = absurd served
     stopped HoldsBack stops.ReadTurns buffer to remaining written' served = absurd served

@@ -1,5 +1,5 @@
 -- How far a session has come. No public clause cites this module.
-use Rattle.std.specs.Prelude.{◌≡◌, ℕ, ◌-◌, ◌<◌, List, [], ◌∷◌, ◌++◌, length, map, drop, Option, Some, None, Result, Ok, Err}
+use Rattle.std.specs.Prelude.{◌≡◌, ℕ, ◌-◌, ◌<◌, ◌⊎◌, List, [], ◌∷◌, ◌++◌, length, map, drop, Option, Some, None, Result, Ok, Err}
 use Rattle.rb_delayed.specs.declared.element.Element.{Element}
 use Rattle.rb_queue.specs.declared.ask.Ask.{Ask}
 use Rattle.rb_queue.specs.declared.ask.Ask.TheVariants as asks
@@ -107,15 +107,16 @@ module _ {S : Type 0} (gives : S → ℕ → Type 0) (Sets : S → ℕ → Optio
     pub parts : texts_of replies ≡ sent ++ unsent
     pub wrote : written ≡ Some (before ++ (answers_of turns ++ sent))
 
-  -- what serving the whole lines of a buffer comes to
-  abbrev pub ServesLines : Point S → List ℕ → List ℕ → Option Stop → LineBuffer → Point S → Option (List ℕ) → Type 0
-  ServesLines from bytes before None buffer to written =
+  -- What serving the whole lines of a buffer comes to. Where a write failed a reply could not be sent,
+  -- or what answers the lines so far could not be handed on before a request that may wait.
+  abbrev pub ServesLines : Type 0 → Point S → List ℕ → List ℕ → Option Stop → LineBuffer → Point S → Option (List ℕ) → Type 0
+  ServesLines HoldsBack from bytes before None buffer to written =
       (stands : Stands from bytes before to written) × HasNoFeed stands.rest × IsUnserved buffer stands.rest
-  ServesLines from bytes before (Some Quit) buffer to written =
+  ServesLines HoldsBack from bytes before (Some Quit) buffer to written =
       IsWhole gives Sets Steps policy (ServesToQuit gives Sets Steps policy from bytes) before to written
-  ServesLines from bytes before (Some Write) buffer to written =
-      FailsAtLine from bytes before to written
-  ServesLines from bytes before (Some _) buffer to written = ⊥
+  ServesLines HoldsBack from bytes before (Some Write) buffer to written =
+      FailsAtLine from bytes before to written ⊎ (HoldsBack × Stands from bytes before to written)
+  ServesLines HoldsBack from bytes before (Some _) buffer to written = ⊥
 
   -- what serving a stream comes to
   abbrev pub Stops : Type 0 → Point S → List ℕ → List ℕ → Stop → Point S → Option (List ℕ) → Option (List ℕ) → Type 0

@@ -1,12 +1,13 @@
 ghost use Rattle.std.specs.Prelude.{◌≡◌, ℕ, ◌<◌, ◌≤◌, ◌++◌, [], ◌∷◌, List, length, Option, Result};
 ghost use Rattle.rb_queue.specs.declared.reply.Reply.{Reply};
-ghost use Rattle.rb_session.specs.Turn.{word_for, point, moment_line, IsTurn, IsServed};
+ghost use Rattle.rb_session.specs.Turn.{word_for, point, moment_line, MayWait, IsTurn, IsServed};
 ghost use Rattle.rb_session.specs.Progress.{replies_of};
 
 use crate::calls::{call, offer, offer_at};
 use crate::endings::{fail_job, finish_job};
 use crate::fetches::{drain_jobs, poll_job, poll_job_for, take_job};
 use crate::held_jobs::HeldJobs;
+use crate::outlet::Outlet;
 use rb_protocol::{ErrorWord, LineFault, LineReply, Request};
 use rb_queue::Ask;
 use rb_retry::{Desk, Policy};
@@ -14,13 +15,16 @@ use rb_retry::{Desk, Policy};
 /// Answers one line: the first line of its reply. Where that is a drain's, the elements that it took
 /// are the last that are held.
 ///
-/// The desk's clock is read once for each request.
-pub(crate) fn answer<D: Desk>(
+/// The desk's clock is read once for each request. Where the request may wait, nothing that the client
+/// may need may be held back.
+pub(crate) fn answer<O: Outlet, D: Desk>(
+    _outlet: &O,
     desk: &mut D,
     held: &mut HeldJobs,
     policy: &Policy,
     reading: Result<Request, LineFault>,
 ) -> LineReply
+    requires { MayWait reading → O.IsClearForWait _outlet.now }
     ensures turn { IsTurn D.gives D.Sets D.Steps policy.now (point (D.state desk.old) held.old) reading (replies_of result held.new) (point (D.state desk.new) held.new) }
     ensures name { D.name (D.state desk.new) ≡ D.name (D.state desk.old) }
 {

@@ -16,6 +16,8 @@ impl<W: Write> Outlet for Direct<'_, W> {
 
     ghost IsClear = { λ outlet. Unit {0} };
 
+    ghost IsClearForWait = { λ outlet. Unit {0} };
+
     ghost HoldsBack = { ⊥ };
 
     ghost Becomes = { λ old new. new.writer.ghost_name ≡ old.writer.ghost_name };
@@ -29,6 +31,10 @@ impl<W: Write> Outlet for Direct<'_, W> {
     }
 
     fn hand_on(&mut self) -> Result<(), WriteFault> {
+        Ok(())
+    }
+
+    fn before_wait(&mut self) -> Result<(), WriteFault> {
         Ok(())
     }
 

@@ -7,13 +7,17 @@ use crate::send::WriteFault;
 ///
 /// A session sends each reply line in one piece and flushes after each request. What is held back has
 /// to be handed on before each read, so that no client waits for a reply that lies here, and at the
-/// session's end.
+/// session's end. Before it serves a request that may wait it says so, and the outlet decides what has
+/// to be handed on then.
 pub trait Outlet {
     /// The bytes that were sent, behind those that lay before them, where they are known.
     ghost contents: { Self → Option (List ℕ) };
 
     /// Nothing is held back.
     ghost IsClear: { Self → Type 0 };
+
+    /// Nothing is held back that a client may need while a request waits.
+    ghost IsClearForWait: { Self → Type 0 };
 
     /// An outlet of this kind may hold something back, so that it may fail to hand it on.
     ghost HoldsBack: { Type 0 };
@@ -39,6 +43,13 @@ pub trait Outlet {
     fn hand_on(&mut self) -> Result<(), WriteFault>
         ensures kept { (before : List ℕ) → contents self.old ≡ Some before → contents self.new ≡ Some before }
         ensures clear { OnOk result (IsClear self.new) }
+        ensures late { OnErr result HoldsBack }
+        ensures becomes { Becomes self.old self.new };
+
+    /// A request that may wait is served next: hands on what a client may need until that is answered.
+    fn before_wait(&mut self) -> Result<(), WriteFault>
+        ensures kept { (before : List ℕ) → contents self.old ≡ Some before → contents self.new ≡ Some before }
+        ensures clear { OnOk result (IsClearForWait self.new) }
         ensures late { OnErr result HoldsBack }
         ensures becomes { Becomes self.old self.new };
 

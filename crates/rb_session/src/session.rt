@@ -1,8 +1,8 @@
-ghost use Rattle.std.specs.Prelude.{◌≡◌, ◌≤◌, ◌↔◌, ℕ, List, [], Some, None, Option, Ok, IsTrue, vec_capacity};
+ghost use Rattle.std.specs.Prelude.{◌≡◌, ◌≤◌, ◌↔◌, ℕ, List, [], Some, None, Option, Ok, OnOk, OnErr, IsTrue, vec_capacity};
 ghost use Rattle.rb_protocol.specs.declared.request.Request.TheVariants.{Quit};
 ghost use Rattle.rb_session.specs.Buffer.{IsUnserved, TakesMore};
 ghost use Rattle.rb_session.specs.Lines.{HasNoFeed};
-ghost use Rattle.rb_session.specs.Turn.{point};
+ghost use Rattle.rb_session.specs.Turn.{point, MayWait};
 ghost use Rattle.rb_session.specs.Ran.{Ran};
 ghost use Rattle.rb_session.specs.Outlet.{RanThrough, HandedOn};
 ghost use Rattle.rb_session.specs.Progress.{ServesLines, AnswersEnd, Stops, IsClearAt, IsClearAtRead, end_of};
@@ -49,7 +49,8 @@ pub fn run_session<R: Read, W: Write, D: Desk>(
 /// Runs a session as `run_session` does, whose replies go through an outlet.
 ///
 /// What the outlet holds back is handed on before each read, and at the end: so a read that fails, and
-/// each end that is no fault, find nothing held back. Where it can't be handed on, a write failed.
+/// each end that is no fault, find nothing held back. It is told before each request that may wait, a
+/// take or a timed poll. Where it can't hand on, a write failed, and that request is not served.
 pub fn run_session_through<R: Read, O: Outlet, D: Desk>(
     alloc: Global,
     reader: &mut R,
@@ -176,14 +177,17 @@ fn serve_lines<O: Outlet, D: Desk>(
 ) -> Option<Stop>
     requires { REPLY_ROOM ≤ vec_capacity text.old }
     ensures served { (bytes before : List ℕ) → IsUnserved buffer.old bytes → O.contents outlet.old ≡ Some before
-        → ServesLines D.gives D.Sets D.Steps policy.now (point (D.state desk.old) held.old) bytes before result buffer.new (point (D.state desk.new) held.new) (O.contents outlet.new) }
+        → ServesLines D.gives D.Sets D.Steps policy.now O.HoldsBack (point (D.state desk.old) held.old) bytes before result buffer.new (point (D.state desk.new) held.new) (O.contents outlet.new) }
     ensures room { REPLY_ROOM ≤ vec_capacity text.new }
     ensures becomes { O.Becomes outlet.old outlet.new }
     ensures name { D.name (D.state desk.new) ≡ D.name (D.state desk.old) }
 {
     while let Some(reading) = buffer.next_request() {
+        if clear_for_wait(outlet, &reading).is_err() {
+            return Some(Stop::Write);
+        }
         let quits = is_quit(&reading);
-        let reply = answer(desk, held, policy, reading);
+        let reply = answer(outlet, desk, held, policy, reading);
         if send_replies(outlet, text, &reply, held).is_err() {
             return Some(Stop::Write);
         }
@@ -192,6 +196,22 @@ fn serve_lines<O: Outlet, D: Desk>(
         }
     }
     None
+}
+
+// Tells the outlet where the line's request may wait.
+fn clear_for_wait<O: Outlet>(
+    outlet: &mut O,
+    reading: &Result<Request, LineFault>,
+) -> Result<(), WriteFault>
+    ensures kept { (before : List ℕ) → O.contents outlet.old ≡ Some before → O.contents outlet.new ≡ Some before }
+    ensures clear { OnOk result (MayWait reading.now → O.IsClearForWait outlet.new) }
+    ensures late { OnErr result O.HoldsBack }
+    ensures becomes { O.Becomes outlet.old outlet.new }
+{
+    match reading {
+        Ok(Request::Take | Request::PollFor(_)) => outlet.before_wait(),
+        _ => Ok(()),
+    }
 }
 
 // Whether a line ends the session.
@@ -214,8 +234,8 @@ fn finish<O: Outlet>(
     ensures becomes { O.Becomes outlet.old outlet.new }
 {
     if buffer.has_rest() {
-        let reply = LineReply::Error(ErrorWord::Line);
-        if send_replies(outlet, text, &reply, held).is_err() {
+        let error = LineReply::Error(ErrorWord::Line);
+        if send_replies(outlet, text, &error, held).is_err() {
             return Stop::Write;
         }
     }

@@ -55,12 +55,32 @@ impl<'a> Gate for NotedGate<'a> {
     }
 }
 
-/// What a visitor does: it sends these lines at once, or after both counts have risen, or its first read fails.
+/// What a visitor does: it sends these lines at once, or after both counts have risen, or when another
+/// was sent this text, or its first read fails.
 #[derive(Clone, Copy)]
 pub enum Sends<'a> {
     AtOnce(&'a [u8]),
     After(&'a [u8], &'a AtomicU64, &'a AtomicU64),
+    OnceSent(&'a [u8], &'a Mutex<Received>, &'a [u8]),
     Nothing,
+}
+
+/// What a visitor was sent, and by how many writes.
+#[derive(Drop)]
+pub struct Received {
+    pub text: Vec<u8>,
+    pub writes: u64,
+}
+
+impl Received {
+    /// Nothing yet. The text comes to lie in this empty vector.
+    pub fn into(text: Vec<u8>) -> Mutex<Received> {
+        Mutex::new(Received { text, writes: 0 })
+    }
+
+    pub fn none(alloc: Global) -> Mutex<Received> {
+        Received::into(Vec::new(alloc))
+    }
 }
 
 /// Reads what a visitor sends.
@@ -70,7 +90,7 @@ pub struct Sender<'a, R> {
     sends: Sends<'a>,
 }
 
-impl<'a, R: time::Clock> Sender<'a, R> {
+impl<'a, R: Wait + time::Clock> Sender<'a, R> {
     // Waits until both counts have risen, and says whether they have.
     fn sees_both(&self, first: &AtomicU64, second: &AtomicU64) -> bool {
         for _ in 0..MOST_LOOKS {
@@ -81,14 +101,26 @@ impl<'a, R: time::Clock> Sender<'a, R> {
         }
         false
     }
+
+    // Waits until the other was sent this text, and says whether it was.
+    fn sees_text(&self, other: &Mutex<Received>, text: &[u8]) -> bool {
+        for _ in 0..MOST_LOOKS {
+            if other.lock(self.rt).text.as_slice() == text {
+                return true;
+            }
+            thread::sleep(self.rt, Duration::from_millis(1));
+        }
+        false
+    }
 }
 
-impl<'a, R: time::Clock> Read for Sender<'a, R> {
+impl<'a, R: Wait + time::Clock> Read for Sender<'a, R> {
     fn read(&mut self, buf: &mut [u8]) -> io::Result<usize> {
         let lines = match self.sends {
             Sends::AtOnce(lines) => lines,
             Sends::After(lines, first, second) if self.sees_both(first, second) => lines,
-            Sends::After(..) => &[],
+            Sends::OnceSent(lines, other, text) if self.sees_text(other, text) => lines,
+            Sends::After(..) | Sends::OnceSent(..) => &[],
             Sends::Nothing => return Err(io::Error::from(io::ErrorKind::ConnectionReset)),
         };
         let (given, rest) = lines.split_at(lines.len().min(buf.len()));
@@ -102,12 +134,14 @@ impl<'a, R: time::Clock> Read for Sender<'a, R> {
 #[derive(Drop)]
 pub struct Receiver<'a, R> {
     rt: &'a R,
-    text: &'a Mutex<Vec<u8>>,
+    received: &'a Mutex<Received>,
 }
 
 impl<'a, R: Wait> Write for Receiver<'a, R> {
     fn write(&mut self, buf: &[u8]) -> io::Result<usize> {
-        self.text.lock(self.rt).extend_from_slice(buf)?;
+        let mut received = self.received.lock(self.rt);
+        received.writes = received.writes.saturating_add(1);
+        received.text.extend_from_slice(buf)?;
         Ok(buf.len())
     }
 
@@ -120,16 +154,20 @@ impl<'a, R: Wait> Write for Receiver<'a, R> {
 #[derive(Drop)]
 pub struct Plan<'a> {
     sends: Option<Sends<'a>>,
-    text: &'a Mutex<Vec<u8>>,
+    received: &'a Mutex<Received>,
     turns: &'a AtomicU64,
 }
 
 pub fn planned<'a>(
     sends: Option<Sends<'a>>,
-    text: &'a Mutex<Vec<u8>>,
+    received: &'a Mutex<Received>,
     turns: &'a AtomicU64,
 ) -> Plan<'a> {
-    Plan { sends, text, turns }
+    Plan {
+        sends,
+        received,
+        turns,
+    }
 }
 
 pub fn at_once<'a>(lines: &'a [u8]) -> Option<Sends<'a>> {
@@ -172,7 +210,7 @@ impl<'a, R: Wait + time::Clock + Sync> Door for PlannedDoor<'a, R> {
             reader: Sender { rt: self.rt, sends },
             writer: Receiver {
                 rt: self.rt,
-                text: plan.text,
+                received: plan.received,
             },
             gate: NotedGate { turns: plan.turns },
         }))

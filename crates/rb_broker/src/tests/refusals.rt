@@ -12,7 +12,7 @@ use crate::script::run_script;
 use crate::script_options::ScriptOptions;
 use crate::serve_end::end_server;
 use crate::serve_report::ServeReport;
-use crate::tests::devices::{at_once, planned, served_plans};
+use crate::tests::devices::{Received, at_once, planned, served_plans};
 use crate::timer_kind::TimerKind;
 use rb_queue::{Audit, Opening};
 use rb_retry::Policy;
@@ -20,8 +20,8 @@ use rb_session::Ended;
 use rb_timer::ListTimer;
 use std::alloc::{AllocError, Global};
 use std::process::Abort;
+use std::sync::Wait;
 use std::sync::atomic::AtomicU64;
-use std::sync::{Mutex, Wait};
 use std::test::Fail;
 use std::thread::Threads;
 use std::time;
@@ -279,7 +279,7 @@ fn served_lines<R: Threads + Wait + time::Clock + Abort + Sync>(
     requires few { workers ≤ 2 }
 {
     let turns = AtomicU64::new(0);
-    let (first, second) = (Mutex::new(page(alloc)?), Mutex::new(page(alloc)?));
+    let (first, second) = (Received::into(page(alloc)?), Received::into(page(alloc)?));
     let plans = [
         planned(at_once(LINES), &first, &turns),
         planned(at_once(LINES), &second, &turns),
@@ -291,9 +291,9 @@ fn served_lines<R: Threads + Wait + time::Clock + Abort + Sync>(
     };
     let outcome = served_plans(rt, alloc, visits, workers);
     let mut sent = NOBODY;
-    sent.note(first.lock(rt).as_slice());
+    sent.note(first.lock(rt).text.as_slice());
     if workers == 2 {
-        sent.note(second.lock(rt).as_slice());
+        sent.note(second.lock(rt).text.as_slice());
     }
     Ok((outcome, sent))
 }

@@ -2,7 +2,6 @@ use Rattle.std.proofs.Common.{◌≡◌, ℕ, List, [], ◌∷◌, ◌++◌, Opt
 use Rattle.std.proofs.lemmas.Bool.Decides.{nat_tests}
 use Rattle.std.proofs.lemmas.List.{append-nil}
 use Rattle.std.specs.declared.io.Error.{Error}
-use Rattle.std.specs.Prelude.{OnOk, OnErr, is_err}
 use Rattle.rb_session.specs.Buffer.{TakesMore}
 use Rattle.rb_session.specs.Turn.{point}
 use Rattle.rb_session.specs.Session.{answers_of}
@@ -10,21 +9,12 @@ use Rattle.rb_session.specs.Progress.{ServesLines, AnswersEnd}
 use Rattle.rb_session.specs.declared.stop.Stop.{Stop}
 use Rattle.rb_session.proofs.Turns.{stands_first}
 use Rattle.rb_session.proofs.StreamRuns.{breaks_off, ran_end, stream_split, stands_on, stopped}
-use Rattle.rb_session.proofs.Outlets.{stands_kept, stands_late, clear_at_end, clear_at_line}
+use Rattle.rb_session.proofs.Outlets.{failed, went, stands_kept, stands_late, clear_at_end, clear_at_line}
 use Rattle.rb_session.proofs.session.serve_reads.Goals as goal
 
 nothing_left : (more rest : List ℕ) → more ++ rest ≡ [] → more ≡ []
 nothing_left [] rest none = refl
 nothing_left (byte ∷ more) rest none = absurd (cc)
-
--- what holds where something failed, or went
-failed : {T E : Type 0} (r : Result T E) (P : Type 0) → is_err r ≡ true → OnErr r P → P
-failed (Ok x) P is holds = absurd (cc)
-failed (Err e) P is holds = holds
-
-went : {T E : Type 0} (r : Result T E) (P : Type 0) → is_err r ≡ false → OnOk r P → P
-went (Ok x) P is holds = holds
-went (Err e) P is holds = absurd (cc)
 
 pub loop-init : goal.loop-init
 unfolding stands_first
@@ -87,10 +77,10 @@ returns-in-Some-clause-clear g c stream before readable writable =
     let s = c.loop.invariant.stands stream before readable writable in
     let now = stands_kept g.D.Desk.gives g.D.Desk.Sets g.D.Desk.Steps c.args.policy.now (g.O.Outlet.contents c.loop.outlet) (g.O.Outlet.contents c.hand_on.new.self) c.hand_on.ensures.kept _ (point (g.D.Desk.state c.loop.desk) c.loop.held) s.1 before s.4 in
     let more = subst (λ (r : Result ℕ Error). TakesMore now.rest s.0 r c.read_more.new.buffer (g.R.Read.remaining c.read_more.new.reader)) c.in-Ok.is (c.read_more.ensures now.rest s.0 s.6 s.5 s.2) in
-    let served = subst (λ (o : Option Stop). ServesLines g.D.Desk.gives g.D.Desk.Sets g.D.Desk.Steps c.args.policy.now (point (g.D.Desk.state c.loop.desk) c.loop.held) (now.rest ++ more.0) (before ++ answers_of now.turns) o
+    let served = subst (λ (o : Option Stop). ServesLines g.D.Desk.gives g.D.Desk.Sets g.D.Desk.Steps c.args.policy.now g.O.Outlet.HoldsBack (point (g.D.Desk.state c.loop.desk) c.loop.held) (now.rest ++ more.0) (before ++ answers_of now.turns) o
     c.serve_lines.new.buffer (point (g.D.Desk.state c.serve_lines.new.desk) c.serve_lines.new.held) (g.O.Outlet.contents c.serve_lines.new.outlet))
     c.in-Some.is (c.serve_lines.ensures.served (now.rest ++ more.0) (before ++ answers_of now.turns) more.4 now.wrote) in
-    clear_at_line g.D.Desk.gives g.D.Desk.Sets g.D.Desk.Steps c.args.policy.now _ (point (g.D.Desk.state c.loop.desk) c.loop.held) (point (g.D.Desk.state c.serve_lines.new.desk) c.serve_lines.new.held) _ _ c.in-Some.stop _ _ served
+    clear_at_line g.D.Desk.gives g.D.Desk.Sets g.D.Desk.Steps c.args.policy.now _ g.O.Outlet.HoldsBack (point (g.D.Desk.state c.loop.desk) c.loop.held) (point (g.D.Desk.state c.serve_lines.new.desk) c.serve_lines.new.held) _ _ c.in-Some.stop _ _ served
 
 pub loop-preserved-in-Err : goal.loop-preserved-in-Err
 unfolding stands_kept
@@ -119,7 +109,7 @@ returns-in-Some-clause-stops g c stream before readable writable =
     let s = c.loop.invariant.stands stream before readable writable in
     let now = stands_kept g.D.Desk.gives g.D.Desk.Sets g.D.Desk.Steps c.args.policy.now (g.O.Outlet.contents c.loop.outlet) (g.O.Outlet.contents c.hand_on.new.self) c.hand_on.ensures.kept _ (point (g.D.Desk.state c.loop.desk) c.loop.held) s.1 before s.4 in
     let more = subst (λ (r : Result ℕ Error). TakesMore now.rest s.0 r c.read_more.new.buffer (g.R.Read.remaining c.read_more.new.reader)) c.in-Ok.is (c.read_more.ensures now.rest s.0 s.6 s.5 s.2) in
-    let served = subst (λ (o : Option Stop). ServesLines g.D.Desk.gives g.D.Desk.Sets g.D.Desk.Steps c.args.policy.now (point (g.D.Desk.state c.loop.desk) c.loop.held) (now.rest ++ more.0) (before ++ answers_of now.turns) o
+    let served = subst (λ (o : Option Stop). ServesLines g.D.Desk.gives g.D.Desk.Sets g.D.Desk.Steps c.args.policy.now g.O.Outlet.HoldsBack (point (g.D.Desk.state c.loop.desk) c.loop.held) (now.rest ++ more.0) (before ++ answers_of now.turns) o
     c.serve_lines.new.buffer (point (g.D.Desk.state c.serve_lines.new.desk) c.serve_lines.new.held) (g.O.Outlet.contents c.serve_lines.new.outlet))
     c.in-Some.is (c.serve_lines.ensures.served (now.rest ++ more.0) (before ++ answers_of now.turns) more.4 now.wrote) in
     stopped g.D.Desk.gives g.D.Desk.Sets g.D.Desk.Steps c.args.policy.now _ (point (g.D.Desk.state c.loop.desk) c.loop.held) stream s.1 before s.0 _ now s.3 more.0 more.1 more.2 g.O.Outlet.HoldsBack c.in-Some.stop _ _ _ _ served

@@ -10,7 +10,7 @@ returns-then-line-room-2-clause-sent g c before known =
 
 pub returns-then-line-room-2-clause-becomes : goal.returns-then-line-room-2-clause-becomes
 returns-then-line-room-2-clause-becomes g c =
-    (c.empty.ensures.same_reference, grows_on _ _ _ c.empty.ensures.grows (sends_grow c.send_at_once.result _ _ _ c.send_at_once.ensures))
+    (c.empty.ensures.same_reference, grows_on _ _ _ c.empty.ensures.grows (sends_grow c.send_at_once.result _ _ _ c.send_at_once.ensures), c.empty.ensures.hands_on)
 
 pub unwrap-requires : goal.unwrap-requires
 unwrap-requires g c =
