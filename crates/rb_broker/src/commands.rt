@@ -61,9 +61,9 @@ pub fn replay(rt: &HostRuntime, options: &ReplayOptions, file: &str) -> Result<u
 
 /// Serves clients at a port of 127.0.0.1, writes the history of the run, and prints what it came to.
 ///
-/// The file `from` is read before anything else, and the file `history` is created before the port is
-/// listened at, so both may be the same. That it is, standard output says by a line. Where the run gives no
-/// history the file stays empty.
+/// The file `from` is read before anything else, and the file `history` is created once the port is
+/// listened at, so both may be the same, and a port that can't be had leaves them as they are. That the port
+/// is listened at, standard output says by a line. Where the run gives no history the file stays empty.
 ///
 /// The workers are started and wait by `handle`.
 pub fn serve<R: Threads + Wait + time::Clock + Sync>(
@@ -74,11 +74,12 @@ pub fn serve<R: Threads + Wait + time::Clock + Sync>(
     from: Option<&str>,
 ) -> Result<(), BrokerFault> {
     let opening = opening_behind(rt, from)?;
-    let mut device = device_for(rt, history)?;
     let address = SocketAddr::V4(SocketAddrV4::new(Ipv4Addr::LOCALHOST, options.port));
     let Ok(listener) = TcpListener::bind(rt, address) else {
         return Err(BrokerFault::Listen);
     };
+    // A port that is taken must not cost the history of an earlier run.
+    let mut device = device_for(rt, history)?;
     print_listening(rt.alloc(), &mut rt.stdout(), options.port)?;
     let door = TcpDoor::new(listener, options.sessions, options.turns);
     let run = &options.run;
