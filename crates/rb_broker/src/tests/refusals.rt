@@ -233,7 +233,7 @@ fn refused_reading(rt: &impl Abort, alloc: Global) -> bool {
 const LINES: &[u8] = b"OFFER 0 a\nQUIT\n";
 
 // What the visitors were sent: how many an id, 0 or 1, how many a refusal, and how many nothing.
-#[derive(Clone, Copy, Debug, PartialEq, Eq)]
+#[derive(Clone, Copy)]
 struct Sent {
     first: u64,
     second: u64,
