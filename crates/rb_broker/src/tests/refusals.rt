@@ -233,7 +233,7 @@ fn refused_reading(rt: &impl Abort, alloc: Global) -> bool {
 const LINES: &[u8] = b"OFFER 0 a\nQUIT\n";
 
 // What the visitors were sent: how many an id, 0 or 1, how many a refusal, and how many nothing.
-#[derive(Clone, Copy, Debug, PartialEq, Eq)]
+#[derive(Clone, Copy)]
 struct Sent {
     first: u64,
     second: u64,
@@ -284,12 +284,8 @@ fn served_lines<R: Threads + Wait + time::Clock + Abort + Sync>(
         planned(at_once(LINES), &first, &turns),
         planned(at_once(LINES), &second, &turns),
     ];
-    let visits = if workers == 1 {
-        &plans[..1]
-    } else {
-        plans.as_slice()
-    };
-    let outcome = served_plans(rt, alloc, visits, workers);
+    let visitors = if workers == 1 { 1 } else { 2 };
+    let outcome = served_plans(rt, alloc, &plans[..visitors], workers);
     let mut sent = NOBODY;
     sent.note(first.lock(rt).text.as_slice());
     if workers == 2 {
