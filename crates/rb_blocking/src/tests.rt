@@ -4,6 +4,7 @@ mod gates;
 mod machine;
 mod refusals;
 mod rows;
+mod takers;
 mod threads;
 
 ghost use Rattle.std.specs.Prelude.{◌≡◌, ◌≤◌, IfOk};
