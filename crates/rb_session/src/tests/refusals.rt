@@ -64,12 +64,7 @@ fn refused_offer(rt: &impl Abort, alloc: Global) -> Result<u32, Fail> {
 }
 
 // Appends a number below 1,000 with what stands round it.
-fn push_line(
-    text: &mut Vec<u8>,
-    front: &[u8],
-    number: u64,
-    back: &[u8],
-) -> Result<(), AllocError> {
+fn push_line(text: &mut Vec<u8>, front: &[u8], number: u64, back: &[u8]) -> Result<(), AllocError> {
     text.extend_from_slice(front)?;
     if number >= 100 {
         text.push(b'0' + (number / 100 % 10) as u8)?;
@@ -196,6 +191,9 @@ fn a_refused_allocation_refuses_one_request(rt: HostRuntime) -> Result<(), Fail>
     let offers = refused_offer(&rt, alloc)?;
     let failures = refused_failures(&rt, alloc)?;
     let endings = refused_endings(&rt, alloc)?;
-    assert_eq!(rt; offers.saturating_add(failures).saturating_add(endings), REFUSALS);
+    assert_eq!(rt;
+        offers.saturating_add(failures).saturating_add(endings),
+        REFUSALS
+    );
     Ok(())
 }
