@@ -23,4 +23,5 @@ pub use error_word::ErrorWord;
 pub use format::{LINE_FEED, SPACE};
 pub use line_fault::LineFault;
 pub use line_reply::{LineReply, MOST_REPLY_BYTES, REPLY_ROOM, write_reply};
+pub use number::read_number;
 pub use request::{MOST_LINE_BYTES, Request, one_reading, read_request, request_has_text};

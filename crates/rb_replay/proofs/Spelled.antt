@@ -1,7 +1,6 @@
 -- Words that are numbers.
-use Rattle.std.proofs.Common.{◌≡◌, ℕ, ◌<◌, ◌^◌, List, [], ◌∷◌, ◌++◌, length, codes, true, arith, Option, Some, None, Result, Ok, decimal, sym, ap, subst, ◌∙◌}
-use Rattle.std.proofs.lemmas.Fmt.{parse-decimal, IsAscii-decimal, decimal_injective}
-use Rattle.std.proofs.lemmas.Str.{IsUtf8-from_ascii}
+use Rattle.std.proofs.Common.{◌≡◌, ℕ, ◌<◌, ◌^◌, List, [], ◌∷◌, ◌++◌, length, codes, true, arith, Option, Some, None, decimal, sym, ap, ◌∙◌}
+use Rattle.std.proofs.lemmas.Fmt.{decimal_injective}
 use Rattle.std.specs.Prelude.{is_some}
 use denote.Ref.{Bor}
 use Rattle.rb_protocol.specs.Words.{words_behind}
@@ -9,16 +8,6 @@ use Rattle.rb_protocol.proofs.Cuts.{words_behind_some}
 use Rattle.rb_replay.specs.EventText.{given_words, first_words}
 use Rattle.rb_replay.specs.declared.version.Version.{Version}
 use Rattle.rb_replay.specs.declared.version.Version.TheVariants.{One, Two, Three}
-use Rattle.std.specs.Str.{IsUtf8}
-use Rattle.std.specs.Str.Parse.{ParsesUnsigned}
-
--- a number's digits are text
-pub digits_are_text : (word : List ℕ) (number : ℕ) → number < 2 ^ 64 → word ≡ decimal number → IsUtf8 word
-digits_are_text word number small is = subst IsUtf8 (sym is) (IsUtf8-from_ascii (decimal number) (IsAscii-decimal number small))
-
--- and are read as the number
-pub digits_are_read : {E : Type 0} (word : List ℕ) (number : ℕ) (r : Result ℕ E) → number < 2 ^ 64 → word ≡ decimal number → ParsesUnsigned 64 10 word r → r ≡ Ok number
-digits_are_read word number r small is parses = parse-decimal 64 number word r small small is parses
 
 -- words with others behind the first are not one word
 pub not_alone : (words : List (List ℕ)) (word other : List ℕ) (rest : Option (Bor (List ℕ))) → is_some rest ≡ true

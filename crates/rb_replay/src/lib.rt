@@ -19,7 +19,6 @@ mod legality;
 mod linkage;
 mod next_line;
 mod next_opening;
-mod number;
 mod opening_fault;
 mod read;
 mod read_act;

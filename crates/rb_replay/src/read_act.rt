@@ -3,9 +3,9 @@ ghost use Rattle.rb_protocol.specs.Words.{words_behind};
 ghost use Rattle.rb_replay.specs.LineReading.{ReadsAct};
 ghost use Rattle.rb_replay.specs.Ranges.{AreWords};
 
-use crate::number::read_number;
 use crate::version::Version;
 use crate::words::{last_element, last_given, last_number, next_word, take_number};
+use rb_protocol::read_number;
 use rb_queue::{Act, Ids};
 use std::alloc::{AllocError, Global};
 

@@ -7,10 +7,9 @@ ghost use Rattle.rb_delayed.specs.Payload.{IsPayload};
 ghost use Rattle.rb_delayed.specs.declared.element.TheConstants.{GREATEST_ATTEMPT};
 ghost use Rattle.rb_delayed.specs.declared.element.Element.{Element};
 
-use crate::number::read_number;
 use crate::version::Version;
 use rb_delayed::{Element, GREATEST_ATTEMPT, Payload};
-use rb_protocol::SPACE;
+use rb_protocol::{SPACE, read_number};
 
 /// Takes the first of the words that are left of a line. `None` stands for no word.
 pub(crate) fn next_word(words: Option<&[u8]>) -> Option<(&[u8], Option<&[u8]>)>

@@ -8,7 +8,7 @@ pub returns-in_default-read_number : goal.returns-in_default-read_number
 returns-in_default-read_number c = λ ids all is.
     let found = ids_stop c.loop-word.ids.items _ _ ids
     (ap (λ t. map decimal c.loop-word.ids.items ++ t) (sym c.in-Some.ensures.some) ∙ sym c.loop-word.invariant.words ∙ is) all in
-    c.in_default-read_number.ensures.none found.0 found.1 found.2
+    c.in_default-read_number.ensures.none found.0 (found.2, found.1)
 
 -- one number more
 words_push : (ids : List ℕ) (id : ℕ) → AreWords ids → IsWord id → AreWords (ids ++ id ∷ [])
@@ -25,6 +25,6 @@ word_more words rest behind word ids id so_far cut is =
 pub loop-word-preserved : goal.loop-word-preserved
 loop-word-preserved c = record {
   words = rw c.in_ok-push.ensures.items
-      (word_more _ _ _ _ c.loop-word.ids.items c.in-Some-read_number.id c.loop-word.invariant.words c.in-Some.ensures.some c.in-Some-read_number.ensures.some);
-  right = rw c.in_ok-push.ensures.items (words_push c.loop-word.ids.items c.in-Some-read_number.id c.loop-word.invariant.right (omega arith));
+      (word_more _ _ _ _ c.loop-word.ids.items c.in-Some-read_number.id c.loop-word.invariant.words c.in-Some.ensures.some c.in-Some-read_number.ensures.some.0);
+  right = rw c.in_ok-push.ensures.items (words_push c.loop-word.ids.items c.in-Some-read_number.id c.loop-word.invariant.right c.in-Some-read_number.ensures.some.1);
 }
