@@ -131,17 +131,18 @@ fn the_most_calls_find_ample_memory(rt: HostRuntime) {
     }
 }
 
-// Which of equals comes first is open to clients. Here it tells which timer is used. The list gives the
-// least slot. The heap puts its last entry in the place of the one that it gives. The pairing heap joins
-// the last two that it got, and then their tree with the one before. The wheel gives the one it got last.
+// Which of equals comes first is open to clients. Here it tells which timer is used. The last element
+// has the slot of the first, which is removed. The list gives the least slot, so the last comes first.
+// The heap puts its last entry in the place of the one that it gives. The pairing heap hangs equals
+// under one another as they come, and gives them so. The wheel gives the one it got last.
 #[test]
 fn the_named_timer_is_used(rt: HostRuntime) {
-    let script = b"OFFER 0 a\nOFFER 0 b\nOFFER 0 c\nOFFER 0 d\nPOLL\nPOLL\nPOLL\nPOLL\n";
-    let offered = b"OFFERED 0 0\nOFFERED 1 0\nOFFERED 2 0\nOFFERED 3 0\n";
-    let by_list = b"ITEM 0 0 1 a\nITEM 1 0 1 b\nITEM 2 0 1 c\nITEM 3 0 1 d\n";
-    let by_heap = b"ITEM 0 0 1 a\nITEM 3 0 1 d\nITEM 2 0 1 c\nITEM 1 0 1 b\n";
-    let by_pairing = b"ITEM 0 0 1 a\nITEM 3 0 1 d\nITEM 1 0 1 b\nITEM 2 0 1 c\n";
-    let by_wheel = b"ITEM 3 0 1 d\nITEM 2 0 1 c\nITEM 1 0 1 b\nITEM 0 0 1 a\n";
+    let script = b"OFFER 0 a\nOFFER 0 b\nOFFER 0 c\nOFFER 0 d\nREMOVE 0\nOFFER 0 e\nPOLL\nPOLL\nPOLL\nPOLL\n";
+    let offered = b"OFFERED 0 0\nOFFERED 1 0\nOFFERED 2 0\nOFFERED 3 0\nREMOVED yes\nOFFERED 4 0\n";
+    let by_list = b"ITEM 4 0 1 e\nITEM 1 0 1 b\nITEM 2 0 1 c\nITEM 3 0 1 d\n";
+    let by_heap = b"ITEM 3 0 1 d\nITEM 4 0 1 e\nITEM 2 0 1 c\nITEM 1 0 1 b\n";
+    let by_pairing = b"ITEM 1 0 1 b\nITEM 2 0 1 c\nITEM 3 0 1 d\nITEM 4 0 1 e\n";
+    let by_wheel = b"ITEM 4 0 1 e\nITEM 3 0 1 d\nITEM 2 0 1 c\nITEM 1 0 1 b\n";
     for (timer, items) in [
         (TimerKind::List, by_list),
         (TimerKind::Heap, by_heap),
@@ -152,7 +153,7 @@ fn the_named_timer_is_used(rt: HostRuntime) {
             .ok()
             .expect(&rt, "memory");
         replies.extend_from_slice(items).ok().expect(&rt, "memory");
-        let options = options(&rt, timer, 12, DEFAULT);
+        let options = options(&rt, timer, 14, DEFAULT);
         expect_replies(&rt, rt.alloc(), options, script, &replies, AT_END);
     }
 }

@@ -1,12 +1,15 @@
--- The nodes once an entry is written at a free slot, before it is made one with the tree.
-use Rattle.std.proofs.Common.{◌≡◌, ℕ, ◌<◌, ◌≢◌, List, length, Option, Some, None, is_some, sym, ap, ◌∙◌, ⊎_elim}
+-- The nodes once an entry is written at a free slot, before it is hung into the tree.
+use Rattle.std.proofs.Common.{◌≡◌, ℕ, ◌<◌, ◌≤◌, ◌≢◌, List, length, Option, Some, None, IsSome, is_some, refl, sym, ap, ◌∙◌, ⊎_elim}
 use Rattle.std.proofs.Math.Logic.{∥∥₁_elim, ∥∥₁_map}
 use Rattle.std.proofs.Props.{props}
 use Rattle.std.proofs.lemmas.Bool.{cases_eq}
 use Rattle.rb_pairing.specs.declared.node.Node.{Node}
-use Rattle.rb_pairing.specs.Nodes.{expiry_of, previous_of}
+use Rattle.rb_pairing.specs.Nodes.{expiry_of, previous_of, moment_of}
 use Rattle.rb_pairing.specs.Forest.{HasNoLinks, LieAsTrees, IsTop, IsTree}
-use Rattle.rb_pairing.proofs.Entries.{written, expiry_here, expiry_elsewhere, same_previous, written_forest}
+use Rattle.rb_pairing.specs.Changes.{Adopts}
+use Rattle.rb_pairing.proofs.Contents.{melded_tree}
+use Rattle.rb_pairing.proofs.Entries.{written, expiry_here, expiry_elsewhere, same_child, same_next, same_previous, written_forest}
+use Rattle.rb_pairing.proofs.Leaves.{melds_leaf}
 
 module _ (nodes : List Node) (slot expiry : ℕ) (root : Option ℕ) (tree : IsTree nodes root)
     (within : slot < length nodes) (absent : expiry_of nodes slot ≡ None) where
@@ -59,3 +62,26 @@ module _ (nodes : List Node) (slot expiry : ℕ) (root : Option ℕ) (tree : IsT
         alone = sym (same_previous nodes slot (Some expiry) within other) ∙ top.alone;
       }))))
       (cases_eq other slot)
+
+  added_free : HasNoLinks added slot
+  added_free = record {
+    child = same_child nodes slot (Some expiry) within slot ∙ free.child;
+    next = same_next nodes slot (Some expiry) within slot ∙ free.next;
+    previous = same_previous nodes slot (Some expiry) within slot ∙ free.previous;
+  }
+
+  module _ (above : ℕ) (entry : IsSome (expiry_of nodes above)) where
+    above_apart : above ≢ slot
+    above_apart same = let none = ap is_some (ap (expiry_of nodes) same ∙ absent) in cc
+
+    pub above_present : IsSome (expiry_of added above)
+    above_present = ap is_some (expiry_elsewhere nodes slot (Some expiry) within above above_apart) ∙ entry
+
+    -- under another entry it is one of the tree, whose root stays
+    pub hung_tree : (new : List Node) → moment_of added above ≤ moment_of added slot
+        → Adopts added new above slot → IsTree new root
+    hung_tree new ordered adopts =
+        melded_tree added new root (Some slot) root
+        (melds_leaf added new above slot added_linked above_present (slot_top slot refl).present added_free above_apart
+        ordered adopts root root_top root_apart)
+        none_else

@@ -1,5 +1,5 @@
 -- The content of the timer, read from its nodes.
-use Rattle.std.proofs.Common.{◌≡◌, ℕ, ◌+◌, ◌<◌, ◌≤◌, ◌≢◌, List, length, get_or, set, Option, Some, None, IsSome, IfSome, is_some, refl, sym, ap, ◌∙◌, subst, arith, ⊎_elim}
+use Rattle.std.proofs.Common.{◌≡◌, ℕ, ◌+◌, ◌<◌, ◌≤◌, ◌≢◌, List, length, get_or, set, Option, Some, None, IsSome, IfSome, is_some, refl, sym, ap, ◌∙◌, subst, arith, ⊎_elim, get_or-set_same, get_or-set_other}
 use Rattle.std.specs.Option.{unwrap_or}
 use Rattle.std.proofs.Math.Logic.{∥∥₁_elim}
 use Rattle.std.proofs.Props.{props}
@@ -54,6 +54,11 @@ module _ (nodes new : List Node) (slot : ℕ) where
     pub content-added : content_of (expiries new) ≡ map.insert (content_of (expiries nodes)) slot expiry
     content-added = ap content_of row ∙ content_of-insert (expiries nodes) slot expiry row_within
 
+    pub expiry_added : expiry_of new slot ≡ Some expiry
+    expiry_added =
+        sym (get_or-expiries new slot) ∙ ap (λ row. get_or row slot None) row
+        ∙ get_or-set_same (expiries nodes) slot (Some expiry) None row_within
+
     pub count-added : expiry_of nodes slot ≡ None
         → count_by is_some (expiries new) ≡ count_by is_some (expiries nodes) + 1
     count-added free =
@@ -69,6 +74,12 @@ module _ (nodes new : List Node) (slot : ℕ) where
 
     pub content-removed : content_of (expiries new) ≡ map.remove (content_of (expiries nodes)) slot
     content-removed = ap content_of row ∙ content_of-remove (expiries nodes) slot present_within
+
+    -- another entry stays
+    pub expiry_kept : (other : ℕ) → other ≢ slot → expiry_of new other ≡ expiry_of nodes other
+    expiry_kept other off =
+        sym (get_or-expiries new other) ∙ ap (λ row. get_or row other None) row
+        ∙ get_or-set_other (expiries nodes) slot other None None off ∙ get_or-expiries nodes other
 
     pub count-removed : count_by is_some (expiries new) + 1 ≡ count_by is_some (expiries nodes)
     count-removed =

@@ -4,12 +4,14 @@ pub mod Expiries
 pub mod InRoom
 pub mod Steps
 pub mod CutTrees
+pub mod ReplacedTrees
 pub mod Ranks
 pub mod AdoptedTrees
 pub mod Neighbours
 pub mod Rows
 pub mod Children
 pub mod Roots
+pub mod Leaves
 pub mod Ancestors
 pub mod Entries
 pub mod Contents

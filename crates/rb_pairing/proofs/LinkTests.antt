@@ -1,7 +1,5 @@
 -- Whether a link is to a slot.
-use Rattle.std.proofs.Common.{◌≡◌, ℕ, ◌≢◌, ◌⊎◌, Bool, true, false, not, eqb, Option, Some, None, MatchOption, is_some, refl, sym, ◌∙◌, ap, inl, inr, ⊎_elim}
-use Rattle.rb_pairing.specs.Changes.{IsRest}
-use Rattle.std.specs.Bool.{then_some}
+use Rattle.std.proofs.Common.{◌≡◌, ℕ, ◌≢◌, ◌⊎◌, true, false, eqb, Option, Some, None, is_some, refl, ap, inl, inr, ⊎_elim}
 use Rattle.std.specs.Option.{option_eq}
 use Rattle.std.proofs.lemmas.Bool.{cases_eq, eqb-true, eq-eqb}
 
@@ -32,26 +30,3 @@ is_some-unless (Some other) not_none = refl
 pub none_as : (link other : Option ℕ) → is_some link ≡ is_some other → other ≡ None → link ≡ None
 none_as None other same none = refl
 none_as (Some slot) other same none = let also = ap is_some none in absurd (cc)
-
--- a link that is dropped where it is to the slot
-rest_by : (top : ℕ) (rest : Option ℕ) (slot : ℕ) (same : Bool) → eqb top slot ≡ same
-    → rest ≡ then_some (not same) top → IsRest (Some top) rest slot
-rest_by top rest slot true tested is = record {
-  was = λ other also. absurd (cc);
-  apart = λ other also. absurd (cc);
-  dropped = λ other also gone. let one : other ≡ top = cc in one ∙ eqb-true top slot tested;
-}
-rest_by top rest slot false tested is = record {
-  was = λ other also. sym is ∙ also;
-  apart = λ other also same. let one : top ≡ slot = cc in let found = eq-eqb top slot one in cc;
-  dropped = λ other also gone. absurd (gone (is ∙ also));
-}
-
-pub rest_from : (root rest : Option ℕ) (slot : ℕ)
-    → MatchOption root (rest ≡ None) (λ top. rest ≡ then_some (not (eqb top slot)) top) → IsRest root rest slot
-rest_from None rest slot none = record {
-  was = λ other also. absurd (cc);
-  apart = λ other also. absurd (cc);
-  dropped = λ other also gone. absurd (cc);
-}
-rest_from (Some top) rest slot filtered = rest_by top rest slot (eqb top slot) refl filtered

@@ -10,7 +10,7 @@ use Rattle.std.proofs.lemmas.List.Sums.{sum_by-cons, sum_by-append}
 use Rattle.rb_timer.specs.Slots.{content_of, content_empty, same_content}
 use Rattle.rb_pairing.specs.declared.node.Node.{Node}
 use Rattle.rb_pairing.specs.Nodes.{vacant, node_at, expiry_of, child_of, next_of, previous_of, expiries, moment_of}
-use Rattle.rb_pairing.specs.Forest.{IsForest, IsTree}
+use Rattle.rb_pairing.specs.Forest.{IsForest, IsTree, IsEntry}
 use Rattle.rb_pairing.proofs.Expiries.{get_or-expiries}
 use Rattle.rb_pairing.proofs.InRoom.{in_room-previous, previous_in_room}
 
@@ -189,6 +189,13 @@ pub resized_tree : (nodes new : List Node) (more : ℕ) (given : Bool) (root : O
 resized_tree nodes new more true root is tree =
     subst (λ row. IsTree row root) (sym is) (more_tree nodes more root tree)
 resized_tree nodes new more false root is tree = subst (λ row. IsTree row root) (sym is) tree
+
+pub resized_entry : (nodes new : List Node) (more : ℕ) (given : Bool) (at : Option ℕ)
+    → new ≡ cond given (nodes ++ replicate more vacant) nodes → IsEntry nodes at → IsEntry new at
+resized_entry nodes new more true at is entry =
+    λ slot found. ap (λ row. is_some (expiry_of row slot)) is
+    ∙ ap (λ (node : Node). is_some node.expiry) (node_at-more nodes more slot) ∙ entry slot found
+resized_entry nodes new more false at is entry = subst (λ row. IsEntry row at) (sym is) entry
 
 pub resized_count : (nodes new : List Node) (more : ℕ) (given : Bool)
     → new ≡ cond given (nodes ++ replicate more vacant) nodes

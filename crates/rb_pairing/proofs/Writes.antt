@@ -1,11 +1,11 @@
 -- The nodes after one of them is written.
-use Rattle.std.proofs.Common.{◌≡◌, ℕ, ◌<◌, ◌≢◌, List, ◌++◌, take, drop, length, set, get_or, Option, Some, refl, sym, ap, ◌∙◌, subst, ⊎_elim, get_or-set_same, get_or-set_other}
+use Rattle.std.proofs.Common.{◌≡◌, ℕ, ◌<◌, ◌≢◌, List, ◌++◌, take, drop, length, set, get_or, Option, Some, None, refl, sym, ap, ◌∙◌, subst, ⊎_elim, get_or-set_same, get_or-set_other}
 use Rattle.std.proofs.Math.Seq.{map-set_same}
 use Rattle.std.proofs.lemmas.Bool.{cases_eq}
 use Rattle.std.proofs.lemmas.List.{take_at, get_or_default}
 use Rattle.rb_pairing.specs.declared.node.Node.{Node}
 use Rattle.rb_pairing.specs.Nodes.{vacant, node_at, expiry_of, child_of, next_of, expiries}
-use Rattle.rb_pairing.specs.Changes.{SetsPrevious, SetsLink, SetsPlace, SetsChild}
+use Rattle.rb_pairing.specs.Changes.{SetsPrevious, SetsLink, SetsPlace, SetsChild, ClearsLinks}
 
 -- what holds at a slot and at each other one holds at each
 pub each_slot : (P : ℕ → Type 0) (slot : ℕ) → P slot → ((other : ℕ) → other ≢ slot → P other)
@@ -89,6 +89,22 @@ module _ (nodes : List Node) (slot : ℕ) (within : slot < length nodes) where
         previous = ap (λ (n : Node). n.previous) (here nodes slot node within);
         previous_elsewhere =
             λ other off. ap (λ (n : Node). n.previous) (elsewhere nodes slot node within other off);
+      }
+
+  pub clears_links :
+      ClearsLinks nodes (set nodes slot (record old { child = None; next = None; previous = None })) slot
+  clears_links =
+      let node : Node = record old { child = None; next = None; previous = None } in
+      record {
+        expiries = same_expiries nodes slot node within refl;
+        none = record {
+          child = ap (λ (n : Node). n.child) (here nodes slot node within);
+          next = ap (λ (n : Node). n.next) (here nodes slot node within);
+          previous = ap (λ (n : Node). n.previous) (here nodes slot node within);
+        };
+        child = λ other off. ap (λ (n : Node). n.child) (elsewhere nodes slot node within other off);
+        next = λ other off. ap (λ (n : Node). n.next) (elsewhere nodes slot node within other off);
+        previous = λ other off. ap (λ (n : Node). n.previous) (elsewhere nodes slot node within other off);
       }
 
   module _ (at : Option ℕ) (from : ℕ) (to : Option ℕ) (is : at ≡ Some slot) where

@@ -1,8 +1,8 @@
 -- What the steps of a pairing heap change in the nodes.
-use Rattle.std.specs.Prelude.{◌≡◌, ℕ, ◌≤◌, ◌≢◌, ◌⊎◌, List, Option, Some, None, is_some, true}
+use Rattle.std.specs.Prelude.{◌≡◌, ℕ, ◌≤◌, ◌≢◌, ◌⊎◌, List, Option, Some, None, IsSome, is_some, true}
 use Rattle.rb_pairing.specs.declared.node.Node.{Node}
-use Rattle.rb_pairing.specs.Nodes.{child_of, next_of, previous_of, expiries, moment_of}
-use Rattle.rb_pairing.specs.Forest.{LieAsTrees, IsTop}
+use Rattle.rb_pairing.specs.Nodes.{expiry_of, child_of, next_of, previous_of, expiries, moment_of}
+use Rattle.rb_pairing.specs.Forest.{HasNoLinks, LieAsTrees, IsTop}
 
 -- what is before the slot, if there is one, is set
 pub record SetsPrevious (old new : List Node) (slot previous : Option ℕ) : Type 0 where
@@ -42,6 +42,14 @@ pub record SetsChild (old new : List Node) (slot child : ℕ) : Type 0 where
   pub here : child_of new slot ≡ Some child
   pub elsewhere : (other : ℕ) → other ≢ slot → child_of new other ≡ child_of old other
 
+-- the slot links to no other
+pub record ClearsLinks (old new : List Node) (slot : ℕ) : Type 0 where
+  pub expiries : expiries new ≡ expiries old
+  pub none : HasNoLinks new slot
+  pub child : (other : ℕ) → other ≢ slot → child_of new other ≡ child_of old other
+  pub next : (other : ℕ) → other ≢ slot → next_of new other ≡ next_of old other
+  pub previous : (other : ℕ) → other ≢ slot → previous_of new other ≡ previous_of old other
+
 -- the slot is taken out of its row: what linked to it links to what was beyond it
 pub record Cuts (old new : List Node) (slot : ℕ) : Type 0 where
   pub expiries : expiries new ≡ expiries old
@@ -56,6 +64,22 @@ pub record Cuts (old new : List Node) (slot : ℕ) : Type 0 where
   pub previous : (other : ℕ) → next_of old slot ≡ Some other
       → previous_of new other ≡ previous_of old slot
   pub previous_stays : (other : ℕ) → other ≢ slot → next_of old slot ≢ Some other
+      → previous_of new other ≡ previous_of old other
+
+-- the slot leaves its place to `by`, the only one under it: what linked to the slot links to that
+pub record Replaces (old new : List Node) (slot by : ℕ) : Type 0 where
+  pub expiries : expiries new ≡ expiries old
+  pub none : HasNoLinks new slot
+  pub child : (other : ℕ) → child_of old other ≡ Some slot → child_of new other ≡ Some by
+  pub child_stays : (other : ℕ) → other ≢ slot → child_of old other ≢ Some slot
+      → child_of new other ≡ child_of old other
+  pub next_own : next_of new by ≡ next_of old slot
+  pub next : (other : ℕ) → next_of old other ≡ Some slot → next_of new other ≡ Some by
+  pub next_stays : (other : ℕ) → other ≢ slot → other ≢ by → next_of old other ≢ Some slot
+      → next_of new other ≡ next_of old other
+  pub previous_own : previous_of new by ≡ previous_of old slot
+  pub previous : (other : ℕ) → next_of old slot ≡ Some other → previous_of new other ≡ Some by
+  pub previous_stays : (other : ℕ) → other ≢ slot → other ≢ by → next_of old slot ≢ Some other
       → previous_of new other ≡ previous_of old other
 
 -- the slot is put first into the row under `parent`
@@ -82,28 +106,31 @@ abbrev pub Joins : List Node → List Node → ℕ → ℕ → ℕ → Type 0
 Joins old new left right stays =
     ((stays ≡ left) × Moves old new left right) ⊎ ((stays ≡ right) × Moves old new right left)
 
--- the root, unless that is the slot
-pub record IsRest (root rest : Option ℕ) (slot : ℕ) : Type 0 where
-  pub was : (other : ℕ) → rest ≡ Some other → root ≡ Some other
-  pub apart : (other : ℕ) → rest ≡ Some other → other ≢ slot
-  pub dropped : (other : ℕ) → root ≡ Some other → rest ≢ Some other → other ≡ slot
-
 -- the trees are linked otherwise, of the same entries and with the same ones in no row
 pub record Relinks (old new : List Node) : Type 0 where
   pub linked : LieAsTrees new
   pub expiries : expiries new ≡ expiries old
   pub tops : (slot : ℕ) → is_some (previous_of new slot) ≡ is_some (previous_of old slot)
 
--- the entries under `parent` hang under one of them, which is in no row, or there are none
-pub record TakesChildren (old new : List Node) (parent : ℕ) (taken : Option ℕ) : Type 0 where
+-- the entries under `parent` are joined into one, if there are any
+pub record JoinsChildren (old new : List Node) (parent : ℕ) (left : Option ℕ) : Type 0 where
+  pub relinks : Relinks old new
+  pub child : child_of new parent ≡ left
+  pub only : (slot : ℕ) → left ≡ Some slot → next_of new slot ≡ None
+
+-- the slot is taken out of its tree: those that were under it hang under one of them, the heir,
+-- which is in a row just where the slot was in one
+pub record Unlinks (old new : List Node) (slot : ℕ) (heir : Option ℕ) : Type 0 where
   pub linked : LieAsTrees new
   pub expiries : expiries new ≡ expiries old
-  pub childless : child_of new parent ≡ None
-  pub other : taken ≢ Some parent
-  pub top : (slot : ℕ) → taken ≡ Some slot → IsTop new slot
-  pub was_in_row : (slot : ℕ) → taken ≡ Some slot → is_some (previous_of old slot) ≡ true
-  pub tops : (slot : ℕ) → taken ≢ Some slot
-      → is_some (previous_of new slot) ≡ is_some (previous_of old slot)
+  pub none : HasNoLinks new slot
+  pub apart : heir ≢ Some slot
+  pub present : (other : ℕ) → heir ≡ Some other → IsSome (expiry_of new other)
+  pub was_in_row : (other : ℕ) → heir ≡ Some other → is_some (previous_of old other) ≡ true
+  pub place : (other : ℕ) → heir ≡ Some other
+      → is_some (previous_of new other) ≡ is_some (previous_of old slot)
+  pub tops : (other : ℕ) → other ≢ slot → heir ≢ Some other
+      → is_some (previous_of new other) ≡ is_some (previous_of old other)
 
 -- of two entries in no row one is put under the other, which is left
 pub record Melds (old new : List Node) (one other left : Option ℕ) : Type 0 where

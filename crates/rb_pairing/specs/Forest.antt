@@ -61,3 +61,7 @@ pub record IsTree (nodes : List Node) (root : Option ℕ) : Type 0 where
   pub linked : LieAsTrees nodes
   pub top : (slot : ℕ) → root ≡ Some slot → IsTop nodes slot
   pub only : (slot : ℕ) → IsTop nodes slot → root ≡ Some slot
+
+-- the slot, if there is one, has an entry
+abbrev pub IsEntry : List Node → Option ℕ → Type 0
+IsEntry nodes at = (slot : ℕ) → at ≡ Some slot → IsSome (expiry_of nodes slot)

@@ -1,7 +1,8 @@
 //! A timer whose entries hang together as a pairing heap, linked by slot.
 //!
-//! An insert costs a constant, and taking an entry out a logarithm in the long run, whichever entry
-//! it is. No step recurses, however large the heap is.
+//! An insert touches a constant number of entries, and taking an entry out costs a logarithm in the
+//! long run, whichever entry it is. Where expiries rise from insert to insert both are a constant.
+//! No step recurses, however large the heap is.
 #![tactic(auto)]
 
 mod links;

@@ -1,14 +1,15 @@
 ghost use Rattle.std.specs.Prelude.{◌≡◌, ℕ, ◌<◌, ◌≢◌, ◌↔◌, Some, None, IsTrue, IsSome, IfSome, IfNone, length};
 ghost use Rattle.rb_pairing.specs.Nodes.{expiry_of, child_of, next_of, previous_of, moment_of};
 ghost use Rattle.rb_pairing.specs.Forest.{LieAsTrees, IsTop, IsInRow};
-ghost use Rattle.rb_pairing.specs.Changes.{Cuts, Adopts, Joins, Relinks, TakesChildren, Melds};
+ghost use Rattle.rb_pairing.specs.Changes.{Cuts, Replaces, Adopts, Joins, Relinks, JoinsChildren, Unlinks, Melds};
 
 use crate::node::{
-    Node, child_at, expiry_at, next_at, previous_at, set_child, set_link, set_place, set_previous,
+    Node, child_at, clear_links, expiry_at, next_at, previous_at, set_child, set_link, set_place,
+    set_previous,
 };
 
-/// Takes the entry, with all that hang under it, out of its row, if it is in one.
-pub(crate) fn cut(nodes: &mut [Node], slot: usize)
+// Takes the entry, with all that hang under it, out of its row, if it is in one.
+fn cut(nodes: &mut [Node], slot: usize)
     requires linked { LieAsTrees nodes.old }
     requires in_room { slot < length nodes.old }
     ensures { Cuts nodes.old nodes.new slot }
@@ -20,8 +21,23 @@ pub(crate) fn cut(nodes: &mut [Node], slot: usize)
     set_place(nodes, slot, None, None);
 }
 
-// Puts the entry, which is in no row, first into the row under `parent`.
-fn adopt(nodes: &mut [Node], parent: usize, slot: usize)
+// Puts the only entry under another into its place. The other is left with no links.
+fn replace(nodes: &mut [Node], slot: usize, by: usize)
+    requires linked { LieAsTrees nodes.old }
+    requires child { child_of nodes.old slot ≡ Some by }
+    requires only { next_of nodes.old by ≡ None }
+    ensures { Replaces nodes.old nodes.new slot by }
+{
+    let next = next_at(nodes, slot);
+    let previous = previous_at(nodes, slot);
+    set_previous(nodes, next, Some(by));
+    set_link(nodes, previous, slot, Some(by));
+    set_place(nodes, by, previous, next);
+    clear_links(nodes, slot);
+}
+
+/// Puts the entry, which is in no row, first into the row under `parent`.
+pub(crate) fn adopt(nodes: &mut [Node], parent: usize, slot: usize)
     requires linked { LieAsTrees nodes.old }
     requires in_room { slot < length nodes.old }
     requires present { IsSome (expiry_of nodes.old parent) }
@@ -34,8 +50,8 @@ fn adopt(nodes: &mut [Node], parent: usize, slot: usize)
     set_child(nodes, parent, slot);
 }
 
-// Whether the entry at `right` expires before the one at `left`.
-fn is_earlier(nodes: &[Node], right: usize, left: usize) -> bool
+/// Whether the entry at `right` expires before the one at `left`.
+pub(crate) fn is_earlier(nodes: &[Node], right: usize, left: usize) -> bool
     requires right { IsSome (expiry_of nodes.now right) }
     requires left { IsSome (expiry_of nodes.now left) }
     ensures { IsTrue result ↔ (moment_of nodes.now right < moment_of nodes.now left) }
@@ -104,16 +120,31 @@ fn join_back(nodes: &mut [Node], parent: usize, mut last: usize) -> usize
     last
 }
 
-/// Takes the entries from under `parent`, joined into one, which is in no row then.
-pub(crate) fn take_children(nodes: &mut [Node], parent: usize) -> Option<usize>
+// Joins the entries under `parent` into one, which it gives, if there are any.
+fn join_children(nodes: &mut [Node], parent: usize) -> Option<usize>
     requires linked { LieAsTrees nodes.old }
     requires in_room { parent < length nodes.old }
-    ensures { TakesChildren nodes.old nodes.new parent result }
+    ensures { JoinsChildren nodes.old nodes.new parent result }
 {
     let last = join_pairs(nodes, parent)?;
-    let child = join_back(nodes, parent, last);
-    cut(nodes, child);
-    Some(child)
+    Some(join_back(nodes, parent, last))
+}
+
+/// Takes an entry out of its tree. What those under it are joined into gets its place, and is
+/// given.
+///
+/// Nothing has to be compared for that place: what is above it expires no later than the entry did.
+pub(crate) fn unlink(nodes: &mut [Node], slot: usize) -> Option<usize>
+    requires linked { LieAsTrees nodes.old }
+    requires in_room { slot < length nodes.old }
+    ensures { Unlinks nodes.old nodes.new slot result }
+{
+    let Some(heir) = join_children(nodes, slot) else {
+        cut(nodes, slot);
+        return None;
+    };
+    replace(nodes, slot, heir);
+    Some(heir)
 }
 
 /// Hangs the later of two entries that are in no row under the other, which it gives.

@@ -1,7 +1,7 @@
 ghost use Rattle.std.specs.Prelude.{◌≡◌, ℕ, ◌<◌, Option, Some, None, IsSome, length};
 ghost use Rattle.rb_pairing.specs.Fields.{link};
 ghost use Rattle.rb_pairing.specs.Nodes.{expiry_of, child_of, next_of, previous_of, with_expiry};
-ghost use Rattle.rb_pairing.specs.Changes.{SetsPrevious, SetsLink, SetsPlace, SetsChild};
+ghost use Rattle.rb_pairing.specs.Changes.{SetsPrevious, SetsLink, SetsPlace, SetsChild, ClearsLinks};
 
 use std::marker::Model;
 
@@ -143,6 +143,15 @@ impl Node {
         self.set_previous(previous);
         self.set_next(next);
     }
+
+    // Takes every link from the entry.
+    fn clear_links(&mut self)
+        requires { IsSome self.old.expiry }
+        ensures { self.new ≡ record self.old { child = None; next = None; previous = None } }
+    {
+        self.set_child(None);
+        self.set_place(None, None);
+    }
 }
 
 /// The expiry of the slot's entry, in nanoseconds, if it has one.
@@ -227,6 +236,15 @@ pub(crate) fn set_child(nodes: &mut [Node], slot: usize, child: usize)
     ensures { SetsChild nodes.old nodes.new slot child }
 {
     nodes[slot].set_child(Some(child));
+}
+
+/// Takes every link from the entry. What links to it stays.
+pub(crate) fn clear_links(nodes: &mut [Node], slot: usize)
+    requires slot { slot < length nodes.old }
+    requires present { IsSome (expiry_of nodes.old slot) }
+    ensures { ClearsLinks nodes.old nodes.new slot }
+{
+    nodes[slot].clear_links();
 }
 
 /// Puts an entry at a slot that has no child.

@@ -1,23 +1,32 @@
 ghost use Rattle.std.specs.Prelude.{◌≡◌, count_by, is_some};
 ghost use Rattle.std.proofs.Props.{props};
 ghost use Rattle.rb_pairing.specs.Nodes.{expiries};
-ghost use Rattle.rb_pairing.specs.Forest.{IsTree};
+ghost use Rattle.rb_pairing.specs.Forest.{IsTree, IsEntry};
 
 use crate::node::Node;
-use crate::tree::{add, take_out};
+use crate::tree::{add, newest_but, take_out};
 use rb_timer::Timer;
 use std::alloc::{AllocError, Global};
 
 /// A pairing heap of the entries, by expiry, whose links are slots.
+///
+/// In the long run an insert costs no more than a logarithm, though no proof says so: a leaf below
+/// k entries raises the usual potential, the sum of the logarithms of the entries' sizes, by a sum
+/// of log(1 + 1/size) over k sizes that differ, which is at most log(k + 1).
 #[derive(Debug, Drop)]
 pub struct PairingTimer {
     // At each slot of the room its node.
     nodes: Vec<Node>,
     // The slot of the entry under which all others hang.
     root: Option<usize>,
+    // The slot of the newest entry or, once that is removed, of the one that was before it. An entry
+    // is put under this one, unless it expires earlier: so rising expiries make a chain, in which
+    // each has one child at most, and nothing has to be joined.
+    newest: Option<usize>,
     // How many entries there are.
     len: usize,
     ghost tree: { IsTree nodes.items root } by { Prim.hlevel props },
+    ghost newest_stands: { IsEntry nodes.items newest },
     ghost counted: { len ≡ count_by is_some (expiries nodes.items) },
 }
 
@@ -37,6 +46,7 @@ impl Timer for PairingTimer {
         PairingTimer {
             nodes: Vec::new(alloc),
             root: None,
+            newest: None,
             len: 0,
         }
     }
@@ -61,12 +71,14 @@ impl Timer for PairingTimer {
     }
 
     fn insert(&mut self, slot: usize, expiry: u64) {
-        self.root = add(&mut self.nodes, self.root, slot, expiry);
+        self.root = add(&mut self.nodes, self.root, self.newest, slot, expiry);
+        self.newest = Some(slot);
         self.len += 1;
     }
 
     fn remove(&mut self, slot: usize) -> u64 {
         let expiry = self.nodes[slot].expiry().unwrap();
+        self.newest = newest_but(&self.nodes, self.newest, slot);
         self.root = take_out(&mut self.nodes, self.root, slot);
         self.len -= 1;
         expiry
@@ -84,6 +96,7 @@ impl Timer for PairingTimer {
     fn clear(&mut self) {
         self.nodes.fill(Node::vacant());
         self.root = None;
+        self.newest = None;
         self.len = 0;
     }
 }

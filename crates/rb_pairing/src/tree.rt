@@ -1,33 +1,50 @@
-ghost use Rattle.std.specs.Prelude.{◌≡◌, ◌<◌, Some, None, IsSome, length, slice_set};
+ghost use Rattle.std.specs.Prelude.{◌≡◌, ◌<◌, ◌≢◌, Some, None, IsSome, length, slice_set};
 ghost use Rattle.rb_pairing.specs.Nodes.{expiry_of, expiries};
-ghost use Rattle.rb_pairing.specs.Forest.{IsTree};
-ghost use Rattle.rb_pairing.specs.Changes.{IsRest};
+ghost use Rattle.rb_pairing.specs.Forest.{LieAsTrees, IsTree, IsEntry};
 
-use crate::links::{cut, meld, take_children};
-use crate::node::{Node, occupy, vacate};
+use crate::links::{adopt, is_earlier, meld, unlink};
+use crate::node::{Node, occupy, previous_at, vacate};
 
 /// Adds an entry to the tree at a slot that has none, and gives the root then.
+///
+/// It is put under the newest entry, unless it expires earlier.
 pub(crate) fn add(
     nodes: &mut [Node],
     root: Option<usize>,
+    newest: Option<usize>,
     slot: usize,
     expiry: u64,
 ) -> Option<usize>
     requires tree { IsTree nodes.old root }
+    requires newest { IsEntry nodes.old newest }
     requires in_room { slot < length nodes.old }
     requires absent { expiry_of nodes.old slot ≡ None }
     ensures tree { IsTree nodes.new result }
     ensures expiries { expiries nodes.new ≡ slice_set (expiries nodes.old) slot (Some expiry) }
 {
     occupy(nodes, slot, expiry);
+    if let Some(above) = newest
+        && !is_earlier(nodes, slot, above)
+    {
+        adopt(nodes, above, slot);
+        return root;
+    }
     meld(nodes, root, Some(slot))
 }
 
-// The root, unless that is the slot.
-fn without(root: Option<usize>, slot: usize) -> Option<usize>
-    ensures { IsRest root result slot }
+/// The newest entry, or where that is the slot's the one before it, if there is one.
+pub(crate) fn newest_but(nodes: &[Node], newest: Option<usize>, slot: usize) -> Option<usize>
+    requires linked { LieAsTrees nodes.now }
+    requires newest { IsEntry nodes.now newest }
+    requires in_room { slot < length nodes.now }
+    ensures entry { IsEntry nodes.now result }
+    ensures apart { result ≢ Some slot }
 {
-    root.filter(|&root| root != slot)
+    if newest == Some(slot) {
+        previous_at(nodes, slot)
+    } else {
+        newest
+    }
 }
 
 /// Takes an entry out of the tree, and gives the root of the others.
@@ -38,9 +55,7 @@ pub(crate) fn take_out(nodes: &mut [Node], root: Option<usize>, slot: usize) -> 
     ensures tree { IsTree nodes.new result }
     ensures expiries { expiries nodes.new ≡ slice_set (expiries nodes.old) slot None }
 {
-    let below = take_children(nodes, slot);
-    cut(nodes, slot);
+    let heir = unlink(nodes, slot);
     vacate(nodes, slot);
-    let rest = without(root, slot);
-    meld(nodes, rest, below)
+    if root == Some(slot) { heir } else { root }
 }

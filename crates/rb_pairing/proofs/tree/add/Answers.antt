@@ -1,6 +1,7 @@
--- The slot with the new entry stands alone, and is made one with the tree.
-use Rattle.std.proofs.Common.{Some, ◌∙◌}
-use Rattle.rb_pairing.proofs.Additions.{free, added_linked, root_apart, root_top, slot_top, none_else}
+-- The slot with the new entry stands alone, and is hung under the newest or made one with the tree.
+use Rattle.std.proofs.Common.{◌≤◌, Some, refl, ◌∙◌, arith}
+use Rattle.rb_pairing.specs.Nodes.{moment_of}
+use Rattle.rb_pairing.proofs.Additions.{free, added_linked, root_apart, root_top, slot_top, none_else, above_present, hung_tree}
 use Rattle.rb_pairing.proofs.Contents.{melded_tree}
 use Rattle.rb_pairing.proofs.Entries.{expiries-written}
 use Rattle.rb_pairing.proofs.tree.add.Goals as goal
@@ -9,6 +10,43 @@ pub occupy-requires-clause-child : goal.occupy-requires-clause-child
 occupy-requires-clause-child c =
     (free c.args.nodes.now c.args.slot c.args.expiry c.args.root c.requires.tree c.requires.in_room
     c.requires.absent).child
+
+pub is_earlier-requires-clause-right : goal.is_earlier-requires-clause-right
+is_earlier-requires-clause-right c =
+    rw c.occupy.ensures
+    ((slot_top c.args.nodes.now c.args.slot c.args.expiry c.args.root c.requires.tree c.requires.in_room
+    c.requires.absent) c.args.slot refl).present
+
+pub is_earlier-requires-clause-left : goal.is_earlier-requires-clause-left
+is_earlier-requires-clause-left c =
+    rw c.occupy.ensures
+    (above_present c.args.nodes.now c.args.slot c.args.expiry c.args.root c.requires.tree c.requires.in_room
+    c.requires.absent c.in-Some.above (c.requires.newest c.in-Some.above c.in-Some.is))
+
+pub adopt-requires-clause-linked : goal.adopt-requires-clause-linked
+adopt-requires-clause-linked c =
+    rw c.occupy.ensures
+    (added_linked c.args.nodes.now c.args.slot c.args.expiry c.args.root c.requires.tree c.requires.in_room
+    c.requires.absent)
+
+pub adopt-requires-clause-alone : goal.adopt-requires-clause-alone
+adopt-requires-clause-alone c =
+    rw c.occupy.ensures
+    ((slot_top c.args.nodes.now c.args.slot c.args.expiry c.args.root c.requires.tree c.requires.in_room
+    c.requires.absent) c.args.slot refl).alone
+
+pub returns-clause-tree : goal.returns-clause-tree
+returns-clause-tree c =
+    let ordered : moment_of c.occupy.new.nodes c.in-Some.above ≤ moment_of c.occupy.new.nodes c.args.slot =
+    grind (arith, c.is_earlier.ensures.1, c.if-not-is_earlier) in
+    hung_tree c.args.nodes.now c.args.slot c.args.expiry c.args.root c.requires.tree c.requires.in_room
+    c.requires.absent c.in-Some.above (c.requires.newest c.in-Some.above c.in-Some.is) c.adopt.new.nodes
+    (rw c.occupy.ensures at ordered) (rw c.occupy.ensures at c.adopt.ensures)
+
+pub returns-clause-expiries : goal.returns-clause-expiries
+returns-clause-expiries c =
+    (rw c.occupy.ensures at c.adopt.ensures.expiries)
+    ∙ expiries-written c.args.nodes.now c.args.slot (Some c.args.expiry) c.requires.in_room
 
 pub meld-requires-clause-linked : goal.meld-requires-clause-linked
 meld-requires-clause-linked c =
@@ -33,14 +71,14 @@ meld-requires-clause-apart c other is also =
     root_apart c.args.nodes.now c.args.slot c.args.expiry c.args.root c.requires.tree c.requires.in_room
     c.requires.absent other is (cc)
 
-pub returns-clause-tree : goal.returns-clause-tree
-returns-clause-tree c =
+pub returns-2-clause-tree : goal.returns-2-clause-tree
+returns-2-clause-tree c =
     melded_tree _ _ _ _ _ c.meld.ensures
     (rw c.occupy.ensures
     (none_else c.args.nodes.now c.args.slot c.args.expiry c.args.root c.requires.tree c.requires.in_room
     c.requires.absent))
 
-pub returns-clause-expiries : goal.returns-clause-expiries
-returns-clause-expiries c =
+pub returns-2-clause-expiries : goal.returns-2-clause-expiries
+returns-2-clause-expiries c =
     (rw c.occupy.ensures at c.meld.ensures.expiries)
     ∙ expiries-written c.args.nodes.now c.args.slot (Some c.args.expiry) c.requires.in_room

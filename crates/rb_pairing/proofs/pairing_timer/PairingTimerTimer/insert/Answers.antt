@@ -1,8 +1,8 @@
 -- The nodes come back with one expiry more.
-use Rattle.std.proofs.Common.{◌+◌, ◌∙◌, is_some, sym, ap, arith}
+use Rattle.std.proofs.Common.{◌≡◌, ◌+◌, ◌∙◌, is_some, sym, ap, arith}
 use Rattle.std.specs.Prelude.{count_by}
-use Rattle.rb_pairing.specs.Nodes.{expiries}
-use Rattle.rb_pairing.proofs.Contents.{get-content, content-added, count-added}
+use Rattle.rb_pairing.specs.Nodes.{expiry_of, expiries}
+use Rattle.rb_pairing.proofs.Contents.{get-content, content-added, expiry_added, count-added}
 use Rattle.rb_pairing.proofs.Writes.{written_back}
 use Rattle.rb_pairing.proofs.pairing_timer.PairingTimerTimer.insert.Goals as goal
 
@@ -15,6 +15,16 @@ invariant_of-self-clause-tree c =
     let timer = c.args.self.now in
     let back = written_back timer.nodes.len c.add-self.new.nodes timer.nodes.items (omega arith) in
     rw back c.add-self.ensures.tree
+
+pub invariant_of-self-clause-newest_stands : goal.invariant_of-self-clause-newest_stands
+invariant_of-self-clause-newest_stands c =
+    let timer = c.args.self.now in
+    let new = c.add-self.new.nodes in
+    let back = written_back timer.nodes.len new timer.nodes.items (omega arith) in
+    let row = rw c.deref_mut.ensures.value at c.add-self.ensures.expiries in
+    rw back
+    (λ other is. let same : other ≡ c.args.slot = cc in
+    ap is_some (ap (expiry_of new) same ∙ expiry_added timer.nodes.items new c.args.slot c.args.expiry c.requires.in_room row))
 
 pub invariant_of-self-clause-counted : goal.invariant_of-self-clause-counted
 invariant_of-self-clause-counted c =

@@ -1,0 +1,23 @@
+-- What is before an entry is another.
+use Rattle.std.proofs.Common.{refl, sym, ◌∙◌}
+use Rattle.std.proofs.Math.Logic.{∥∥₁_elim}
+use Rattle.std.proofs.Props.{props}
+use Rattle.rb_pairing.proofs.Ancestors.{present_before}
+use Rattle.rb_pairing.proofs.LinkTests.{link_is_not}
+use Rattle.rb_pairing.proofs.Steps.{not_before_itself}
+use Rattle.rb_pairing.proofs.tree.newest_but.Goals as goal
+
+pub returns-then-eq-clause-entry : goal.returns-then-eq-clause-entry
+returns-then-eq-clause-entry c other is =
+    ∥∥₁_elim c.requires.linked (hlevel props)
+    (λ forest. present_before c.args.nodes.now forest.parent forest.rank forest.is_forest c.args.slot other
+    (sym c.previous_at.ensures ∙ is))
+
+pub returns-then-eq-clause-apart : goal.returns-then-eq-clause-apart
+returns-then-eq-clause-apart c is =
+    ∥∥₁_elim c.requires.linked (hlevel props)
+    (λ forest. not_before_itself c.args.nodes.now forest.parent forest.rank forest.is_forest c.args.slot c.args.slot
+    (sym c.previous_at.ensures ∙ is) refl)
+
+pub returns-else-eq-clause-apart : goal.returns-else-eq-clause-apart
+returns-else-eq-clause-apart c = link_is_not _ _ (sym c.eq.ensures ∙ c.if-eq.false)
