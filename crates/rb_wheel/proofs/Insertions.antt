@@ -15,16 +15,16 @@ abbrev pub first_node : List (Option ℕ) → ℕ → Node → Node
 first_node heads at node = record node { cell = Some at; next = head_at heads at; previous = None }
 
 abbrev pub with_put : List (Option ℕ) → List Node → ℕ → ℕ → List Node
-with_put heads nodes at slot = set (with_previous nodes (head_at heads at) (Some slot)) slot (first_node heads at (node_at nodes slot))
+with_put heads nodes at slot = set (with_previous nodes (head_at heads at) (Some slot)) slot (first_node heads at (node_at (with_previous nodes (head_at heads at) (Some slot)) slot))
 
 module _ (heads : List (Option ℕ)) (nodes : List Node) (at slot : ℕ) (rank : ℕ → ℕ)
     (linked : AreLinked heads nodes rank) (in_heads : at < length heads) (in_nodes : slot < length nodes)
     (free : cell_in nodes slot ≡ None) where
-  abbrev put : Node
-  put = first_node heads at (node_at nodes slot)
-
   abbrev noted : List Node
   noted = with_previous nodes (head_at heads at) (Some slot)
+
+  abbrev put : Node
+  put = first_node heads at (node_at noted slot)
 
   within : slot < length noted
   within = let long = length-with_previous nodes (Some slot) (head_at heads at) in omega arith
@@ -75,7 +75,7 @@ module _ (heads : List (Option ℕ)) (nodes : List Node) (at slot : ℕ) (rank :
 
   pub expiries_of-insert : expiries_of (with_put heads nodes at slot) ≡ expiries_of nodes
   expiries_of-insert =
-      map-set_same expiry_of noted slot put vacant (sym (same_noted expiry_of (λ node previous. refl) slot))
+      map-set_same expiry_of noted slot put vacant refl
       ∙ expiries_of-with_previous nodes (Some slot) (head_at heads at)
 
   pub length-insert : length (with_put heads nodes at slot) ≡ length nodes

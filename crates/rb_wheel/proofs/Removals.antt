@@ -7,6 +7,7 @@ use Rattle.rb_wheel.specs.declared.node.Node.{Node}
 use Rattle.rb_wheel.specs.Nodes.{vacant, node_at, expiry_of, with_next, with_previous, with_first}
 use Rattle.rb_wheel.specs.WheelLinks.{head_at, cell_in, next_in, previous_in, cells_of, expiries_of, slots_of, AreLinked, AreSoundLists}
 use Rattle.rb_wheel.specs.declared.marks.Marks.{Marks}
+use Rattle.rb_wheel.specs.Marks.{mark_of, mark_with_first}
 use Rattle.rb_wheel.specs.declared.cells.TheConstants.{CELLS}
 use Rattle.rb_wheel.specs.Lists.{Slots, cell_at}
 use Rattle.rb_wheel.proofs.Members.{met}
@@ -24,7 +25,7 @@ abbrev pub taken_out : Node → Node
 taken_out node = record node { cell = None; next = None; previous = None }
 
 abbrev pub without : List Node → ℕ → List Node
-without nodes slot = set (joined nodes slot) slot (taken_out (node_at nodes slot))
+without nodes slot = set (joined nodes slot) slot (taken_out (node_at (joined nodes slot) slot))
 
 module _ (heads : List (Option ℕ)) (nodes : List Node) (at slot : ℕ) (rank : ℕ → ℕ)
     (linked : AreLinked heads nodes rank) (in_heads : at < length heads)
@@ -36,7 +37,7 @@ module _ (heads : List (Option ℕ)) (nodes : List Node) (at slot : ℕ) (rank :
   after = next_in nodes slot
 
   abbrev left : Node
-  left = taken_out (node_at nodes slot)
+  left = taken_out (node_at (joined nodes slot) slot)
 
   abbrev noted : List Node
   noted = with_previous nodes after before
@@ -139,8 +140,7 @@ module _ (heads : List (Option ℕ)) (nodes : List Node) (at slot : ℕ) (rank :
 
   pub expiries_of-remove : expiries_of (without nodes slot) ≡ expiries_of nodes
   expiries_of-remove =
-      map-set_same expiry_of (joined nodes slot) slot left vacant
-      (sym (same_joined expiry_of (λ node next. refl) slot ∙ same_noted expiry_of (λ node previous. refl) slot))
+      map-set_same expiry_of (joined nodes slot) slot left vacant refl
       ∙ expiries_of-with_next noted after before ∙ expiries_of-with_previous nodes before after
 
   pub length-remove : length (without nodes slot) ≡ length nodes
@@ -154,6 +154,12 @@ length-with_first heads at (Some s) next = refl
 pub with_first_other : (heads : List (Option ℕ)) (at : ℕ) (previous next : Option ℕ) (c : ℕ) → c ≢ at → head_at (with_first heads at previous next) c ≡ head_at heads c
 with_first_other heads at None next c apart = get_or-set_other heads at c next None apart
 with_first_other heads at (Some s) next c apart = refl
+
+-- and the cell's mark is right
+pub first_marked : (heads : List (Option ℕ)) (at : ℕ) (previous next : Option ℕ) (mark : ℕ) → at < length heads → mark ≡ mark_of (head_at heads at)
+    → mark_with_first previous next mark ≡ mark_of (head_at (with_first heads at previous next) at)
+first_marked heads at None next mark low was = ap mark_of (sym (get_or-set_same heads at next None low))
+first_marked heads at (Some s) next mark low was = was
 
 -- a slot of sound lists is taken out: its node was read, and its cell is known from that
 module _ (heads : List (Option ℕ)) (marks : Marks) (nodes : List Node) (slots : Slots)
@@ -187,14 +193,20 @@ module _ (heads : List (Option ℕ)) (marks : Marks) (nodes : List Node) (slots 
       let same = length-with_previous nodes node.previous node.next in
       omega arith)
 
+  abbrev pub nodes_joined : List Node
+  nodes_joined = with_next (with_previous nodes node.next node.previous) node.previous node.next
+
   abbrev pub nodes_left : List Node
-  nodes_left = set (with_next (with_previous nodes node.next node.previous) node.previous node.next) slot (taken_out node)
+  nodes_left = set nodes_joined slot (taken_out (node_at nodes_joined slot))
 
   abbrev pub heads_left : List (Option ℕ)
   heads_left = with_first heads at node.previous node.next
 
   nodes_left_is : nodes_left ≡ without nodes slot
-  nodes_left_is = ap (λ (l : Node). set (with_next (with_previous nodes l.next l.previous) l.previous l.next) slot (taken_out l)) node_is
+  nodes_left_is =
+      ap (λ (l : Node).
+      let joined : List Node = with_next (with_previous nodes l.next l.previous) l.previous l.next in
+      set joined slot (taken_out (node_at joined slot))) node_is
 
   pub left_linked : AreLinked heads_left nodes_left sound.linked.0
   left_linked =

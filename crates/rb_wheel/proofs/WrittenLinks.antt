@@ -1,7 +1,7 @@
 -- What the nodes are after one neighbour was written, or one slot's node.
-use Rattle.std.proofs.Common.{◌≡◌, ℕ, ◌<◌, ◌≢◌, List, length, Option, Some, None, sym, ap, ◌∙◌, refl, ⊎_elim, get_or-set_same, get_or-set_other, length-set}
+use Rattle.std.proofs.Common.{◌≡◌, ℕ, ◌<◌, ◌≢◌, List, length, Option, Some, None, sym, ap, ◌∙◌, refl, ⊎_elim, get_or-set_same, get_or-set_other, length-set, arith, set, get_or}
 use Rattle.std.proofs.lemmas.Bool.{cases_lt}
-use Rattle.std.proofs.lemmas.List.{get_or_past}
+use Rattle.std.proofs.lemmas.List.{get_or_past, get_or_read}
 use Rattle.std.proofs.Math.Seq.{map-set_same}
 use Rattle.std.proofs.lemmas.Option.{none-some, same_Some}
 use Rattle.rb_wheel.specs.declared.node.Node.{Node}
@@ -13,6 +13,14 @@ pub in_room : (nodes : List Node) (slot at : ℕ) → cell_in nodes slot ≡ Som
 in_room nodes slot at is = ⊎_elim (λ within. within)
     (λ past. absurd (none-some at (sym (ap (λ (l : Node). l.cell) (get_or_past nodes slot vacant past)) ∙ is)))
     (cases_lt slot (length nodes))
+
+-- a node was changed where it was read
+pub changed_there : (change : Node → Node) (nodes new_nodes : List Node) (slot : ℕ) (read new : Node) → nodes ≡ new_nodes → slot < length new_nodes
+    → read ≡ get_or nodes slot read → new ≡ change read → set nodes slot new ≡ set new_nodes slot (change (node_at new_nodes slot))
+changed_there change nodes new_nodes slot read new same low reads is =
+    let within : slot < length nodes = let long = ap length same in omega arith in
+    ap (λ ns. set ns slot new) same
+    ∙ ap (set new_nodes slot) (is ∙ ap change (get_or_read nodes slot read within reads vacant ∙ ap (λ ns. node_at ns slot) same))
 
 module _ (nodes : List Node) (previous : Option ℕ) where
   pub length-with_previous : (o : Option ℕ) → length (with_previous nodes o previous) ≡ length nodes

@@ -1,6 +1,6 @@
 ghost use Rattle.std.specs.Prelude.{◌≡◌, ◌≢◌, ◌⊎◌, ◌<◌, ◌≤◌, ◌-◌, ◌^◌, ◌++◌, ℕ, List, [], Option, Some, None, IsSome, OnOk, OnErr, IfSome, MatchOption, length, replicate, slice_set, slice_index_or};
 ghost use Rattle.rb_wheel.specs.Nodes.{with_first};
-ghost use Rattle.rb_wheel.specs.Marks.{mark_at, mark_of};
+ghost use Rattle.rb_wheel.specs.Marks.{mark_at, mark_of, mark_with_first};
 ghost use Rattle.rb_wheel.specs.Lists.{cell_at, slot_expiry, IsVacant, IsFirstCell, IsLeastIn, HasExpiries};
 
 use crate::cells::CELLS;
@@ -101,13 +101,12 @@ impl Lists {
         requires free { cell_at self.old.cells slot ≡ None }
         ensures { self.new ≡ record self.old { cells = slice_set self.old.cells slot (Some cell) } }
     {
-        let node = self.nodes[slot];
         let next = self.heads[cell];
         let link = Link::to(slot);
         set_previous(&mut self.nodes, next, link);
-        self.nodes[slot] = node.put_first(cell, next);
+        self.nodes[slot].put_first(cell, next);
         self.heads[cell] = link;
-        mark_held(&mut self.marks, cell, link);
+        self.marks.insert(cell);
     }
 
     /// Takes a slot out of its cell.
@@ -119,9 +118,14 @@ impl Lists {
         let cell = node.cell.unwrap() as usize;
         set_previous(&mut self.nodes, node.next, node.previous);
         set_next(&mut self.nodes, node.previous, node.next);
-        set_first(&mut self.heads, cell, node.previous, node.next);
-        mark_held(&mut self.marks, cell, self.heads[cell]);
-        self.nodes[slot] = node.taken_out();
+        set_first(
+            &mut self.heads,
+            &mut self.marks,
+            cell,
+            node.previous,
+            node.next,
+        );
+        self.nodes[slot].take_out();
     }
 
     /// The first cell that holds a slot.
@@ -185,13 +189,17 @@ fn earlier_of(best: Option<(usize, u64)>, entry: (usize, u64)) -> (usize, u64)
     }
 }
 
-// Begins the cell's list with `next`, where nothing precedes that.
-fn set_first(heads: &mut [Link], cell: usize, previous: Link, next: Link)
-    requires { cell < length heads.old }
-    ensures { heads.new ≡ with_first heads.old cell previous next }
+// Begins the cell's list with `next`, where nothing precedes that, and marks the cell accordingly.
+fn set_first(heads: &mut [Link], marks: &mut Marks, cell: usize, previous: Link, next: Link)
+    requires in_heads { cell < length heads.old }
+    requires in_wheel { cell < CELLS }
+    ensures heads { heads.new ≡ with_first heads.old cell previous next }
+    ensures here { mark_at marks.new cell ≡ mark_with_first previous next (mark_at marks.old cell) }
+    ensures elsewhere { (other : ℕ) → other ≢ cell → mark_at marks.new other ≡ mark_at marks.old other }
 {
     if previous.slot().is_none() {
         heads[cell] = next;
+        mark_held(marks, cell, next);
     }
 }
 

@@ -4,8 +4,7 @@ ghost use Rattle.rb_wheel.specs.Nodes.{vacant, expiry_of, with_next, with_previo
 use crate::cells::CELLS;
 use crate::link::Link;
 
-/// What a slot of the room holds: its entry's expiry, if it has one, and where the slot lies. Two
-/// nodes share a line of the cache.
+/// What a slot of the room holds: its entry's expiry, if it has one, and where the slot lies.
 #[derive(Clone, Copy, Debug)]
 pub(crate) struct Node {
     // In nanoseconds. It says nothing where the slot has no entry.
@@ -18,6 +17,9 @@ pub(crate) struct Node {
     // Whether the slot has an entry.
     pub(crate) is_taken: bool,
 }
+
+// Two nodes share a line of the cache.
+const _: () = prove!(size_of::<Node>() == 32);
 
 impl Node {
     /// A slot with no entry, which lies in no cell.
@@ -44,29 +46,23 @@ impl Node {
         }
     }
 
-    /// The slot put first in the list of a cell, before `next`.
-    pub(crate) fn put_first(self, cell: usize, next: Link) -> Self
+    /// Puts the slot first in the list of a cell, before `next`.
+    pub(crate) fn put_first(&mut self, cell: usize, next: Link)
         requires { cell < CELLS }
-        ensures { result ≡ record self { next = next; previous = None; cell = Some cell } }
+        ensures { self.new ≡ record self.old { next = next; previous = None; cell = Some cell } }
     {
-        Node {
-            next,
-            previous: Link::none(),
-            cell: Some(cell as u16),
-            ..self
-        }
+        self.next = next;
+        self.previous = Link::none();
+        self.cell = Some(cell as u16);
     }
 
-    /// The slot taken out of its cell.
-    pub(crate) fn taken_out(self) -> Self
-        ensures { result ≡ record self { next = None; previous = None; cell = None } }
+    /// Takes the slot out of its cell.
+    pub(crate) fn take_out(&mut self)
+        ensures { self.new ≡ record self.old { next = None; previous = None; cell = None } }
     {
-        Node {
-            next: Link::none(),
-            previous: Link::none(),
-            cell: None,
-            ..self
-        }
+        self.next = Link::none();
+        self.previous = Link::none();
+        self.cell = None;
     }
 }
 

@@ -1,5 +1,5 @@
 -- Rows of none have no slot in them.
-use Rattle.std.proofs.Common.{◌≡◌, ℕ, List, Option, None, length, replicate, sym, ap, ◌∙◌, rules, arith}
+use Rattle.std.proofs.Common.{◌≡◌, ℕ, Option, None, length, replicate, ap, ◌∙◌, rules, arith}
 use Rattle.rb_wheel.specs.declared.node.Node.{Node}
 use Rattle.rb_wheel.specs.Nodes.{vacant}
 use Rattle.rb_wheel.specs.WheelLinks.{cells_of, expiries_of}

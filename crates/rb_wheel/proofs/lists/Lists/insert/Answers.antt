@@ -2,14 +2,14 @@
 use Rattle.std.proofs.Common.{◌≡◌, ◌<◌, ℕ, ◌++◌, List, length, set, take, drop, Option, Some, None, sym, ap, ◌∙◌, subst, arith, length-set, get_or-set_same, get_or-set_other}
 use Rattle.std.proofs.lemmas.List.{get_or_read}
 use Rattle.rb_wheel.specs.declared.node.Node.{Node}
-use Rattle.rb_wheel.specs.Nodes.{vacant, node_at, with_previous}
+use Rattle.rb_wheel.specs.Nodes.{node_at, with_previous}
 use Rattle.rb_wheel.specs.WheelLinks.{head_at, cell_in, cells_of, expiries_of, AreSoundLists}
 use Rattle.rb_wheel.proofs.Linked.{rank_below}
-use Rattle.rb_wheel.proofs.Insertions.{first_node, with_put, AreLinked-insert, cells_of-insert, expiries_of-insert, length-insert, marks_again}
+use Rattle.rb_wheel.proofs.Insertions.{with_put, AreLinked-insert, cells_of-insert, expiries_of-insert, length-insert, marks_again}
 use Rattle.rb_wheel.proofs.Viewed.{length-viewed, cell_at-viewed, cells_viewed, expiries_viewed, slots_of-parts, if_some, written_back}
-use Rattle.rb_wheel.proofs.WrittenLinks.{in_room, length-with_previous}
+use Rattle.rb_wheel.proofs.WrittenLinks.{in_room, changed_there, length-with_previous}
 use Rattle.rb_wheel.proofs.lists.Lists.insert.Goals as goal
-use Rattle.rb_wheel.proofs.lists.Lists.insert.Goals.{After-mark_held}
+use Rattle.rb_wheel.proofs.lists.Lists.insert.Goals.{After-insert}
 use Rattle.rb_wheel.specs.Marks.{mark_at, mark_of}
 
 pub set_previous-requires : goal.set_previous-requires
@@ -23,7 +23,7 @@ set_previous-requires c =
     (λ next is. subst (λ nodes. next < length nodes) (sym c.deref_mut.ensures.value)
     (in_room lists.nodes.items next c.args.cell (sound.linked.1.head_cell c.args.cell next (sym next_is ∙ is))))
 
-module _ (c : After-mark_held) where
+module _ (c : After-insert) where
   in_heads : c.args.cell < length c.self.inside.heads.items
   in_heads =
       let room = length-viewed c.self.inside.nodes.items c.args.self.now c.self.view_is in
@@ -40,7 +40,7 @@ module _ (c : After-mark_held) where
       sym (cell_at-viewed c.self.inside.nodes.items c.args.self.now c.self.view_is c.args.slot)
       ∙ c.requires.free
 
-  nodes_are : set (take c.self.inside.nodes.len (c.set_previous.new.nodes ++ drop (length c.set_previous.new.nodes) c.self.inside.nodes.items)) c.args.slot c.put_first.result
+  nodes_are : set (take c.self.inside.nodes.len (c.set_previous.new.nodes ++ drop (length c.set_previous.new.nodes) c.self.inside.nodes.items)) c.args.slot c.put_first.new.self
       ≡ with_put c.self.inside.heads.items c.self.inside.nodes.items c.args.cell c.args.slot
   nodes_are =
       let heads = c.self.inside.heads.items in
@@ -53,11 +53,13 @@ module _ (c : After-mark_held) where
       ∙ ap (λ o. with_previous nodes o c.to-link.result) next_is ∙ ap (with_previous nodes (head_at heads at)) c.to-link.ensures in
       let long : length c.set_previous.new.nodes ≡ length nodes = ap length noted ∙ length-with_previous nodes (Some slot) (head_at heads at) in
       let back = written_back c.self.inside.nodes.len c.set_previous.new.nodes nodes (omega arith) in
-      let put : c.put_first.result ≡ first_node heads at (node_at nodes slot) =
-      c.put_first.ensures ∙ ap (λ (n : Node). record n { cell = Some at; next = c.index-next.result.now; previous = None })
-      (get_or_read nodes slot c.index-node.result.now in_nodes c.index-node.ensures vacant)
-      ∙ ap (λ o. record (node_at nodes slot) { cell = Some at; next = o; previous = None }) next_is in
-      ap (λ ns. set ns slot c.put_first.result) (back ∙ noted) ∙ ap (set (with_previous nodes (head_at heads at) (Some slot)) slot) put
+      let noted_long = length-with_previous nodes (Some slot) (head_at heads at) in
+      let low = in_nodes in
+      changed_there (λ (n : Node). record n { cell = Some at; next = c.index-next.result.now; previous = None })
+      _ (with_previous nodes (head_at heads at) (Some slot)) slot c.index_mut.result.now c.put_first.new.self
+      (back ∙ noted) (omega arith) c.index_mut.ensures.value c.put_first.ensures
+      ∙ ap (λ o. set (with_previous nodes (head_at heads at) (Some slot)) slot
+      (record (node_at (with_previous nodes (head_at heads at) (Some slot)) slot) { cell = Some at; next = o; previous = None })) next_is
 
 pub invariant_of-self : goal.invariant_of-self
 invariant_of-self c =
@@ -72,18 +74,18 @@ invariant_of-self c =
     let some = in_nodes c in
     let put = with_put heads nodes at slot in
     let long = length-insert heads nodes at slot rank sound.linked.1 (in_heads c) some (free c) in
-    let sound_now : AreSoundLists (set heads at (Some slot)) c.mark_held.new.marks put = record {
+    let sound_now : AreSoundLists (set heads at (Some slot)) c.insert.new.self put = record {
       linked = (rank_below slot rank, AreLinked-insert heads nodes at slot rank sound.linked.1 (in_heads c) some (free c));
-      marked = marks_again (head_at heads) (head_at (set heads at (Some slot))) (mark_at c.self.inside.marks) (mark_at c.mark_held.new.marks) at
+      marked = marks_again (head_at heads) (head_at (set heads at (Some slot))) (mark_at c.self.inside.marks) (mark_at c.insert.new.self) at
           sound.marked (λ other apart. get_or-set_other heads at other (Some slot) None apart)
-          (c.mark_held.ensures.here ∙ ap mark_of (c.to-link.ensures ∙ sym (get_or-set_same heads at (Some slot) None (in_heads c))))
-          c.mark_held.ensures.elsewhere;
+          (c.insert.ensures.here ∙ ap mark_of (sym (get_or-set_same heads at (Some slot) None (in_heads c))))
+          c.insert.ensures.elsewhere;
       few_heads = let few = sound.few_heads in omega arith;
       all_heads = λ _. let enough = all (omega arith) in omega arith;
     } in
-    subst (λ (o : Option ℕ). AreSoundLists (set heads at o) c.mark_held.new.marks
-    (set (take c.self.inside.nodes.len (c.set_previous.new.nodes ++ drop (length c.set_previous.new.nodes) nodes)) slot c.put_first.result)) (sym c.to-link.ensures)
-    (subst (λ (ns : List Node). AreSoundLists (set heads at (Some slot)) c.mark_held.new.marks ns) (sym (nodes_are c)) sound_now)
+    subst (λ (o : Option ℕ). AreSoundLists (set heads at o) c.insert.new.self
+    (set (take c.self.inside.nodes.len (c.set_previous.new.nodes ++ drop (length c.set_previous.new.nodes) nodes)) slot c.put_first.new.self)) (sym c.to-link.ensures)
+    (subst (λ (ns : List Node). AreSoundLists (set heads at (Some slot)) c.insert.new.self ns) (sym (nodes_are c)) sound_now)
 
 pub returns : goal.returns
 returns c =

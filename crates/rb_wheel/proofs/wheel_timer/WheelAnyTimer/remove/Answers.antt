@@ -1,5 +1,5 @@
 -- The entry goes from the early ones, or out of its cell.
-use Rattle.std.proofs.Common.{◌≡◌, ◌<◌, ◌∙◌, ℕ, List, Option, Some, None, IsSome, is_some, length, set, refl, sym, ap, subst, arith}
+use Rattle.std.proofs.Common.{◌≡◌, ◌<◌, ◌∙◌, ℕ, List, Option, None, IsSome, is_some, length, set, refl, sym, ap, subst}
 use Rattle.std.specs.FinMap as map
 use Rattle.rb_timer.specs.Slots.{content_of, get-content_of, in_range_of_content, content_of-remove}
 use Rattle.rb_wheel.specs.Lists.{slot_expiry}
