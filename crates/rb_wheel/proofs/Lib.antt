@@ -1,4 +1,5 @@
 pub mod Entries
+pub mod EntryWrites
 pub mod HeldCells
 pub mod HighestBit
 pub mod Insertions

@@ -1,31 +1,54 @@
--- What callers know of the cells, as the links have it.
+-- What callers know of the slots, as the nodes have it.
 use Rattle.std.proofs.Common.{◌≡◌, ℕ, ◌<◌, ◌++◌, List, length, take, drop, Option, Some, None, IsSome, IfSome, sym, ap, ◌∙◌, subst, refl, ⊎_elim}
 use Rattle.std.proofs.lemmas.Bool.{cases_lt}
 use Rattle.std.proofs.lemmas.List.{length-map, take_at, get_or_past}
 use Rattle.std.proofs.Math.ListN.{get_or-map}
-use Rattle.rb_wheel.specs.declared.lists.Link.{Link}
-use Rattle.rb_wheel.specs.LinkWrites.{unlinked}
-use Rattle.rb_wheel.specs.Lists.{cell_at}
-use Rattle.rb_wheel.specs.WheelLinks.{head_at, cell_in, cells_of}
+use Rattle.rb_wheel.specs.declared.node.Node.{Node}
+use Rattle.rb_wheel.specs.Nodes.{vacant, node_at, expiry_of}
+use Rattle.rb_wheel.specs.Lists.{Slots, cell_at, slot_expiry}
+use Rattle.rb_wheel.specs.WheelLinks.{head_at, cell_in, cells_of, expiries_of, slots_of}
 use Rattle.std.proofs.lemmas.Option.{none-some}
 
 -- none is not some number
 pub is_some-none : IsSome {T = ℕ} None → ⊥
 is_some-none h = cc
 
-module _ (links : List Link) (cells : List (Option ℕ)) (view : cells_of links ≡ cells) where
-  pub length-viewed : length cells ≡ length links
-  length-viewed = sym (ap length view) ∙ length-map links (λ (link : Link). link.cell)
+module _ (nodes : List Node) (slots : Slots) (view : slots_of nodes ≡ slots) where
+  pub cells_viewed : cells_of nodes ≡ slots.cells
+  cells_viewed = ap (λ (s : Slots). s.cells) view
 
-  pub cell_at-viewed : (slot : ℕ) → cell_at cells slot ≡ cell_in links slot
+  pub expiries_viewed : expiries_of nodes ≡ slots.expiries
+  expiries_viewed = ap (λ (s : Slots). s.expiries) view
+
+  pub length-viewed : length slots.cells ≡ length nodes
+  length-viewed = sym (ap length cells_viewed) ∙ length-map nodes (λ (node : Node). node.cell)
+
+  pub length-expiries : length slots.expiries ≡ length nodes
+  length-expiries = sym (ap length expiries_viewed) ∙ length-map nodes expiry_of
+
+  pub cell_at-viewed : (slot : ℕ) → cell_at slots.cells slot ≡ cell_in nodes slot
   cell_at-viewed slot =
-      ap (λ cs. cell_at cs slot) (sym view) ∙ get_or-map (λ (link : Link). link.cell) links slot unlinked
+      ap (λ cs. cell_at cs slot) (sym cells_viewed) ∙ get_or-map (λ (node : Node). node.cell) nodes slot vacant
 
-  -- a slot that lies in a cell has a link
-  pub in_room_viewed : (slot : ℕ) → IsSome (cell_at cells slot) → slot < length links
+  pub expiry_at-viewed : (slot : ℕ) → slot_expiry slots.expiries slot ≡ expiry_of (node_at nodes slot)
+  expiry_at-viewed slot = ap (λ es. slot_expiry es slot) (sym expiries_viewed) ∙ get_or-map expiry_of nodes slot vacant
+
+  -- a slot that lies in a cell, or has an entry, has a node
+  pub in_room_viewed : (slot : ℕ) → IsSome (cell_at slots.cells slot) → slot < length nodes
   in_room_viewed slot lies = ⊎_elim (λ within. within)
-      (λ past. absurd (is_some-none (subst (λ o. IsSome o) (cell_at-viewed slot ∙ ap (λ (link : Link). link.cell) (get_or_past links slot unlinked past)) lies)))
-      (cases_lt slot (length links))
+      (λ past. absurd (is_some-none (subst (λ o. IsSome o) (cell_at-viewed slot ∙ ap (λ (node : Node). node.cell) (get_or_past nodes slot vacant past)) lies)))
+      (cases_lt slot (length nodes))
+
+  pub in_room_expiry : (slot : ℕ) → IsSome (slot_expiry slots.expiries slot) → slot < length nodes
+  in_room_expiry slot present = ⊎_elim (λ within. within)
+      (λ past. absurd (is_some-none (subst (λ o. IsSome o) (expiry_at-viewed slot ∙ ap expiry_of (get_or_past nodes slot vacant past)) present)))
+      (cases_lt slot (length nodes))
+
+-- what callers see, from its parts
+pub slots_of-parts : (nodes : List Node) (expiries cells : List (Option ℕ)) → expiries_of nodes ≡ expiries → cells_of nodes ≡ cells
+    → slots_of nodes ≡ record { expiries = expiries; cells = cells }
+slots_of-parts nodes expiries cells same_expiries same_cells =
+    λ i. record { expiries = same_expiries i; cells = same_cells i }
 
 -- a fact on the number in an option, where there is one
 pub if_some : (o : Option ℕ) (P : ℕ → Type 0) → ((k : ℕ) → o ≡ Some k → P k) → IfSome o P

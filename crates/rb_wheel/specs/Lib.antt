@@ -3,4 +3,5 @@ pub mod WheelLinks
 pub mod Lists
 pub mod Marks
 pub mod Wheel
-pub mod LinkWrites
+pub mod LinkWords
+pub mod Nodes

@@ -1,5 +1,10 @@
--- Lists of slots, one for each cell, as callers see them: at each slot the cell that it lies in, or none.
+-- Lists of slots, one for each cell, as callers see them.
 use Rattle.std.specs.Prelude.{◌≡◌, ℕ, ◌≤◌, ◌≢◌, List, Option, Some, None, IfSome, IsSome, slice_index_or}
+
+-- at each slot its entry's expiry, and the cell that it lies in, or none
+pub record Slots : Type 0 where
+  pub expiries : List (Option ℕ)
+  pub cells : List (Option ℕ)
 
 -- the cell that a slot lies in
 abbrev pub cell_at : List (Option ℕ) → ℕ → Option ℕ

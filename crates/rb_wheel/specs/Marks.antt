@@ -16,3 +16,8 @@ IsFirstMarked marks (Some cell) = (mark_at marks cell ≡ 1) × ((other : ℕ) �
 abbrev pub mark_of : Option ℕ → ℕ
 mark_of None = 0
 mark_of (Some slot) = 1
+
+-- its mark once its list begins with `next`, where nothing precedes that
+abbrev pub mark_with_first : Option ℕ → Option ℕ → ℕ → ℕ
+mark_with_first None next mark = mark_of next
+mark_with_first (Some previous) next mark = mark

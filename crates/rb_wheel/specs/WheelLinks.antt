@@ -1,28 +1,36 @@
 -- How the lists lie: at each cell its first slot, at each slot its neighbours.
 use Rattle.std.specs.Prelude.{◌≡◌, ℕ, ◌<◌, ◌≤◌, List, length, map, Option, Some, None, slice_index_or}
-use Rattle.rb_wheel.specs.declared.lists.Link.{Link}
+use Rattle.rb_wheel.specs.declared.node.Node.{Node}
 use Rattle.rb_wheel.specs.declared.marks.Marks.{Marks}
 use Rattle.rb_wheel.specs.declared.cells.TheConstants.{CELLS}
 use Rattle.rb_wheel.specs.Marks.{mark_at, mark_of}
-use Rattle.rb_wheel.specs.LinkWrites.{link_at}
+use Rattle.rb_wheel.specs.Lists.{Slots}
+use Rattle.rb_wheel.specs.Nodes.{node_at, expiry_of}
 
 -- a cell's first slot
 abbrev pub head_at : List (Option ℕ) → ℕ → Option ℕ
 head_at heads cell = slice_index_or heads cell None
 
 -- a slot's cell, and its neighbours there
-abbrev pub cell_in : List Link → ℕ → Option ℕ
-cell_in links slot = (link_at links slot).cell
+abbrev pub cell_in : List Node → ℕ → Option ℕ
+cell_in nodes slot = (node_at nodes slot).cell
 
-abbrev pub next_in : List Link → ℕ → Option ℕ
-next_in links slot = (link_at links slot).next
+abbrev pub next_in : List Node → ℕ → Option ℕ
+next_in nodes slot = (node_at nodes slot).next
 
-abbrev pub previous_in : List Link → ℕ → Option ℕ
-previous_in links slot = (link_at links slot).previous
+abbrev pub previous_in : List Node → ℕ → Option ℕ
+previous_in nodes slot = (node_at nodes slot).previous
 
--- at each slot its cell
-abbrev pub cells_of : List Link → List (Option ℕ)
-cells_of links = map (λ (link : Link). link.cell) links
+-- at each slot its cell, and its expiry
+abbrev pub cells_of : List Node → List (Option ℕ)
+cells_of nodes = map (λ (node : Node). node.cell) nodes
+
+abbrev pub expiries_of : List Node → List (Option ℕ)
+expiries_of nodes = map expiry_of nodes
+
+-- what callers see of them
+abbrev pub slots_of : List Node → Slots
+slots_of nodes = record { expiries = expiries_of nodes; cells = cells_of nodes }
 
 -- neighbours agree, each list begins at its cell's head, and ranks rise along it, so that it ends
 pub record LinksAgree (head cell next previous : ℕ → Option ℕ) (rank : ℕ → ℕ) : Type 0 where
@@ -37,13 +45,13 @@ pub record LinksAgree (head cell next previous : ℕ → Option ℕ) (rank : ℕ
   pub free_previous : (slot : ℕ) → cell slot ≡ None → previous slot ≡ None
 
 -- the lists are linked
-abbrev pub AreLinked : List (Option ℕ) → List Link → (ℕ → ℕ) → Type 0
-AreLinked heads links rank = LinksAgree (head_at heads) (cell_in links) (next_in links) (previous_in links) rank
+abbrev pub AreLinked : List (Option ℕ) → List Node → (ℕ → ℕ) → Type 0
+AreLinked heads nodes rank = LinksAgree (head_at heads) (cell_in nodes) (next_in nodes) (previous_in nodes) rank
 
 -- the lists are linked, the cells that hold a slot are marked, and there are heads for all cells
 -- once there is room for a slot
-pub record AreSoundLists (heads : List (Option ℕ)) (marks : Marks) (links : List Link) : Type 0 where
-  pub linked : (rank : ℕ → ℕ) × AreLinked heads links rank
+pub record AreSoundLists (heads : List (Option ℕ)) (marks : Marks) (nodes : List Node) : Type 0 where
+  pub linked : (rank : ℕ → ℕ) × AreLinked heads nodes rank
   pub marked : (at : ℕ) → mark_at marks at ≡ mark_of (head_at heads at)
   pub few_heads : length heads ≤ CELLS
-  pub all_heads : 0 < length links → CELLS ≤ length heads
+  pub all_heads : 0 < length nodes → CELLS ≤ length heads

@@ -9,19 +9,15 @@ use crate::lists::Lists;
 ///
 /// The base enters one first cell after another, and each that is above the lowest level is spread
 /// over lower levels.
-pub(crate) fn advance(
-    lists: &mut Lists,
-    expiries: &[Option<u64>],
-    base: &mut u64,
-    now: u64,
-) -> Option<usize>
-    requires moments { AreMoments expiries.now }
-    requires right { LieRight base.old expiries.now lists.old }
-    ensures right { LieRight base.new expiries.now lists.new }
-    ensures same { SameInCells lists.old lists.new }
+pub(crate) fn advance(lists: &mut Lists, base: &mut u64, now: u64) -> Option<usize>
+    requires moments { AreMoments lists.old.expiries }
+    requires right { LieRight base.old lists.old.expiries lists.old.cells }
+    ensures expiries { lists.new.expiries ≡ lists.old.expiries }
+    ensures right { LieRight base.new lists.old.expiries lists.new.cells }
+    ensures same { SameInCells lists.old.cells lists.new.cells }
     ensures not_back { base.old ≤ base.new }
     ensures not_past { base.new ≤ max base.old now }
-    ensures due { MatchOption result (IsNoneDue now expiries.now lists.new) (λ cell. IsDueCell base.new now cell expiries.now lists.new) }
+    ensures due { MatchOption result (IsNoneDue now lists.old.expiries lists.new.cells) (λ cell. IsDueCell base.new now cell lists.old.expiries lists.new.cells) }
 {
     let mut first = lists.first_cell();
     while let Some(cell) = first {
@@ -34,7 +30,7 @@ pub(crate) fn advance(
         if cell < DIGITS {
             return Some(cell);
         }
-        spread(lists, expiries, start, cell);
+        spread(lists, start, cell);
         first = lists.first_cell();
     }
     *base = now.max(*base);
@@ -42,14 +38,15 @@ pub(crate) fn advance(
 }
 
 // Puts the slots of a cell into the lower cells where they belong from the base, which has entered it.
-fn spread(lists: &mut Lists, expiries: &[Option<u64>], base: u64, cell: usize)
-    requires { MaySpread base cell expiries.now lists.old }
-    ensures right { LieRight base expiries.now lists.new }
-    ensures same { SameInCells lists.old lists.new }
-    ensures lower { LieLower cell lists.old lists.new }
+fn spread(lists: &mut Lists, base: u64, cell: usize)
+    requires { MaySpread base cell lists.old.expiries lists.old.cells }
+    ensures expiries { lists.new.expiries ≡ lists.old.expiries }
+    ensures right { LieRight base lists.old.expiries lists.new.cells }
+    ensures same { SameInCells lists.old.cells lists.new.cells }
+    ensures lower { LieLower cell lists.old.cells lists.new.cells }
 {
     while let Some(slot) = lists.first_in(cell) {
-        let expiry = expiries[slot].unwrap();
+        let expiry = lists.expiry(slot).unwrap();
         lists.remove(slot);
         lists.insert(slot, cell_of(base, expiry));
     }

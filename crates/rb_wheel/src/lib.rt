@@ -3,8 +3,10 @@
 
 mod advance;
 mod cells;
+mod link;
 mod lists;
 mod marks;
+mod node;
 #[cfg(test)]
 mod tests;
 mod wheel_timer;

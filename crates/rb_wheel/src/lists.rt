@@ -1,150 +1,180 @@
-ghost use Rattle.std.specs.Prelude.{◌≡◌, ◌≢◌, ◌⊎◌, ◌<◌, ◌≤◌, ◌-◌, ◌++◌, ℕ, List, [], Option, Some, None, IsSome, OnOk, OnErr, IfSome, MatchOption, length, replicate, slice_set, slice_index_or};
-ghost use Rattle.rb_wheel.specs.LinkWrites.{with_next, with_previous, with_first};
-ghost use Rattle.rb_wheel.specs.Marks.{mark_at, mark_of};
+ghost use Rattle.std.specs.Prelude.{◌≡◌, ◌≢◌, ◌⊎◌, ◌<◌, ◌≤◌, ◌-◌, ◌^◌, ◌++◌, ℕ, List, [], Option, Some, None, IsSome, OnOk, OnErr, IfSome, MatchOption, length, replicate, slice_set, slice_index_or};
+ghost use Rattle.rb_wheel.specs.Nodes.{with_first};
+ghost use Rattle.rb_wheel.specs.Marks.{mark_at, mark_of, mark_with_first};
 ghost use Rattle.rb_wheel.specs.Lists.{cell_at, slot_expiry, IsVacant, IsFirstCell, IsLeastIn, HasExpiries};
 
 use crate::cells::CELLS;
+use crate::link::Link;
 use crate::marks::Marks;
+use crate::node::{Node, set_next, set_previous};
 use std::alloc::{AllocError, Global};
 use std::marker::Model;
 
-// Where a slot lies: its cell, and its neighbours in the list of that cell.
-#[derive(Clone, Copy, Debug)]
-struct Link {
-    cell: Option<usize>,
-    next: Option<usize>,
-    previous: Option<usize>,
-}
-
-const UNLINKED: Link = Link {
-    cell: None,
-    next: None,
-    previous: None,
-};
-
-/// A list of slots for each cell, linked both ways. A slot lies in at most one cell.
+/// The slots: each may have an entry, whose expiry stands here, and lies in at most one cell. For
+/// each cell there is a list of the slots in it, linked both ways.
 #[derive(Debug, Drop)]
 pub(crate) struct Lists {
     // The first slot of each cell's list. There are none until the first `reserve`.
-    heads: Vec<Option<usize>>,
+    heads: Vec<Link>,
     // The cells that hold a slot.
     marks: Marks,
-    links: Vec<Link>,
+    nodes: Vec<Node>,
 }
 
 impl Model for Lists {
-    ghost use Rattle.std.specs.Prelude.{List, Option, ℕ};
+    ghost use Rattle.rb_wheel.specs.Lists.{Slots};
 
-    ghost Value = { List (Option ℕ) };
+    ghost Value = { Slots };
 
-    ghost use Rattle.rb_wheel.specs.WheelLinks.{cells_of, AreSoundLists};
+    ghost use Rattle.rb_wheel.specs.WheelLinks.{slots_of, AreSoundLists};
 
-    ghost view = { λ lists. cells_of lists.links.items };
+    ghost view = { λ lists. slots_of lists.nodes.items };
 
-    ghost invariant = { λ lists. AreSoundLists lists.heads.items lists.marks lists.links.items };
+    ghost invariant = { λ lists. AreSoundLists lists.heads.items lists.marks lists.nodes.items };
 }
 
 impl Lists {
-    /// No slot has room, and no memory is taken until `reserve`.
+    /// There is no slot, and no memory is taken until `reserve`.
     pub(crate) fn new(alloc: Global) -> Self
-        ensures { result ≡ [] }
+        ensures { result ≡ record { expiries = []; cells = [] } }
     {
         Lists {
             heads: Vec::new(alloc),
             marks: Marks::new(),
-            links: Vec::new(alloc),
+            nodes: Vec::new(alloc),
         }
+    }
+
+    /// How many slots there are.
+    pub(crate) fn room(&self) -> usize
+        ensures { result ≡ length self.now.expiries }
+    {
+        self.nodes.len()
+    }
+
+    /// The expiry of the slot's entry, if it has one.
+    pub(crate) fn expiry(&self, slot: usize) -> Option<u64>
+        ensures { result ≡ slot_expiry self.now.expiries slot }
+    {
+        self.nodes.get(slot)?.expiry()
     }
 
     /// Makes room for `wanted` slots. Where memory is refused nothing changes.
     pub(crate) fn reserve(&mut self, wanted: usize) -> Result<(), AllocError>
-        ensures ok { OnOk result (self.new ≡ self.old ++ replicate (wanted - length self.old) None) }
+        ensures expiries { OnOk result (self.new.expiries ≡ self.old.expiries ++ replicate (wanted - length self.old.expiries) None) }
+        ensures cells { OnOk result (self.new.cells ≡ self.old.cells ++ replicate (wanted - length self.old.cells) None) }
         ensures err { OnErr result (self.new ≡ self.old) }
     {
-        if wanted > self.links.len() {
-            self.heads.resize(CELLS, None)?;
-            self.links.resize(wanted, UNLINKED)?;
+        if wanted > self.nodes.len() {
+            self.heads.resize(CELLS, Link::none())?;
+            self.nodes.resize(wanted, Node::vacant())?;
         }
         Ok(())
     }
 
+    /// Notes an entry at a slot, which lies where it did.
+    pub(crate) fn occupy(&mut self, slot: usize, expiry: u64)
+        requires { slot < length self.old.expiries }
+        ensures noted { self.new ≡ record self.old { expiries = slice_set self.old.expiries slot (Some expiry) } }
+        ensures countable { length self.new.expiries < 2 ^ 64 }
+    {
+        let node = &mut self.nodes[slot];
+        node.expiry = expiry;
+        node.is_taken = true;
+    }
+
+    /// Forgets the entry of a slot that has one, and gives its expiry. The slot lies where it did.
+    pub(crate) fn vacate(&mut self, slot: usize) -> u64
+        requires { IsSome (slot_expiry self.old.expiries slot) }
+        ensures value { slot_expiry self.old.expiries slot ≡ Some result }
+        ensures left { self.new ≡ record self.old { expiries = slice_set self.old.expiries slot None } }
+    {
+        let node = &mut self.nodes[slot];
+        node.is_taken = false;
+        node.expiry
+    }
+
     /// Puts a slot that lies in no cell into one.
     pub(crate) fn insert(&mut self, slot: usize, cell: usize)
-        requires in_room { slot < length self.old }
+        requires in_room { slot < length self.old.cells }
         requires in_wheel { cell < CELLS }
-        requires free { cell_at self.old slot ≡ None }
-        ensures { self.new ≡ slice_set self.old slot (Some cell) }
+        requires free { cell_at self.old.cells slot ≡ None }
+        ensures { self.new ≡ record self.old { cells = slice_set self.old.cells slot (Some cell) } }
     {
         let next = self.heads[cell];
-        set_previous(&mut self.links, next, Some(slot));
-        self.links[slot] = Link {
-            cell: Some(cell),
-            next,
-            previous: None,
-        };
-        self.heads[cell] = Some(slot);
-        mark_held(&mut self.marks, cell, Some(slot));
+        let link = Link::to(slot);
+        set_previous(&mut self.nodes, next, link);
+        self.nodes[slot].put_first(cell, next);
+        self.heads[cell] = link;
+        self.marks.insert(cell);
     }
 
     /// Takes a slot out of its cell.
     pub(crate) fn remove(&mut self, slot: usize)
-        requires { IsSome (cell_at self.old slot) }
-        ensures { self.new ≡ slice_set self.old slot None }
+        requires { IsSome (cell_at self.old.cells slot) }
+        ensures { self.new ≡ record self.old { cells = slice_set self.old.cells slot None } }
     {
-        let link = self.links[slot];
-        let cell = link.cell.unwrap();
-        set_previous(&mut self.links, link.next, link.previous);
-        set_next(&mut self.links, link.previous, link.next);
-        set_first(&mut self.heads, cell, link.previous, link.next);
-        mark_held(&mut self.marks, cell, self.heads[cell]);
-        self.links[slot] = UNLINKED;
+        let node = self.nodes[slot];
+        let cell = node.cell.unwrap() as usize;
+        set_previous(&mut self.nodes, node.next, node.previous);
+        set_next(&mut self.nodes, node.previous, node.next);
+        set_first(
+            &mut self.heads,
+            &mut self.marks,
+            cell,
+            node.previous,
+            node.next,
+        );
+        self.nodes[slot].take_out();
     }
 
     /// The first cell that holds a slot.
     pub(crate) fn first_cell(&self) -> Option<usize>
         ensures in_wheel { IfSome result (λ cell. cell < CELLS) }
-        ensures first { MatchOption result ((cell : ℕ) → IsVacant self.now cell) (IsFirstCell self.now) }
+        ensures first { MatchOption result ((cell : ℕ) → IsVacant self.now.cells cell) (IsFirstCell self.now.cells) }
     {
         self.marks.first()
     }
 
     /// A slot of the cell.
     pub(crate) fn first_in(&self, cell: usize) -> Option<usize>
-        ensures { MatchOption result (IsVacant self.now cell) (λ slot. cell_at self.now slot ≡ Some cell) }
+        ensures { MatchOption result (IsVacant self.now.cells cell) (λ slot. cell_at self.now.cells slot ≡ Some cell) }
     {
         head_of(&self.heads, cell)
     }
 
     /// A slot of the cell whose expiry is least among them, with its expiry.
-    pub(crate) fn least_in(&self, cell: usize, expiries: &[Option<u64>]) -> Option<(usize, u64)>
-        requires { HasExpiries self.now expiries.now cell }
-        ensures { MatchOption result (IsVacant self.now cell) (λ entry. IsLeastIn self.now expiries.now cell entry.0 entry.1) }
+    pub(crate) fn least_in(&self, cell: usize) -> Option<(usize, u64)>
+        requires { HasExpiries self.now.cells self.now.expiries cell }
+        ensures { MatchOption result (IsVacant self.now.cells cell) (λ entry. IsLeastIn self.now.cells self.now.expiries cell entry.0 entry.1) }
     {
         let mut least: Option<(usize, u64)> = None;
         let mut cursor = head_of(&self.heads, cell);
         while let Some(slot) = cursor {
-            let expiry = expiries[slot].unwrap();
+            let node = &self.nodes[slot];
+            let expiry = node.expiry().unwrap();
             least = Some(earlier_of(least, (slot, expiry)));
-            cursor = self.links[slot].next;
+            cursor = node.next.slot();
         }
         least
     }
 
-    /// Takes every slot out of its cell.
+    /// Takes every slot out of its cell, and forgets its entry.
     pub(crate) fn clear(&mut self)
-        ensures { self.new ≡ replicate (length self.old) None }
+        ensures expiries { self.new.expiries ≡ replicate (length self.old.expiries) None }
+        ensures cells { self.new.cells ≡ replicate (length self.old.cells) None }
     {
-        self.heads.fill(None);
-        self.links.fill(UNLINKED);
+        self.heads.fill(Link::none());
+        self.nodes.fill(Node::vacant());
         self.marks = Marks::new();
     }
 }
 
 // The first slot of the cell's list.
-fn head_of(heads: &[Option<usize>], cell: usize) -> Option<usize>
+fn head_of(heads: &[Link], cell: usize) -> Option<usize>
     ensures { result ≡ slice_index_or heads.now cell None }
 {
-    heads.get(cell).copied().flatten()
+    heads.get(cell)?.slot()
 }
 
 // The entry that expires first, of the best so far and another.
@@ -159,43 +189,27 @@ fn earlier_of(best: Option<(usize, u64)>, entry: (usize, u64)) -> (usize, u64)
     }
 }
 
-// Notes what the slot is preceded by, where there is a slot.
-fn set_previous(links: &mut [Link], slot: Option<usize>, previous: Option<usize>)
-    requires { IfSome slot (λ slot. slot < length links.old) }
-    ensures { links.new ≡ with_previous links.old slot previous }
+// Begins the cell's list with `next`, where nothing precedes that, and marks the cell accordingly.
+fn set_first(heads: &mut [Link], marks: &mut Marks, cell: usize, previous: Link, next: Link)
+    requires in_heads { cell < length heads.old }
+    requires in_wheel { cell < CELLS }
+    ensures heads { heads.new ≡ with_first heads.old cell previous next }
+    ensures here { mark_at marks.new cell ≡ mark_with_first previous next (mark_at marks.old cell) }
+    ensures elsewhere { (other : ℕ) → other ≢ cell → mark_at marks.new other ≡ mark_at marks.old other }
 {
-    if let Some(slot) = slot {
-        links[slot].previous = previous;
-    }
-}
-
-// Notes what the slot is followed by, where there is a slot.
-fn set_next(links: &mut [Link], slot: Option<usize>, next: Option<usize>)
-    requires { IfSome slot (λ slot. slot < length links.old) }
-    ensures { links.new ≡ with_next links.old slot next }
-{
-    if let Some(slot) = slot {
-        links[slot].next = next;
-    }
-}
-
-// Begins the cell's list with `next`, where nothing precedes that.
-fn set_first(heads: &mut [Option<usize>], cell: usize, previous: Option<usize>, next: Option<usize>)
-    requires { cell < length heads.old }
-    ensures { heads.new ≡ with_first heads.old cell previous next }
-{
-    if previous.is_none() {
+    if previous.slot().is_none() {
         heads[cell] = next;
+        mark_held(marks, cell, next);
     }
 }
 
 // Marks the cell where it has a first slot, and only there.
-fn mark_held(marks: &mut Marks, cell: usize, first: Option<usize>)
+fn mark_held(marks: &mut Marks, cell: usize, first: Link)
     requires { cell < CELLS }
     ensures here { mark_at marks.new cell ≡ mark_of first }
     ensures elsewhere { (other : ℕ) → other ≢ cell → mark_at marks.new other ≡ mark_at marks.old other }
 {
-    match first {
+    match first.slot() {
         Some(_) => marks.insert(cell),
         None => marks.remove(cell),
     }

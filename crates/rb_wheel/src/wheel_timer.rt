@@ -18,8 +18,7 @@ pub type WheelTimer = Wheel<PairingTimer>;
 /// base lies in a timer of its own.
 #[derive(Debug, Drop)]
 pub struct Wheel<E: Timer> {
-    // At each slot of the room its expiry, wherever its entry lies.
-    expiries: Vec<Option<u64>>,
+    // The slots of the room, each with its entry's expiry, wherever that lies.
     lists: Lists,
     early: E,
     base: u64,
@@ -33,9 +32,9 @@ impl<E: Timer> Model for Wheel<E> {
 
     ghost use Rattle.rb_wheel.specs.Wheel.{IsWheel};
 
-    ghost view = { λ wheel. wheel.expiries.items };
+    ghost view = { λ wheel. wheel.lists.expiries };
 
-    ghost invariant = { λ wheel. IsWheel wheel.expiries.items wheel.lists (E.content wheel.early) (E.room wheel.early) wheel.base wheel.len };
+    ghost invariant = { λ wheel. IsWheel wheel.lists.expiries wheel.lists.cells (E.content wheel.early) (E.room wheel.early) wheel.base wheel.len };
 }
 
 impl<E: Timer> Timer for Wheel<E> {
@@ -50,7 +49,6 @@ impl<E: Timer> Timer for Wheel<E> {
 
     fn new(alloc: Global) -> Self {
         Wheel {
-            expiries: Vec::new(alloc),
             lists: Lists::new(alloc),
             early: E::new(alloc),
             base: 0,
@@ -59,7 +57,7 @@ impl<E: Timer> Timer for Wheel<E> {
     }
 
     fn room(&self) -> usize {
-        self.expiries.len()
+        self.lists.room()
     }
 
     fn len(&self) -> usize {
@@ -67,20 +65,19 @@ impl<E: Timer> Timer for Wheel<E> {
     }
 
     fn get(&self, slot: usize) -> Option<u64> {
-        self.expiries.get(slot).copied().flatten()
+        self.lists.expiry(slot)
     }
 
     fn reserve(&mut self, wanted: usize) -> Result<(), AllocError> {
-        if wanted > self.expiries.len() {
+        if wanted > self.lists.room() {
             self.early.reserve(wanted)?;
             self.lists.reserve(wanted)?;
-            self.expiries.resize(wanted, None)?;
         }
         Ok(())
     }
 
     fn insert(&mut self, slot: usize, expiry: u64) {
-        self.expiries[slot] = Some(expiry);
+        self.lists.occupy(slot, expiry);
         self.len += 1;
         if expiry < self.base {
             self.early.insert(slot, expiry);
@@ -90,7 +87,7 @@ impl<E: Timer> Timer for Wheel<E> {
     }
 
     fn remove(&mut self, slot: usize) -> u64 {
-        let expiry = self.expiries[slot].take().unwrap();
+        let expiry = self.lists.vacate(slot);
         self.len -= 1;
         if expiry < self.base {
             self.early.remove(slot);
@@ -105,20 +102,19 @@ impl<E: Timer> Timer for Wheel<E> {
             return Some(entry);
         }
         let cell = self.lists.first_cell()?;
-        self.lists.least_in(cell, &self.expiries)
+        self.lists.least_in(cell)
     }
 
     fn due(&mut self, now: u64) -> Option<(usize, u64)> {
         if self.early.least().is_some() {
             return self.early.due(now);
         }
-        let cell = advance(&mut self.lists, &self.expiries, &mut self.base, now)?;
+        let cell = advance(&mut self.lists, &mut self.base, now)?;
         let slot = self.lists.first_in(cell)?;
         Some((slot, self.base))
     }
 
     fn clear(&mut self) {
-        self.expiries.fill(None);
         self.lists.clear();
         self.early.clear();
         self.len = 0;

@@ -6,7 +6,7 @@ use Rattle.rb_wheel.proofs.LeastOnWay.{IsLeastSoFar}
 use Rattle.rb_wheel.proofs.lists.Lists.least_in.Given as goal
 
 abbrev pub invariant-loop-cursor : goal.invariant-loop-cursor
-invariant-loop-cursor l = IsLeastSoFar l.self l.expiries l.cell (next_in l.self-inside.links.items) l.cursor l.least
+invariant-loop-cursor l = IsLeastSoFar l.self.cells l.self.expiries l.cell (next_in l.self-inside.nodes.items) l.cursor l.least
 
 abbrev pub decreases-loop-cursor : goal.decreases-loop-cursor
-decreases-loop-cursor l = left (next_in l.self-inside.links.items) (length l.self-inside.links.items) l.cursor
+decreases-loop-cursor l = left (next_in l.self-inside.nodes.items) (length l.self-inside.nodes.items) l.cursor

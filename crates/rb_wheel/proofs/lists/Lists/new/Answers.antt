@@ -1,6 +1,6 @@
 -- Nothing is linked, and nothing is marked.
 use Rattle.std.proofs.Common.{ℕ, sym, ap, ◌∙◌, arith, length, get_or, None}
-use Rattle.rb_wheel.specs.LinkWrites.{unlinked}
+use Rattle.rb_wheel.specs.Nodes.{vacant}
 use Rattle.rb_wheel.proofs.Rooms.{AreLinked-none}
 use Rattle.rb_wheel.specs.Marks.{mark_of}
 use Rattle.rb_wheel.proofs.lists.Lists.new.Goals as goal
@@ -12,7 +12,7 @@ invariant_of-result c =
       linked = (
         λ slot. 0,
         AreLinked-none c.new.result.items c.new-3.result.items no_heads
-            (λ slot. ap (λ ls. get_or ls slot unlinked) c.new-3.ensures.items),
+            (λ slot. ap (λ ls. get_or ls slot vacant) c.new-3.ensures.items),
       );
       marked = λ at. c.new-2.ensures at ∙ sym (ap mark_of (no_heads at));
       few_heads = rw c.new.ensures.items (omega arith);

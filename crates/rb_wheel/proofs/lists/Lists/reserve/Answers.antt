@@ -1,42 +1,66 @@
--- There are heads for all cells, and links that lie nowhere behind the others.
-use Rattle.std.proofs.Common.{◌≡◌, ◌-◌, ◌++◌, ℕ, Option, None, length, take, replicate, ap, ◌∙◌, arith}
+-- There are heads for all cells, and vacant nodes behind the others.
+use Rattle.std.proofs.Common.{◌≡◌, ◌-◌, ◌++◌, ℕ, List, Option, None, length, take, replicate, ap, ◌∙◌, arith}
 use Rattle.std.proofs.lemmas.List.{take_all, map-append}
-use Rattle.rb_wheel.specs.declared.lists.Link.{Link}
-use Rattle.rb_wheel.specs.LinkWrites.{unlinked, link_at}
-use Rattle.rb_wheel.specs.WheelLinks.{cells_of}
-use Rattle.rb_wheel.proofs.Rooms.{AreSoundLists-reserved, get_or-padded, cells_of-free}
-use Rattle.rb_wheel.proofs.Viewed.{length-viewed}
+use Rattle.rb_wheel.specs.declared.node.Node.{Node}
+use Rattle.rb_wheel.specs.Nodes.{vacant, node_at, expiry_of}
+use Rattle.rb_wheel.specs.WheelLinks.{cells_of, expiries_of}
+use Rattle.rb_wheel.proofs.Rooms.{AreSoundLists-reserved, get_or-padded, cells_of-free, expiries_of-free}
+use Rattle.rb_wheel.proofs.Viewed.{length-viewed, length-expiries, cells_viewed, expiries_viewed}
 use Rattle.rb_wheel.proofs.lists.Lists.reserve.Goals as goal
+use Rattle.rb_wheel.proofs.lists.Lists.reserve.Goals.{In_ok-resize, In_ok-resize-2}
+
+heads_are : (c : In_ok-resize) → c.resize.new.self.items ≡ take 704 c.self.inside.heads.items ++ replicate (704 - c.self.inside.heads.len) None
+heads_are c =
+    let heads = c.self.inside.heads in
+    c.in_ok-resize.ensures.items ∙ ap (λ (o : Option ℕ). take 704 heads.items ++ replicate (704 - heads.len) o) c.none.ensures
+
+nodes_are : (c : In_ok-resize-2) → c.resize-then-wanted-len.new.self.items ≡ c.self.inside.nodes.items ++ replicate (c.args.wanted - c.self.inside.nodes.len) vacant
+nodes_are c =
+    let nodes = c.self.inside.nodes.items in
+    let more = c.args.wanted - c.self.inside.nodes.len in
+    let whole : take c.args.wanted nodes ≡ nodes = take_all c.args.wanted nodes (omega arith) in
+    c.in_ok-resize-2.ensures.items ∙ ap (λ (ns : List Node). ns ++ replicate more c.vacant.result) whole
+    ∙ ap (λ (node : Node). nodes ++ replicate more node) c.vacant.ensures
 
 pub invariant_of-self-in-Continue-branch-2 : goal.invariant_of-self-in-Continue-branch-2
 invariant_of-self-in-Continue-branch-2 c =
     let lists = c.self.inside in
-    let links = lists.links.items in
+    let nodes = lists.nodes.items in
     let few = c.self.invariant.few_heads in
-    let whole : take c.args.wanted links ≡ links = take_all c.args.wanted links (omega arith) in
-    AreSoundLists-reserved lists.heads.items c.resize.new.self.items lists.marks links c.resize-then-wanted-len.new.self.items (704 - lists.heads.len)
-    (omega arith) c.in_ok-resize.ensures.items
-    (λ slot. ap (λ ls. link_at ls slot) (c.in_ok-resize-2.ensures.items ∙ ap (λ ls. ls ++ replicate (c.args.wanted - lists.links.len) unlinked) whole)
-    ∙ get_or-padded links (c.args.wanted - lists.links.len) slot unlinked)
+    AreSoundLists-reserved lists.heads.items c.resize.new.self.items lists.marks nodes c.resize-then-wanted-len.new.self.items (704 - lists.heads.len)
+    (omega arith) (heads_are (goal.at.invariant_of-self-in-Continue-branch-2 c).In_ok-resize)
+    (λ slot. ap (λ ns. node_at ns slot) (nodes_are (goal.at.invariant_of-self-in-Continue-branch-2 c).In_ok-resize-2)
+    ∙ get_or-padded nodes (c.args.wanted - lists.nodes.len) slot vacant)
     c.self.invariant
 
 pub invariant_of-self-in_err-resize-2 : goal.invariant_of-self-in_err-resize-2
 invariant_of-self-in_err-resize-2 c =
     let lists = c.self.inside in
     let few = c.self.invariant.few_heads in
-    AreSoundLists-reserved lists.heads.items c.resize.new.self.items lists.marks lists.links.items c.resize-then-wanted-len.new.self.items (704 - lists.heads.len)
-    (omega arith) c.in_ok-resize.ensures.items (λ slot. ap (λ ls. link_at ls slot) c.in_err-resize-2.ensures.items) c.self.invariant
+    AreSoundLists-reserved lists.heads.items c.resize.new.self.items lists.marks lists.nodes.items c.resize-then-wanted-len.new.self.items (704 - lists.heads.len)
+    (omega arith) (heads_are (goal.at.invariant_of-self-in_err-resize-2 c).In_ok-resize)
+    (λ slot. ap (λ ns. node_at ns slot) c.in_err-resize-2.ensures.items) c.self.invariant
 
-pub returns-in_ok-resize-2-clause-ok : goal.returns-in_ok-resize-2-clause-ok
-returns-in_ok-resize-2-clause-ok c =
-    let lists = c.self.inside in
-    let links = lists.links.items in
-    let more = c.args.wanted - lists.links.len in
-    let whole : take c.args.wanted links ≡ links = take_all c.args.wanted links (omega arith) in
-    let room = length-viewed links c.args.self.now c.self.view_is in
-    let count : more ≡ c.args.wanted - length c.args.self.now = omega arith in
-    ap cells_of (c.in_ok-resize-2.ensures.items ∙ ap (λ ls. ls ++ replicate more unlinked) whole)
-    ∙ map-append (λ (link : Link). link.cell) links (replicate more unlinked)
-    ∙ ap (λ cells. cells ++ cells_of (replicate more unlinked)) c.self.view_is
-    ∙ ap (λ cells. c.args.self.now ++ cells) (cells_of-free more)
-    ∙ ap (λ n. c.args.self.now ++ replicate {A = Option ℕ} n None) count
+pub returns-in_ok-resize-2-clause-expiries : goal.returns-in_ok-resize-2-clause-expiries
+returns-in_ok-resize-2-clause-expiries c =
+    let nodes = c.self.inside.nodes.items in
+    let more = c.args.wanted - c.self.inside.nodes.len in
+    let room = length-expiries nodes c.args.self.now c.self.view_is in
+    let count : more ≡ c.args.wanted - length c.args.self.now.expiries = omega arith in
+    ap expiries_of (nodes_are (goal.at.returns-in_ok-resize-2-clause-expiries c).In_ok-resize-2)
+    ∙ map-append expiry_of nodes (replicate more vacant)
+    ∙ ap (λ expiries. expiries ++ expiries_of (replicate more vacant)) (expiries_viewed nodes c.args.self.now c.self.view_is)
+    ∙ ap (λ expiries. c.args.self.now.expiries ++ expiries) (expiries_of-free more)
+    ∙ ap (λ n. c.args.self.now.expiries ++ replicate {A = Option ℕ} n None) count
+
+pub returns-in_ok-resize-2-clause-cells : goal.returns-in_ok-resize-2-clause-cells
+returns-in_ok-resize-2-clause-cells c =
+    let nodes = c.self.inside.nodes.items in
+    let more = c.args.wanted - c.self.inside.nodes.len in
+    let room = length-viewed nodes c.args.self.now c.self.view_is in
+    let count : more ≡ c.args.wanted - length c.args.self.now.cells = omega arith in
+    ap cells_of (nodes_are (goal.at.returns-in_ok-resize-2-clause-cells c).In_ok-resize-2)
+    ∙ map-append (λ (node : Node). node.cell) nodes (replicate more vacant)
+    ∙ ap (λ cells. cells ++ cells_of (replicate more vacant)) (cells_viewed nodes c.args.self.now c.self.view_is)
+    ∙ ap (λ cells. c.args.self.now.cells ++ cells) (cells_of-free more)
+    ∙ ap (λ n. c.args.self.now.cells ++ replicate {A = Option ℕ} n None) count

@@ -1,5 +1,5 @@
 -- Rows of none have no entry.
-use Rattle.std.proofs.Common.{◌≡◌, ℕ, Option, None, length, replicate, ap, ◌∙◌, rules, arith}
+use Rattle.std.proofs.Common.{length, ap, ◌∙◌}
 use Rattle.rb_timer.specs.Slots.{content_of, content_of-none}
 use Rattle.rb_wheel.proofs.Entries.{IsWheel-none}
 use Rattle.rb_wheel.proofs.wheel_timer.WheelAnyTimer.clear.Goals as goal
@@ -7,11 +7,9 @@ use Rattle.rb_wheel.proofs.wheel_timer.WheelAnyTimer.clear.Goals as goal
 pub invariant_of-self : goal.invariant_of-self
 invariant_of-self g c =
     let wheel = c.self.inside in
-    let long : wheel.expiries.len ≡ length wheel.expiries.items = omega arith in
-    IsWheel-none wheel.expiries.items c.fill.new.self.items wheel.lists c.clear.new.self _ _ _ _ wheel.base wheel.len
-    (c.fill.ensures.items (λ y is. search rules) ∙ ap (λ n. replicate {A = Option ℕ} n None) long)
-    c.clear.ensures c.clear-2.ensures.content c.clear-2.ensures.room c.self.invariant
+    IsWheel-none wheel.lists.expiries c.clear.new.self.expiries wheel.lists.cells c.clear.new.self.cells _ _ _ _ wheel.base wheel.len
+    c.clear.ensures.expiries c.clear.ensures.cells c.clear-2.ensures.content c.clear-2.ensures.room c.self.invariant
 
 pub returns-clause-content : goal.returns-clause-content
 returns-clause-content g c =
-    ap content_of (c.fill.ensures.items (λ y is. search rules)) ∙ content_of-none c.self.inside.expiries.len
+    ap content_of c.clear.ensures.expiries ∙ content_of-none (length c.self.inside.lists.expiries)

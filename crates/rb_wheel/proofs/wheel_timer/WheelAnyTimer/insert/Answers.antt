@@ -1,8 +1,8 @@
 -- The entry goes to the early ones, or into its cell.
-use Rattle.std.proofs.Common.{◌≡◌, ◌<◌, ◌∙◌, ℕ, List, Option, Some, None, length, set, sym, ap, subst, arith}
+use Rattle.std.proofs.Common.{◌≡◌, ◌<◌, ◌∙◌, ℕ, List, Option, Some, None, length, set, sym, ap, subst, arith, refl, length-set}
 use Rattle.std.specs.FinMap as map
 use Rattle.rb_timer.specs.Slots.{content_of, get-content_of, content_of-insert}
-use Rattle.rb_wheel.specs.Lists.{slot_expiry}
+use Rattle.rb_wheel.specs.Lists.{Slots, slot_expiry}
 use Rattle.rb_wheel.proofs.Entries.{fewer, free, not_early, insert_early, insert_late}
 use Rattle.rb_wheel.proofs.wheel_timer.WheelAnyTimer.insert.Goals as goal
 
@@ -17,43 +17,43 @@ within expiries value slot same low = subst (λ (es : List (Option ℕ)). slot <
 pub overflow_add-self : goal.overflow_add-self
 overflow_add-self g c =
     let wheel = c.self.inside in
-    let few = fewer wheel.expiries.items wheel.lists _ _ wheel.base wheel.len c.self.invariant c.args.slot
-    (within wheel.expiries.items c.args.self.now c.args.slot c.self.view_is c.requires.in_room)
-    (absent_in wheel.expiries.items c.args.self.now c.args.slot c.self.view_is c.requires.absent) in
-    let small = wheel.expiries.small in
-    let ok = wheel.expiries.ok in
+    let few = fewer wheel.lists.expiries wheel.lists.cells _ _ wheel.base wheel.len c.self.invariant c.args.slot
+    (within wheel.lists.expiries c.args.self.now c.args.slot c.self.view_is c.requires.in_room)
+    (absent_in wheel.lists.expiries c.args.self.now c.args.slot c.self.view_is c.requires.absent) in
+    let long = ap (λ (slots : Slots). length slots.expiries) c.occupy.ensures.noted ∙ length-set wheel.lists.expiries c.args.slot (Some c.args.expiry) in
+    let countable = c.occupy.ensures.countable in
     omega arith
 
 pub insert-requires-clause-absent : goal.insert-requires-clause-absent
 insert-requires-clause-absent g c =
     let wheel = c.self.inside in
-    not_early wheel.expiries.items wheel.lists _ _ wheel.base wheel.len c.self.invariant c.args.slot
-    (within wheel.expiries.items c.args.self.now c.args.slot c.self.view_is c.requires.in_room)
-    (absent_in wheel.expiries.items c.args.self.now c.args.slot c.self.view_is c.requires.absent)
+    not_early wheel.lists.expiries wheel.lists.cells _ _ wheel.base wheel.len c.self.invariant c.args.slot
+    (within wheel.lists.expiries c.args.self.now c.args.slot c.self.view_is c.requires.in_room)
+    (absent_in wheel.lists.expiries c.args.self.now c.args.slot c.self.view_is c.requires.absent)
 
 pub invariant_of-self : goal.invariant_of-self
 invariant_of-self g c =
     let wheel = c.self.inside in
-    insert_early wheel.expiries.items wheel.lists _ _ wheel.base wheel.len c.self.invariant c.args.slot
-    (within wheel.expiries.items c.args.self.now c.args.slot c.self.view_is c.requires.in_room)
-    (absent_in wheel.expiries.items c.args.self.now c.args.slot c.self.view_is c.requires.absent)
-    c.args.expiry _ _ (omega arith) c.if-expiry-self.true c.insert.ensures.content c.insert.ensures.room
+    rw c.occupy.ensures.noted (insert_early wheel.lists.expiries wheel.lists.cells _ _ wheel.base wheel.len c.self.invariant c.args.slot
+    (within wheel.lists.expiries c.args.self.now c.args.slot c.self.view_is c.requires.in_room)
+    (absent_in wheel.lists.expiries c.args.self.now c.args.slot c.self.view_is c.requires.absent)
+    c.args.expiry _ _ (omega arith) c.if-expiry-self.true c.insert.ensures.content c.insert.ensures.room)
 
 pub insert-requires-else-expiry-self-clause-free : goal.insert-requires-else-expiry-self-clause-free
 insert-requires-else-expiry-self-clause-free g c =
     let wheel = c.self.inside in
-    free wheel.expiries.items wheel.lists _ _ wheel.base wheel.len c.self.invariant c.args.slot
-    (within wheel.expiries.items c.args.self.now c.args.slot c.self.view_is c.requires.in_room)
-    (absent_in wheel.expiries.items c.args.self.now c.args.slot c.self.view_is c.requires.absent)
+    rw c.occupy.ensures.noted (free wheel.lists.expiries wheel.lists.cells _ _ wheel.base wheel.len c.self.invariant c.args.slot
+    (within wheel.lists.expiries c.args.self.now c.args.slot c.self.view_is c.requires.in_room)
+    (absent_in wheel.lists.expiries c.args.self.now c.args.slot c.self.view_is c.requires.absent))
 
 pub invariant_of-self-else-expiry-self : goal.invariant_of-self-else-expiry-self
 invariant_of-self-else-expiry-self g c =
     let wheel = c.self.inside in
-    insert_late wheel.expiries.items wheel.lists _ _ wheel.base wheel.len c.self.invariant c.args.slot
-    (within wheel.expiries.items c.args.self.now c.args.slot c.self.view_is c.requires.in_room)
-    (absent_in wheel.expiries.items c.args.self.now c.args.slot c.self.view_is c.requires.absent)
-    c.args.expiry c.cell_of.result c.insert-else-expiry-self.new.self (omega arith) c.if-expiry-self.false
-    c.cell_of.ensures.cell c.insert-else-expiry-self.ensures
+    rw (c.insert-else-expiry-self.ensures, c.occupy.ensures.noted) (insert_late wheel.lists.expiries wheel.lists.cells _ _ wheel.base wheel.len c.self.invariant c.args.slot
+    (within wheel.lists.expiries c.args.self.now c.args.slot c.self.view_is c.requires.in_room)
+    (absent_in wheel.lists.expiries c.args.self.now c.args.slot c.self.view_is c.requires.absent)
+    c.args.expiry c.cell_of.result (set wheel.lists.cells c.args.slot (Some c.cell_of.result)) (omega arith) c.if-expiry-self.false
+    c.cell_of.ensures.cell refl)
 
 -- the content has the entry
 added : (expiries value : List (Option ℕ)) (slot expiry : ℕ) → expiries ≡ value → slot < length value
@@ -63,8 +63,9 @@ added expiries value slot expiry same low =
 
 pub returns-then-expiry-self-clause-content : goal.returns-then-expiry-self-clause-content
 returns-then-expiry-self-clause-content g c =
-    added c.self.inside.expiries.items c.args.self.now c.args.slot c.args.expiry c.self.view_is c.requires.in_room
+    rw c.occupy.ensures.noted (added c.self.inside.lists.expiries c.args.self.now c.args.slot c.args.expiry c.self.view_is c.requires.in_room)
 
 pub returns-else-expiry-self-clause-content : goal.returns-else-expiry-self-clause-content
 returns-else-expiry-self-clause-content g c =
-    added c.self.inside.expiries.items c.args.self.now c.args.slot c.args.expiry c.self.view_is c.requires.in_room
+    rw (c.insert-else-expiry-self.ensures, c.occupy.ensures.noted)
+    (added c.self.inside.lists.expiries c.args.self.now c.args.slot c.args.expiry c.self.view_is c.requires.in_room)

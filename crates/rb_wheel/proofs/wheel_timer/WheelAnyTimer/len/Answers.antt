@@ -6,5 +6,5 @@ use Rattle.rb_wheel.proofs.wheel_timer.WheelAnyTimer.len.Goals as goal
 
 pub returns : goal.returns
 returns g c =
-    c.self.invariant.counted ∙ sym (len-content_of c.self.inside.expiries.items)
+    c.self.invariant.counted ∙ sym (len-content_of c.self.inside.lists.expiries)
     ∙ ap (λ expiries. map.len (content_of expiries)) c.self.view_is
