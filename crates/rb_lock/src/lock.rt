@@ -1,5 +1,5 @@
 //! The lock: its word, and how the pair in its slot is taken, used and given back.
-ghost use Rattle.std.specs.Prelude.{◌≡◌, ◌≤◌, [], ◌∷◌, Some, None, length};
+ghost use Rattle.std.specs.Prelude.{◌≡◌, ◌≤◌, [], ◌∷◌, Some, None, length, true, false};
 ghost use Rattle.rb_queue.specs.History.{IsLegal};
 ghost use Rattle.rb_lock.specs.LockSteps.{HasOneWord, AtRest, Got, MayGive, MayDraw, ActsIn, ActsOn, NamesIn, NamesOn, HasLearned, in_hand};
 ghost use Rattle.rb_lock.specs.Views.{settled};
@@ -12,6 +12,7 @@ use rb_kept::{CallFault, Outcome};
 use rb_ledger::Tally;
 use rb_queue::Ask;
 use rb_timer::Timer;
+use std::hint::spin_loop;
 use std::sync::Wait;
 
 // No seat holds the lock.
@@ -23,7 +24,12 @@ const HELD: u64 = 1;
 // A seat holds the lock, and another may sleep until it is given back.
 const SLEPT_ON: u64 = 2;
 
-/// Takes the lock, and with it the pair in its slot. A lost try sleeps until the lock is given back.
+// How often a thread that found the lock taken looks at it before it sleeps. A call is mostly over sooner than
+// a sleep would begin.
+const LOOKS: u32 = 100;
+
+/// Takes the lock, and with it the pair in its slot. A lost try looks for a while whether the lock is given
+/// back, and then sleeps until it is.
 pub(crate) fn take<T: Timer, R: Wait>(words: &Words<T>, rt: &R, seat: &mut PassSeat<T>)
     requires lock { HasOneWord words.now.table_id }
     requires table { seat.old.table_id ≡ words.now.table_id }
@@ -31,7 +37,11 @@ pub(crate) fn take<T: Timer, R: Wait>(words: &Words<T>, rt: &R, seat: &mut PassS
     ensures table { seat.new.table_id ≡ seat.old.table_id }
     ensures got { Got seat.old.me seat.new.me }
 {
-    if words.compare_exchange::<Take>(seat, 0, FREE, HELD) == FREE {
+    if has_taken(words, seat) {
+        return;
+    }
+    watch(words);
+    if has_taken(words, seat) {
         return;
     }
     for _ in rt.forever() {
@@ -40,8 +50,33 @@ pub(crate) fn take<T: Timer, R: Wait>(words: &Words<T>, rt: &R, seat: &mut PassS
             return;
         }
         words.park(rt, 0, SLEPT_ON as u32);
+        watch(words);
     }
     unreachable!()
+}
+
+// One try, which tells nobody that a thread may sleep: whether it took the lock.
+fn has_taken<T: Timer>(words: &Words<T>, seat: &mut PassSeat<T>) -> bool
+    requires lock { HasOneWord words.now.table_id }
+    requires table { seat.old.table_id ≡ words.now.table_id }
+    requires rest { AtRest seat.old.table_id seat.old.me }
+    ensures table { seat.new.table_id ≡ seat.old.table_id }
+    ensures got { result ≡ true → Got seat.old.me seat.new.me }
+    ensures lost { result ≡ false → seat.new.me ≡ seat.old.me }
+{
+    words.compare_exchange::<Take>(seat, 0, FREE, HELD) == FREE
+}
+
+// Looks for a while, as long as the lock is taken and nobody sleeps.
+fn watch<T: Timer>(words: &Words<T>)
+    requires lock { HasOneWord words.now.table_id }
+{
+    for _ in 0..LOOKS {
+        if words.peek(0) != HELD {
+            return;
+        }
+        spin_loop();
+    }
 }
 
 /// Gives the lock back, and with it the pair. It wakes a sleeper, if there may be one.

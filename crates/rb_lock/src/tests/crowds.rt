@@ -1,7 +1,7 @@
 // Threads that offer and as many that take: nothing is lost and nothing doubled, and each seat has just the
 // calls that its thread made.
 
-ghost use Rattle.std.specs.Prelude.{◌≡◌, ◌≤◌, ◌*◌, IfOk};
+ghost use Rattle.std.specs.Prelude.{◌≡◌, IfOk, IfSome};
 
 use super::{all_given, offer};
 use crate::{Pass, Shared};
@@ -14,15 +14,18 @@ use std::sync::Wait;
 use std::test::Fail;
 use std::thread::{Threads, join};
 
-type HeapShared = Shared<BinaryTimer>;
+pub(super) type HeapShared = Shared<BinaryTimer>;
 
-type HeapPass = Pass<BinaryTimer>;
+pub(super) type HeapPass = Pass<BinaryTimer>;
 
-// A shared queue with room for so many calls, and its first pass.
-fn opened(alloc: Global, capacity: u64) -> Result<(HeapShared, HeapPass), Fail>
+// How many elements go through the queue in each run.
+const ELEMENTS: u64 = 100_000;
+
+// A shared queue with room for the calls of a run, and its first pass.
+pub(super) fn opened(alloc: Global) -> Result<(HeapShared, HeapPass), Fail>
     ensures { IfOk result (λ opened. opened.1.table ≡ opened.0) }
 {
-    let (kept, tally) = Kept::new(alloc, capacity)?;
+    let (kept, tally) = Kept::new(alloc, 2 * ELEMENTS)?;
     match Shared::open(alloc, kept, tally) {
         Ok(opened) => Ok(opened),
         Err((_, _, fault)) => Err(Fail::from(fault)),
@@ -30,7 +33,7 @@ fn opened(alloc: Global, capacity: u64) -> Result<(HeapShared, HeapPass), Fail>
 }
 
 // Offers so many elements, which are expired at once.
-fn offer_all<R: Wait + Abort>(
+pub(super) fn offer_all<R: Wait + Abort>(
     rt: &R,
     shared: &HeapShared,
     mut pass: HeapPass,
@@ -46,7 +49,12 @@ fn offer_all<R: Wait + Abort>(
 }
 
 // Takes so many elements, and tries again where nothing is expired.
-fn take_all(rt: &impl Wait, shared: &HeapShared, mut pass: HeapPass, mut wanted: u64) -> HeapPass
+pub(super) fn take_all(
+    rt: &impl Wait,
+    shared: &HeapShared,
+    mut pass: HeapPass,
+    mut wanted: u64,
+) -> HeapPass
     requires { pass.table ≡ shared.now }
     ensures { result.table ≡ pass.table }
 {
@@ -61,18 +69,17 @@ fn take_all(rt: &impl Wait, shared: &HeapShared, mut pass: HeapPass, mut wanted:
     pass
 }
 
-// One thread offers so many elements and another takes as many; the second pass is folded into the first.
+// One thread offers so many elements and another takes as many. Their passes are gathered in the one given.
 fn pair<R: Threads + Wait + Abort + Sync>(
     rt: &R,
     shared: &HeapShared,
-    giver: HeapPass,
-    taker: HeapPass,
+    mut giver: HeapPass,
     count: u64,
-) -> HeapPass
-    requires giver { giver.table ≡ shared.now }
-    requires taker { taker.table ≡ shared.now }
-    ensures { result.table ≡ shared.now }
+) -> Option<HeapPass>
+    requires { giver.table ≡ shared.now }
+    ensures { IfSome result (λ gathered. gathered.table ≡ shared.now) }
 {
+    let taker = shared.split(rt, &mut giver).ok()?;
     let (mut giver, taker) = join(
         rt,
         || -> HeapPass
@@ -85,56 +92,61 @@ fn pair<R: Threads + Wait + Abort + Sync>(
         { take_all(rt, shared, taker, count) },
     );
     shared.fold(&mut giver, taker);
-    giver
+    Some(giver)
 }
 
-// The passes of a thread that offers and of one that takes.
-#[derive(Drop)]
-struct Crew {
-    giver: HeapPass,
-    taker: HeapPass,
-}
-
-fn split_crew(rt: &impl Wait, shared: &HeapShared, first: &mut HeapPass) -> Result<Crew, Fail>
-    requires { first.old.table ≡ shared.now }
-    ensures first { first.new.table ≡ first.old.table }
-    ensures giver { IfOk result (λ crew. crew.giver.table ≡ shared.now) }
-    ensures taker { IfOk result (λ crew. crew.taker.table ≡ shared.now) }
-{
-    let giver = shared.split(rt, first)?;
-    let taker = shared.split(rt, first)?;
-    Ok(Crew { giver, taker })
-}
-
-// Two crews at once, all of whose passes are folded into one.
-fn two<R: Threads + Wait + Abort + Sync>(
+// Two such pairs at once.
+fn two_pairs<R: Threads + Wait + Abort + Sync>(
     rt: &R,
     shared: &HeapShared,
-    one: Crew,
-    other: Crew,
+    mut first: HeapPass,
     count: u64,
-) -> HeapPass
-    requires one_giver { one.giver.table ≡ shared.now }
-    requires one_taker { one.taker.table ≡ shared.now }
-    requires other_giver { other.giver.table ≡ shared.now }
-    requires other_taker { other.taker.table ≡ shared.now }
-    ensures { result.table ≡ shared.now }
+) -> Option<HeapPass>
+    requires { first.table ≡ shared.now }
+    ensures { IfSome result (λ gathered. gathered.table ≡ shared.now) }
 {
-    let (mut done, more) = join(
+    let second = shared.split(rt, &mut first).ok()?;
+    let (first, second) = join(
         rt,
-        || -> HeapPass
-            requires giver { one.giver.table ≡ shared.now }
-            requires taker { one.taker.table ≡ shared.now }
-            ensures { result.table ≡ shared.entry.now }
-        { pair(rt, shared, one.giver, one.taker, count) },
-        || -> HeapPass
-            requires giver { other.giver.table ≡ shared.now }
-            requires taker { other.taker.table ≡ shared.now }
-            ensures { result.table ≡ shared.entry.now }
-        { pair(rt, shared, other.giver, other.taker, count) },
+        || -> Option<HeapPass>
+            requires { first.table ≡ shared.now }
+            ensures { IfSome result (λ gathered. gathered.table ≡ shared.entry.now) }
+        { pair(rt, shared, first, count) },
+        || -> Option<HeapPass>
+            requires { second.table ≡ shared.now }
+            ensures { IfSome result (λ gathered. gathered.table ≡ shared.entry.now) }
+        { pair(rt, shared, second, count) },
     );
-    shared.fold(&mut done, more);
-    done
+    let mut first = first?;
+    shared.fold(&mut first, second?);
+    Some(first)
+}
+
+// Four of them.
+fn four_pairs<R: Threads + Wait + Abort + Sync>(
+    rt: &R,
+    shared: &HeapShared,
+    mut first: HeapPass,
+    count: u64,
+) -> Option<HeapPass>
+    requires { first.table ≡ shared.now }
+    ensures { IfSome result (λ gathered. gathered.table ≡ shared.now) }
+{
+    let second = shared.split(rt, &mut first).ok()?;
+    let (first, second) = join(
+        rt,
+        || -> Option<HeapPass>
+            requires { first.table ≡ shared.now }
+            ensures { IfSome result (λ gathered. gathered.table ≡ shared.entry.now) }
+        { two_pairs(rt, shared, first, count) },
+        || -> Option<HeapPass>
+            requires { second.table ≡ shared.now }
+            ensures { IfSome result (λ gathered. gathered.table ≡ shared.entry.now) }
+        { two_pairs(rt, shared, second, count) },
+    );
+    let mut first = first?;
+    shared.fold(&mut first, second?);
+    Some(first)
 }
 
 // How many events a seat has.
@@ -142,68 +154,40 @@ fn events_of(history: &[Event], seat: u64) -> usize {
     history.iter().filter(|event| event.seat == seat).count()
 }
 
-// Closes the queue by the pass into which all were folded: so many seats have made so many calls each.
-fn expect_calls<R: Wait + Abort>(rt: &R, shared: HeapShared, pass: HeapPass, seats: u64, count: u64)
-    requires { pass.table ≡ shared }
+// Closes the queue by the pass in which all are gathered: so many seats have made their share of the calls.
+fn expect_calls<R: Wait + Abort>(rt: &R, shared: HeapShared, gathered: Option<HeapPass>, seats: u64)
+    requires { IfSome gathered (λ pass. pass.table ≡ shared) }
 {
-    let calls = seats.saturating_mul(count);
+    let pass = gathered.expect(rt, "all passes are split off");
     let closed = shared.close(rt, pass).ok();
     let (kept, _, audit) = closed.expect(rt, "all passes are gathered");
-    assert_eq!(rt; audit, all_given(calls, calls / 2));
+    assert_eq!(rt; audit, all_given(2 * ELEMENTS, ELEMENTS));
     for seat in 0..seats {
-        let count = usize::try_from(count).unwrap_or(0);
-        assert_eq!(rt; events_of(kept.history(), seat.saturating_add(1)), count);
+        let count = events_of(kept.history(), seat) as u64;
+        assert_eq!(rt; count.saturating_mul(seats), 2 * ELEMENTS);
     }
 }
 
 #[test]
-fn one_crew_loses_nothing(rt: HostRuntime) -> Result<(), Fail> {
-    let (shared, mut first) = opened(rt.alloc(), 200_000)?;
-    let crew = split_crew(&rt, &shared, &mut first)?;
-    let done = pair(&rt, &shared, crew.giver, crew.taker, 100_000);
-    shared.fold(&mut first, done);
-    expect_calls(&rt, shared, first, 2, 100_000);
+fn one_pair_loses_nothing(rt: HostRuntime) -> Result<(), Fail> {
+    let (shared, first) = opened(rt.alloc())?;
+    let gathered = pair(&rt, &shared, first, ELEMENTS);
+    expect_calls(&rt, shared, gathered, 2);
     Ok(())
 }
 
 #[test]
-fn two_crews_lose_nothing(rt: HostRuntime) -> Result<(), Fail> {
-    let (shared, mut first) = opened(rt.alloc(), 200_000)?;
-    let one = split_crew(&rt, &shared, &mut first)?;
-    let other = split_crew(&rt, &shared, &mut first)?;
-    let done = two(&rt, &shared, one, other, 50_000);
-    shared.fold(&mut first, done);
-    expect_calls(&rt, shared, first, 4, 50_000);
+fn two_pairs_lose_nothing(rt: HostRuntime) -> Result<(), Fail> {
+    let (shared, first) = opened(rt.alloc())?;
+    let gathered = two_pairs(&rt, &shared, first, ELEMENTS / 2);
+    expect_calls(&rt, shared, gathered, 4);
     Ok(())
 }
 
 #[test]
-fn four_crews_lose_nothing(rt: HostRuntime) -> Result<(), Fail> {
-    let (shared, mut first) = opened(rt.alloc(), 200_000)?;
-    let a = split_crew(&rt, &shared, &mut first)?;
-    let b = split_crew(&rt, &shared, &mut first)?;
-    let c = split_crew(&rt, &shared, &mut first)?;
-    let d = split_crew(&rt, &shared, &mut first)?;
-    let lock = &shared;
-    let (mut done, more) = join(
-        &rt,
-        || -> HeapPass
-            requires a_giver { a.giver.table ≡ lock.now }
-            requires a_taker { a.taker.table ≡ lock.now }
-            requires b_giver { b.giver.table ≡ lock.now }
-            requires b_taker { b.taker.table ≡ lock.now }
-            ensures { result.table ≡ lock.entry.now }
-        { two(&rt, lock, a, b, 25_000) },
-        || -> HeapPass
-            requires c_giver { c.giver.table ≡ lock.now }
-            requires c_taker { c.taker.table ≡ lock.now }
-            requires d_giver { d.giver.table ≡ lock.now }
-            requires d_taker { d.taker.table ≡ lock.now }
-            ensures { result.table ≡ lock.entry.now }
-        { two(&rt, lock, c, d, 25_000) },
-    );
-    shared.fold(&mut done, more);
-    shared.fold(&mut first, done);
-    expect_calls(&rt, shared, first, 8, 25_000);
+fn four_pairs_lose_nothing(rt: HostRuntime) -> Result<(), Fail> {
+    let (shared, first) = opened(rt.alloc())?;
+    let gathered = four_pairs(&rt, &shared, first, ELEMENTS / 4);
+    expect_calls(&rt, shared, gathered, 8);
     Ok(())
 }

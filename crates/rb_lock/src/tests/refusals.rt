@@ -2,7 +2,7 @@
 
 ghost use Rattle.std.specs.Prelude.{◌≡◌, IfOk};
 
-use super::{ListPass, ListShared, all_given, answer, element, offer, totals};
+use super::{ListPass, ListShared, answer, element, offer, totals};
 use crate::{OpenFault, Shared};
 use rb_kept::{CallFault, Kept, Outcome};
 use rb_queue::{Ask, Reply};
@@ -67,6 +67,33 @@ fn answer_at_last<R: Wait + Abort>(
     }
 }
 
+// Makes each call that takes no memory.
+fn expect_answers<R: Wait + Abort>(
+    rt: &R,
+    shared: &ListShared,
+    pass: &mut ListPass,
+) -> Result<(), Fail>
+    requires { pass.old.table ≡ shared.now }
+    ensures { pass.new.table ≡ pass.old.table }
+{
+    let asks = [
+        Ask::Size,
+        Ask::Peek,
+        Ask::Poll,
+        Ask::Take,
+        Ask::PollFor {
+            start: 0,
+            timeout: 0,
+        },
+        Ask::Remove(MANY),
+        Ask::Clear,
+    ];
+    for ask in asks {
+        answer(rt, shared, pass, 9, ask)?;
+    }
+    Ok(())
+}
+
 #[test]
 fn refusals_change_nothing(rt: HostRuntime) -> Result<(), Fail> {
     let mut met = 0;
@@ -75,16 +102,20 @@ fn refusals_change_nothing(rt: HostRuntime) -> Result<(), Fail> {
         let reply = answer_at_last(&rt, &shared, &mut pass, offer(&rt, 9), &mut met)?;
         assert_eq!(rt; reply, Reply::Offered(element(&rt, id, 9)));
     }
-    // These take no memory.
+    let drained = answer_at_last(&rt, &shared, &mut pass, Ask::Drain(5), &mut met)?;
+    assert!(rt; matches!(drained, Reply::Drained(_)));
+    // From here on no memory is taken: where an allocation were refused, a call would not be answered.
     let mut other = shared.split(&rt, &mut pass)?;
+    expect_answers(&rt, &shared, &mut other)?;
     shared.meet(&mut pass, &mut other);
     shared.fold(&mut pass, other);
-    let drained = answer_at_last(&rt, &shared, &mut pass, Ask::Drain(99), &mut met)?;
-    assert!(rt; matches!(drained, Reply::Drained(_)));
     let Ok((_, _, audit)) = shared.close(&rt, pass) else {
         return Err(Fail::from("it did not close"));
     };
-    assert_eq!(rt; audit, all_given(21, 20));
+    assert_eq!(rt;
+        (audit.calls, audit.offered, audit.given, audit.cleared),
+        (28, 20, 8, 12)
+    );
     assert_eq!(rt; met, REFUSALS);
     Ok(())
 }
