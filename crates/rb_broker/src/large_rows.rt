@@ -137,7 +137,8 @@ fn the_most_calls_find_ample_memory(rt: HostRuntime) {
 // under one another as they come, and gives them so. The wheel gives the one it got last.
 #[test]
 fn the_named_timer_is_used(rt: HostRuntime) {
-    let script = b"OFFER 0 a\nOFFER 0 b\nOFFER 0 c\nOFFER 0 d\nREMOVE 0\nOFFER 0 e\nPOLL\nPOLL\nPOLL\nPOLL\n";
+    let script =
+        b"OFFER 0 a\nOFFER 0 b\nOFFER 0 c\nOFFER 0 d\nREMOVE 0\nOFFER 0 e\nPOLL\nPOLL\nPOLL\nPOLL\n";
     let offered = b"OFFERED 0 0\nOFFERED 1 0\nOFFERED 2 0\nOFFERED 3 0\nREMOVED yes\nOFFERED 4 0\n";
     let by_list = b"ITEM 4 0 1 e\nITEM 1 0 1 b\nITEM 2 0 1 c\nITEM 3 0 1 d\n";
     let by_heap = b"ITEM 3 0 1 d\nITEM 4 0 1 e\nITEM 2 0 1 c\nITEM 1 0 1 b\n";
