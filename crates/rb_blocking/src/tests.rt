@@ -17,7 +17,10 @@ use rb_queue::Draft;
 use rb_timer::ListTimer;
 use std::alloc::Global;
 use std::process::Abort;
+use std::sync::Wait;
+use std::sync::atomic::{AtomicU64, Ordering};
 use std::test::Fail;
+use std::thread::yield_now;
 
 type ListShared = Shared<ListTimer>;
 
@@ -80,4 +83,15 @@ fn element(rt: &impl Abort, id: u64, expiry: u64) -> Element {
         attempt: 1,
         payload: payload(rt),
     }
+}
+
+// Waits until a count of another thread's is more than this.
+fn await_more(rt: &impl Wait, count: &AtomicU64, than: u64) {
+    for _ in rt.forever() {
+        if count.load(Ordering::SeqCst) > than {
+            return;
+        }
+        yield_now();
+    }
+    unreachable!()
 }

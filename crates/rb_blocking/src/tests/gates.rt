@@ -1,35 +1,41 @@
-// Gates that end a wait after so many turns.
+// Gates that end a wait after so many turns, each with its rest.
 
 ghost use Rattle.std.specs.Prelude.{◌≡◌};
 
 use super::{CountingGate, FixedClock, ListPass, ListShared, opened};
-use crate::{Bell, WaitFault, take};
+use crate::{Bell, Clock, MachineClock, WaitFault, take};
 use std::sync::Wait;
 use std::test::Fail;
-use std::time::Clock;
+use std::time;
 
-// How often a gate of this limit is asked by a take that finds nothing, and how the take ended.
-fn asked<R: Wait + Clock>(
+// How long a rest lasts that nothing ends, in nanoseconds.
+const REST: u64 = 20_000_000;
+
+// How often a gate of this limit is asked by a take that finds nothing, how long the take lasted, and how it
+// ended.
+fn asked<R: Wait + time::Clock>(
     rt: &R,
     shared: &ListShared,
     pass: &mut ListPass,
     limit: u64,
-) -> (u64, Option<WaitFault>)
+) -> (u64, u64, Option<WaitFault>)
     requires { pass.old.table ≡ shared.now }
     ensures { pass.new.table ≡ pass.old.table }
 {
     let bell = Bell::new();
     let mut gate = CountingGate { limit, asked: 0 };
+    let watch = MachineClock::new(rt);
     let ended = take(rt, shared, pass, &FixedClock(7), &mut gate, &bell);
-    (gate.asked, ended.err())
+    (gate.asked, watch.now(), ended.err())
 }
 
 #[test]
 fn stops_after_so_many_turns(rt: HostRuntime) -> Result<(), Fail> {
     let (shared, mut pass) = opened(rt.alloc(), 1)?;
     for limit in 0..6 {
-        let (times, ended) = asked(&rt, &shared, &mut pass, limit);
+        let (times, lasted, ended) = asked(&rt, &shared, &mut pass, limit);
         assert_eq!(rt; times, limit + 1);
+        assert!(rt; limit * REST <= lasted);
         assert_eq!(rt; ended, Some(WaitFault::Stopped));
     }
     assert_eq!(rt; pass.calls(), 0);

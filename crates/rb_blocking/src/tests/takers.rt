@@ -2,13 +2,13 @@
 
 ghost use Rattle.std.specs.Prelude.{◌≡◌};
 
-use super::{FixedClock, ListPass, ListShared, draft, opened};
+use super::{FixedClock, ListPass, ListShared, await_more, draft, opened};
 use crate::{Bell, Gate, WaitFault, offer_ring, take};
 use std::process::Abort;
 use std::sync::Wait;
 use std::sync::atomic::{AtomicU64, Ordering};
 use std::test::Fail;
-use std::thread::{Threads, join, yield_now};
+use std::thread::{Threads, join};
 use std::time::Clock;
 
 // How many takers wait, and how many have got an element.
@@ -67,12 +67,7 @@ fn offer_one<R: Wait + Abort>(
 ) -> bool
     requires { pass.table ≡ shared.now }
 {
-    for _ in rt.forever() {
-        if counts.waiting.load(Ordering::SeqCst) == 2 {
-            break;
-        }
-        yield_now();
-    }
+    await_more(rt, &counts.waiting, 1);
     offer_ring(rt, shared, &mut pass, 9, draft(rt, 9), bell).is_ok()
 }
 

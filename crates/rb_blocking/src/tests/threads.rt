@@ -1,122 +1,85 @@
-// A thread that waits, and another that offers.
+// A thread that waits, and another that offers once it does.
 
-ghost use Rattle.std.specs.Prelude.{◌≡◌, ◌<◌};
+ghost use Rattle.std.specs.Prelude.{◌≡◌};
 
-use super::{FixedClock, ListPass, ListShared, draft, opened};
-use crate::{Bell, TurnGate, offer_ring, take};
-use std::alloc::Global;
+use super::{FixedClock, ListPass, ListShared, await_more, draft, opened};
+use crate::{Bell, Gate, offer_ring, take};
 use std::process::Abort;
 use std::sync::Wait;
+use std::sync::atomic::{AtomicU64, Ordering};
 use std::test::Fail;
-use std::thread::{Threads, join};
+use std::thread::join;
 use std::time::Clock;
 
-// Takes so many elements, and gives how many it got.
+const ROUNDS: u64 = 1_000;
+
+// A gate that ends no wait, and counts the takes that found nothing at first.
+#[derive(Drop)]
+struct TellingGate<'a> {
+    waits: &'a AtomicU64,
+}
+
+impl<'a> Gate for TellingGate<'a> {
+    ghost stops = { λ _ _. Unit {0} };
+
+    fn turn(&mut self, turns: u64) -> bool {
+        if turns == 0 {
+            self.waits.fetch_add(1, Ordering::SeqCst);
+        }
+        true
+    }
+}
+
+// Takes an element a round. How many calls were answered.
 fn take_all<R: Wait + Clock>(
     rt: &R,
     shared: &ListShared,
     mut pass: ListPass,
     bell: &Bell,
-    count: u64,
-) -> ListPass
+    waits: &AtomicU64,
+) -> u64
     requires { pass.table ≡ shared.now }
-    ensures { result.table ≡ pass.table }
 {
-    let mut gate = TurnGate { limit: 1_000 };
-    for _ in 0..count {
+    let mut gate = TellingGate { waits };
+    for _ in 0..ROUNDS {
         let _ = take(rt, shared, &mut pass, &FixedClock(9), &mut gate, bell);
     }
-    pass
+    pass.calls()
 }
 
-// Offers so many elements, which are expired at once.
+// Offers an element a round, once the take has found nothing. How many calls were answered.
 fn offer_all<R: Wait + Abort>(
     rt: &R,
     shared: &ListShared,
     mut pass: ListPass,
     bell: &Bell,
-    count: u64,
-) -> ListPass
+    waits: &AtomicU64,
+) -> u64
     requires { pass.table ≡ shared.now }
-    ensures { result.table ≡ pass.table }
 {
-    for _ in 0..count {
+    for round in 0..ROUNDS {
+        await_more(rt, waits, round);
         let _ = offer_ring(rt, shared, &mut pass, 9, draft(rt, 9), bell);
     }
-    pass
-}
-
-// How many calls of two threads were answered, where one takes what the other offers.
-fn calls_of_two<R: Threads + Wait + Clock + Abort + Sync>(
-    rt: &R,
-    alloc: Global,
-    count: u64,
-) -> Result<(u64, u64), Fail>
-    requires { count < 10_000 }
-{
-    let (shared, mut first) = opened(alloc, count + count)?;
-    let second = shared.split(rt, &mut first)?;
-    let lock = &shared;
-    let bell = &Bell::new();
-    let (taker, giver) = join(
-        rt,
-        || -> ListPass
-            requires { second.table ≡ lock.now }
-        { take_all(rt, lock, second, bell, count) },
-        || -> ListPass
-            requires { first.table ≡ lock.now }
-        { offer_all(rt, lock, first, bell, count) },
-    );
-    Ok((taker.calls(), giver.calls()))
+    pass.calls()
 }
 
 #[test]
 fn waits_then_takes(rt: HostRuntime) -> Result<(), Fail> {
-    assert_eq!(rt; calls_of_two(&rt, rt.alloc(), 1_000)?, (1_000, 1_000));
-    Ok(())
-}
-
-// Whether a take gets an element before its gate ends the wait.
-fn gets_one<R: Wait + Clock>(rt: &R, shared: &ListShared, mut pass: ListPass, bell: &Bell) -> bool
-    requires { pass.table ≡ shared.now }
-{
-    let mut gate = TurnGate { limit: 5 };
-    take(rt, shared, &mut pass, &FixedClock(9), &mut gate, bell).is_ok()
-}
-
-// Offers an element by one pass, and then tries to take one by another.
-fn offers_then_gets<R: Wait + Clock + Abort>(
-    rt: &R,
-    shared: &ListShared,
-    giver: ListPass,
-    taker: ListPass,
-    bell: &Bell,
-) -> bool
-    requires giver { giver.table ≡ shared.now }
-    requires taker { taker.table ≡ shared.now }
-{
-    let _ = offer_all(rt, shared, giver, bell, 1);
-    gets_one(rt, shared, taker, bell)
-}
-
-// One element is offered to two takers: one gets it, and the other waits on.
-#[test]
-fn one_of_two_takers_gets_it(rt: HostRuntime) -> Result<(), Fail> {
-    let (shared, mut first) = opened(rt.alloc(), 4)?;
+    let (shared, mut first) = opened(rt.alloc(), 2 * ROUNDS)?;
     let second = shared.split(&rt, &mut first)?;
-    let third = shared.split(&rt, &mut first)?;
     let lock = &shared;
     let bell = &Bell::new();
-    let (one, other) = join(
+    let waits = &AtomicU64::new(0);
+    let (taken, offered) = join(
         &rt,
-        || -> bool
+        || -> u64
             requires { second.table ≡ lock.now }
-        { gets_one(&rt, lock, second, bell) },
-        || -> bool
-            requires first { first.table ≡ lock.now }
-            requires third { third.table ≡ lock.now }
-        { offers_then_gets(&rt, lock, first, third, bell) },
+        { take_all(&rt, lock, second, bell, waits) },
+        || -> u64
+            requires { first.table ≡ lock.now }
+        { offer_all(&rt, lock, first, bell, waits) },
     );
-    assert!(rt; one != other);
+    assert_eq!(rt; (taken, offered), (ROUNDS, ROUNDS));
     Ok(())
 }
