@@ -3,7 +3,7 @@
 #
 #   CALLS       calls of each heap run (default and greatest 1000000)
 #   LIST_CALLS  calls of the list run (default: CALLS)
-#   RUNS        runs of each kind, of which the median counts (default 3)
+#   RUNS        runs of each kind and timer, of which the median counts (default 5)
 #
 # Three kinds of input, in each of which S elements stand all the time:
 #   random    delays from 0 to 1,000,000,000 ns; AT moves time on to the least expiry, an element is offered,
@@ -16,7 +16,7 @@
 set -euo pipefail
 export LC_ALL=C
 
-CALLS=${CALLS:-1000000} LIST_CALLS=${LIST_CALLS:-$CALLS} RUNS=${RUNS:-3}
+CALLS=${CALLS:-1000000} LIST_CALLS=${LIST_CALLS:-$CALLS} RUNS=${RUNS:-5}
 SMALL=1000 LARGE=100000
 if ((CALLS < 2 * LARGE || CALLS > 1000000 || LIST_CALLS < 2 * SMALL || LIST_CALLS > 1000000 || RUNS < 1)); then
     echo "bench: CALLS is 200000 to 1000000, LIST_CALLS 2000 to 1000000, RUNS from 1" >&2 && exit 2
@@ -87,45 +87,51 @@ print("\n".join(lines))
 PYTHON
 }
 
-# Runs one kind of input and keeps its median's nanoseconds per call under its name: name, timer, kind, S,
-# calls, output.
+# Runs one kind of input: its kind, S, calls, the output, and the timers, which run in turn, so that what else the
+# machine does meets them alike. It keeps each median's nanoseconds per call under timer, kind and S.
 declare -A per_call
 measure() {
-    local name=$1 timer=$2 calls=$5 output=$6 input="$room/$3-$4-$5" begun ended median
-    [[ -e $input ]] || make_input "$3" "$4" "$calls" > "$input"
+    local kind=$1 size=$2 calls=$3 output=$4 input="$room/$1-$2-$3" begun ended timer median
+    shift 4
+    [[ -e $input ]] || make_input "$kind" "$size" "$calls" > "$input"
+    rm -f -- "$room"/times-*
     for ((run = 0; run < RUNS; run++)); do
-        begun=$EPOCHREALTIME
-        "$program" script --timer "$timer" --calls "$calls" < "$input" > "$output"
-        ended=$EPOCHREALTIME
-        echo $((${ended/./} - ${begun/./}))
-    done | sort -n > "$room/times"
-    median=$(sed -n "$(((RUNS + 1) / 2))p" "$room/times")
-    per_call[$name]=$(awk "BEGIN { printf \"%.1f\", $median * 1000 / $calls }")
-    if [[ $output != /dev/null ]] && grep -m 1 -E '^(ERR|NONE|REMOVED no)' "$output" >&2; then
-        echo "bench: this input has no such reply" >&2 && exit 1
-    fi
-    printf '%-8s %-9s %7d %8d  %-9s %9.3f %9.1f   %s\n' "$timer" "$3" "$4" "$calls" "${output##*/}" \
-        "$(awk "BEGIN { print $median / 1e6 }")" "${per_call[$name]}" "$(awk '{ printf "%.3f ", $1 / 1e6 }' "$room/times")"
+        for timer; do
+            begun=$EPOCHREALTIME
+            "$program" script --timer "$timer" --calls "$calls" < "$input" > "$output"
+            ended=$EPOCHREALTIME
+            echo $((${ended/./} - ${begun/./})) >> "$room/times-$timer"
+            if [[ $output != /dev/null ]] && grep -m 1 -E '^(ERR|NONE|REMOVED no)' "$output" >&2; then
+                echo "bench: this input has no such reply" >&2 && exit 1
+            fi
+        done
+    done
+    for timer; do
+        median=$(sort -n "$room/times-$timer" | sed -n "$(((RUNS + 1) / 2))p")
+        per_call[$timer-$kind-$size]=$(awk "BEGIN { printf \"%.1f\", $median * 1000 / $calls }")
+        printf '%-8s %-9s %7d %8d  %-9s %9.3f %9.1f   %s\n' "$timer" "$kind" "$size" "$calls" "${output##*/}" \
+            "$(awk "BEGIN { print $median / 1e6 }")" "${per_call[$timer-$kind-$size]}" \
+            "$(sort -n "$room/times-$timer" | awk '{ printf "%.3f ", $1 / 1e6 }')"
+    done
 }
 
 ratio() { awk "BEGIN { printf \"%.2f\", ${per_call[$1]} / ${per_call[$2]} }"; }
 
 printf '%-8s %-9s %7s %8s  %-9s %9s %9s   %s\n' timer input S calls output 'median s' ns/call 'each run, s'
 for output in /dev/null "$room/file"; do
-    measure list list random $SMALL "$LIST_CALLS" "$output"
-    for timer in heap pairing wheel; do
-        for kind in random timeouts equal; do
-            measure "$timer-$kind-small" "$timer" "$kind" $SMALL "$CALLS" "$output"
-            measure "$timer-$kind-large" "$timer" "$kind" $LARGE "$CALLS" "$output"
+    measure random $SMALL "$LIST_CALLS" "$output" list
+    for kind in random timeouts equal; do
+        for size in $SMALL $LARGE; do
+            measure "$kind" "$size" "$CALLS" "$output" heap pairing wheel
         done
     done
-    echo "list to heap, random, at $SMALL: $(ratio list heap-random-small)"
+    echo "list to heap, random, at $SMALL: $(ratio list-random-$SMALL heap-random-$SMALL)"
     for kind in random timeouts equal; do
-        for size in small large; do
-            echo "to heap, $kind, $size: pairing $(ratio "pairing-$kind-$size" "heap-$kind-$size"), wheel $(ratio "wheel-$kind-$size" "heap-$kind-$size")"
+        for size in $SMALL $LARGE; do
+            echo "to heap, $kind, at $size: pairing $(ratio "pairing-$kind-$size" "heap-$kind-$size"), wheel $(ratio "wheel-$kind-$size" "heap-$kind-$size")"
         done
         for timer in heap pairing wheel; do
-            echo "$timer, $kind, at $LARGE to at $SMALL: $(ratio "$timer-$kind-large" "$timer-$kind-small")"
+            echo "$timer, $kind, at $LARGE to at $SMALL: $(ratio "$timer-$kind-$LARGE" "$timer-$kind-$SMALL")"
         done
     done
 done
