@@ -1,11 +1,13 @@
 // Each growth that an offer may want, refused in turn.
 
-ghost use Rattle.std.specs.Prelude.{◌≡◌};
+ghost use Rattle.std.specs.Prelude.{◌≡◌, IfOk};
 
-use super::{FixedClock, ListPass, ListShared, draft, element, opened};
+use super::{FixedClock, ListPass, ListShared, draft, element};
 use crate::{Bell, TurnGate, offer_ring, take};
 use rb_delayed::Element;
-use rb_kept::CallFault;
+use rb_kept::{CallFault, Kept};
+use rb_lock::Shared;
+use std::alloc::Global;
 use std::process::Abort;
 use std::sync::Wait;
 use std::test::Fail;
@@ -16,6 +18,24 @@ const REFUSALS: u32 = 0;
 
 // Past several growths of slots, timer and directory.
 const MANY: u64 = 20;
+
+// What the calls are made on, made once more where it was refused: this test is not about it.
+fn opened_at_last(alloc: Global) -> Result<(ListShared, ListPass), Fail>
+    ensures { IfOk result (λ opened. opened.1.table ≡ opened.0) }
+{
+    let (kept, tally) = match Kept::new(alloc, 60) {
+        Ok(made) => made,
+        Err(_) => Kept::new(alloc, 60)?,
+    };
+    let (kept, tally) = match Shared::open(alloc, kept, tally) {
+        Ok(opened) => return Ok(opened),
+        Err((kept, tally, _)) => (kept, tally),
+    };
+    match Shared::open(alloc, kept, tally) {
+        Ok(opened) => Ok(opened),
+        Err((_, _, fault)) => Err(Fail::from(fault)),
+    }
+}
 
 // The offered element, offered once more where there was no memory. A refused offer is no call, and rings
 // nothing.
@@ -60,11 +80,7 @@ fn expect_taken<R: Wait + Abort + std::time::Clock>(
 #[test]
 fn refusals_change_nothing(rt: HostRuntime) -> Result<(), Fail> {
     let mut met = 0;
-    // What the calls are made on is not refused twice.
-    let (shared, mut pass) = match opened(rt.alloc(), 60) {
-        Ok(opened) => opened,
-        Err(_) => opened(rt.alloc(), 60)?,
-    };
+    let (shared, mut pass) = opened_at_last(rt.alloc())?;
     let bell = Bell::new();
     for id in 0..MANY {
         let offered = offer_at_last(&rt, &shared, &mut pass, &bell, &mut met);
