@@ -4,6 +4,7 @@
 #   CALLS       calls of each heap run (default and greatest 1000000)
 #   LIST_CALLS  calls of the list run (default: CALLS)
 #   RUNS        runs of each kind and timer, of which the median counts (default 5)
+#   OTHER       another build of rb_broker, to compare this one with where replies go to a file or a pipe
 #
 # Three kinds of input, in each of which S elements stand all the time:
 #   random    delays from 0 to 1,000,000,000 ns; AT moves time on to the least expiry, an element is offered,
@@ -115,6 +116,36 @@ measure() {
     done
 }
 
+# Runs random input through this program, through OTHER where that is named, and through cat, to a file and to a
+# pipe: how many elements stand.
+compare_devices() {
+    local size=$1 input="$room/random-$1-$CALLS" output name begun ended
+    local names=(this ${OTHER:+other} cat)
+    local -A command=([this]="$program" [other]="${OTHER:-}" [cat]=cat) median
+    for output in file pipe; do
+        rm -f -- "$room"/times-*
+        for ((run = 0; run < RUNS; run++)); do
+            for name in "${names[@]}"; do
+                local words=("${command[$name]}")
+                [[ $name == cat ]] || words+=(script --calls "$CALLS")
+                begun=$EPOCHREALTIME
+                if [[ $output == file ]]; then
+                    "${words[@]}" < "$input" > "$room/file"
+                else
+                    "${words[@]}" < "$input" | cat > /dev/null
+                fi
+                ended=$EPOCHREALTIME
+                echo $((${ended/./} - ${begun/./})) >> "$room/times-$name"
+            done
+        done
+        for name in "${names[@]}"; do
+            median[$name]=$(sort -n "$room/times-$name" | sed -n "$(((RUNS + 1) / 2))p")
+            echo "$name, random, at $size, to a $output: $((median[$name] / 1000)) ms"
+        done
+        [[ -z ${OTHER:-} ]] || awk "BEGIN { printf \"this to other: %.2f\\n\", ${median[this]} / ${median[other]} }"
+    done
+}
+
 ratio() { awk "BEGIN { printf \"%.2f\", ${per_call[$1]} / ${per_call[$2]} }"; }
 
 printf '%-8s %-9s %7s %8s  %-9s %9s %9s   %s\n' timer input S calls output 'median s' ns/call 'each run, s'
@@ -134,4 +165,7 @@ for output in /dev/null "$room/file"; do
             echo "$timer, $kind, at $LARGE to at $SMALL: $(ratio "$timer-$kind-$LARGE" "$timer-$kind-$SMALL")"
         done
     done
+done
+for size in $SMALL $LARGE; do
+    compare_devices $size
 done
