@@ -1,5 +1,5 @@
 -- What the options and arguments of the commands take.
-use Rattle.std.specs.Prelude.{◌≡◌, ℕ, true, false, List, [], ◌∷◌, map, Some, codes}
+use Rattle.std.specs.Prelude.{◌≡◌, true, false, List, [], ◌∷◌, map, Some, codes}
 use Rattle.std.specs.Borrow.{Bor}
 use Rattle.clap.specs.Words.{Rule, Text, new_rule}
 use Rattle.clap.specs.declared.builder.action.ArgAction.TheVariants.{SetTrue}

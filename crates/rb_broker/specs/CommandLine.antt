@@ -1,10 +1,10 @@
 -- What the command line takes, and what its words give.
-use Rattle.std.specs.Prelude.{◌≡◌, ◌≢◌, ℕ, ◌≤◌, true, false, List, Option, Some, None, MatchBool, is_some, option_map, codes, String, string_bytes}
+use Rattle.std.specs.Prelude.{◌≡◌, ◌≢◌, ℕ, ◌≤◌, true, List, Option, Some, None, MatchBool, is_some, option_map, codes, String, string_bytes}
 use Rattle.std.specs.declared.alloc.Global.{Global}
 use Rattle.std.specs.Borrow.{Bor}
 use Rattle.std.specs.Str.Parse.{IsNumeral, digits_value, without_leading_plus}
 use Rattle.clap.specs.Words.{App, Row, Text, first_of, one_of, new_app, subcommand_of, with_rule, with_subcommand}
-use Rattle.clap.specs.Words.{first_value, found_of, matched_of, one_text}
+use Rattle.clap.specs.Words.{first_value, matched_of, one_text}
 use Rattle.clap.specs.declared.parser.matches.Found.{Found}
 use Rattle.rb_delayed.specs.declared.moment.TheConstants.{GREATEST_MOMENT}
 use Rattle.rb_retry.specs.declared.policy.Pace.{Pace}

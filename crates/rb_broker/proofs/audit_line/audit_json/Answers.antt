@@ -1,6 +1,6 @@
-use Rattle.std.proofs.Common.{◌≡◌, ◌∙◌, ap, sym, IfOk, codes, rules}
+use Rattle.std.proofs.Common.{◌≡◌, ◌∙◌, ap, codes, rules}
 use Rattle.serde_json.specs.Data.{Members, member, no_members, number, object, put, unsigned}
-use Rattle.serde_json.specs.View.{members_view, view}
+use Rattle.serde_json.specs.View.{members_view}
 use Rattle.serde_json.proofs.OnLiterals.{serde_json_on_literals}
 use Rattle.serde_json.proofs.Views.{view-Object}
 use Rattle.rb_broker.proofs.audit_line.audit_json.Goals as goal

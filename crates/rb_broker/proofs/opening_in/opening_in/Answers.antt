@@ -1,6 +1,4 @@
-use Rattle.std.proofs.Common.{Err, Ok, inl, inr, subst}
-use Rattle.rb_queue.specs.declared.event.Event.{Event}
-use Rattle.rb_queue.specs.declared.opening.Opening.{Opening}
+use Rattle.std.proofs.Common.{Err, Ok, inr, subst}
 use Rattle.rb_replay.specs.Readings.{IsReadAs}
 use Rattle.rb_broker.specs.declared.broker_fault.BrokerFault.TheVariants.{BadOpening}
 use Rattle.rb_broker.proofs.Beginnings.{goes_on_same, refused, too_large}

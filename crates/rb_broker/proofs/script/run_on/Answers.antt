@@ -1,4 +1,4 @@
-use Rattle.std.proofs.Common.{◌≡◌, ℕ, List, [], Option, Ok, Err, refl, sym, subst, ap, length, ◌∙◌, rules}
+use Rattle.std.proofs.Common.{◌≡◌, ℕ, List, [], Option, Err, refl, sym, subst, ap, length, ◌∙◌, rules}
 use Rattle.std.specs.Prelude.{Result}
 use Rattle.rb_ledger.specs.Totals.{nothing}
 use Rattle.rb_ledger.specs.declared.totals.Totals.{Totals}

@@ -1,4 +1,4 @@
-use Rattle.std.proofs.Common.{rules, ◌≡◌, ◌∙◌, subst}
+use Rattle.std.proofs.Common.{◌≡◌, ◌∙◌, subst}
 use Rattle.rb_broker.specs.ServeText.{Prints, listening_text}
 use Rattle.rb_broker.proofs.serve_text.print_listening.Goals as goal
 
