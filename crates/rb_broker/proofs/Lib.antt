@@ -1,4 +1,3 @@
-pub mod CommandLines
 pub mod Gatherings
 pub mod GatheredWorkers
 pub mod Beginnings

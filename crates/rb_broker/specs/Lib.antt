@@ -6,7 +6,6 @@ pub use Rattle.rb_session.specs.Session
 pub use Rattle.rb_session.specs.Ran
 pub use Rattle.rb_session.specs.Outlet
 pub mod BrokerFault
-pub mod TimerKind
 pub mod Growth
 pub mod Gathered
 pub use Rattle.rb_replay.specs.Checking
@@ -20,8 +19,6 @@ pub mod Beginning
 pub mod FileText
 pub mod Script
 pub mod ServeText
-pub mod Arguments
-pub mod CommandLine
 pub mod ExitStatus
 pub mod VisitCounts
 pub mod Serving

@@ -1,10 +1,10 @@
 use crate::broker_fault::BrokerFault;
 use crate::script::run_script;
-use crate::script_options::ScriptOptions;
 use crate::script_rows::{AT_END, DEFAULT, Held, KINDS, Pieces, options};
 use rb_delayed::{Element, Payload};
 use rb_queue::{Items, Opening};
 use rb_session::Ended;
+use rb_words::ScriptOptions;
 use std::alloc::Global;
 use std::process::Abort;
 

@@ -1,7 +1,6 @@
-use crate::script_options::ScriptOptions;
 use crate::script_rows::{AT_END, AT_QUIT, DEFAULT, KINDS, options, run_unrecorded};
-use crate::timer_kind::TimerKind;
 use rb_session::Ended;
+use rb_words::{ScriptOptions, TimerKind};
 use std::alloc::{AllocError, Global};
 use std::process::Abort;
 use std::test::Fail;

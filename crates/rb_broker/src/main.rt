@@ -6,22 +6,18 @@
 //! or a port fails, and 4 for want of memory.
 #![tactic(auto)]
 
-mod arguments;
 mod audit_line;
 #[cfg(test)]
 mod batch_rows;
 mod broker_fault;
-mod command_line;
-#[cfg(test)]
-mod command_line_rows;
 mod commands;
 mod door;
+#[cfg(test)]
+mod fault_rows;
 mod gathered;
 mod gathering;
 #[cfg(test)]
 mod gathering_rows;
-mod given_server;
-mod given_words;
 mod hands_on;
 #[cfg(test)]
 mod history_rows;
@@ -32,26 +28,20 @@ mod large_rows;
 mod opening_in;
 mod read_all;
 mod replay;
-mod replay_options;
 #[cfg(test)]
 mod replay_rows;
 #[cfg(test)]
 mod retry_rows;
 mod script;
-mod script_options;
 #[cfg(test)]
 mod script_rows;
 mod serve_clock;
 mod serve_door;
 mod serve_end;
-mod serve_options;
 mod serve_report;
 mod serve_text;
 #[cfg(test)]
 mod server_end_rows;
-mod server_options;
-#[cfg(test)]
-mod server_words_rows;
 mod service;
 #[cfg(test)]
 mod serving_rows;
@@ -60,11 +50,9 @@ mod tcp_door;
 mod tcp_rows;
 #[cfg(test)]
 mod tests;
-mod timer_kind;
 mod verdict;
 mod visit;
 mod visit_counts;
-mod words;
 mod worker;
 mod workers;
 
@@ -77,13 +65,12 @@ ghost use Rattle.rb_broker.specs.ExitStatus.{IsStatusOfWords, status_of_replay, 
 use broker_fault::BrokerFault;
 use clap::Error;
 use clap::error::ErrorKind;
-use command_line::read_words;
+use rb_words::{Words, read_words};
 use std::alloc::{AllocError, Global};
 use std::process::ExitCode;
 use std::sync::Wait;
 use std::thread::Threads;
 use std::{env, io, time};
-use words::Words;
 
 /// The exit status where the words are refused.
 const WORDS_REFUSED: u8 = 2;

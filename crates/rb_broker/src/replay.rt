@@ -8,9 +8,9 @@ ghost use Rattle.rb_broker.specs.Verdict.{IsVerdictOf, IsVerdictOn, Tells};
 ghost use Rattle.rb_broker.specs.declared.verdict.Verdict.{Verdict};
 
 use crate::broker_fault::BrokerFault;
-use crate::replay_options::ReplayOptions;
 use crate::verdict::Verdict;
 use rb_replay::{ChainFault, History, ReplayFault, TextFault, chains, check, read_history};
+use rb_words::ReplayOptions;
 use std::alloc::Global;
 
 /// The line that `replay` prints of a text, and the exit status: 0 with the audit of a history that is

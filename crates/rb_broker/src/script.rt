@@ -5,8 +5,6 @@ ghost use Rattle.rb_broker.specs.Script.{Finishes, RanScript, RecordsRun, Record
 use crate::broker_fault::BrokerFault;
 use crate::gathered::run_gathered;
 use crate::hands_on::HandsOn;
-use crate::script_options::ScriptOptions;
-use crate::timer_kind::TimerKind;
 use rb_binary::BinaryTimer;
 use rb_kept::Kept;
 use rb_pairing::PairingTimer;
@@ -16,6 +14,7 @@ use rb_retry::{KeptDesk, Policy};
 use rb_session::{Ended, SessionFault};
 use rb_timer::{ListTimer, Timer};
 use rb_wheel::WheelTimer;
+use rb_words::{ScriptOptions, TimerKind};
 use std::alloc::Global;
 use std::io::{Read, Write};
 

@@ -1,10 +1,9 @@
 use crate::broker_fault::BrokerFault;
 use crate::script::run_script;
-use crate::script_options::ScriptOptions;
-use crate::timer_kind::TimerKind;
 use rb_queue::Opening;
 use rb_retry::{Pace, Policy};
 use rb_session::Ended;
+use rb_words::{ScriptOptions, TimerKind};
 use std::alloc::{AllocError, Global};
 use std::io::{self, ErrorKind, Read, Write};
 use std::process::Abort;

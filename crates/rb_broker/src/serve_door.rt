@@ -5,7 +5,6 @@ ghost use Rattle.rb_broker.specs.declared.broker_fault.BrokerFault.TheVariants.{
 
 use crate::broker_fault::BrokerFault;
 use crate::door::Door;
-use crate::serve_options::ServeOptions;
 use crate::serve_report::ServeReport;
 use crate::service::Service;
 use crate::visit_counts::VisitCounts;
@@ -15,6 +14,7 @@ use rb_kept::Kept;
 use rb_lock::{Pass, Shared};
 use rb_queue::Opening;
 use rb_timer::Timer;
+use rb_words::ServeOptions;
 use std::alloc::Global;
 use std::sync::Wait;
 use std::thread::Threads;

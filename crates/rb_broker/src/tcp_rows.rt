@@ -1,13 +1,13 @@
 // A server over TCP on loopback, both ends in one process.
 
 use crate::serve_door::serve_door;
-use crate::serve_options::ServeOptions;
 use crate::serve_report::ServeReport;
 use crate::tcp_door::TcpDoor;
 use crate::tests::devices::SevenClock;
 use rb_queue::Opening;
 use rb_retry::Policy;
 use rb_timer::ListTimer;
+use rb_words::ServeOptions;
 use std::alloc::Global;
 use std::io::{Read, Write};
 use std::net::{Ipv4Addr, SocketAddr, SocketAddrV4, TcpListener, TcpStream};

@@ -33,8 +33,6 @@ mod replay;
 mod replay_fault;
 mod send;
 mod standing;
-#[cfg(test)]
-mod tests;
 mod text;
 mod text_fault;
 mod version;

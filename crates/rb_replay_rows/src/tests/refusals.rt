@@ -1,0 +1,118 @@
+ghost use Rattle.rb_queue.specs.History.{IsLegal};
+
+use rb_queue::{Event, Opening};
+use rb_replay::{
+    ChainFault, History, HistoryFault, OpeningFault, ReplayFault, TextFault, chains, check,
+    opening_of, read_history, write_history,
+};
+use rb_retry::Policy;
+use std::alloc::Global;
+use std::io::{self, Write};
+use std::process::Abort;
+use std::test::Fail;
+
+// How many refusals the test meets. `tools/refuse_allocations` sets 1, and refuses each allocation
+// of the test in turn.
+const REFUSALS: u32 = 0;
+
+// A run with more elements, origins, ids and events than fit into the first room for them.
+const TEXT: &[u8] =
+    b"history 2\nopen 20 0 12\nkeep 0 0 0 1 a\nkeep 1 0 1 1 a\nkeep 2 0 2 1 a\nkeep 3 0 3 1 a\nkeep 4 0 4 1 a\nkeep 5 0 5 1 a\nkeep 6 0 6 1 a\nkeep 7 0 7 1 a\nkeep 8 0 8 1 a\nkeep 9 0 9 1 a\nkeep 10 0 10 1 a\nkeep 11 0 11 1 a\n0 0 0 drain 5 0 1 2 3 4\n0 0 0 offer 20 9 20 1 b\n0 0 0 offer 21 9 21 1 b\n0 0 0 offer 22 9 22 1 b\n0 0 0 offer 23 9 23 1 b\n0 0 0 offer 24 9 24 1 b\n0 0 0 offer 25 9 25 1 b\n0 0 0 offer 26 9 26 1 b\n0 0 0 offer 27 9 27 1 b\n0 0 0 offer 28 9 28 1 b\n0 0 0 offer 29 9 29 1 b\n0 0 0 offer 30 9 30 1 b\n0 0 0 offer 31 9 31 1 b\n0 0 0 size 19\nend 14\n";
+
+// Counts what it is given.
+#[derive(Drop)]
+struct Scale {
+    bytes: usize,
+}
+
+impl Write for Scale {
+    fn write(&mut self, buf: &[u8]) -> io::Result<usize> {
+        self.bytes = self.bytes.saturating_add(buf.len());
+        Ok(buf.len())
+    }
+
+    fn flush(&mut self) -> io::Result<()> {
+        Ok(())
+    }
+}
+
+// Whether the first of two readings was refused. The second is not.
+fn refused_reading(rt: &impl Abort, alloc: Global) -> bool {
+    let fault = read_history(alloc, TEXT).err();
+    if fault.is_some() {
+        assert_eq!(rt; fault, Some(TextFault::Memory));
+        assert!(rt; read_history(alloc, TEXT).is_ok());
+    }
+    fault.is_some()
+}
+
+fn refused_check(rt: &impl Abort, alloc: Global, opening: &Opening, events: &[Event]) -> bool
+    ensures { IsLegal opening.now events.now }
+{
+    assert!(rt; events.len() <= 1_000_000);
+    let answer = check(alloc, opening, events);
+    if answer == Err(ReplayFault::Memory) {
+        assert!(rt; check(alloc, opening, events).is_ok());
+        return true;
+    }
+    assert!(rt; answer.is_ok());
+    false
+}
+
+fn refused_chains(rt: &impl Abort, alloc: Global, opening: &Opening, events: &[Event]) -> bool
+    requires { IsLegal opening.now events.now }
+{
+    assert!(rt; events.len() <= 1_000_000);
+    let policy = Policy::fixed(1000, 3).expect(rt, "a policy");
+    let answer = chains(alloc, opening, events, &policy);
+    if answer == Err(ChainFault::Memory) {
+        assert_eq!(rt; chains(alloc, opening, events, &policy), Ok(()));
+        return true;
+    }
+    assert_eq!(rt; answer, Ok(()));
+    false
+}
+
+fn refused_opening(rt: &impl Abort, alloc: Global, history: &History) -> bool {
+    assert!(rt; history.events().len() <= 1_000_000);
+    let fault = opening_of(alloc, history).err();
+    if fault.is_some() {
+        assert_eq!(rt; fault, Some(OpeningFault::Memory));
+        assert!(rt; opening_of(alloc, history).is_ok());
+    }
+    fault.is_some()
+}
+
+// Where the text was refused nothing was written.
+fn refused_writing(rt: &impl Abort, alloc: Global, opening: &Opening, events: &[Event]) -> bool {
+    assert!(rt; events.len() <= 1_000_000);
+    let mut scale = Scale { bytes: 0 };
+    let fault = write_history(alloc, opening, events, &mut scale).err();
+    if fault.is_some() {
+        assert_eq!(rt; (fault, scale.bytes), (Some(HistoryFault::Memory), 0));
+        let again = write_history(alloc, opening, events, &mut scale);
+        assert!(rt; again.is_ok());
+    }
+    fault.is_some()
+}
+
+#[test]
+fn a_refused_allocation_is_answered(rt: HostRuntime) -> Result<(), Fail> {
+    let alloc = rt.alloc();
+    let mut refusals = u32::from(refused_reading(&rt, alloc));
+    let Ok(history) = read_history(alloc, TEXT) else {
+        refusals = refusals.saturating_add(1);
+        assert_eq!(rt; refusals, REFUSALS);
+        return Ok(());
+    };
+    for refused in [
+        refused_check(&rt, alloc, history.opening(), history.events()),
+        refused_chains(&rt, alloc, history.opening(), history.events()),
+        refused_opening(&rt, alloc, &history),
+        refused_writing(&rt, alloc, history.opening(), history.events()),
+    ] {
+        refusals = refusals.saturating_add(u32::from(refused));
+    }
+    assert_eq!(rt; refusals, REFUSALS);
+    Ok(())
+}

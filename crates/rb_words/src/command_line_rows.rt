@@ -1,0 +1,288 @@
+ghost use Rattle.std.specs.Prelude.{◌≤◌};
+ghost use Rattle.rb_kept.specs.declared.kept.TheConstants.{MOST_CALLS};
+
+use crate::command_line::read_words;
+use crate::replay_options::ReplayOptions;
+use crate::script_options::ScriptOptions;
+use crate::timer_kind::TimerKind;
+use crate::words::Words;
+use clap::error::ErrorKind;
+use rb_retry::Policy;
+use std::alloc::Global;
+use std::process::Abort;
+use std::test::Fail;
+
+fn options_of(alloc: Global, words: &[&str]) -> Option<ScriptOptions> {
+    match read_words(alloc, words) {
+        Ok(Words::Script { options, .. }) => Some(options),
+        _ => None,
+    }
+}
+
+fn replay_options_of(alloc: Global, words: &[&str]) -> Option<ReplayOptions> {
+    match read_words(alloc, words) {
+        Ok(Words::Replay { options, .. }) => Some(options),
+        _ => None,
+    }
+}
+
+// Compares the files that a script is given.
+fn expect_files(
+    rt: &impl Abort,
+    alloc: Global,
+    words: &[&str],
+    history: Option<&str>,
+    from: Option<&str>,
+) {
+    match read_words(alloc, words) {
+        Ok(
+            Words::Script {
+                history: written,
+                from: read,
+                ..
+            },
+        ) => {
+            assert_eq!(rt; written.as_deref(), history, "{words:?}");
+            assert_eq!(rt; read.as_deref(), from, "{words:?}");
+        }
+        _ => assert!(rt; false, "{words:?}"),
+    }
+}
+
+#[test]
+fn takes_the_files_of_a_script(rt: HostRuntime) {
+    let alloc = rt.alloc();
+    expect_files(&rt, alloc, &["rb_broker", "script"], None, None);
+    let history = ["rb_broker", "script", "--history", "run.txt"];
+    expect_files(&rt, alloc, &history, Some("run.txt"), None);
+    let from = ["rb_broker", "script", "--from=a b"];
+    expect_files(&rt, alloc, &from, None, Some("a b"));
+    let both = ["rb_broker", "script", "--from", "x", "--history", "x"];
+    expect_files(&rt, alloc, &both, Some("x"), Some("x"));
+}
+
+#[test]
+fn takes_a_replay_and_its_options(rt: HostRuntime) {
+    let alloc = rt.alloc();
+    for (words, chains) in [
+        (["rb_broker", "replay", "run.txt"].as_slice(), None),
+        (
+            ["rb_broker", "replay", "run.txt", "--delay", "5"].as_slice(),
+            None,
+        ),
+        (
+            ["rb_broker", "replay", "--chains", "run.txt"].as_slice(),
+            Policy::fixed(1_000, 3),
+        ),
+        (
+            ["rb_broker", "replay", "run.txt", "--chains", "--delay=999"].as_slice(),
+            Policy::fixed(999, 3),
+        ),
+        (
+            [
+                "rb_broker",
+                "replay",
+                "run.txt",
+                "--rate=9",
+                "--attempts=7",
+                "--chains",
+            ]
+            .as_slice(),
+            Policy::fixed_rate(9, 7),
+        ),
+    ] {
+        let options = replay_options_of(alloc, words);
+        assert_eq!(rt; options, Some(ReplayOptions { chains }), "{words:?}");
+    }
+    match read_words(alloc, &["rb_broker", "replay", "a run.txt"]) {
+        Ok(Words::Replay { file, .. }) => assert_eq!(rt; file.as_str(), "a run.txt"),
+        _ => assert!(rt; false),
+    }
+}
+
+fn options(timer: TimerKind, calls: u64) -> Option<ScriptOptions>
+    requires from_one { 1 ≤ calls }
+    requires in_range { calls ≤ MOST_CALLS }
+{
+    let policy = Policy::fixed(1_000, 3)?;
+    Some(ScriptOptions {
+        timer,
+        calls,
+        policy,
+    })
+}
+
+fn policy_of(alloc: Global, words: &[&str]) -> Option<Policy> {
+    Some(options_of(alloc, words)?.policy)
+}
+
+#[test]
+fn takes_a_policy(rt: HostRuntime) {
+    let alloc = rt.alloc();
+    for (words, policy) in [
+        (
+            ["rb_broker", "script", "--delay", "0"].as_slice(),
+            Policy::fixed(0, 3),
+        ),
+        (
+            [
+                "rb_broker",
+                "script",
+                "--delay=18446744073709551615",
+                "--attempts=1000",
+            ]
+            .as_slice(),
+            Policy::fixed(u64::MAX, 1_000),
+        ),
+        (
+            ["rb_broker", "script", "--rate", "100"].as_slice(),
+            Policy::fixed_rate(100, 3),
+        ),
+        (
+            ["rb_broker", "script", "--attempts", "1", "--rate=0"].as_slice(),
+            Policy::fixed_rate(0, 1),
+        ),
+    ] {
+        assert!(rt; policy.is_some());
+        assert_eq!(rt; policy_of(alloc, words), policy, "{words:?}");
+    }
+}
+
+#[test]
+fn takes_a_script_and_its_options(rt: HostRuntime) {
+    let alloc = rt.alloc();
+    let plain = options_of(alloc, &["rb_broker", "script"]);
+    assert_eq!(rt; plain, options(TimerKind::Heap, 10_000));
+    let least = options_of(alloc, &["rb_broker", "script", "--calls", "1"]);
+    assert_eq!(rt; least, options(TimerKind::Heap, 1));
+    let most = options_of(alloc, &["rb_broker", "script", "--calls", "1000000"]);
+    assert_eq!(rt; most, options(TimerKind::Heap, 1_000_000));
+    let list = options_of(alloc, &["rb_broker", "script", "--timer", "list"]);
+    assert_eq!(rt; list, options(TimerKind::List, 10_000));
+    let heap = options_of(alloc, &["rb_broker", "script", "--timer=heap"]);
+    assert_eq!(rt; heap, options(TimerKind::Heap, 10_000));
+    let pairing = options_of(alloc, &["rb_broker", "script", "--timer", "pairing"]);
+    assert_eq!(rt; pairing, options(TimerKind::Pairing, 10_000));
+    let wheel = options_of(alloc, &["rb_broker", "script", "--timer", "wheel"]);
+    assert_eq!(rt; wheel, options(TimerKind::Wheel, 10_000));
+    let both = options_of(
+        alloc,
+        &["rb_broker", "script", "--timer", "list", "--calls=7"],
+    );
+    assert_eq!(rt; both, options(TimerKind::List, 7));
+}
+
+/// Compares the kind of the error and its exit code, which is 2.
+pub fn refuses(rt: &impl Abort, alloc: Global, words: &[&str], kind: ErrorKind) {
+    let error = read_words(alloc, words).err().expect(rt, "an error");
+    assert_eq!(rt; error.kind(), kind, "{words:?}");
+    assert_eq!(rt; error.exit_code(), 2, "{words:?}");
+    assert!(rt; error.use_stderr());
+}
+
+#[test]
+fn refuses_other_commands_with_status_2(rt: HostRuntime) {
+    for (words, kind) in [
+        (["rb_broker"].as_slice(), ErrorKind::MissingSubcommand),
+        (
+            ["rb_broker", "scripts"].as_slice(),
+            ErrorKind::InvalidSubcommand,
+        ),
+        (
+            ["rb_broker", "--timer", "list"].as_slice(),
+            ErrorKind::UnknownArgument,
+        ),
+        (
+            ["rb_broker", "script", "more"].as_slice(),
+            ErrorKind::UnknownArgument,
+        ),
+        (
+            ["rb_broker", "script", "--call", "1"].as_slice(),
+            ErrorKind::UnknownArgument,
+        ),
+        (
+            ["rb_broker", "replay"].as_slice(),
+            ErrorKind::MissingRequiredArgument,
+        ),
+        (
+            ["rb_broker", "replay", "one", "more"].as_slice(),
+            ErrorKind::UnknownArgument,
+        ),
+        (
+            ["rb_broker", "replay", "one", "--calls=1"].as_slice(),
+            ErrorKind::UnknownArgument,
+        ),
+        (
+            ["rb_broker", "replay", "one", "--delay=1", "--rate=1"].as_slice(),
+            ErrorKind::ArgumentConflict,
+        ),
+    ] {
+        refuses(&rt, rt.alloc(), words, kind);
+    }
+}
+
+#[test]
+fn refuses_other_values_with_status_2(rt: HostRuntime) {
+    for (option, kind) in [
+        ("--calls", ErrorKind::InvalidValue),
+        ("--calls=0", ErrorKind::ValueValidation),
+        ("--calls=1000001", ErrorKind::ValueValidation),
+        ("--calls=x", ErrorKind::ValueValidation),
+        ("--calls=-1", ErrorKind::ValueValidation),
+        ("--calls=18446744073709551617", ErrorKind::ValueValidation),
+        ("--timer=tree", ErrorKind::InvalidValue),
+        ("--delay=-1", ErrorKind::ValueValidation),
+        ("--delay=18446744073709551616", ErrorKind::ValueValidation),
+        ("--rate=x", ErrorKind::ValueValidation),
+        ("--attempts=0", ErrorKind::ValueValidation),
+        ("--attempts=1001", ErrorKind::ValueValidation),
+        ("--timer=Heap", ErrorKind::InvalidValue),
+    ] {
+        refuses(&rt, rt.alloc(), &["rb_broker", "script", option], kind);
+    }
+    let twice = ["rb_broker", "script", "--calls=1", "--calls=2"];
+    refuses(&rt, rt.alloc(), &twice, ErrorKind::ArgumentConflict);
+    let both = ["rb_broker", "script", "--delay=5", "--rate=5"];
+    refuses(&rt, rt.alloc(), &both, ErrorKind::ArgumentConflict);
+    let apart = ["rb_broker", "script", "--calls", "0"];
+    refuses(&rt, rt.alloc(), &apart, ErrorKind::ValueValidation);
+}
+
+#[test]
+fn no_word_is_refused(rt: HostRuntime) {
+    let error = read_words(rt.alloc(), &[]).err().expect(&rt, "an error");
+    assert_eq!(rt; error.exit_code(), 2);
+}
+
+#[test]
+fn shows_help_with_status_0(rt: HostRuntime) -> Result<(), Fail> {
+    let alloc = rt.alloc();
+    let error = read_words(alloc, &["rb_broker", "--help"])
+        .err()
+        .expect(&rt, "help");
+    assert_eq!(rt; error.kind(), ErrorKind::DisplayHelp);
+    assert_eq!(rt; error.exit_code(), 0);
+    assert!(rt; error.to_string(alloc)?.as_str().contains("script"));
+    let error = read_words(alloc, &["rb_broker", "script", "--help"])
+        .err()
+        .expect(&rt, "help");
+    assert_eq!(rt; error.kind(), ErrorKind::DisplayHelp);
+    assert_eq!(rt; error.exit_code(), 0);
+    let text = error.to_string(alloc)?;
+    for part in [
+        "--calls <N>",
+        "how many calls the run has room for",
+        "10000",
+        "--timer <T>",
+        "which timer the queue uses",
+        "list, heap, pairing, wheel",
+        "--delay <N>",
+        "--rate <N>",
+        "--attempts <N>",
+        "--history <FILE>",
+        "--from <FILE>",
+    ] {
+        assert!(rt; text.as_str().contains(part), "{part}");
+    }
+    Ok(())
+}

@@ -1,0 +1,28 @@
+//! The words of the command line: which command they name, and what its options and files are.
+//!
+//! `clap` reads the words and writes the texts for those who use the command. What the options are, and
+//! what is used where one is left out, is said here.
+#![tactic(auto)]
+
+mod arguments;
+mod command_line;
+#[cfg(test)]
+mod command_line_rows;
+mod given_server;
+mod given_words;
+mod replay_options;
+mod script_options;
+mod serve_options;
+mod server_options;
+#[cfg(test)]
+mod server_words_rows;
+mod timer_kind;
+mod words;
+
+pub use command_line::read_words;
+pub use replay_options::ReplayOptions;
+pub use script_options::ScriptOptions;
+pub use serve_options::{MOST_WORKERS, ServeOptions};
+pub use server_options::{MOST_SESSIONS, MOST_TURNS, ServerOptions};
+pub use timer_kind::TimerKind;
+pub use words::Words;
