@@ -9,7 +9,7 @@ use Rattle.std.specs.Ordering.{nat_cmp}
 use Rattle.std.specs.Cmp.{nat_cmp_total}
 use Rattle.rb_delayed.specs.declared.element.Element.{Element}
 use Rattle.rb_queue.specs.declared.act.Act.{Act}
-use Rattle.rb_queue.specs.declared.act.Act.TheVariants.{Offer, Poll, Take, PollFor, Peek, Remove, Drain, Clear, Size}
+use Rattle.rb_queue.specs.declared.act.Act.TheVariants.{Offer, Poll, Take, PollFor, Remove, Drain}
 use Rattle.rb_queue.specs.Bag.{Bag, without}
 use Rattle.rb_queue.specs.Head.{IsHead, IsHeadId}
 use Rattle.rb_queue.specs.Queue.{Queue}
@@ -50,17 +50,12 @@ heads_taken bag now (id ∷ ids) heads = (head_taken bag now id heads.0, heads_t
 -- a permitted act has an effect that fits
 pub permitted_fits : (queue : Queue) (now : ℕ) (act : Act) → Permits queue now act → FitsIn queue (effect_of act)
 permitted_fits queue now (Offer element) permitted = permitted
-permitted_fits queue now (Poll None) permitted = tt
 permitted_fits queue now (Poll (Some id)) permitted = (head_taken queue.bag now id permitted, tt)
 permitted_fits queue now (Take id) permitted = (head_taken queue.bag now id permitted, tt)
-permitted_fits queue now (PollFor start timeout None) permitted = tt
 permitted_fits queue now (PollFor start timeout (Some id)) permitted = (head_taken queue.bag now id permitted, tt)
-permitted_fits queue now (Peek shown) permitted = tt
 permitted_fits queue now (Remove id true) permitted = (permitted.0 refl, tt)
-permitted_fits queue now (Remove id false) permitted = tt
 permitted_fits queue now (Drain max ids) permitted = heads_taken queue.bag now ids permitted.heads
-permitted_fits queue now Clear permitted = tt
-permitted_fits queue now (Size count) permitted = tt
+permitted_fits queue now act permitted = tt
 
 below_without : (bag : Bag) (ids : List ℕ) (next : ℕ) → AreBelow bag next → AreBelow (without bag ids) next
 below_without bag [] next below = below

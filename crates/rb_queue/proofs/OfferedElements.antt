@@ -73,19 +73,16 @@ answer_in_larger bag all answer (Some id) reply within found = larger (map.get b
 
 -- a reply that names what the bag has is named by all that was offered, the act itself too
 reply_in_larger : (bag all : Bag) (act : Act) (reply : Reply) → IsWithin bag all → reply_in bag act ≡ Some reply → reply_in (with_inserted all (effect_of act)) act ≡ Some reply
-reply_in_larger bag all (acts.Offer element) reply within found = found
 reply_in_larger bag all (acts.Poll given) reply within found = answer_in_larger bag all _ given reply within found
 reply_in_larger bag all (acts.Take id) reply within found = answer_in_larger bag all _ (Some id) reply within found
 reply_in_larger bag all (acts.PollFor start timeout given) reply within found = answer_in_larger bag all _ given reply within found
 reply_in_larger bag all (acts.Peek shown) reply within found = answer_in_larger bag all _ shown reply within found
-reply_in_larger bag all (acts.Remove id found_it) reply within found = found
 reply_in_larger bag all (acts.Drain max ids) reply within found = drained (elements_in bag ids) (λ es. elements_in_larger bag all ids es within) found
   where
     drained : (here : Option (List Element)) → ((es : List Element) → here ≡ Some es → elements_in all ids ≡ Some es) → option_map Drained here ≡ Some reply → option_map Drained (elements_in all ids) ≡ Some reply
     drained None there whole = absurd (cc)
     drained (Some es) there whole = ap (option_map Drained) (there es refl) ∙ whole
-reply_in_larger bag all acts.Clear reply within found = found
-reply_in_larger bag all (acts.Size count) reply within found = found
+reply_in_larger bag all act reply within found = found
 
 -- one event more offers what its act inserts
 offered_from-append : (all : Bag) (events : List Event) (event : Event) → offered_from all (events ++ event ∷ []) ≡ with_inserted (offered_from all events) (effect_of event.act)

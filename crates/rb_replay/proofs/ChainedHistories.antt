@@ -17,7 +17,7 @@ use Rattle.rb_queue.specs.History.{State, start_of, state_after, state_from, sta
 use Rattle.rb_queue.proofs.Histories.{state_from-append}
 use Rattle.rb_queue.specs.Replies.{with_inserted, offered_from, offered}
 use Rattle.rb_queue.specs.declared.act.Act.{Act}
-use Rattle.rb_queue.specs.declared.act.Act.TheVariants.{Offer, Poll, Take, PollFor, Peek, Remove, Drain, Clear, Size}
+use Rattle.rb_queue.specs.declared.act.Act.TheVariants.{Offer}
 use Rattle.rb_queue.specs.declared.event.Event.{Event}
 use Rattle.rb_queue.specs.declared.opening.Opening.{Opening}
 use Rattle.rb_retry.specs.declared.policy.Policy.{Policy}
@@ -209,14 +209,7 @@ unchained_at policy opening events i event register reason within is so_far (ele
 -- an offer is of one element
 offered_or : Element → Act → Element
 offered_or other (Offer element) = element
-offered_or other (Poll given) = other
-offered_or other (Take id) = other
-offered_or other (PollFor start timeout given) = other
-offered_or other (Peek shown) = other
-offered_or other (Remove id found) = other
-offered_or other (Drain max ids) = other
-offered_or other Clear = other
-offered_or other (Size count) = other
+offered_or other act = other
 
 same_Offer : (one other : Element) → Offer one ≡ Offer other → one ≡ other
 unfolding offered_or

@@ -27,14 +27,7 @@ told Three element = element
 -- what a version tells of an act, and of an event
 abbrev pub told_act : Version → Act → Act
 told_act version (Offer element) = Offer (told version element)
-told_act version (Poll given) = Poll given
-told_act version (Take id) = Take id
-told_act version (PollFor start timeout given) = PollFor start timeout given
-told_act version (Peek shown) = Peek shown
-told_act version (Remove id found) = Remove id found
-told_act version (Drain max ids) = Drain max ids
-told_act version Clear = Clear
-told_act version (Size count) = Size count
+told_act version act = act
 
 abbrev pub told_event : Version → Event → Event
 told_event version event = record event { act = told_act version event.act }

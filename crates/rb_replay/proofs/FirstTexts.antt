@@ -5,7 +5,7 @@ use Rattle.std.proofs.lemmas.List.Elements.{All-head, All-tail}
 use Rattle.rb_delayed.specs.declared.element.Element.{Element}
 use Rattle.rb_queue.specs.Effect.{effect_of, inserted}
 use Rattle.rb_queue.specs.declared.act.Act.{Act}
-use Rattle.rb_queue.specs.declared.act.Act.TheVariants.{Offer, Poll, Take, PollFor, Peek, Remove, Drain, Clear, Size}
+use Rattle.rb_queue.specs.declared.act.Act.TheVariants.{Offer}
 use Rattle.rb_queue.specs.declared.event.Event.{Event}
 use Rattle.rb_replay.specs.Firsts.{earliest, HaveEarliest, FirstsFollow}
 use Rattle.rb_replay.specs.Offers.{offers_in}
@@ -54,14 +54,7 @@ same_by_earliest elements others have has is =
 -- what an act offered, so far as it is told
 act_offers : (version : Version) (act : Act) → inserted (effect_of (told_act version act)) ≡ map (told version) (inserted (effect_of act))
 act_offers version (Offer element) = refl
-act_offers version (Poll given) = refl
-act_offers version (Take id) = refl
-act_offers version (PollFor start timeout given) = refl
-act_offers version (Peek shown) = refl
-act_offers version (Remove id found) = refl
-act_offers version (Drain max ids) = refl
-act_offers version Clear = refl
-act_offers version (Size count) = refl
+act_offers version act = refl
 
 told_offers : (version : Version) (events : List Event) → offers_in (map (told_event version) events) ≡ map (told version) (offers_in events)
 told_offers version [] = refl
@@ -71,27 +64,12 @@ told_offers version (event ∷ events) =
 
 -- an act that is told, with what it offered, is the act
 abbrev offering : Act → List Element → Act
-offering (Offer element) [] = Offer element
 offering (Offer element) (whole ∷ elements) = Offer whole
-offering (Poll given) elements = Poll given
-offering (Take id) elements = Take id
-offering (PollFor start timeout given) elements = PollFor start timeout given
-offering (Peek shown) elements = Peek shown
-offering (Remove id found) elements = Remove id found
-offering (Drain max ids) elements = Drain max ids
-offering Clear elements = Clear
-offering (Size count) elements = Size count
+offering act elements = act
 
 told_offering : (version : Version) (act : Act) → offering (told_act version act) (inserted (effect_of act)) ≡ act
 told_offering version (Offer element) = refl
-told_offering version (Poll given) = refl
-told_offering version (Take id) = refl
-told_offering version (PollFor start timeout given) = refl
-told_offering version (Peek shown) = refl
-told_offering version (Remove id found) = refl
-told_offering version (Drain max ids) = refl
-told_offering version Clear = refl
-told_offering version (Size count) = refl
+told_offering version act = refl
 
 -- events that are told, with what they offered, are the events
 same_by_offers : (version : Version) (events others : List Event) → map (told_event version) events ≡ map (told_event version) others
@@ -135,14 +113,7 @@ all_told (element ∷ elements) = ap (λ more. element ∷ more) (all_told eleme
 
 act_all_told : (act : Act) → told_act Three act ≡ act
 act_all_told (Offer element) = refl
-act_all_told (Poll given) = refl
-act_all_told (Take id) = refl
-act_all_told (PollFor start timeout given) = refl
-act_all_told (Peek shown) = refl
-act_all_told (Remove id found) = refl
-act_all_told (Drain max ids) = refl
-act_all_told Clear = refl
-act_all_told (Size count) = refl
+act_all_told act = refl
 
 events_all_told : (events : List Event) → map (told_event Three) events ≡ events
 events_all_told [] = refl

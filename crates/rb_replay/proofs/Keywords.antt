@@ -3,7 +3,7 @@ use Rattle.std.proofs.Common.{◌≡◌, ◌≢◌, ℕ, ◌+◌, ◌*◌, Bool,
 use Rattle.std.specs.Prelude.{if◌then◌else◌}
 use Rattle.rb_delayed.specs.declared.element.Element.{Element}
 use Rattle.rb_queue.specs.declared.act.Act.{Act}
-use Rattle.rb_queue.specs.declared.act.Act.TheVariants.{Offer, Poll, Take, PollFor, Peek, Remove, Drain, Clear, Size}
+use Rattle.rb_queue.specs.declared.act.Act.TheVariants.{Offer, PollFor, Remove, Drain, Clear}
 use Rattle.rb_replay.specs.declared.version.Version.{Version}
 use Rattle.rb_replay.specs.EventText.{act_words, whole_element_words, given_words}
 use Rattle.rb_replay.specs.Ranges.{IsWord, AreWords, IsRightElement, IsRightGiven, IsRightAct}
@@ -22,62 +22,27 @@ mark word = length word * 65536 + get_or word 0 0 * 256 + get_or word 1 0
 pub only_offer : (version : Version) (behind : List (List ℕ)) → ((element : Element) → IsRightElement element → behind ≢ whole_element_words version element) → (act : Act) → IsRightAct act
     → codes "offer" ∷ behind ≢ act_words version act
 only_offer version behind none (Offer element) right is = none element right (tails_same _ _ _ _ is)
-only_offer version behind none (Poll given) right is = absurd (omega (arith, ap mark (heads _ _ _ _ is)))
-only_offer version behind none (Take id) right is = absurd (omega (arith, ap mark (heads _ _ _ _ is)))
-only_offer version behind none (PollFor start timeout given) right is = absurd (omega (arith, ap mark (heads _ _ _ _ is)))
-only_offer version behind none (Peek shown) right is = absurd (omega (arith, ap mark (heads _ _ _ _ is)))
-only_offer version behind none (Remove id found) right is = absurd (omega (arith, ap mark (heads _ _ _ _ is)))
-only_offer version behind none (Drain max ids) right is = absurd (omega (arith, ap mark (heads _ _ _ _ is)))
-only_offer version behind none Clear right is = absurd (omega (arith, ap mark (heads _ _ _ _ is)))
-only_offer version behind none (Size count) right is = absurd (omega (arith, ap mark (heads _ _ _ _ is)))
+only_offer version behind none act right is = absurd (omega (arith, ap mark (heads _ _ _ _ is)))
 
 pub only_pollfor : (version : Version) (behind : List (List ℕ)) → ((start timeout : ℕ) (given : Option ℕ) → IsWord start → IsWord timeout → IsRightGiven given → behind ≢ decimal start ∷ decimal timeout ∷ given_words given) → (act : Act) → IsRightAct act
     → codes "pollfor" ∷ behind ≢ act_words version act
-only_pollfor version behind none (Offer element) right is = absurd (omega (arith, ap mark (heads _ _ _ _ is)))
-only_pollfor version behind none (Poll given) right is = absurd (omega (arith, ap mark (heads _ _ _ _ is)))
-only_pollfor version behind none (Take id) right is = absurd (omega (arith, ap mark (heads _ _ _ _ is)))
 only_pollfor version behind none (PollFor start timeout given) right is = none start timeout given right.0 right.1 right.2 (tails_same _ _ _ _ is)
-only_pollfor version behind none (Peek shown) right is = absurd (omega (arith, ap mark (heads _ _ _ _ is)))
-only_pollfor version behind none (Remove id found) right is = absurd (omega (arith, ap mark (heads _ _ _ _ is)))
-only_pollfor version behind none (Drain max ids) right is = absurd (omega (arith, ap mark (heads _ _ _ _ is)))
-only_pollfor version behind none Clear right is = absurd (omega (arith, ap mark (heads _ _ _ _ is)))
-only_pollfor version behind none (Size count) right is = absurd (omega (arith, ap mark (heads _ _ _ _ is)))
+only_pollfor version behind none act right is = absurd (omega (arith, ap mark (heads _ _ _ _ is)))
 
 pub only_remove : (version : Version) (behind : List (List ℕ)) → ((id : ℕ) (found : Bool) → IsWord id → behind ≢ decimal id ∷ (if found then codes "yes" else codes "no") ∷ []) → (act : Act) → IsRightAct act
     → codes "remove" ∷ behind ≢ act_words version act
-only_remove version behind none (Offer element) right is = absurd (omega (arith, ap mark (heads _ _ _ _ is)))
-only_remove version behind none (Poll given) right is = absurd (omega (arith, ap mark (heads _ _ _ _ is)))
-only_remove version behind none (Take id) right is = absurd (omega (arith, ap mark (heads _ _ _ _ is)))
-only_remove version behind none (PollFor start timeout given) right is = absurd (omega (arith, ap mark (heads _ _ _ _ is)))
-only_remove version behind none (Peek shown) right is = absurd (omega (arith, ap mark (heads _ _ _ _ is)))
 only_remove version behind none (Remove id found) right is = none id found right (tails_same _ _ _ _ is)
-only_remove version behind none (Drain max ids) right is = absurd (omega (arith, ap mark (heads _ _ _ _ is)))
-only_remove version behind none Clear right is = absurd (omega (arith, ap mark (heads _ _ _ _ is)))
-only_remove version behind none (Size count) right is = absurd (omega (arith, ap mark (heads _ _ _ _ is)))
+only_remove version behind none act right is = absurd (omega (arith, ap mark (heads _ _ _ _ is)))
 
 pub only_drain : (version : Version) (behind : List (List ℕ)) → ((max : ℕ) (ids : List ℕ) → IsWord max → AreWords ids → behind ≢ decimal max ∷ map decimal ids) → (act : Act) → IsRightAct act
     → codes "drain" ∷ behind ≢ act_words version act
-only_drain version behind none (Offer element) right is = absurd (omega (arith, ap mark (heads _ _ _ _ is)))
-only_drain version behind none (Poll given) right is = absurd (omega (arith, ap mark (heads _ _ _ _ is)))
-only_drain version behind none (Take id) right is = absurd (omega (arith, ap mark (heads _ _ _ _ is)))
-only_drain version behind none (PollFor start timeout given) right is = absurd (omega (arith, ap mark (heads _ _ _ _ is)))
-only_drain version behind none (Peek shown) right is = absurd (omega (arith, ap mark (heads _ _ _ _ is)))
-only_drain version behind none (Remove id found) right is = absurd (omega (arith, ap mark (heads _ _ _ _ is)))
 only_drain version behind none (Drain max ids) right is = none max ids right.0 right.1 (tails_same _ _ _ _ is)
-only_drain version behind none Clear right is = absurd (omega (arith, ap mark (heads _ _ _ _ is)))
-only_drain version behind none (Size count) right is = absurd (omega (arith, ap mark (heads _ _ _ _ is)))
+only_drain version behind none act right is = absurd (omega (arith, ap mark (heads _ _ _ _ is)))
 
 pub only_clear : (version : Version) (behind : List (List ℕ)) → (behind ≢ []) → (act : Act) → IsRightAct act
     → codes "clear" ∷ behind ≢ act_words version act
-only_clear version behind none (Offer element) right is = absurd (omega (arith, ap mark (heads _ _ _ _ is)))
-only_clear version behind none (Poll given) right is = absurd (omega (arith, ap mark (heads _ _ _ _ is)))
-only_clear version behind none (Take id) right is = absurd (omega (arith, ap mark (heads _ _ _ _ is)))
-only_clear version behind none (PollFor start timeout given) right is = absurd (omega (arith, ap mark (heads _ _ _ _ is)))
-only_clear version behind none (Peek shown) right is = absurd (omega (arith, ap mark (heads _ _ _ _ is)))
-only_clear version behind none (Remove id found) right is = absurd (omega (arith, ap mark (heads _ _ _ _ is)))
-only_clear version behind none (Drain max ids) right is = absurd (omega (arith, ap mark (heads _ _ _ _ is)))
 only_clear version behind none Clear right is = none (tails_same _ _ _ _ is)
-only_clear version behind none (Size count) right is = absurd (omega (arith, ap mark (heads _ _ _ _ is)))
+only_clear version behind none act right is = absurd (omega (arith, ap mark (heads _ _ _ _ is)))
 
 -- the first word that is no number, of words that are numbers, is one after all
 pub ids_stop : (front : List ℕ) (word : List ℕ) (behind : List (List ℕ)) (ids : List ℕ) → map decimal front ++ (word ∷ behind) ≡ map decimal ids

@@ -13,7 +13,7 @@ use Rattle.rb_queue.specs.Calls.{AreHeads, Permits}
 use Rattle.rb_queue.specs.Counts.{offer_count, give_count, removed_count, cleared_count, left_count}
 use Rattle.rb_queue.specs.History.{State, start_of, state_after, state_from, state_of, Allows, IsLegal}
 use Rattle.rb_queue.specs.declared.act.Act.{Act}
-use Rattle.rb_queue.specs.declared.act.Act.TheVariants.{Offer, Poll, Take, PollFor, Peek, Remove, Drain, Clear, Size}
+use Rattle.rb_queue.specs.declared.act.Act.TheVariants.{Poll, Take, PollFor, Peek, Drain, Clear}
 use Rattle.rb_queue.specs.declared.event.Event.{Event}
 use Rattle.rb_queue.specs.declared.opening.Opening.{Opening}
 use Rattle.rb_queue.proofs.Histories.{legal_next, state_from-append}
@@ -55,20 +55,16 @@ drain_refused bag now fewer (id ∷ ids) reason (inr (on, inr (least, inr (is, f
 
 -- an act whose tests fail is not permitted
 act_refused : (queue : Queue) (now : ℕ) (act : Act) (reason : Reason) → ActTests queue now act reason → ¬ Permits queue now act
-act_refused queue now (Offer element) reason fails = one_fails _ _ _ fails
-act_refused queue now (Poll None) reason fails = one_fails _ _ _ fails
 act_refused queue now (Poll (Some id)) reason fails = head_fails queue.bag now id reason fails
 act_refused queue now (Take id) reason fails = head_fails queue.bag now id reason fails
 act_refused queue now (PollFor start timeout (Some id)) reason fails = head_fails queue.bag now id reason fails
 act_refused queue now (PollFor start timeout None) reason (inl (off, is)) = λ h. off h.0
 act_refused queue now (PollFor start timeout None) reason (inr (on, fails)) = λ h. one_fails _ _ _ fails h.1
-act_refused queue now (Peek None) reason fails = one_fails _ _ _ fails
 act_refused queue now (Peek (Some id)) reason fails = least_fails queue.bag id reason fails
-act_refused queue now (Remove id found) reason fails = one_fails _ _ _ fails
 act_refused queue now (Drain max ids) reason (inl (off, is)) = λ h. off h.at_most
 act_refused queue now (Drain max ids) reason (inr (on, fails)) = λ h. drain_refused queue.bag now _ ids reason fails h.heads h.all
 act_refused queue now Clear reason fails = absurd fails
-act_refused queue now (Size count) reason fails = one_fails _ _ _ fails
+act_refused queue now act reason fails = one_fails _ _ _ fails
 
 pub event_refused : (state : State) (event : Event) (reason : Reason) → EventTests state event reason → ¬ Allows state event
 event_refused state event reason (inl (off, is)) = λ h. off h.moment

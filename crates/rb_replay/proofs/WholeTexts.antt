@@ -17,7 +17,7 @@ use Rattle.rb_replay.specs.declared.version.Version.{Version}
 use Rattle.rb_replay.specs.declared.write.TheConstants.{MOST_EVENTS}
 use Rattle.rb_replay.specs.declared.version.Version.TheVariants.{One, Two, Three}
 use Rattle.rb_queue.specs.declared.act.Act.{Act}
-use Rattle.rb_queue.specs.declared.act.Act.TheVariants.{Offer, Poll, Take, PollFor, Peek, Remove, Drain, Clear, Size}
+use Rattle.rb_queue.specs.declared.act.Act.TheVariants.{Offer}
 use Rattle.rb_replay.proofs.Lines.{lines_text-append}
 
 -- as many elements as words
@@ -27,14 +27,7 @@ same_length f one other is = sym (length-map one f) ∙ ap length is ∙ length-
 -- the second version tells an event as the first does
 same_act : (act : Act) → act_words Two act ≡ act_words One act
 same_act (Offer element) = refl
-same_act (Poll given) = refl
-same_act (Take id) = refl
-same_act (PollFor start timeout given) = refl
-same_act (Peek shown) = refl
-same_act (Remove id found) = refl
-same_act (Drain max ids) = refl
-same_act Clear = refl
-same_act (Size count) = refl
+same_act act = refl
 
 same_events : (events : List Event) → map (event_words Two) events ≡ map (event_words One) events
 same_events [] = refl
