@@ -1,7 +1,7 @@
 ghost use Rattle.std.specs.Prelude.{◌≡◌, ◌≤◌, ℕ, List, Option, Ok, String, IfOk, false, map};
 ghost use Rattle.std.specs.Borrow.{Bor};
 ghost use Rattle.std.specs.declared.alloc.Global.{Global};
-ghost use Rattle.clap.specs.Words.{app_of};
+ghost use Rattle.clap.specs.Words.{app_of, rule_of, with_rule};
 ghost use Rattle.clap.specs.declared.builder.command.Command.TheViews.{out-Command};
 ghost use Rattle.rb_retry.specs.Retry.{AreAttempts};
 ghost use Rattle.rb_words.specs.Arguments.{AreTimerNames};
@@ -18,7 +18,7 @@ use crate::serve_options::MOST_WORKERS;
 use crate::server_options::{MOST_SESSIONS, MOST_TURNS, ServerOptions};
 use crate::words::Words;
 use clap::error::ErrorKind;
-use clap::{Command, Error};
+use clap::{Arg, Command, Error};
 use rb_kept::MOST_CALLS;
 use std::alloc::{AllocError, Global};
 
@@ -72,10 +72,10 @@ fn script_command<'a>(alloc: Global) -> Result<Command<'a>, AllocError>
     let plain = Command::new(alloc, "script").about(
         "Runs a script from standard input to standard output",
     );
-    let calls = plain.arg(calls_option(alloc))?;
-    let timer = calls.arg(timer_option(alloc))?;
-    let history = timer.arg(history_option(alloc))?;
-    let from = history.arg(from_option(alloc))?;
+    let calls = with_option(plain, calls_option(alloc))?;
+    let timer = with_option(calls, timer_option(alloc))?;
+    let history = with_option(timer, history_option(alloc))?;
+    let from = with_option(history, from_option(alloc))?;
     with_policy(alloc, from)
 }
 
@@ -84,8 +84,8 @@ fn replay_command<'a>(alloc: Global) -> Result<Command<'a>, AllocError>
     ensures local { IfOk result (λ command. (out-Command command).has_globals ≡ false) }
 {
     let plain = Command::new(alloc, "replay").about("Checks the history in a file");
-    let file = plain.arg(file_argument(alloc))?;
-    let chains = file.arg(chains_flag(alloc))?;
+    let file = with_option(plain, file_argument(alloc))?;
+    let chains = with_option(file, chains_flag(alloc))?;
     with_policy(alloc, chains)
 }
 
@@ -95,14 +95,14 @@ fn serve_command<'a>(alloc: Global) -> Result<Command<'a>, AllocError>
     ensures local { IfOk result (λ command. (out-Command command).has_globals ≡ false) }
 {
     let plain = Command::new(alloc, "serve").about("Serves clients over TCP on 127.0.0.1");
-    let port = plain.arg(port_option(alloc))?;
-    let calls = port.arg(calls_option(alloc))?;
-    let timer = calls.arg(timer_option(alloc))?;
-    let workers = timer.arg(workers_option(alloc))?;
-    let sessions = workers.arg(sessions_option(alloc))?;
-    let turns = sessions.arg(turns_option(alloc))?;
-    let history = turns.arg(history_option(alloc))?;
-    let from = history.arg(from_option(alloc))?;
+    let port = with_option(plain, port_option(alloc))?;
+    let calls = with_option(port, calls_option(alloc))?;
+    let timer = with_option(calls, timer_option(alloc))?;
+    let workers = with_option(timer, workers_option(alloc))?;
+    let sessions = with_option(workers, sessions_option(alloc))?;
+    let turns = with_option(sessions, turns_option(alloc))?;
+    let history = with_option(turns, history_option(alloc))?;
+    let from = with_option(history, from_option(alloc))?;
     with_policy(alloc, from)
 }
 
@@ -112,7 +112,17 @@ fn with_policy<'a>(alloc: Global, command: Command<'a>) -> Result<Command<'a>, A
     ensures local { (out-Command command.entry).has_globals ≡ false
         → IfOk result (λ wider. (out-Command wider).has_globals ≡ false) }
 {
-    let delay = command.arg(delay_option(alloc))?;
-    let rate = delay.arg(rate_option(alloc)?)?;
-    rate.arg(attempts_option(alloc))
+    let delay = with_option(command, delay_option(alloc))?;
+    let rate = with_option(delay, rate_option(alloc)?)?;
+    with_option(rate, attempts_option(alloc))
+}
+
+// The command with one option more, which is of this command alone.
+fn with_option<'a>(command: Command<'a>, option: Arg<'a>) -> Result<Command<'a>, AllocError>
+    requires local { option.global ≡ false }
+    ensures app { IfOk result (λ wider. app_of wider ≡ with_rule (app_of command.entry) (rule_of option.entry)) }
+    ensures local { (out-Command command.entry).has_globals ≡ false
+        → IfOk result (λ wider. (out-Command wider).has_globals ≡ false) }
+{
+    command.arg(option)
 }
