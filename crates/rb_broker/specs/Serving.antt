@@ -26,7 +26,7 @@ pub record Gathers (workers : ℕ) (old new : Seen) : Type 0 where
 
 -- The queue that a server gives back began with this opening and had room for so many calls. Its history is
 -- legal, and has the calls of so many workers and no other; the audit is that of this history.
-pub record IsServed (begun : Opening) (calls workers : ℕ) (kept : Log) (audit : Audit) : Type 0 where
+pub record IsServersRun (begun : Opening) (calls workers : ℕ) (kept : Log) (audit : Audit) : Type 0 where
   pub opening : kept.opening ≡ begun
   pub capacity : kept.capacity ≡ calls
   pub audited : audit ≡ audit_of kept.opening kept.history

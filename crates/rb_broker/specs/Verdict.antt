@@ -51,14 +51,14 @@ IsVerdictOf checked text verdict =
     (opening : Opening) × (events : List Event) × IsTextOf opening events text × IsVerdictOn checked opening events verdict
 
 -- a word, where the fault is, and why
-abbrev pub fault_line : List ℕ → ℕ → List ℕ → List ℕ
-fault_line word place reason = word ++ (codes " " ++ (decimal place ++ (codes " " ++ (reason ++ codes "\n"))))
+abbrev pub fault_text : List ℕ → ℕ → List ℕ → List ℕ
+fault_text word place reason = word ++ (codes " " ++ (decimal place ++ (codes " " ++ (reason ++ codes "\n"))))
 
 -- the line that tells a verdict
 abbrev pub verdict_text : Verdict → List ℕ
-verdict_text (Unreadable line reason) = fault_line (codes "unreadable") line (text_reason_text reason)
-verdict_text (Refused index reason) = fault_line (codes "refused") index (reason_text reason)
-verdict_text (Unchained index reason) = fault_line (codes "unchained") index (chain_reason_text reason)
+verdict_text (Unreadable line reason) = fault_text (codes "unreadable") line (text_reason_text reason)
+verdict_text (Refused index reason) = fault_text (codes "refused") index (reason_text reason)
+verdict_text (Unchained index reason) = fault_text (codes "unchained") index (chain_reason_text reason)
 verdict_text (Accepted audit) = audit_text audit
 
 -- 0 where the history is accepted, else 1

@@ -1,6 +1,6 @@
 ghost use Rattle.std.specs.Prelude.{◌≡◌, [], length, IfOk, IfErr};
 ghost use Rattle.rb_broker.specs.BrokerFault.{EndsServing};
-ghost use Rattle.rb_broker.specs.Serving.{IsServed};
+ghost use Rattle.rb_broker.specs.Serving.{IsServersRun};
 ghost use Rattle.rb_broker.specs.declared.broker_fault.BrokerFault.TheVariants.{NotGathered};
 
 use crate::broker_fault::BrokerFault;
@@ -39,7 +39,7 @@ pub fn serve_door<
     options: &ServeOptions,
     opening: Opening,
 ) -> Result<ServeReport<T>, BrokerFault>
-    ensures served { IfOk result (λ report. IsServed opening options.now.calls options.now.workers report.kept report.audit) }
+    ensures served { IfOk result (λ report. IsServersRun opening options.now.calls options.now.workers report.kept report.audit) }
     ensures fault { IfErr result EndsServing }
 {
     // The number of calls is in range, so that memory alone can be missing.
@@ -71,7 +71,7 @@ fn report_of<T: Timer, R: Wait>(
 ) -> Result<ServeReport<T>, BrokerFault>
     requires pass { pass.table ≡ shared }
     requires idle { pass.mine ≡ [] }
-    ensures served { IfOk result (λ report. IsServed pass.opening pass.capacity (length pass.folded) report.kept report.audit) }
+    ensures served { IfOk result (λ report. IsServersRun pass.opening pass.capacity (length pass.folded) report.kept report.audit) }
     ensures fault { IfErr result (λ fault. fault ≡ NotGathered) }
 {
     match shared.close(rt, pass) {

@@ -79,10 +79,10 @@ held_after (Ok verdict) held place = remove held place
 held_after (Err refused) held place = held
 
 -- the line is a request that may wait: for an expiry, or for another client's offer
-abbrev pub MayWait : Result Request LineFault → Type 0
-MayWait (Ok requests.Take) = Unit {0}
-MayWait (Ok (requests.PollFor timeout)) = Unit {0}
-MayWait _ = ⊥
+abbrev pub AsksToWait : Result Request LineFault → Type 0
+AsksToWait (Ok requests.Take) = Unit {0}
+AsksToWait (Ok (requests.PollFor timeout)) = Unit {0}
+AsksToWait _ = ⊥
 
 -- the draft of a first element with this expiry and this payload
 pub record IsFirstDraft (draft : Draft) (expires : ℕ) (bytes : List ℕ) : Type 0 where

@@ -1,6 +1,6 @@
 ghost use Rattle.std.specs.Prelude.{◌≡◌, ℕ, ◌<◌, ◌≤◌, ◌++◌, [], ◌∷◌, List, length, Option, Result};
 ghost use Rattle.rb_queue.specs.declared.reply.Reply.{Reply};
-ghost use Rattle.rb_session.specs.Turn.{word_for, point, moment_line, MayWait, IsTurn, IsServed};
+ghost use Rattle.rb_session.specs.Turn.{word_for, point, moment_line, AsksToWait, IsTurn, IsServed};
 ghost use Rattle.rb_session.specs.Progress.{replies_of};
 
 use crate::calls::{call, offer, offer_at};
@@ -24,7 +24,7 @@ pub(crate) fn answer<O: Outlet, D: Desk>(
     policy: &Policy,
     reading: Result<Request, LineFault>,
 ) -> LineReply
-    requires { MayWait reading → O.IsClearForWait _outlet.now }
+    requires { AsksToWait reading → O.IsClearForWait _outlet.now }
     ensures turn { IsTurn D.gives D.Sets D.Steps policy.now (point (D.state desk.old) held.old) reading (replies_of result held.new) (point (D.state desk.new) held.new) }
     ensures name { D.name (D.state desk.new) ≡ D.name (D.state desk.old) }
 {

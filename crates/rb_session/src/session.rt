@@ -2,7 +2,7 @@ ghost use Rattle.std.specs.Prelude.{◌≡◌, ◌≤◌, ◌↔◌, ℕ, List, 
 ghost use Rattle.rb_protocol.specs.declared.request.Request.TheVariants.{Quit};
 ghost use Rattle.rb_session.specs.Buffer.{IsUnserved, TakesMore};
 ghost use Rattle.rb_session.specs.Lines.{HasNoFeed};
-ghost use Rattle.rb_session.specs.Turn.{point, MayWait};
+ghost use Rattle.rb_session.specs.Turn.{point, AsksToWait};
 ghost use Rattle.rb_session.specs.Ran.{Ran};
 ghost use Rattle.rb_session.specs.Outlet.{RanThrough, HandedOn};
 ghost use Rattle.rb_session.specs.Progress.{ServesLines, AnswersEnd, Stops, IsClearAt, IsClearAtRead, end_of};
@@ -204,7 +204,7 @@ fn clear_for_wait<O: Outlet>(
     reading: &Result<Request, LineFault>,
 ) -> Result<(), WriteFault>
     ensures kept { (before : List ℕ) → O.contents outlet.old ≡ Some before → O.contents outlet.new ≡ Some before }
-    ensures clear { OnOk result (MayWait reading.now → O.IsClearForWait outlet.new) }
+    ensures clear { OnOk result (AsksToWait reading.now → O.IsClearForWait outlet.new) }
     ensures late { OnErr result O.HoldsBack }
     ensures becomes { O.Becomes outlet.old outlet.new }
 {

@@ -11,7 +11,7 @@ use Rattle.rb_retry.specs.declared.policy.Pace.{Pace}
 use Rattle.rb_retry.specs.declared.policy.Pace.TheVariants.{Delay, Rate}
 use Rattle.rb_retry.specs.declared.policy.Policy.{Policy}
 use Rattle.rb_words.specs.Arguments.{AreTimerNames, attempts_option, calls_option, chains_flag, delay_option, file_argument, from_option, history_option, port_option, rate_option, sessions_option, timer_option, turns_option, workers_option}
-use Rattle.rb_words.specs.TimerKind.{name_of}
+use Rattle.rb_words.specs.TimerKind.{timer_name}
 use Rattle.rb_words.specs.declared.replay_options.ReplayOptions.{ReplayOptions}
 use Rattle.rb_words.specs.declared.script_options.ScriptOptions.{ScriptOptions}
 use Rattle.rb_words.specs.declared.server_options.ServerOptions.{ServerOptions}
@@ -83,7 +83,7 @@ pub record GivesPolicy (rows : List Row) (policy : Policy) : Type 0 where
 -- The values of `script` give its options and files. The timer is the one that is named, and the numbers
 -- are those that are told; each is the default where it is left out.
 pub record GivesScript (rows : List Row) (options : ScriptOptions) (history from : Option (String Global)) : Type 0 where
-  pub timer : first_of (codes "timer") rows ≡ Some (name_of options.timer)
+  pub timer : first_of (codes "timer") rows ≡ Some (timer_name options.timer)
   pub calls : number_in (one_of (codes "calls") rows) ≡ Some options.calls
   pub policy : GivesPolicy rows options.policy
   pub history_is : option_map string_bytes history ≡ first_of (codes "history") rows
@@ -102,7 +102,7 @@ pub record GivesReplay (rows : List Row) (options : ReplayOptions) (file : Strin
 -- The values of `serve` give its options and files, each the default where it is left out.
 pub record GivesServer (rows : List Row) (options : ServerOptions) (history from : Option (String Global)) : Type 0 where
   pub port : number_in (one_of (codes "port") rows) ≡ Some options.port
-  pub timer : first_of (codes "timer") rows ≡ Some (name_of options.timer)
+  pub timer : first_of (codes "timer") rows ≡ Some (timer_name options.timer)
   pub sessions : number_in (one_of (codes "sessions") rows) ≡ Some options.sessions
   pub turns : number_in (one_of (codes "turns") rows) ≡ Some options.turns
   pub workers : number_in (one_of (codes "workers") rows) ≡ Some options.run.workers

@@ -4,8 +4,8 @@ use Rattle.rb_words.specs.declared.timer_kind.TimerKind.{TimerKind}
 use Rattle.rb_words.specs.declared.timer_kind.TimerKind.TheVariants as Kind
 
 -- the name on the command line
-abbrev pub name_of : TimerKind → List ℕ
-name_of Kind.List = codes "list"
-name_of Kind.Heap = codes "heap"
-name_of Kind.Pairing = codes "pairing"
-name_of Kind.Wheel = codes "wheel"
+abbrev pub timer_name : TimerKind → List ℕ
+timer_name Kind.List = codes "list"
+timer_name Kind.Heap = codes "heap"
+timer_name Kind.Pairing = codes "pairing"
+timer_name Kind.Wheel = codes "wheel"

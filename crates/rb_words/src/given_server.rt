@@ -3,7 +3,7 @@ ghost use Rattle.clap.specs.Words.{first_value, found_of, one_text, rows_of};
 ghost use Rattle.rb_delayed.specs.declared.element.TheConstants.{GREATEST_ATTEMPT};
 ghost use Rattle.rb_kept.specs.declared.kept.TheConstants.{MOST_CALLS};
 ghost use Rattle.rb_words.specs.CommandLine.{HasNumberWithin, HasPace, IsAskedBy, number_in, pace_in};
-ghost use Rattle.rb_words.specs.TimerKind.{name_of};
+ghost use Rattle.rb_words.specs.TimerKind.{timer_name};
 ghost use Rattle.rb_words.specs.declared.serve_options.TheConstants.{MOST_WORKERS};
 ghost use Rattle.rb_words.specs.declared.server_options.TheConstants.{MOST_SESSIONS, MOST_TURNS};
 
@@ -37,7 +37,7 @@ fn server_options(given: &ArgMatches<'_>) -> Option<ServerOptions>
     ensures port { IfSome result (λ options. number_in (one_text (found_of given.now) (codes "port"))
         ≡ Some options.port) }
     ensures timer { IfSome result (λ options. first_value (found_of given.now) (codes "timer")
-        ≡ Some (name_of options.timer)) }
+        ≡ Some (timer_name options.timer)) }
     ensures sessions { IfSome result (λ options. number_in (one_text (found_of given.now) (codes "sessions"))
         ≡ Some options.sessions) }
     ensures turns { IfSome result (λ options. number_in (one_text (found_of given.now) (codes "turns"))
@@ -51,7 +51,7 @@ fn server_options(given: &ArgMatches<'_>) -> Option<ServerOptions>
     ensures pace { IfSome result (λ options.
         pace_in (one_text (found_of given.now) (codes "delay")) (one_text (found_of given.now) (codes "rate"))
         ≡ Some options.run.policy.pace) }
-    ensures given { (kind : TimerKind) → first_value (found_of given.now) (codes "timer") ≡ Some (name_of kind)
+    ensures given { (kind : TimerKind) → first_value (found_of given.now) (codes "timer") ≡ Some (timer_name kind)
         → HasNumberWithin 1 65535 (one_text (found_of given.now) (codes "port"))
         → HasNumberWithin 1 MOST_SESSIONS (one_text (found_of given.now) (codes "sessions"))
         → HasNumberWithin 0 MOST_TURNS (one_text (found_of given.now) (codes "turns"))

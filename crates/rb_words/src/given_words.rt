@@ -4,7 +4,7 @@ ghost use Rattle.rb_delayed.specs.declared.moment.TheConstants.{GREATEST_MOMENT}
 ghost use Rattle.rb_delayed.specs.declared.element.TheConstants.{GREATEST_ATTEMPT};
 ghost use Rattle.rb_retry.specs.Retry.{AreAttempts};
 ghost use Rattle.rb_words.specs.CommandLine.{FoundChains, HasNumberWithin, HasPace, IsAskedBy, number_in, pace_in};
-ghost use Rattle.rb_words.specs.TimerKind.{name_of};
+ghost use Rattle.rb_words.specs.TimerKind.{timer_name};
 
 use crate::given_server::serve;
 use crate::replay_options::ReplayOptions;
@@ -66,7 +66,7 @@ fn replay(alloc: Global, given: &ArgMatches<'_>) -> Result<Option<Words>, AllocE
 // The options that were given to `script`.
 fn script_options(given: &ArgMatches<'_>) -> Option<ScriptOptions>
     ensures timer { IfSome result (λ options. first_value (found_of given.now) (codes "timer")
-        ≡ Some (name_of options.timer)) }
+        ≡ Some (timer_name options.timer)) }
     ensures calls { IfSome result (λ options. number_in (one_text (found_of given.now) (codes "calls"))
         ≡ Some options.calls) }
     ensures attempts { IfSome result (λ options. number_in (one_text (found_of given.now) (codes "attempts"))
@@ -74,7 +74,7 @@ fn script_options(given: &ArgMatches<'_>) -> Option<ScriptOptions>
     ensures pace { IfSome result (λ options.
         pace_in (one_text (found_of given.now) (codes "delay")) (one_text (found_of given.now) (codes "rate"))
         ≡ Some options.policy.pace) }
-    ensures given { (kind : TimerKind) → first_value (found_of given.now) (codes "timer") ≡ Some (name_of kind)
+    ensures given { (kind : TimerKind) → first_value (found_of given.now) (codes "timer") ≡ Some (timer_name kind)
         → HasNumberWithin 1 MOST_CALLS (one_text (found_of given.now) (codes "calls"))
         → HasNumberWithin 1 GREATEST_ATTEMPT (one_text (found_of given.now) (codes "attempts"))
         → HasPace (found_of given.now) → IsSome result }
