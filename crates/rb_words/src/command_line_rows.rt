@@ -90,6 +90,54 @@ fn takes_a_replay_and_its_options(rt: HostRuntime) {
             .as_slice(),
             Policy::fixed_rate(9, 7),
         ),
+        (
+            [
+                "rb_broker",
+                "replay",
+                "run.txt",
+                "--chains",
+                "--delay=0",
+                "--attempts=1",
+            ]
+            .as_slice(),
+            Policy::fixed(0, 1),
+        ),
+        (
+            [
+                "rb_broker",
+                "replay",
+                "run.txt",
+                "--chains",
+                "--delay=18446744073709551615",
+                "--attempts=1000",
+            ]
+            .as_slice(),
+            Policy::fixed(u64::MAX, 1_000),
+        ),
+        (
+            [
+                "rb_broker",
+                "replay",
+                "run.txt",
+                "--chains",
+                "--rate=0",
+                "--attempts=1",
+            ]
+            .as_slice(),
+            Policy::fixed_rate(0, 1),
+        ),
+        (
+            [
+                "rb_broker",
+                "replay",
+                "run.txt",
+                "--chains",
+                "--rate=18446744073709551615",
+                "--attempts=1000",
+            ]
+            .as_slice(),
+            Policy::fixed_rate(u64::MAX, 1_000),
+        ),
     ] {
         let options = replay_options_of(alloc, words);
         assert_eq!(rt; options, Some(ReplayOptions { chains }), "{words:?}");
@@ -137,6 +185,10 @@ fn takes_a_policy(rt: HostRuntime) {
         (
             ["rb_broker", "script", "--rate", "100"].as_slice(),
             Policy::fixed_rate(100, 3),
+        ),
+        (
+            ["rb_broker", "script", "--rate=18446744073709551615"].as_slice(),
+            Policy::fixed_rate(u64::MAX, 3),
         ),
         (
             ["rb_broker", "script", "--attempts", "1", "--rate=0"].as_slice(),
@@ -234,6 +286,8 @@ fn refuses_other_values_with_status_2(rt: HostRuntime) {
         ("--delay=-1", ErrorKind::ValueValidation),
         ("--delay=18446744073709551616", ErrorKind::ValueValidation),
         ("--rate=x", ErrorKind::ValueValidation),
+        ("--rate=-1", ErrorKind::ValueValidation),
+        ("--rate=18446744073709551616", ErrorKind::ValueValidation),
         ("--attempts=0", ErrorKind::ValueValidation),
         ("--attempts=1001", ErrorKind::ValueValidation),
         ("--timer=Heap", ErrorKind::InvalidValue),
@@ -246,6 +300,21 @@ fn refuses_other_values_with_status_2(rt: HostRuntime) {
     refuses(&rt, rt.alloc(), &both, ErrorKind::ArgumentConflict);
     let apart = ["rb_broker", "script", "--calls", "0"];
     refuses(&rt, rt.alloc(), &apart, ErrorKind::ValueValidation);
+}
+
+#[test]
+fn refuses_other_values_of_a_replay(rt: HostRuntime) {
+    for option in [
+        "--delay=-1",
+        "--delay=18446744073709551616",
+        "--rate=-1",
+        "--rate=18446744073709551616",
+        "--attempts=0",
+        "--attempts=1001",
+    ] {
+        let words = ["rb_broker", "replay", "run.txt", option];
+        refuses(&rt, rt.alloc(), &words, ErrorKind::ValueValidation);
+    }
 }
 
 #[test]

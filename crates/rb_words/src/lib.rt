@@ -16,6 +16,8 @@ mod serve_options;
 mod server_options;
 #[cfg(test)]
 mod server_words_rows;
+#[cfg(test)]
+mod tests;
 mod timer_kind;
 mod words;
 

@@ -45,70 +45,78 @@ fn takes_a_port_alone(rt: HostRuntime) {
 
 #[test]
 fn takes_the_least_numbers(rt: HostRuntime) {
-    let policy = Policy::fixed(0, 1).expect(&rt, "a policy");
-    let run = ServeOptions {
-        workers: 1,
-        calls: 1,
-        policy,
-    };
-    let expected = ServerOptions {
-        port: 1,
-        timer: TimerKind::List,
-        sessions: 1,
-        turns: 0,
-        run,
-    };
-    let words = [
-        "rb_broker",
-        "serve",
-        "--port=1",
-        "--timer=list",
-        "--sessions=1",
-        "--turns=0",
-        "--workers=1",
-        "--calls=1",
-        "--delay=0",
-        "--attempts=1",
-    ];
-    expect_options(&rt, rt.alloc(), &words, expected);
+    for (pace, policy) in [
+        ("--delay=0", Policy::fixed(0, 1)),
+        ("--rate=0", Policy::fixed_rate(0, 1)),
+    ] {
+        let run = ServeOptions {
+            workers: 1,
+            calls: 1,
+            policy: policy.expect(&rt, "a policy"),
+        };
+        let expected = ServerOptions {
+            port: 1,
+            timer: TimerKind::List,
+            sessions: 1,
+            turns: 0,
+            run,
+        };
+        let words = [
+            "rb_broker",
+            "serve",
+            "--port=1",
+            "--timer=list",
+            "--sessions=1",
+            "--turns=0",
+            "--workers=1",
+            "--calls=1",
+            pace,
+            "--attempts=1",
+        ];
+        expect_options(&rt, rt.alloc(), &words, expected);
+    }
 }
 
 #[test]
 fn takes_the_greatest_numbers(rt: HostRuntime) {
-    let policy = Policy::fixed_rate(u64::MAX, 1_000).expect(&rt, "a policy");
-    let run = ServeOptions {
-        workers: 16,
-        calls: 1_000_000,
-        policy,
-    };
-    let expected = ServerOptions {
-        port: 65_535,
-        timer: TimerKind::Wheel,
-        sessions: 10_000,
-        turns: 1_000_000,
-        run,
-    };
-    let words = [
-        "rb_broker",
-        "serve",
-        "--attempts",
-        "1000",
-        "--rate",
-        "18446744073709551615",
-        "--calls",
-        "1000000",
-        "--workers",
-        "16",
-        "--turns",
-        "1000000",
-        "--sessions",
-        "10000",
-        "--timer",
-        "wheel",
-        "--port",
-        "65535",
-    ];
-    expect_options(&rt, rt.alloc(), &words, expected);
+    for (pace, policy) in [
+        ("--delay", Policy::fixed(u64::MAX, 1_000)),
+        ("--rate", Policy::fixed_rate(u64::MAX, 1_000)),
+    ] {
+        let run = ServeOptions {
+            workers: 16,
+            calls: 1_000_000,
+            policy: policy.expect(&rt, "a policy"),
+        };
+        let expected = ServerOptions {
+            port: 65_535,
+            timer: TimerKind::Wheel,
+            sessions: 10_000,
+            turns: 1_000_000,
+            run,
+        };
+        let words = [
+            "rb_broker",
+            "serve",
+            "--attempts",
+            "1000",
+            pace,
+            "18446744073709551615",
+            "--calls",
+            "1000000",
+            "--workers",
+            "16",
+            "--turns",
+            "1000000",
+            "--sessions",
+            "10000",
+            "--timer",
+            "wheel",
+            "--port",
+            "65535",
+        ];
+        expect_options(&rt, rt.alloc(), &words, expected);
+    }
 }
 
 // Compares the files that a server is given.
@@ -181,6 +189,10 @@ fn refuses_other_values_of_a_server(rt: HostRuntime) {
         ("--calls=1000001", ErrorKind::ValueValidation),
         ("--attempts=0", ErrorKind::ValueValidation),
         ("--attempts=1001", ErrorKind::ValueValidation),
+        ("--delay=-1", ErrorKind::ValueValidation),
+        ("--delay=18446744073709551616", ErrorKind::ValueValidation),
+        ("--rate=-1", ErrorKind::ValueValidation),
+        ("--rate=18446744073709551616", ErrorKind::ValueValidation),
         ("--timer=tree", ErrorKind::InvalidValue),
         ("--chains", ErrorKind::UnknownArgument),
         ("more", ErrorKind::UnknownArgument),
@@ -188,6 +200,8 @@ fn refuses_other_values_of_a_server(rt: HostRuntime) {
         let words = ["rb_broker", "serve", "--port=1", option];
         refuses(&rt, rt.alloc(), &words, kind);
     }
+    let both = ["rb_broker", "serve", "--port=1", "--delay=5", "--rate=5"];
+    refuses(&rt, rt.alloc(), &both, ErrorKind::ArgumentConflict);
     let both = ["rb_broker", "serve", "--port=1", "--delay=5", "--rate=5"];
     refuses(&rt, rt.alloc(), &both, ErrorKind::ArgumentConflict);
 }
