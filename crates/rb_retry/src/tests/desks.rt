@@ -1,5 +1,9 @@
+ghost use Rattle.std.specs.Prelude.{◌≡◌};
+
 use crate::desk::Desk;
 use crate::desk_fault::DeskFault;
+use crate::fetches::drain;
+use crate::job::Job;
 use crate::kept_desk::KeptDesk;
 use crate::tests::fixtures::{expect, kept, offer};
 use rb_binary::BinaryTimer;
@@ -47,4 +51,31 @@ fn expect_run<T: Timer>(rt: &impl Abort, alloc: Global) {
 fn a_kept_desk_answers_at_once(rt: HostRuntime) {
     expect_run::<ListTimer>(&rt, rt.alloc());
     expect_run::<BinaryTimer>(&rt, rt.alloc());
+}
+
+/// Offers 200 elements, the later the sooner expired, and fetches them all in one drain.
+pub fn expect_all_drained<D: Desk>(rt: &impl Abort, alloc: Global, desk: &mut D)
+    ensures name { D.name (D.state desk.new) ≡ D.name (D.state desk.old) }
+{
+    for id in 0..200_u64 {
+        offer(rt, desk, 0, 200_u64.saturating_sub(id));
+    }
+    let mut jobs = Vec::with_capacity(alloc, 1_000).ok().expect(rt, "memory");
+    assert_eq!(rt; drain(desk, 200, 1_000, &mut jobs), Ok(()));
+    expect_ids_down(rt, &jobs);
+}
+
+// The ids are 199 to 0.
+fn expect_ids_down(rt: &impl Abort, jobs: &[Job]) {
+    assert_eq!(rt; jobs.len(), 200);
+    for (job, id) in jobs.iter().zip((0..200).rev()) {
+        assert_eq!(rt; job.element().id, id);
+    }
+}
+
+#[test]
+fn a_drain_at_a_kept_desk_gives_all_that_are_expired(rt: HostRuntime) {
+    let (mut kept, mut tally) = kept::<ListTimer>(&rt, rt.alloc(), 201);
+    let mut desk = KeptDesk::new(&mut kept, &mut tally);
+    expect_all_drained(&rt, rt.alloc(), &mut desk);
 }

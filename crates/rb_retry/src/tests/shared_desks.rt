@@ -6,34 +6,20 @@ use crate::desk::Desk;
 use crate::desk_fault::DeskFault;
 use crate::fetches::take;
 use crate::shared_desk::SharedDesk;
+use crate::tests::desks::expect_all_drained;
+use crate::tests::devices::{FixedClock, ListPass, ListShared};
 use crate::tests::fixtures::{expect, offer};
 use crate::tests::jobs::{End, end_of};
-use rb_blocking::{Bell, Clock, Gate, TurnGate};
+use rb_blocking::{Bell, Gate, TurnGate};
 use rb_kept::Kept;
-use rb_lock::{Pass, Shared};
+use rb_lock::Shared;
 use rb_queue::Ask;
-use rb_timer::ListTimer;
 use std::alloc::Global;
 use std::process::Abort;
 use std::sync::Wait;
 use std::test::Fail;
 use std::thread::{Threads, join};
 use std::time;
-
-type ListShared = Shared<ListTimer>;
-
-type ListPass = Pass<ListTimer>;
-
-#[derive(Clone, Copy)]
-struct FixedClock(u64);
-
-impl Clock for FixedClock {
-    ghost gives = { λ clock moment. moment ≡ clock.0 };
-
-    fn now(&self) -> u64 {
-        self.0
-    }
-}
 
 // A gate that ends each wait at once, and counts how often it is asked.
 #[derive(Drop)]
@@ -123,6 +109,15 @@ fn a_shared_desk_waits_by_its_gate(rt: HostRuntime) -> Result<(), Fail> {
     expect_run(&rt, &shared, &mut pass, &mut gate, &bell);
     assert_eq!(rt; (gate.asked, bell.count(&rt), pass.calls()), (2, 1, 4));
     expect_history(&rt, shared, pass);
+    Ok(())
+}
+
+#[test]
+fn a_drain_at_a_shared_desk_gives_all_that_are_expired(rt: HostRuntime) -> Result<(), Fail> {
+    let (shared, mut pass) = opened(rt.alloc(), 201)?;
+    let (clock, bell, mut gate) = (FixedClock(7), Bell::new(), TurnGate { limit: 0 });
+    let mut desk = SharedDesk::new(&rt, &shared, &mut pass, &clock, &mut gate, &bell);
+    expect_all_drained(&rt, rt.alloc(), &mut desk);
     Ok(())
 }
 
