@@ -83,18 +83,36 @@ impl Write for Sheet {
     }
 }
 
+/// Keeps what is written, and takes one byte at each write.
+#[derive(Drop)]
+pub struct Slip {
+    pub bytes: Vec<u8>,
+}
+
+impl Write for Slip {
+    fn write(&mut self, buf: &[u8]) -> io::Result<usize> {
+        let count = buf.len().min(1);
+        self.bytes.extend_from_slice(&buf[..count])?;
+        Ok(count)
+    }
+
+    fn flush(&mut self) -> io::Result<()> {
+        Ok(())
+    }
+}
+
 /// A call that never comes.
 pub const NEVER: usize = usize::MAX;
 
 /// Runs a session over the kept queue, with three attempts a job, each 1,000 nanoseconds after the
 /// failure.
-pub fn run<T: Timer>(
+pub fn run<T: Timer, W: Write>(
     rt: &impl Abort,
     alloc: Global,
     kept: &mut Kept<T>,
     tally: &mut Tally,
     reader: &mut Bytes<'_>,
-    writer: &mut Sheet,
+    writer: &mut W,
 ) -> Result<Ended, SessionFault> {
     let policy = Policy::fixed(1_000, 3).expect(rt, "a policy");
     let mut desk = KeptDesk::new(kept, tally);

@@ -1,5 +1,6 @@
+use crate::ended::Ended;
 use crate::session_fault::SessionFault;
-use crate::tests::devices::{Bytes, NEVER, Sheet, run};
+use crate::tests::devices::{Bytes, NEVER, Sheet, Slip, run};
 use rb_binary::BinaryTimer;
 use rb_kept::Kept;
 use std::test::Fail;
@@ -10,6 +11,19 @@ const JOB: &[u8] =
 
 const REPLIES: &[u8] =
     b"NOW 100\nOFFERED 0 100\nITEM 0 100 1 j\nNOW 200\nAGAIN 1 1200\nNOW 1200\nITEM 1 1200 2 j\nAGAIN 2 2200\nNOW 2200\nITEM 2 2200 3 j\nDEAD 2\nERR 5 not-held\n";
+
+// What a write does not take is written again, however often.
+#[test]
+fn a_writer_may_take_a_byte_at_a_time(rt: HostRuntime) -> Result<(), Fail> {
+    let alloc = rt.alloc();
+    let (mut kept, mut tally) = Kept::<BinaryTimer>::new(alloc, 100)?;
+    let bytes = Vec::new(alloc);
+    let (mut reader, mut writer) = (Bytes::of(JOB, NEVER), Slip { bytes });
+    let ended = run(&rt, alloc, &mut kept, &mut tally, &mut reader, &mut writer);
+    assert_eq!(rt; ended, Ok(Ended::EndOfInput { lost: 0 }));
+    assert_eq!(rt; writer.bytes.as_slice(), REPLIES);
+    Ok(())
+}
 
 // How many bytes the first lines of the replies have, with their ends.
 fn end_of_line(lines: usize) -> usize {

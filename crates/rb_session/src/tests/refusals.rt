@@ -5,6 +5,7 @@ use rb_binary::BinaryTimer;
 use rb_kept::{Kept, NewFault};
 use rb_ledger::Tally;
 use std::alloc::{AllocError, Global};
+use std::io::Write;
 use std::process::Abort;
 use std::test::Fail;
 
@@ -63,16 +64,12 @@ fn refused_offer(rt: &impl Abort, alloc: Global) -> Result<u32, Fail> {
     Ok(1)
 }
 
-// Appends a number below 1,000 with what stands round it.
+// Appends a number with what stands round it.
 fn push_line(text: &mut Vec<u8>, front: &[u8], number: u64, back: &[u8]) -> Result<(), AllocError> {
     text.extend_from_slice(front)?;
-    if number >= 100 {
-        text.push(b'0' + (number / 100 % 10) as u8)?;
-    }
-    if number >= 10 {
-        text.push(b'0' + (number / 10 % 10) as u8)?;
-    }
-    text.push(b'0' + (number % 10) as u8)?;
+    let Ok(()) = write!(text, "{number}") else {
+        return Err(AllocError);
+    };
     text.extend_from_slice(back)
 }
 
