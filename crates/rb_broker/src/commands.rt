@@ -26,7 +26,7 @@ use std::time;
 /// Runs a script from standard input to standard output.
 ///
 /// The file `from` is read before anything else, and the file `history` is created before the session,
-/// so both may be the same.
+/// so both may be the same. Where standard output is closed it is not created.
 pub fn script(
     rt: &HostRuntime,
     options: &ScriptOptions,
@@ -57,9 +57,10 @@ pub fn replay(rt: &HostRuntime, options: &ReplayOptions, file: &str) -> Result<u
 
 /// Serves clients at a port of 127.0.0.1, writes the history of the run, and prints what it came to.
 ///
-/// The file `from` is read before anything else, and the file `history` is created once the port is
-/// listened at, so both may be the same, and a port that can't be had leaves them as they are. That the port
-/// is listened at, standard output says by a line. Where the run gives no history the file stays empty.
+/// The file `from` is read before anything else. The file `history` is created before the port is
+/// listened at, and what stood in it goes once the port is had: so both may be the same, and a port that
+/// can't be had costs no history. That the port is listened at, standard output says by a line. Where the
+/// run gives no history the file stays empty.
 ///
 /// The workers are started and wait by `handle`.
 pub fn serve<R: Threads + Wait + time::Clock + Sync>(
@@ -70,11 +71,11 @@ pub fn serve<R: Threads + Wait + time::Clock + Sync>(
     from: Option<&str>,
 ) -> Result<(), BrokerFault> {
     let opening = opening_behind(rt, from)?;
+    make_room_for(rt, history)?;
     let address = SocketAddr::V4(SocketAddrV4::new(Ipv4Addr::LOCALHOST, options.port));
     let Ok(listener) = TcpListener::bind(rt, address) else {
         return Err(BrokerFault::Listen);
     };
-    // A port that is taken must not cost the history of an earlier run.
     let mut device = device_for(rt, history)?;
     print_listening(rt.alloc(), &mut rt.stdout(), options.port)?;
     let door = TcpDoor::new(listener, options.sessions, options.turns);
@@ -120,9 +121,25 @@ fn opening_behind(rt: &HostRuntime, from: Option<&str>) -> Result<Opening, Broke
 
 // What the history of a run is written to, if a file is named.
 fn device_for(rt: &HostRuntime, history: Option<&str>) -> Result<Option<File>, BrokerFault> {
-    match history {
-        Some(path) => Ok(Some(created(rt, path)?)),
-        None => Ok(None),
+    let Some(path) = history else {
+        return Ok(None);
+    };
+    // The next file that is opened takes the place of a closed standard output, and would get the replies.
+    match rt.stdout().write(&[]) {
+        Ok(_) => Ok(Some(created(rt, path)?)),
+        Err(_) => Err(BrokerFault::Write),
+    }
+}
+
+// Creates the file of a run's history, if one is named. What stands in it stays: a port that is taken must
+// not cost the history of an earlier run.
+fn make_room_for(rt: &HostRuntime, history: Option<&str>) -> Result<(), BrokerFault> {
+    let Some(path) = history else {
+        return Ok(());
+    };
+    match File::options().write(true).create(true).open(rt, path) {
+        Ok(_) => Ok(()),
+        Err(_) => Err(BrokerFault::WriteHistory),
     }
 }
 

@@ -40,13 +40,15 @@ fn faults_have_a_status_and_a_text(rt: HostRuntime) -> Result<(), Fail> {
 }
 
 #[test]
-fn faults_of_files_have_a_status_and_a_text(rt: HostRuntime) -> Result<(), Fail> {
+fn faults_of_files_and_servers_have_a_status_and_a_text(rt: HostRuntime) -> Result<(), Fail> {
     let alloc = rt.alloc();
     for (fault, status, text) in [
         (BrokerFault::ReadHistory, 3, "cannot read history"),
         (BrokerFault::WriteHistory, 3, "cannot write history"),
         (BrokerFault::BadOpening, 1, "bad opening"),
         (BrokerFault::Listen, 3, "cannot listen"),
+        (BrokerFault::Worker, 3, "cannot start worker"),
+        (BrokerFault::NotGathered, 3, "passes not gathered"),
     ] {
         assert_eq!(rt; fault.status(), status);
         assert_eq!(rt; fault.to_string(alloc)?.as_str(), text);

@@ -1,15 +1,18 @@
 //! A broker of delayed elements, as a command.
 //!
 //! `rb_broker script` reads a script from standard input and writes its answers to standard output.
-//! `rb_broker replay` checks the history of a run. `rb_broker serve` answers many clients over TCP. The exit status is 0 at the end of a run and after
-//! help, 1 for a history that is not accepted, 2 where the words are refused, 3 where input, output
-//! or a port fails, and 4 for want of memory.
+//! `rb_broker replay` checks the history of a run. `rb_broker serve` answers many clients over TCP.
+//! The exit status is 0 at the end of a run and after help, 1 for a history that is not accepted or
+//! that no run goes on behind, 2 where the words are refused, 3 where input, output, a file, a port or
+//! a thread fails or an input has no end, and 4 for want of memory.
 #![tactic(auto)]
 
 mod audit_line;
 #[cfg(test)]
 mod batch_rows;
 mod broker_fault;
+#[cfg(test)]
+mod clock_rows;
 mod commands;
 mod door;
 #[cfg(test)]
@@ -40,6 +43,8 @@ mod serve_door;
 mod serve_end;
 mod serve_report;
 mod serve_text;
+#[cfg(test)]
+mod served_jobs_rows;
 #[cfg(test)]
 mod server_end_rows;
 mod service;

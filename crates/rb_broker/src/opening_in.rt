@@ -11,8 +11,8 @@ use std::alloc::Global;
 
 /// The opening of a run that goes on behind the one whose history the text is.
 ///
-/// The faults are `BadOpening`, exactly where the text is no history's, or of one that is not legal or
-/// leads past the limits of an opening; and `Memory`.
+/// The faults are `Memory`, and else `BadOpening`, exactly where the text is no history's, or of one that
+/// is not legal or leads past the limits of an opening.
 pub fn opening_in(alloc: Global, text: &[u8]) -> Result<Opening, BrokerFault>
     ensures begins { BeginsIn text.now result }
     ensures each { (from : Opening) (events : List Event) → IsRightOpening from → AreRightEvents events

@@ -5,7 +5,7 @@ use crate::opening_in::opening_in;
 use crate::read_all::read_all;
 use crate::replay::run_replay;
 use crate::script::run_script;
-use crate::script_rows::{AT_END, KINDS, Pieces, options};
+use crate::script_rows::{AT_END, Endless, KINDS, Pieces, options};
 use rb_queue::{Audit, Opening};
 use rb_retry::{Pace, Policy};
 use rb_words::ReplayOptions;
@@ -196,4 +196,21 @@ fn a_file_is_read_in_pieces_of_any_size(rt: HostRuntime) -> Result<(), Fail> {
         assert_eq!(rt; fault, Some(BrokerFault::ReadHistory), "{call}");
     }
     Ok(())
+}
+
+#[test]
+fn a_file_without_an_end_is_given_up(rt: HostRuntime) {
+    let mut reader = Endless { calls: 0 };
+    let fault = read_all(rt.alloc(), &mut reader).err();
+    assert_eq!(rt; fault, Some(BrokerFault::ReadTurns));
+    assert_eq!(rt; reader.calls, 10_000_000);
+}
+
+#[test]
+fn an_interrupted_read_of_a_file_is_made_again(rt: HostRuntime) {
+    for call in 0..3 {
+        let mut reader = Pieces::interrupted_at(b"ab", call);
+        let text = read_all(rt.alloc(), &mut reader).ok().expect(&rt, "a text");
+        assert_eq!(rt; text.as_slice(), b"ab".as_slice(), "{call}");
+    }
 }

@@ -68,6 +68,14 @@ impl<'a> Pieces<'a> {
         pieces.fault = Some(FaultAt { call, fault });
         pieces
     }
+
+    /// Gives one byte at each call, and is interrupted at the one with this number.
+    pub fn interrupted_at(rest: &'a [u8], call: usize) -> Pieces<'a> {
+        let mut pieces = Pieces::of(rest, 1);
+        let fault = Fault::IsInterrupted;
+        pieces.fault = Some(FaultAt { call, fault });
+        pieces
+    }
 }
 
 impl Read for Pieces<'_> {
@@ -415,9 +423,7 @@ fn an_interrupted_read_is_made_again(rt: HostRuntime) {
     let alloc = rt.alloc();
     for call in 0..=FIRST_SCRIPT.len() {
         let mut writer = Held::new(alloc);
-        let mut reader = Pieces::of(FIRST_SCRIPT, 1);
-        let fault = Fault::IsInterrupted;
-        reader.fault = Some(FaultAt { call, fault });
+        let mut reader = Pieces::interrupted_at(FIRST_SCRIPT, call);
         let result = run(&rt, alloc, TimerKind::Heap, 10, &mut reader, &mut writer);
         assert_eq!(rt; result, Ok(AT_END), "{call}");
         assert_eq!(rt; writer.bytes.as_slice(), FIRST_REPLIES, "{call}");
@@ -539,10 +545,10 @@ fn a_read_takes_64_kib(rt: HostRuntime) -> Result<(), Fail> {
     Ok(())
 }
 
-// Gives one byte at each read, and never a line's end.
+/// Gives one byte at each read, and never a line's end.
 #[derive(Drop)]
-struct Endless {
-    calls: u64,
+pub struct Endless {
+    pub calls: u64,
 }
 
 impl Read for Endless {

@@ -159,6 +159,61 @@ fn faults_are_counted(rt: HostRuntime) -> Result<(), Fail> {
     Ok(())
 }
 
+// The one worker serves on behind both.
+#[test]
+fn faults_end_no_other_visit(rt: HostRuntime) -> Result<(), Fail> {
+    let turns = AtomicU64::new(0);
+    let (faulty, text) = (Received::none(rt.alloc()), Received::none(rt.alloc()));
+    let plans = [
+        planned(Some(Sends::Nothing), &faulty, &turns),
+        planned(None, &faulty, &turns),
+        planned(at_once(b"OFFER 0 a\nQUIT\n"), &text, &turns),
+    ];
+    let report = served(&rt, rt.alloc(), &plans, 1);
+    expect_counts(&rt, &report, 3, 2);
+    expect_text(&rt, &text, b"OFFERED 0 7\nBYE\n");
+    Ok(())
+}
+
+// Each take waits before the next begins, and the fifth visit offers for all four: so none of the five
+// workers may idle.
+#[test]
+fn each_worker_serves(rt: HostRuntime) -> Result<(), Fail> {
+    let alloc = rt.alloc();
+    let (first, second) = (AtomicU64::new(0), AtomicU64::new(0));
+    let (third, fourth) = (AtomicU64::new(0), AtomicU64::new(0));
+    let last = AtomicU64::new(0);
+    let text = Received::none(alloc);
+    let offers = b"OFFER 0 a\nOFFER 0 b\nOFFER 0 c\nOFFER 0 d\n";
+    let plans = [
+        planned(
+            at_once(b"TAKE\nDONE 0\nDONE 1\nDONE 2\nDONE 3\n"),
+            &text,
+            &first,
+        ),
+        planned(
+            after(b"TAKE\nDONE 0\nDONE 1\nDONE 2\nDONE 3\n", &first, &first),
+            &text,
+            &second,
+        ),
+        planned(
+            after(b"TAKE\nDONE 0\nDONE 1\nDONE 2\nDONE 3\n", &second, &second),
+            &text,
+            &third,
+        ),
+        planned(
+            after(b"TAKE\nDONE 0\nDONE 1\nDONE 2\nDONE 3\n", &third, &third),
+            &text,
+            &fourth,
+        ),
+        planned(after(offers, &fourth, &fourth), &text, &last),
+    ];
+    let report = served(&rt, alloc, &plans, 5);
+    expect_counts(&rt, &report, 5, 0);
+    assert_eq!(rt; report.audit, all_given(4));
+    Ok(())
+}
+
 // No client sets the clock that all share.
 #[test]
 fn no_client_sets_the_clock(rt: HostRuntime) -> Result<(), Fail> {

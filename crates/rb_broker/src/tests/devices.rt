@@ -227,23 +227,33 @@ pub fn served_plans<R: Threads + Wait + time::Clock + Abort + Sync>(
     requires some { 1 ≤ workers }
     requires few { workers ≤ 16 }
 {
-    let door = PlannedDoor {
-        rt,
-        plans,
-        taken: AtomicU64::new(0),
-    };
     let policy = Policy::fixed(1_000, 3).expect(rt, "a policy");
     let options = ServeOptions {
         workers,
         calls: 100,
         policy,
     };
+    served_so(rt, alloc, plans, &options)
+}
+
+/// Serves these visits over the plain timer with these options.
+pub fn served_so<R: Threads + Wait + time::Clock + Sync>(
+    rt: &R,
+    alloc: Global,
+    plans: &[Plan<'_>],
+    options: &ServeOptions,
+) -> Result<ServeReport<ListTimer>, BrokerFault> {
+    let door = PlannedDoor {
+        rt,
+        plans,
+        taken: AtomicU64::new(0),
+    };
     serve_door(
         rt,
         alloc,
         &door,
         &SevenClock,
-        &options,
+        options,
         Opening::empty(alloc),
     )
 }
