@@ -1,4 +1,5 @@
-"""What tools/check_server is made of: the clients, and what their replies say of the history."""
+"""What tools/check_server is made of: the clients, and what their replies say of the history. And the servers of a
+few clients that tools/check_program tries."""
 
 # What the server is told: nanoseconds after which a failed job comes back, a job's attempts, and turns of a wait.
 DELAY, ATTEMPTS, TURNS = 5_000_000, 3, 50

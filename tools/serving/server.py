@@ -1,0 +1,55 @@
+"""The program as a server, and a count of what is as it must be."""
+import os
+import random
+import subprocess
+import sys
+
+from serving import PATIENCE
+
+TOP = os.path.dirname(os.path.dirname(os.path.dirname(os.path.realpath(__file__))))
+PROGRAM = f"{TOP}/crates/rb_broker/out/rb_broker"
+
+
+class Server:
+    """The program as a server, at a port of our own choice."""
+
+    def __init__(self, options):
+        for _ in range(20):
+            self.port = random.randrange(20_000, 32_000)  # below those that the system gives to clients
+            words = [PROGRAM, "serve", "--port", str(self.port), *options]
+            pipe = subprocess.PIPE
+            self.process = subprocess.Popen(words, stdout=pipe, stderr=pipe, encoding="utf-8")
+            if self.process.stdout.readline() == f"listening 127.0.0.1:{self.port}\n":
+                return
+            self.process.kill()
+            self.process.communicate()
+        sys.exit("no server could be started")
+
+    def end(self):
+        """Waits for its end. Its status, the lines that it wrote then, and what it wrote to standard error."""
+        try:
+            said, errors = self.process.communicate(timeout=PATIENCE)
+            return self.process.returncode, said.splitlines() or [""], errors
+        except subprocess.TimeoutExpired:
+            self.process.kill()
+            self.process.communicate()
+            return None, [""], "the server does not end"
+
+
+class Tally:
+    """Counts what is as it must be, and tells what is not."""
+
+    def __init__(self):
+        self.passed = self.failed = 0
+
+    def count(self, name, fault):
+        if fault:
+            self.failed += 1
+            print(f"{name}: {fault}")
+        else:
+            self.passed += 1
+
+    def end(self):
+        """Prints the count. Whether all is as it must be."""
+        print(f"{self.passed} as they must be, {self.failed} not")
+        return self.failed == 0
