@@ -2,8 +2,8 @@
 # Measures `rb_broker serve` beside an echo server, and beside beanstalkd where that is installed:
 # bench/serve.sh, from any folder. It needs rustc for the clients, bench/clients.rs, which say what they do.
 #
-#   ROUNDS        rounds (offer, take and done) of each run one by one, of all its clients together (default 60000)
-#   BATCH_ROUNDS  rounds of each run in batches of 32 (default and greatest 400000)
+#   ROUNDS        rounds (offer, take and done) of each run one by one, of all its clients together (default 60000, at most 400000)
+#   BATCH_ROUNDS  rounds of each run in batches of 32 (default 320000, at most 400000)
 #   RUNS          runs of each kind, of which the median by rounds a second counts (default 3)
 #
 # Each run has a server of its own, whose workers, or threads of the echo server, are as many as the clients.

@@ -10,7 +10,7 @@ pub enum NewFault {
     /// The capacity is 0 or above 1,000,000.
     #[error("a history has room for 1 to 1,000,000 calls")]
     BadCapacity,
-    /// There is no memory for the history.
+    /// There is no memory for the history, or for the elements of the opening.
     #[error("out of memory")]
     Memory,
 }

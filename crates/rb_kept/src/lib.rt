@@ -1,7 +1,8 @@
 //! A queue with the history of its calls: each answered call is one event more, and the history is
 //! always one that a single queue may have had from its opening on.
 //!
-//! Moments are nanoseconds. All memory for the history is taken when it is made.
+//! Moments are nanoseconds. The memory for all events is taken when the history is made; what a drain gave
+//! has its own.
 #![tactic(auto)]
 
 mod fault;

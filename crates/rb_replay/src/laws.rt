@@ -1,6 +1,6 @@
 ghost use Rattle.rb_replay.specs.Readings.{OneTextEach, NoTextOfTwo, NoFaultOfText, OneFault};
 
-/// A history has one text in each version.
+/// A history has at most one text in each version.
 pub fn one_text_each()
     ensures { OneTextEach }
 {}
