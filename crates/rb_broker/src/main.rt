@@ -7,69 +7,17 @@
 //! a thread fails or an input has no end, and 4 for want of memory.
 #![tactic(auto)]
 
-mod audit_line;
-#[cfg(test)]
-mod batch_rows;
-mod broker_fault;
-#[cfg(test)]
-mod clock_rows;
 mod commands;
-mod door;
-#[cfg(test)]
-mod fault_rows;
-mod gathered;
-mod gathering;
-#[cfg(test)]
-mod gathering_rows;
-mod hands_on;
-#[cfg(test)]
-mod history_rows;
-#[cfg(test)]
-mod kept_rows;
-#[cfg(test)]
-mod large_rows;
-mod opening_in;
-mod read_all;
-mod replay;
-#[cfg(test)]
-mod replay_rows;
-#[cfg(test)]
-mod retry_rows;
-mod script;
-#[cfg(test)]
-mod script_rows;
-mod serve_clock;
-mod serve_door;
-mod serve_end;
-mod serve_report;
-mod serve_text;
-#[cfg(test)]
-mod served_jobs_rows;
-#[cfg(test)]
-mod server_end_rows;
-mod service;
-#[cfg(test)]
-mod serving_rows;
-mod tcp_door;
-#[cfg(test)]
-mod tcp_rows;
-#[cfg(test)]
-mod tests;
-mod verdict;
-mod visit;
-mod visit_counts;
-mod worker;
-mod workers;
 
 ghost use Rattle.std.specs.Process.{exit_status};
 ghost use Rattle.clap.specs.Words.{kind_of};
-ghost use Rattle.rb_broker.specs.BrokerFault.{status_of};
+ghost use Rattle.rb_runs.specs.BrokerFault.{status_of};
 ghost use Rattle.std.specs.Prelude.{◌≡◌};
 ghost use Rattle.rb_broker.specs.ExitStatus.{IsStatusOfWords, status_of_replay, status_of_run};
 
-use broker_fault::BrokerFault;
 use clap::Error;
 use clap::error::ErrorKind;
+use rb_runs::BrokerFault;
 use rb_words::{Words, read_words};
 use std::alloc::{AllocError, Global};
 use std::process::ExitCode;

@@ -1,5 +1,0 @@
-pub mod Gatherings
-pub mod GatheredWorkers
-pub mod Beginnings
-pub mod Verdicts
-pub mod FileTexts

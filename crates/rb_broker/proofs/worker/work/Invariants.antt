@@ -1,6 +1,0 @@
-use Rattle.rb_broker.specs.Serving.{IsWorked}
-use Rattle.rb_broker.proofs.worker.work.Given as goal
-
--- The pass has called for visitors alone.
-abbrev pub invariant-loop : goal.invariant-loop
-invariant-loop g l = IsWorked l.initial.pass l.pass

@@ -1,0 +1,4 @@
+pub mod Gatherings
+pub mod Beginnings
+pub mod Verdicts
+pub mod FileTexts

@@ -1,0 +1,69 @@
+-- What a run of a script is: one session at a desk over the queue of an opening, and then its history.
+use Rattle.std.specs.Prelude.{◌≡◌, ◌≢◌, ℕ, List, [], Option, None, Some, Result, Ok, Err}
+use Rattle.rb_ledger.specs.Totals.{nothing}
+use Rattle.rb_queue.specs.declared.opening.Opening.{Opening}
+use Rattle.rb_kept.specs.Log.{Log}
+use Rattle.rb_replay.specs.HistoryText.{history_text}
+use Rattle.rb_replay.specs.Written.{Writes}
+use Rattle.rb_replay.specs.declared.history_fault.HistoryFault.{HistoryFault}
+use Rattle.rb_retry.specs.KeptSteps.{KeptState, KeptSteps, SetsKept}
+use Rattle.rb_retry.specs.declared.policy.Policy.{Policy}
+use Rattle.rb_session.specs.declared.ended.Ended.{Ended}
+use Rattle.rb_session.specs.declared.session_fault.SessionFault.{SessionFault}
+use Rattle.rb_session.specs.declared.session_fault.SessionFault.TheVariants.{Memory}
+use Rattle.rb_runs.specs.BrokerFault.{fault_of_session, fault_of_history}
+use Rattle.rb_runs.specs.Gathered.{RanGathered}
+use Rattle.rb_runs.specs.declared.broker_fault.BrokerFault.{BrokerFault}
+
+-- a log that begins with this opening, with no call yet and room for so many
+pub record IsFresh (log : Log) (opening : Opening) (calls : ℕ) : Type 0 where
+  pub opening_is : log.opening ≡ opening
+  pub history : log.history ≡ []
+  pub capacity : log.capacity ≡ calls
+
+-- a desk over such a log, at the moment of the opening's last event, with no call counted
+pub record IsNew (desk : KeptState) (opening : Opening) (calls : ℕ) : Type 0 where
+  pub log : IsFresh desk.log opening calls
+  pub share : desk.share ≡ nothing
+  pub moment : desk.moment ≡ opening.last_at
+  pub before : desk.before ≡ 0
+
+-- what there was, if anything, has become something that stands so to it
+abbrev pub Becomes : {H : Type 0} → (H → H → Type 0) → Option H → Option H → Type 0
+Becomes stands None None = Unit {0}
+Becomes stands (Some old) (Some new) = stands old new
+Becomes stands _ _ = ⊥
+
+-- A device that there was has got the text of the log's history, or a first part of it, or nothing, as
+-- the result of writing it says.
+abbrev pub RecordsRun : {H : Type 0} → (H → Option (List ℕ)) → Log → Result (Unit {0}) HistoryFault → Option H → Option H → Type 0
+RecordsRun contents log wrote device left = (device ≡ None → wrote ≡ Ok tt) × Becomes (λ old new. (held : List ℕ)
+    → contents old ≡ Some held → Writes wrote held (history_text log.opening log.history) (contents new)) device left
+
+-- the run ends as the writing of its history does, where its session came to its end
+abbrev pub ends_as : Ended → Result (Unit {0}) HistoryFault → Result Ended BrokerFault
+ends_as ended (Ok done) = Ok ended
+ends_as ended (Err fault) = Err (fault_of_history fault)
+
+-- After a session that ended by a fault its history is written too, whatever comes of it; but for want
+-- of memory the session was not begun, and nothing is written.
+pub record RecordsBroken {H : Type 0} (contents : H → Option (List ℕ)) (log : Log) (fault : SessionFault) (device left : Option H) : Type 0 where
+  pub unbegun : fault ≡ Memory → left ≡ device
+  pub begun : fault ≢ Memory → (wrote : Result (Unit {0}) HistoryFault) × RecordsRun contents log wrote device left
+
+-- The session's fault is answered, where it has one, and else that of writing the history.
+abbrev pub Finishes : {H : Type 0} → (H → Option (List ℕ)) → Log → Result Ended SessionFault → Result Ended BrokerFault → Option H → Option H → Type 0
+Finishes contents log (Err fault) result device left =
+    (result ≡ Err (fault_of_session fault)) × RecordsBroken contents log fault device left
+Finishes contents log (Ok ended) result device left =
+    (wrote : Result (Unit {0}) HistoryFault) × RecordsRun contents log wrote device left × (result ≡ ends_as ended wrote)
+
+-- The run went from a new desk to some other, whose log has its history, and read and wrote what a
+-- session does on this way whose replies are gathered.
+pub record RanScript {H : Type 0} (contents : H → Option (List ℕ)) (policy : Policy) (calls : ℕ) (opening : Opening) (stream before : List ℕ) (result : Result Ended BrokerFault) (rest written : Option (List ℕ)) (device left : Option H) : Type 0 where
+  pub from : KeptState
+  pub new : IsNew from opening calls
+  pub to : KeptState
+  pub ended : Result Ended SessionFault
+  pub ran : RanGathered (λ desk moment. moment ≡ desk.moment) SetsKept KeptSteps policy from stream before ended to rest written
+  pub finishes : Finishes contents to.log ended result device left

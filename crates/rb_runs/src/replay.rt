@@ -1,0 +1,68 @@
+ghost use Rattle.std.specs.Prelude.{◌≡◌, ◌≤◌, List, length, IfOk, IfErr, string_bytes};
+ghost use Rattle.rb_queue.specs.declared.event.Event.{Event};
+ghost use Rattle.rb_queue.specs.declared.opening.Opening.{Opening};
+ghost use Rattle.rb_replay.specs.declared.write.TheConstants.{MOST_EVENTS};
+ghost use Rattle.rb_replay.specs.Ranges.{IsRightOpening, AreRightEvents};
+ghost use Rattle.rb_replay.specs.Readings.{IsTextOf};
+ghost use Rattle.rb_runs.specs.Verdict.{IsVerdictOf, IsVerdictOn, Tells};
+ghost use Rattle.rb_runs.specs.declared.verdict.Verdict.{Verdict};
+
+use crate::broker_fault::BrokerFault;
+use crate::verdict::Verdict;
+use rb_replay::{ChainFault, History, ReplayFault, TextFault, chains, check, read_history};
+use rb_words::ReplayOptions;
+use std::alloc::Global;
+
+/// The line that `replay` prints of a text, and the exit status: 0 with the audit of a history that is
+/// legal, and whose retries are right where they are checked; 1 with the first fault of another text.
+///
+/// The only fault is `Memory`.
+pub fn run_replay(
+    alloc: Global,
+    options: &ReplayOptions,
+    text: &[u8],
+) -> Result<(String, u8), BrokerFault>
+    ensures line { IfOk result (λ told. (verdict : Verdict) × IsVerdictOf options.now.chains text.now verdict × Tells verdict (string_bytes told.0) told.1) }
+    ensures each { (opening : Opening) (events : List Event) → IsRightOpening opening → AreRightEvents events
+        → IsTextOf opening events text.now → IfOk result (λ told.
+        (verdict : Verdict) × IsVerdictOn options.now.chains opening events verdict × Tells verdict (string_bytes told.0) told.1) }
+    ensures fault { IfErr result (λ fault. fault ≡ BrokerFault.Memory) }
+{
+    let verdict = verdict_of(alloc, options, text)?;
+    Ok((verdict.line(alloc)?, verdict.status()))
+}
+
+// What the text is found to be.
+fn verdict_of(alloc: Global, options: &ReplayOptions, text: &[u8]) -> Result<Verdict, BrokerFault>
+    ensures verdict { IfOk result (IsVerdictOf options.now.chains text.now) }
+    ensures each { (opening : Opening) (events : List Event) → IsRightOpening opening → AreRightEvents events
+        → IsTextOf opening events text.now → IfOk result (IsVerdictOn options.now.chains opening events) }
+    ensures fault { IfErr result (λ fault. fault ≡ BrokerFault.Memory) }
+{
+    match read_history(alloc, text) {
+        Ok(history) => judged(alloc, options, &history),
+        Err(TextFault::At { line, reason }) => Ok(Verdict::Unreadable { line, reason }),
+        Err(TextFault::Memory) => Err(BrokerFault::Memory),
+    }
+}
+
+// What the history is found to be, at most 1,000,000 events.
+fn judged(alloc: Global, options: &ReplayOptions, history: &History) -> Result<Verdict, BrokerFault>
+    requires { length history.now.events ≤ MOST_EVENTS }
+    ensures verdict { IfOk result (IsVerdictOn options.now.chains history.now.opening history.now.events) }
+    ensures fault { IfErr result (λ fault. fault ≡ BrokerFault.Memory) }
+{
+    let audit = match check(alloc, history.opening(), history.events()) {
+        Ok(audit) => audit,
+        Err(ReplayFault::At { index, reason }) => return Ok(Verdict::Refused { index, reason }),
+        Err(ReplayFault::Memory) => return Err(BrokerFault::Memory),
+    };
+    let Some(policy) = &options.chains else {
+        return Ok(Verdict::Accepted(audit));
+    };
+    match chains(alloc, history.opening(), history.events(), policy) {
+        Ok(()) => Ok(Verdict::Accepted(audit)),
+        Err(ChainFault::At { index, reason }) => Ok(Verdict::Unchained { index, reason }),
+        Err(ChainFault::Memory) => Err(BrokerFault::Memory),
+    }
+}

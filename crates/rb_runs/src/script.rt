@@ -1,0 +1,137 @@
+ghost use Rattle.std.specs.Prelude.{◌≡◌, ◌≤◌, ℕ, List, Some};
+ghost use Rattle.rb_kept.specs.declared.kept.TheConstants.{MOST_CALLS};
+ghost use Rattle.rb_runs.specs.Script.{Finishes, RanScript, RecordsRun, RecordsBroken};
+
+use crate::broker_fault::BrokerFault;
+use crate::gathered::run_gathered;
+use crate::hands_on::HandsOn;
+use rb_binary::BinaryTimer;
+use rb_kept::Kept;
+use rb_pairing::PairingTimer;
+use rb_queue::Opening;
+use rb_replay::{HistoryFault, write_history};
+use rb_retry::{KeptDesk, Policy};
+use rb_session::{Ended, SessionFault};
+use rb_timer::{ListTimer, Timer};
+use rb_wheel::WheelTimer;
+use rb_words::{ScriptOptions, TimerKind};
+use std::alloc::Global;
+use std::io::{Read, Write};
+
+/// Runs one session over the queue of an opening, from a reader to a writer, and then writes the run's
+/// history, where something is to have it.
+///
+/// The room for the calls is taken before the first read. What is written to the writer is the text of
+/// the session, whichever timer is chosen. The history is written also after a session that ended by a
+/// fault, which is the one that is answered; but not after `Memory`, where nothing was read.
+pub fn run_script<R: Read, W: Write, H: Write>(
+    alloc: Global,
+    options: &ScriptOptions,
+    opening: Opening,
+    reader: &mut R,
+    writer: &mut W,
+    history: &mut Option<H>,
+) -> Result<Ended, BrokerFault>
+    ensures { (stream before : List ℕ) → R.remaining reader.old ≡ Some stream → W.contents writer.old ≡ Some before
+        → RanScript H.contents options.now.policy options.now.calls opening stream before result (R.remaining reader.new) (W.contents writer.new) history.old history.new }
+{
+    let calls = options.calls;
+    let policy = &options.policy;
+    match options.timer {
+        TimerKind::List => {
+            run_on::<ListTimer, R, W, H>(alloc, calls, policy, opening, reader, writer, history)
+        }
+        TimerKind::Heap => {
+            run_on::<BinaryTimer, R, W, H>(alloc, calls, policy, opening, reader, writer, history)
+        }
+        TimerKind::Pairing => {
+            run_on::<PairingTimer, R, W, H>(alloc, calls, policy, opening, reader, writer, history)
+        }
+        TimerKind::Wheel => {
+            run_on::<WheelTimer, R, W, H>(alloc, calls, policy, opening, reader, writer, history)
+        }
+    }
+}
+
+fn run_on<T: Timer, R: Read, W: Write, H: Write>(
+    alloc: Global,
+    calls: u64,
+    policy: &Policy,
+    opening: Opening,
+    reader: &mut R,
+    writer: &mut W,
+    history: &mut Option<H>,
+) -> Result<Ended, BrokerFault>
+    requires from_one { 1 ≤ calls }
+    requires in_range { calls ≤ MOST_CALLS }
+    ensures { (stream before : List ℕ) → R.remaining reader.old ≡ Some stream → W.contents writer.old ≡ Some before
+        → RanScript H.contents policy.now calls opening stream before result (R.remaining reader.new) (W.contents writer.new) history.old history.new }
+{
+    // The number of calls is in range, so that memory alone can be missing.
+    let Ok((mut kept, mut tally)) = Kept::<T>::new_from(alloc, calls, opening) else {
+        return Err(BrokerFault::Memory);
+    };
+    let mut desk = KeptDesk::new(&mut kept, &mut tally);
+    let ended = run_gathered(
+        alloc,
+        reader,
+        writer,
+        &mut desk,
+        policy,
+        HandsOn::BeforeReads,
+    );
+    finish(alloc, &kept, ended, history)
+}
+
+// Writes the run's history and answers how the run ends.
+fn finish<T: Timer, H: Write>(
+    alloc: Global,
+    kept: &Kept<T>,
+    ended: Result<Ended, SessionFault>,
+    history: &mut Option<H>,
+) -> Result<Ended, BrokerFault>
+    ensures { Finishes H.contents kept.now ended result history.old history.new }
+{
+    match ended {
+        Ok(ended) => match record(alloc, kept, history) {
+            Ok(()) => Ok(ended),
+            Err(fault) => Err(BrokerFault::from(fault)),
+        },
+        Err(fault) => {
+            record_broken(alloc, kept, fault, history);
+            Err(BrokerFault::from(fault))
+        }
+    }
+}
+
+// Writes the history after a session that ended by a fault, but for want of memory: it was not begun.
+fn record_broken<T: Timer, H: Write>(
+    alloc: Global,
+    kept: &Kept<T>,
+    fault: SessionFault,
+    history: &mut Option<H>,
+)
+    ensures { RecordsBroken H.contents kept.now fault history.old history.new }
+{
+    if let SessionFault::Memory = fault {
+        return;
+    }
+    // The session's fault is the one that is answered.
+    let _ = record(alloc, kept, history);
+}
+
+/// Writes the history of the kept queue, where something is to have it.
+pub fn record<T: Timer, H: Write>(
+    alloc: Global,
+    kept: &Kept<T>,
+    history: &mut Option<H>,
+) -> Result<(), HistoryFault>
+    ensures { RecordsRun H.contents kept.now result history.old history.new }
+{
+    // The proof reads here how long the history may get.
+    let _ = kept.capacity();
+    match history {
+        Some(device) => write_history(alloc, kept.opening(), kept.history(), device),
+        None => Ok(()),
+    }
+}

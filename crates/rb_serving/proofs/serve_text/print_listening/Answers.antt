@@ -1,0 +1,8 @@
+use Rattle.std.proofs.Common.{◌≡◌, ◌∙◌, subst}
+use Rattle.rb_serving.specs.ServeText.{Prints, listening_text}
+use Rattle.rb_serving.proofs.serve_text.print_listening.Goals as goal
+
+pub returns : goal.returns
+returns g c before known =
+    let line : c.deref.result.now ≡ listening_text c.args.port = c.deref.ensures ∙ c.in_ok-line.ensures in
+    subst (λ text. Prints before text c.print.result (g.W.Write.contents c.print.new.writer)) line (c.print.ensures before known)

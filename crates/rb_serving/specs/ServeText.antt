@@ -1,0 +1,40 @@
+-- What a server prints, and what it leaves at its end.
+use Rattle.std.specs.Prelude.{◌≡◌, ℕ, List, ◌++◌, take, Option, Some, Result, Ok, Err, codes, decimal}
+use Rattle.rb_queue.specs.declared.audit.Audit.{Audit}
+use Rattle.rb_kept.specs.Log.{Log}
+use Rattle.rb_replay.specs.declared.history_fault.HistoryFault.{HistoryFault}
+use Rattle.rb_runs.specs.AuditText.{audit_text}
+use Rattle.rb_runs.specs.BrokerFault.{fault_of_history}
+use Rattle.rb_runs.specs.Script.{RecordsRun}
+use Rattle.rb_runs.specs.declared.broker_fault.BrokerFault.{BrokerFault}
+use Rattle.rb_runs.specs.declared.broker_fault.BrokerFault.TheVariants.{Memory, Write}
+
+-- the line that says where clients are served
+abbrev pub listening_text : ℕ → List ℕ
+listening_text port = codes "listening 127.0.0.1:" ++ (decimal port ++ codes "\n")
+
+-- the line that counts the visits
+abbrev pub visits_text : ℕ → ℕ → ℕ → List ℕ
+visits_text sessions faults lost =
+    codes "sessions " ++ (decimal sessions ++ (codes " faults " ++ (decimal faults ++ (codes " lost " ++ (decimal lost ++ codes "\n")))))
+
+-- the line that counts the visits, and then the audit line
+abbrev pub report_text : ℕ → ℕ → ℕ → Audit → List ℕ
+report_text sessions faults lost audit = visits_text sessions faults lost ++ audit_text audit
+
+-- The text was printed; or nothing, for want of memory; or a first part of it.
+abbrev pub Prints : List ℕ → List ℕ → Result (Unit {0}) BrokerFault → Option (List ℕ) → Type 0
+Prints before text (Ok done) written = written ≡ Some (before ++ text)
+Prints before text (Err Memory) written = written ≡ Some before
+Prints before text (Err fault) written = (fault ≡ Write) × ((taken : ℕ) × (written ≡ Some (before ++ take taken text)))
+
+-- the fault of the history is answered, where there is one, and else that of printing
+abbrev pub first_fault : Result (Unit {0}) HistoryFault → Result (Unit {0}) BrokerFault → Result (Unit {0}) BrokerFault
+first_fault (Ok done) printed = printed
+first_fault (Err fault) printed = Err (fault_of_history fault)
+
+-- The history was written, where something is to have it, and the text printed, whatever came of that.
+abbrev pub EndsServer : {H : Type 0} → (H → Option (List ℕ)) → Log → List ℕ → List ℕ → Result (Unit {0}) BrokerFault → Option (List ℕ) → Option H → Option H → Type 0
+EndsServer contents log text before result written device left =
+    (wrote : Result (Unit {0}) HistoryFault) × (printed : Result (Unit {0}) BrokerFault)
+    × RecordsRun contents log wrote device left × Prints before text printed written × (result ≡ first_fault wrote printed)

@@ -1,0 +1,41 @@
+-- What visits come to.
+use Rattle.std.specs.Prelude.{ℕ, Result, Ok, Err}
+use Rattle.rb_ledger.specs.Totals.{capped_sum}
+use Rattle.rb_session.specs.declared.ended.Ended.{Ended}
+use Rattle.rb_session.specs.declared.ended.Ended.TheVariants.{Quit, EndOfInput}
+use Rattle.rb_session.specs.declared.session_fault.SessionFault.{SessionFault}
+use Rattle.rb_session.specs.declared.session_fault.SessionFault.TheVariants.{Memory, Read, Write, ReadTurns}
+use Rattle.rb_serving.specs.declared.visit_counts.VisitCounts.{VisitCounts}
+
+abbrev pub no_visit : VisitCounts
+no_visit = record { sessions = 0; faults = 0; lost = 0 }
+
+-- a visit that was refused at the door
+abbrev pub refused_visit : VisitCounts
+refused_visit = record { sessions = 1; faults = 1; lost = 0 }
+
+-- how many jobs a session lost at its end
+abbrev pub lost_in : Result Ended SessionFault → ℕ
+lost_in (Ok (Quit lost)) = lost
+lost_in (Ok (EndOfInput lost)) = lost
+lost_in (Err Memory) = 0
+lost_in (Err (Read lost)) = lost
+lost_in (Err (Write lost)) = lost
+lost_in (Err (ReadTurns lost)) = lost
+
+-- a session that ends by a fault is one fault
+abbrev pub faults_in : Result Ended SessionFault → ℕ
+faults_in (Ok ended) = 0
+faults_in (Err fault) = 1
+
+-- a visit whose session ended so
+abbrev pub ended_visit : Result Ended SessionFault → VisitCounts
+ended_visit outcome = record { sessions = 1; faults = faults_in outcome; lost = lost_in outcome }
+
+-- both together, each number at most the greatest
+abbrev pub both_counts : VisitCounts → VisitCounts → VisitCounts
+both_counts one other = record {
+  sessions = capped_sum one.sessions other.sessions;
+  faults = capped_sum one.faults other.faults;
+  lost = capped_sum one.lost other.lost;
+}

@@ -1,0 +1,31 @@
+ghost use Rattle.std.specs.Prelude.{◌≡◌, ℕ, List, Some};
+ghost use Rattle.rb_serving.specs.ServeText.{EndsServer, report_text};
+
+use crate::serve_report::ServeReport;
+use crate::serve_text::print_report;
+use rb_runs::{BrokerFault, record};
+use rb_timer::Timer;
+use std::alloc::Global;
+use std::io::Write;
+
+/// Writes the history of a server's run, where something is to have it, and then prints what the run came
+/// to.
+///
+/// That is printed also where the history could not be written, which is the fault that is answered.
+pub fn end_server<T: Timer, W: Write, H: Write>(
+    alloc: Global,
+    report: &ServeReport<T>,
+    writer: &mut W,
+    history: &mut Option<H>,
+) -> Result<(), BrokerFault>
+    ensures { (before : List ℕ) → W.contents writer.old ≡ Some before
+        → EndsServer H.contents report.now.kept (report_text report.now.sessions report.now.faults report.now.lost report.now.audit)
+        before result (W.contents writer.new) history.old history.new }
+{
+    let recorded = record(alloc, &report.kept, history);
+    let printed = print_report(alloc, writer, report);
+    match recorded {
+        Ok(()) => printed,
+        Err(fault) => Err(BrokerFault::from(fault)),
+    }
+}

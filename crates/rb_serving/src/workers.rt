@@ -1,0 +1,117 @@
+ghost use Rattle.std.specs.Prelude.{◌≡◌, [], IfOk, IfErr};
+ghost use Rattle.rb_serving.specs.Serving.{Gathers};
+ghost use Rattle.rb_runs.specs.declared.broker_fault.BrokerFault.TheVariants.{Worker};
+
+use crate::door::Door;
+use crate::service::Service;
+use crate::visit_counts::VisitCounts;
+use crate::worker::work;
+use rb_blocking::Clock;
+use rb_lock::{Pass, Shared};
+use rb_runs::BrokerFault;
+use rb_timer::Timer;
+use std::sync::Wait;
+use std::thread::{Promise, PromisedHandle, Scope, Threads};
+use std::{thread, time};
+
+// What a worker's thread gives: its pass, which is of this queue and has nothing folded into it.
+#[derive(Drop)]
+struct OfShared<'a, T: Timer>(&'a Shared<T>);
+
+impl<'a, T: Timer> Promise<(Pass<T>, VisitCounts)> for OfShared<'a, T> {
+    ghost kept_by = { λ promise worked. (worked.0.table ≡ promise.0.now) × (worked.0.folded ≡ []) };
+}
+
+/// Runs so many workers at once, and folds the pass of each into this one.
+///
+/// Each has a pass of its own, split off this one. Where one can't be started, those that were started are
+/// waited for.
+pub(crate) fn serve_all<
+    T: Timer + Send,
+    D: Door + Sync,
+    C: Clock + Sync,
+    R: Threads + Wait + time::Clock + Sync,
+>(
+    rt: &R,
+    service: &Service<'_, T, D, C>,
+    pass: Pass<T>,
+    count: u64,
+) -> Result<(Pass<T>, VisitCounts), BrokerFault>
+    requires pass { pass.table ≡ service.now.shared.now }
+    ensures gathers { IfOk result (λ served. Gathers count pass served.0) }
+    ensures fault { IfErr result (λ fault. fault ≡ Worker) }
+{
+    thread::scope(
+        thread::scope_env(),
+        rt,
+        move |scope| -> Result<(Pass<T>, VisitCounts), BrokerFault>
+            requires { pass.table ≡ service.now.shared.now }
+            ensures { IfOk result (λ served. Gathers count pass served.0) × IfErr result (λ fault. fault ≡ Worker) }
+        { start_all(rt, scope, service, pass, count) },
+    )
+}
+
+// Starts so many workers, one after the other, waits for each, and folds its pass into this one.
+#[tactic(auto, using(crate::proofs::GatheredWorkers::gathers_none, crate::proofs::GatheredWorkers::gathers_more))]
+fn start_all<
+    's,
+    E,
+    T: Timer + Send + 's,
+    D: Door + Sync + 's,
+    C: Clock + Sync + 's,
+    R: Threads + Wait + time::Clock + Sync + 's,
+>(
+    rt: &'s R,
+    scope: &'s Scope<'s, E>,
+    service: &'s Service<'s, T, D, C>,
+    mut pass: Pass<T>,
+    count: u64,
+) -> Result<(Pass<T>, VisitCounts), BrokerFault>
+    requires pass { pass.table ≡ service.now.shared.now }
+    ensures gathers { IfOk result (λ served. Gathers count pass served.0) }
+    ensures fault { IfErr result (λ fault. fault ≡ Worker) }
+{
+    if count == 0 {
+        return Ok((pass, VisitCounts::none()));
+    }
+    let Ok(child) = service.shared.split(rt, &mut pass) else {
+        return Err(BrokerFault::Worker);
+    };
+    let worker = start(rt, scope, service, child)?;
+    let others = start_all(rt, scope, service, pass, count - 1);
+    let (done, counts) = worker.join(rt);
+    let (mut pass, more) = others?;
+    service.shared.fold(&mut pass, done);
+    Ok((pass, counts.with(more)))
+}
+
+// Starts one worker with this pass.
+fn start<
+    's,
+    E,
+    T: Timer + Send + 's,
+    D: Door + Sync + 's,
+    C: Clock + Sync + 's,
+    R: Threads + Wait + time::Clock + Sync + 's,
+>(
+    rt: &'s R,
+    scope: &'s Scope<'s, E>,
+    service: &'s Service<'s, T, D, C>,
+    pass: Pass<T>,
+) -> Result<PromisedHandle<(Pass<T>, VisitCounts), OfShared<'s, T>>, BrokerFault>
+    requires pass { pass.table ≡ service.now.shared.now }
+    requires alone { pass.folded ≡ [] }
+    ensures of { IfOk result (λ worker. worker.promise.0.now ≡ service.now.shared.now) }
+    ensures fault { IfErr result (λ fault. fault ≡ Worker) }
+{
+    match scope.spawn_with(
+        OfShared(service.shared),
+        move || -> (Pass<T>, VisitCounts)
+            requires { (pass.table ≡ service.now.shared.now) × (pass.folded ≡ []) }
+            ensures { (result.0.table ≡ service.entry.now.shared.now) × (result.0.folded ≡ []) }
+        { work(rt, service, pass) },
+    ) {
+        Ok(worker) => Ok(worker),
+        Err(_) => Err(BrokerFault::Worker),
+    }
+}
