@@ -61,14 +61,22 @@ fn all_ids(alloc: Global) -> Result<Ids, AllocError> {
     Ok(Ids::new(ids))
 }
 
+// Drains all elements at the last expiry.
+fn drains_all(rt: &impl Abort, alloc: Global, run: &mut Run) -> Result<(), AllocError> {
+    let (max, at) = (u64::MAX, expiry_of(OFFERS));
+    let items = all_items(rt, alloc)?;
+    run.expect(rt, at, Ask::Drain(max), Reply::Drained(items));
+    let ids = all_ids(alloc)?;
+    run.expect_last(rt, at, at, Act::Drain { max, ids });
+    Ok(())
+}
+
 #[test]
 fn answers_with_ample_memory(rt: HostRuntime) -> Result<(), Fail> {
-    let (items, ids) = (all_items(&rt, rt.alloc())?, all_ids(rt.alloc())?);
-    let mut run = Run::new(&rt, rt.alloc(), 1_000_000);
+    let alloc = rt.alloc();
+    let mut run = Run::new(&rt, alloc, 1_000_000);
     offers_all(&rt, &mut run);
-    let (max, at) = (u64::MAX, expiry_of(OFFERS));
-    run.expect(&rt, at, Ask::Drain(max), Reply::Drained(items));
-    run.expect_last(&rt, at, at, Act::Drain { max, ids });
+    drains_all(&rt, alloc, &mut run)?;
     run.expect_audit(&rt, [2_501, 2_500, 2_500, 0, 0, 0, 0]);
     run.expect_share(&rt, 2_501, 2_500, 2_500);
     Ok(())

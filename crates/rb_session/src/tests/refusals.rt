@@ -5,7 +5,6 @@ use rb_binary::BinaryTimer;
 use rb_kept::{Kept, NewFault};
 use rb_ledger::Tally;
 use std::alloc::{AllocError, Global};
-use std::io::Write;
 use std::process::Abort;
 use std::test::Fail;
 
@@ -64,12 +63,21 @@ fn refused_offer(rt: &impl Abort, alloc: Global) -> Result<u32, Fail> {
     Ok(1)
 }
 
-// Appends a number with what stands round it.
+// Appends the last digit of a number.
+fn push_digit(text: &mut Vec<u8>, number: u64) -> Result<(), AllocError> {
+    text.extend_from_slice(&[b"0123456789"[(number % 10) as usize]])
+}
+
+// Appends a number below 1,000 with what stands round it.
 fn push_line(text: &mut Vec<u8>, front: &[u8], number: u64, back: &[u8]) -> Result<(), AllocError> {
     text.extend_from_slice(front)?;
-    let Ok(()) = write!(text, "{number}") else {
-        return Err(AllocError);
-    };
+    if number >= 100 {
+        push_digit(text, number / 100)?;
+    }
+    if number >= 10 {
+        push_digit(text, number / 10)?;
+    }
+    push_digit(text, number)?;
     text.extend_from_slice(back)
 }
 
