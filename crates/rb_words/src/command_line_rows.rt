@@ -19,10 +19,13 @@ fn options_of(alloc: Global, words: &[&str]) -> Option<ScriptOptions> {
     }
 }
 
-fn replay_options_of(alloc: Global, words: &[&str]) -> Option<ReplayOptions> {
+// Compares the policy by which a replay is to check retries, if it is.
+fn expect_chains(rt: &impl Abort, alloc: Global, words: &[&str], chains: Option<Policy>) {
     match read_words(alloc, words) {
-        Ok(Words::Replay { options, .. }) => Some(options),
-        _ => None,
+        Ok(Words::Replay { options, .. }) => {
+            assert_eq!(rt; options, ReplayOptions { chains }, "{words:?}")
+        }
+        _ => assert!(rt; false, "{words:?}"),
     }
 }
 
@@ -62,89 +65,43 @@ fn takes_the_files_of_a_script(rt: HostRuntime) {
 }
 
 #[test]
-fn takes_a_replay_and_its_options(rt: HostRuntime) {
+fn takes_a_replay(rt: HostRuntime) {
     let alloc = rt.alloc();
-    for (words, chains) in [
-        (["rb_broker", "replay", "run.txt"].as_slice(), None),
+    let unchecked = ["rb_broker", "replay", "run.txt", "--delay", "5"];
+    expect_chains(&rt, alloc, &unchecked, None);
+    let plain = ["rb_broker", "replay", "a run.txt"];
+    expect_chains(&rt, alloc, &plain, None);
+    match read_words(alloc, &plain) {
+        Ok(Words::Replay { file, .. }) => assert_eq!(rt; file.as_str(), "a run.txt"),
+        _ => assert!(rt; false),
+    }
+}
+
+#[test]
+fn takes_the_policy_of_a_replay(rt: HostRuntime) {
+    let alloc = rt.alloc();
+    let plain = ["rb_broker", "replay", "--chains", "run.txt"];
+    expect_chains(&rt, alloc, &plain, Policy::fixed(1_000, 3));
+    let delay = ["rb_broker", "replay", "run.txt", "--chains", "--delay=999"];
+    expect_chains(&rt, alloc, &delay, Policy::fixed(999, 3));
+    for (pace, attempts, policy) in [
+        ("--rate=9", "--attempts=7", Policy::fixed_rate(9, 7)),
+        ("--delay=0", "--attempts=1", Policy::fixed(0, 1)),
         (
-            ["rb_broker", "replay", "run.txt", "--delay", "5"].as_slice(),
-            None,
-        ),
-        (
-            ["rb_broker", "replay", "--chains", "run.txt"].as_slice(),
-            Policy::fixed(1_000, 3),
-        ),
-        (
-            ["rb_broker", "replay", "run.txt", "--chains", "--delay=999"].as_slice(),
-            Policy::fixed(999, 3),
-        ),
-        (
-            [
-                "rb_broker",
-                "replay",
-                "run.txt",
-                "--rate=9",
-                "--attempts=7",
-                "--chains",
-            ]
-            .as_slice(),
-            Policy::fixed_rate(9, 7),
-        ),
-        (
-            [
-                "rb_broker",
-                "replay",
-                "run.txt",
-                "--chains",
-                "--delay=0",
-                "--attempts=1",
-            ]
-            .as_slice(),
-            Policy::fixed(0, 1),
-        ),
-        (
-            [
-                "rb_broker",
-                "replay",
-                "run.txt",
-                "--chains",
-                "--delay=18446744073709551615",
-                "--attempts=1000",
-            ]
-            .as_slice(),
+            "--delay=18446744073709551615",
+            "--attempts=1000",
             Policy::fixed(u64::MAX, 1_000),
         ),
+        ("--rate=0", "--attempts=1", Policy::fixed_rate(0, 1)),
         (
-            [
-                "rb_broker",
-                "replay",
-                "run.txt",
-                "--chains",
-                "--rate=0",
-                "--attempts=1",
-            ]
-            .as_slice(),
-            Policy::fixed_rate(0, 1),
-        ),
-        (
-            [
-                "rb_broker",
-                "replay",
-                "run.txt",
-                "--chains",
-                "--rate=18446744073709551615",
-                "--attempts=1000",
-            ]
-            .as_slice(),
+            "--rate=18446744073709551615",
+            "--attempts=1000",
             Policy::fixed_rate(u64::MAX, 1_000),
         ),
     ] {
-        let options = replay_options_of(alloc, words);
-        assert_eq!(rt; options, Some(ReplayOptions { chains }), "{words:?}");
-    }
-    match read_words(alloc, &["rb_broker", "replay", "a run.txt"]) {
-        Ok(Words::Replay { file, .. }) => assert_eq!(rt; file.as_str(), "a run.txt"),
-        _ => assert!(rt; false),
+        assert!(rt; policy.is_some());
+        let words = ["rb_broker", "replay", "run.txt", pace, attempts, "--chains"];
+        expect_chains(&rt, alloc, &words, policy);
     }
 }
 
