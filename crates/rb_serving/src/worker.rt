@@ -1,5 +1,5 @@
-ghost use Rattle.std.specs.Prelude.{◌≡◌};
-ghost use Rattle.rb_serving.specs.Serving.{IsWorked};
+ghost use Rattle.std.specs.Prelude.{◌≡◌, ℕ, List, Some};
+ghost use Rattle.rb_serving.specs.Serving.{IsWorked, RanVisit};
 
 use crate::door::{Door, DoorFault};
 use crate::service::Service;
@@ -59,6 +59,8 @@ fn serve_visit<
 ) -> Result<Ended, SessionFault>
     requires pass { pass.old.table ≡ service.now.shared.now }
     ensures worked { IsWorked pass.old pass.new }
+    ensures ran { (stream before : List ℕ) → I.remaining visit.reader ≡ Some stream → O.contents visit.writer ≡ Some before
+        → RanVisit C.gives G.stops service.now.policy.now service.now.clock.now visit.gate pass.old stream before result pass.new }
 {
     let Visit {
         mut reader,

@@ -1,0 +1,37 @@
+use Rattle.std.proofs.Common.{rules, ◌≡◌, ◌∙◌, ap, ℕ, List, length, Option, Result}
+use Rattle.rb_lock.specs.Passes.{Seen}
+use Rattle.rb_retry.specs.SharedSteps.{SharedState, SharedSteps, SetsShared, name_of}
+use Rattle.rb_retry.specs.declared.policy.Policy.{Policy}
+use Rattle.rb_session.specs.declared.ended.Ended.{Ended}
+use Rattle.rb_session.specs.declared.session_fault.SessionFault.{SessionFault}
+use Rattle.rb_runs.specs.Gathered.{RanGathered}
+use Rattle.rb_serving.specs.Serving.{RanVisit}
+use Rattle.rb_serving.proofs.worker.serve_visit.Goals as goal
+
+-- what a session at a new desk of the pass does
+ran_visit : {C G : Type 0} (gives : C → ℕ → Type 0) (stops : G → ℕ → Type 0) (policy : Policy) (clock : C) (gate : G) (reference : ℕ) (old new : Seen)
+    (stream before : List ℕ) (ended : Result Ended SessionFault) (from to : SharedState C G) (left written : Option (List ℕ))
+    → from ≡ record { reference = reference; pass = old; clock = clock; gate = gate; before = length old.mine }
+    → RanGathered (λ desk moment. gives desk.clock moment) SetsShared (SharedSteps gives stops) policy from stream before ended to left written
+    → to.pass ≡ new
+    → RanVisit gives stops policy clock gate old stream before ended new
+ran_visit {C} {G} gives stops policy clock gate reference old new stream before ended from to left written is ran seen = record {
+  from = from;
+  begun = record {
+    pass_is = ap (λ (desk : SharedState C G). desk.pass) is;
+    clock_is = ap (λ (desk : SharedState C G). desk.clock) is;
+    gate_is = ap (λ (desk : SharedState C G). desk.gate) is;
+    before = ap (λ (desk : SharedState C G). desk.before) is;
+  };
+  to = to;
+  left = left;
+  written = written;
+  ran = ran;
+  seen = seen;
+}
+
+pub returns-clause-ran : goal.returns-clause-ran
+returns-clause-ran g c stream before tells known =
+    let same = c.run_gathered.ensures.name ∙ ap name_of c.new-desk.ensures.state in
+    ran_visit g.C.Clock.gives g.G.Gate.stops c.args.service.now.policy.now c.args.service.now.clock.now c.args.visit.gate _ c.args.pass.now _ stream before c.run_gathered.result _ _ _ _
+    c.new-desk.ensures.state (c.run_gathered.ensures.ran stream before tells known) (search (rules, same))
