@@ -13,8 +13,6 @@ mod plays;
 mod record;
 mod shared;
 mod stage;
-#[cfg(test)]
-mod tests;
 mod view;
 
 pub use fault::{CloseFault, OpenFault, SplitFault};

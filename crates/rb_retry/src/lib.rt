@@ -12,8 +12,6 @@ mod job;
 mod kept_desk;
 mod policy;
 mod shared_desk;
-#[cfg(test)]
-mod tests;
 mod verdict;
 mod work_report;
 mod worker;

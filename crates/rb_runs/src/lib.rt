@@ -6,31 +6,13 @@
 
 mod audit;
 mod broker_fault;
-#[cfg(test)]
-mod fault_rows;
 mod gathered;
 mod gathering;
-#[cfg(test)]
-mod gathering_rows;
 mod hands_on;
-#[cfg(test)]
-mod history_rows;
-#[cfg(test)]
-mod kept_rows;
-#[cfg(test)]
-mod large_rows;
 mod opening;
 mod reading;
 mod replay;
-#[cfg(test)]
-mod replay_rows;
-#[cfg(test)]
-mod retry_rows;
 mod script;
-#[cfg(test)]
-mod script_rows;
-#[cfg(test)]
-mod tests;
 mod verdict;
 
 pub use audit::audit_line;

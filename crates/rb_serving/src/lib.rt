@@ -4,28 +4,14 @@
 //! A door is where visits come from: the clients of a TCP listener, or what a test hands in.
 #![tactic(auto)]
 
-#[cfg(test)]
-mod batch_rows;
-#[cfg(test)]
-mod clock_rows;
 mod door;
 mod serve_clock;
 mod serve_end;
 mod serve_report;
 mod serve_text;
-#[cfg(test)]
-mod served_jobs_rows;
 mod server;
-#[cfg(test)]
-mod server_end_rows;
 mod service;
-#[cfg(test)]
-mod serving_rows;
 mod tcp_door;
-#[cfg(test)]
-mod tcp_rows;
-#[cfg(test)]
-mod tests;
 mod visit;
 mod visit_counts;
 mod worker;

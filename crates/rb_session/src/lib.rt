@@ -18,8 +18,6 @@ mod send;
 mod session;
 mod session_fault;
 mod stop;
-#[cfg(test)]
-mod tests;
 
 pub use ended::Ended;
 pub use held_jobs::MOST_HELD;

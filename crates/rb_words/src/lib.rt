@@ -6,18 +6,12 @@
 
 mod arguments;
 mod command_line;
-#[cfg(test)]
-mod command_line_rows;
 mod given_server;
 mod given_words;
 mod replay_options;
 mod script_options;
 mod serve_options;
 mod server_options;
-#[cfg(test)]
-mod server_words_rows;
-#[cfg(test)]
-mod tests;
 mod timer_kind;
 mod words;
 

@@ -1,0 +1,193 @@
+// Threads that offer and as many that take: nothing is lost and nothing doubled, and each seat has just the
+// calls that its thread made.
+
+ghost use Rattle.std.specs.Prelude.{◌≡◌, IfOk, IfSome};
+
+use super::{all_given, offer};
+use rb_binary::BinaryTimer;
+use rb_kept::{Kept, Outcome};
+use rb_lock::{Pass, Shared};
+use rb_queue::{Ask, Event};
+use std::alloc::Global;
+use std::process::Abort;
+use std::sync::Wait;
+use std::test::Fail;
+use std::thread::{Threads, join};
+
+pub(super) type HeapShared = Shared<BinaryTimer>;
+
+pub(super) type HeapPass = Pass<BinaryTimer>;
+
+// How many elements go through the queue in each run.
+const ELEMENTS: u64 = 100_000;
+
+// A shared queue with room for the calls of a run, and its first pass.
+pub(super) fn opened(alloc: Global) -> Result<(HeapShared, HeapPass), Fail>
+    ensures { IfOk result (λ opened. opened.1.table ≡ opened.0) }
+{
+    let (kept, tally) = Kept::new(alloc, 2 * ELEMENTS)?;
+    match Shared::open(alloc, kept, tally) {
+        Ok(opened) => Ok(opened),
+        Err((_, _, fault)) => Err(Fail::from(fault)),
+    }
+}
+
+// Offers so many elements, which are expired at once.
+pub(super) fn offer_all<R: Wait + Abort>(
+    rt: &R,
+    shared: &HeapShared,
+    mut pass: HeapPass,
+    count: u64,
+) -> HeapPass
+    requires { pass.table ≡ shared.now }
+    ensures { result.table ≡ pass.table }
+{
+    for _ in 0..count {
+        let _ = shared.call(rt, &mut pass, 9, offer(rt, 9));
+    }
+    pass
+}
+
+// Takes so many elements, and tries again where nothing is expired.
+pub(super) fn take_all(
+    rt: &impl Wait,
+    shared: &HeapShared,
+    mut pass: HeapPass,
+    mut wanted: u64,
+) -> HeapPass
+    requires { pass.table ≡ shared.now }
+    ensures { result.table ≡ pass.table }
+{
+    for _ in rt.forever() {
+        if wanted == 0 {
+            break;
+        }
+        if let Ok(Outcome::Done(_)) = shared.call(rt, &mut pass, 9, Ask::Take) {
+            wanted -= 1;
+        }
+    }
+    pass
+}
+
+// One thread offers so many elements and another takes as many. Their passes are gathered in the one given.
+fn pair<R: Threads + Wait + Abort + Sync>(
+    rt: &R,
+    shared: &HeapShared,
+    mut giver: HeapPass,
+    count: u64,
+) -> Option<HeapPass>
+    requires { giver.table ≡ shared.now }
+    ensures { IfSome result (λ gathered. gathered.table ≡ shared.now) }
+{
+    let taker = shared.split(rt, &mut giver).ok()?;
+    let (mut giver, taker) = join(
+        rt,
+        || -> HeapPass
+            requires { giver.table ≡ shared.now }
+            ensures { result.table ≡ shared.entry.now }
+        { offer_all(rt, shared, giver, count) },
+        || -> HeapPass
+            requires { taker.table ≡ shared.now }
+            ensures { result.table ≡ shared.entry.now }
+        { take_all(rt, shared, taker, count) },
+    );
+    shared.fold(&mut giver, taker);
+    Some(giver)
+}
+
+// Two such pairs at once.
+fn two_pairs<R: Threads + Wait + Abort + Sync>(
+    rt: &R,
+    shared: &HeapShared,
+    mut first: HeapPass,
+    count: u64,
+) -> Option<HeapPass>
+    requires { first.table ≡ shared.now }
+    ensures { IfSome result (λ gathered. gathered.table ≡ shared.now) }
+{
+    let second = shared.split(rt, &mut first).ok()?;
+    let (first, second) = join(
+        rt,
+        || -> Option<HeapPass>
+            requires { first.table ≡ shared.now }
+            ensures { IfSome result (λ gathered. gathered.table ≡ shared.entry.now) }
+        { pair(rt, shared, first, count) },
+        || -> Option<HeapPass>
+            requires { second.table ≡ shared.now }
+            ensures { IfSome result (λ gathered. gathered.table ≡ shared.entry.now) }
+        { pair(rt, shared, second, count) },
+    );
+    let mut first = first?;
+    shared.fold(&mut first, second?);
+    Some(first)
+}
+
+// Four of them.
+fn four_pairs<R: Threads + Wait + Abort + Sync>(
+    rt: &R,
+    shared: &HeapShared,
+    mut first: HeapPass,
+    count: u64,
+) -> Option<HeapPass>
+    requires { first.table ≡ shared.now }
+    ensures { IfSome result (λ gathered. gathered.table ≡ shared.now) }
+{
+    let second = shared.split(rt, &mut first).ok()?;
+    let (first, second) = join(
+        rt,
+        || -> Option<HeapPass>
+            requires { first.table ≡ shared.now }
+            ensures { IfSome result (λ gathered. gathered.table ≡ shared.entry.now) }
+        { two_pairs(rt, shared, first, count) },
+        || -> Option<HeapPass>
+            requires { second.table ≡ shared.now }
+            ensures { IfSome result (λ gathered. gathered.table ≡ shared.entry.now) }
+        { two_pairs(rt, shared, second, count) },
+    );
+    let mut first = first?;
+    shared.fold(&mut first, second?);
+    Some(first)
+}
+
+// How many events a seat has.
+fn events_of(history: &[Event], seat: u64) -> usize {
+    history.iter().filter(|event| event.seat == seat).count()
+}
+
+// Closes the queue by the pass in which all are gathered: so many seats have made their share of the calls.
+fn expect_calls<R: Wait + Abort>(rt: &R, shared: HeapShared, gathered: Option<HeapPass>, seats: u64)
+    requires { IfSome gathered (λ pass. pass.table ≡ shared) }
+{
+    let pass = gathered.expect(rt, "all passes are split off");
+    let closed = shared.close(rt, pass).ok();
+    let (kept, _, audit) = closed.expect(rt, "all passes are gathered");
+    assert_eq!(rt; audit, all_given(2 * ELEMENTS, ELEMENTS));
+    for seat in 0..seats {
+        let count = events_of(kept.history(), seat) as u64;
+        assert_eq!(rt; count.saturating_mul(seats), 2 * ELEMENTS);
+    }
+}
+
+#[test]
+fn one_pair_loses_nothing(rt: HostRuntime) -> Result<(), Fail> {
+    let (shared, first) = opened(rt.alloc())?;
+    let gathered = pair(&rt, &shared, first, ELEMENTS);
+    expect_calls(&rt, shared, gathered, 2);
+    Ok(())
+}
+
+#[test]
+fn two_pairs_lose_nothing(rt: HostRuntime) -> Result<(), Fail> {
+    let (shared, first) = opened(rt.alloc())?;
+    let gathered = two_pairs(&rt, &shared, first, ELEMENTS / 2);
+    expect_calls(&rt, shared, gathered, 4);
+    Ok(())
+}
+
+#[test]
+fn four_pairs_lose_nothing(rt: HostRuntime) -> Result<(), Fail> {
+    let (shared, first) = opened(rt.alloc())?;
+    let gathered = four_pairs(&rt, &shared, first, ELEMENTS / 4);
+    expect_calls(&rt, shared, gathered, 8);
+    Ok(())
+}

@@ -1,0 +1,57 @@
+use rb_delayed::{Element, Payload};
+use rb_retry::Policy;
+use std::process::Abort;
+
+fn element(rt: &impl Abort, expiry: u64, first: u64, attempt: u32) -> Element {
+    assert!(rt; attempt >= 1);
+    assert!(rt; attempt <= 1_000);
+    let payload = Payload::new(b"j").ok().expect(rt, "a payload");
+    Element {
+        id: 7,
+        expiry,
+        origin: 3,
+        first,
+        attempt,
+        payload,
+    }
+}
+
+#[test]
+fn a_policy_has_1_to_1000_attempts(rt: HostRuntime) {
+    for attempts in [0, 1_001, u32::MAX] {
+        assert_eq!(rt; Policy::fixed(5, attempts), None);
+        assert_eq!(rt; Policy::fixed_rate(5, attempts), None);
+    }
+    for attempts in [1, 1_000] {
+        assert!(rt; Policy::fixed(5, attempts).is_some());
+        assert!(rt; Policy::fixed_rate(5, attempts).is_some());
+    }
+}
+
+// The next expiry of a job of this attempt, whose first expiry was 150, that fails at 400.
+fn next_expiry(rt: &impl Abort, policy: Option<Policy>, attempt: u32) -> Option<u64> {
+    let policy = policy.expect(rt, "a policy");
+    let draft = policy.retry_of(&element(rt, 250, 150, attempt), 400)?;
+    assert_eq!(rt; draft.origin, Some(3));
+    assert_eq!(rt; draft.first, Some(150));
+    assert_eq!(rt; draft.attempt, attempt.saturating_add(1));
+    Some(draft.expiry)
+}
+
+#[test]
+fn a_delay_counts_from_the_failure_and_a_rate_from_the_first_expiry(rt: HostRuntime) {
+    for (policy, attempt, expiry) in [
+        (Policy::fixed(100, 3), 1, Some(500)),
+        (Policy::fixed(100, 3), 2, Some(500)),
+        (Policy::fixed(100, 3), 3, None),
+        (Policy::fixed(u64::MAX, 3), 1, Some(u64::MAX)),
+        (Policy::fixed_rate(100, 3), 1, Some(250)),
+        (Policy::fixed_rate(100, 3), 2, Some(350)),
+        (Policy::fixed_rate(100, 3), 3, None),
+        (Policy::fixed_rate(u64::MAX, 3), 2, Some(u64::MAX)),
+        (Policy::fixed(0, 1_000), 999, Some(400)),
+        (Policy::fixed(0, 1_000), 1_000, None),
+    ] {
+        assert_eq!(rt; next_expiry(&rt, policy, attempt), expiry);
+    }
+}

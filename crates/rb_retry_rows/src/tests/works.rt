@@ -1,0 +1,132 @@
+ghost use Rattle.std.specs.Prelude.{◌≡◌};
+
+use crate::tests::fixtures::{kept, offer};
+use rb_delayed::Element;
+use rb_retry::{KeptDesk, Policy, Work, WorkReport, work_off};
+use rb_timer::ListTimer;
+use std::alloc::Global;
+use std::cell::Cell;
+use std::process::Abort;
+
+// Answers the same of each element.
+#[derive(Drop)]
+struct Always(bool);
+
+impl Work for Always {
+    ghost may = { λ work element answer. answer ≡ work.0 };
+
+    fn run(&self, _element: &Element) -> bool {
+        self.0
+    }
+}
+
+/// At which attempt each of three jobs is done, if ever.
+const DONE_AT: [Option<u32>; 3] = [Some(1), None, Some(2)];
+
+// Does the three jobs, and counts how often each was run, and each element.
+#[derive(Drop)]
+struct Counting {
+    by_job: Cell<[u64; 3]>,
+    by_element: Cell<[u64; 6]>,
+}
+
+impl Counting {
+    fn new() -> Counting {
+        Counting {
+            by_job: Cell::new([0; 3]),
+            by_element: Cell::new([0; 6]),
+        }
+    }
+}
+
+impl Work for Counting {
+    ghost may = { λ work element answer. Unit {0} };
+
+    fn run(&self, element: &Element) -> bool {
+        let (mut jobs, mut elements) = (self.by_job.get(), self.by_element.get());
+        count(&mut jobs, element.origin);
+        count(&mut elements, element.id);
+        self.by_job.set(jobs);
+        self.by_element.set(elements);
+        DONE_AT.get(element.origin as usize) == Some(&Some(element.attempt))
+    }
+}
+
+// One more of this id.
+fn count(counts: &mut [u64], id: u64) {
+    if let Some(count) = counts.get_mut(id as usize) {
+        *count = count.saturating_add(1);
+    }
+}
+
+// Works off so many jobs at moment 0, with at most `attempts` and no delay between them.
+fn report_of<W: Work>(
+    rt: &impl Abort,
+    alloc: Global,
+    calls: u64,
+    jobs: u64,
+    attempts: u32,
+    work: &W,
+) -> WorkReport {
+    let policy = Policy::fixed(0, attempts).expect(rt, "a policy");
+    let (mut kept, mut tally) = kept::<ListTimer>(rt, alloc, calls);
+    let mut desk = KeptDesk::new(&mut kept, &mut tally);
+    for _ in 0..jobs {
+        offer(rt, &mut desk, 0, 0);
+    }
+    work_off(&mut desk, &policy, work)
+}
+
+fn report(runs: u64, dones: u64, agains: u64, deads: u64, lost: u64) -> WorkReport {
+    WorkReport {
+        runs,
+        dones,
+        agains,
+        deads,
+        lost,
+    }
+}
+
+#[test]
+fn a_worker_counts_its_runs(rt: HostRuntime) {
+    let alloc = rt.alloc();
+    assert_eq!(rt;
+        report_of(&rt, alloc, 100, 1, 3, &Always(false)),
+        report(3, 0, 2, 1, 0)
+    );
+    assert_eq!(rt;
+        report_of(&rt, alloc, 100, 1, 3, &Always(true)),
+        report(1, 1, 0, 0, 0)
+    );
+    assert_eq!(rt;
+        report_of(&rt, alloc, 1, 1, 3, &Always(true)),
+        report(0, 0, 0, 0, 0)
+    );
+}
+
+// Six elements are taken: the three jobs, two more attempts of the second, and one of the third.
+#[test]
+fn each_element_is_run_once(rt: HostRuntime) {
+    let work = Counting::new();
+    assert_eq!(rt;
+        report_of(&rt, rt.alloc(), 100, 3, 3, &work),
+        report(6, 2, 3, 1, 0)
+    );
+    assert_eq!(rt; work.by_job.get(), [1, 3, 2]);
+    assert_eq!(rt; work.by_element.get(), [1; 6]);
+}
+
+// The offer and the take fill the history. An attempt that is left is then refused, and the last one
+// needs no event.
+#[test]
+fn a_refused_failure_is_lost_and_not_dead(rt: HostRuntime) {
+    let alloc = rt.alloc();
+    assert_eq!(rt;
+        report_of(&rt, alloc, 2, 1, 2, &Always(false)),
+        report(1, 0, 0, 0, 1)
+    );
+    assert_eq!(rt;
+        report_of(&rt, alloc, 2, 1, 1, &Always(false)),
+        report(1, 0, 0, 1, 0)
+    );
+}

@@ -1,0 +1,75 @@
+use crate::tests::devices::{Bytes, NEVER, Sheet, Slip, run};
+use rb_binary::BinaryTimer;
+use rb_kept::Kept;
+use rb_session::{Ended, SessionFault};
+use std::test::Fail;
+
+// A job with three attempts, whose third failure is its last.
+const JOB: &[u8] =
+    b"AT 100\nOFFER 0 j\nPOLL\nAT 200\nFAIL 0\nAT 1200\nPOLL\nFAIL 1\nAT 2200\nPOLL\nFAIL 2\nFAIL 2\n";
+
+const REPLIES: &[u8] =
+    b"NOW 100\nOFFERED 0 100\nITEM 0 100 1 j\nNOW 200\nAGAIN 1 1200\nNOW 1200\nITEM 1 1200 2 j\nAGAIN 2 2200\nNOW 2200\nITEM 2 2200 3 j\nDEAD 2\nERR 5 not-held\n";
+
+// What a write does not take is written again, however often.
+#[test]
+fn a_writer_may_take_a_byte_at_a_time(rt: HostRuntime) -> Result<(), Fail> {
+    let alloc = rt.alloc();
+    let (mut kept, mut tally) = Kept::<BinaryTimer>::new(alloc, 100)?;
+    let bytes = Vec::new(alloc);
+    let (mut reader, mut writer) = (Bytes::of(JOB, NEVER), Slip { bytes });
+    let ended = run(&rt, alloc, &mut kept, &mut tally, &mut reader, &mut writer);
+    assert_eq!(rt; ended, Ok(Ended::EndOfInput { lost: 0 }));
+    assert_eq!(rt; writer.bytes.as_slice(), REPLIES);
+    Ok(())
+}
+
+// How many bytes the first lines of the replies have, with their ends.
+fn end_of_line(lines: usize) -> usize {
+    let mut seen = 0_usize;
+    let mut end = 0;
+    for (at, &byte) in REPLIES.iter().enumerate() {
+        if byte == b'\n' && seen < lines {
+            seen = seen.saturating_add(1);
+            end = at.saturating_add(1);
+        }
+    }
+    end
+}
+
+// Each line has one reply, so a read that fails behind `lines` whole lines leaves as many.
+#[test]
+fn a_read_may_fail_anywhere(rt: HostRuntime) -> Result<(), Fail> {
+    let alloc = rt.alloc();
+    let mut lines = 0_usize;
+    for call in 0..=JOB.len() {
+        let (mut kept, mut tally) = Kept::<BinaryTimer>::new(alloc, 100)?;
+        let (mut reader, mut writer) = (Bytes::of(JOB, call), Sheet::new(alloc, NEVER));
+        let ended = run(&rt, alloc, &mut kept, &mut tally, &mut reader, &mut writer);
+        assert_eq!(rt; ended, Err(SessionFault::Read { lost: 0 }), "{call}");
+        let replies = REPLIES.get(..end_of_line(lines)).unwrap_or(REPLIES);
+        assert_eq!(rt; writer.bytes.as_slice(), replies, "{call}");
+        if JOB.get(call) == Some(&b'\n') {
+            lines = lines.saturating_add(1);
+        }
+    }
+    Ok(())
+}
+
+// Each reply is one write and one flush, so call 2 k is the write of reply k, and the next its flush.
+#[test]
+fn a_write_or_a_flush_may_fail_anywhere(rt: HostRuntime) -> Result<(), Fail> {
+    let alloc = rt.alloc();
+    for call in 0..24_usize {
+        let (mut kept, mut tally) = Kept::<BinaryTimer>::new(alloc, 100)?;
+        let (mut reader, mut writer) = (Bytes::of(JOB, NEVER), Sheet::new(alloc, call));
+        let ended = run(&rt, alloc, &mut kept, &mut tally, &mut reader, &mut writer);
+        assert_eq!(rt; ended, Err(SessionFault::Write { lost: 0 }), "{call}");
+        let replies = REPLIES
+            .get(..end_of_line(call.div_ceil(2)))
+            .unwrap_or(REPLIES);
+        assert_eq!(rt; writer.bytes.as_slice(), replies, "{call}");
+        assert_eq!(rt; writer.calls, call.saturating_add(1), "{call}");
+    }
+    Ok(())
+}

@@ -1,0 +1,230 @@
+// What the words of `serve` ask for.
+
+ghost use Rattle.std.specs.Prelude.{◌≡◌};
+
+use crate::command_line_rows::refuses;
+use crate::expecting::expect_same;
+use clap::error::ErrorKind;
+use rb_retry::Policy;
+use rb_words::{ServeOptions, ServerOptions, TimerKind, Words, read_words};
+use std::alloc::Global;
+use std::process::Abort;
+use std::test::Fail;
+
+// Compares the options that a server is given.
+fn expect_options(rt: &impl Abort, alloc: Global, words: &[&str], expected: ServerOptions) {
+    match read_words(alloc, words) {
+        Ok(Words::Serve { options, .. }) => expect_same(rt, words, &options, &expected),
+        _ => assert!(rt; false, "{words:?}"),
+    }
+}
+
+#[test]
+fn takes_a_port_alone(rt: HostRuntime) {
+    let policy = Policy::fixed(1_000, 3).expect(&rt, "a policy");
+    let run = ServeOptions {
+        workers: 4,
+        calls: 10_000,
+        policy,
+    };
+    let expected = ServerOptions {
+        port: 7011,
+        timer: TimerKind::Heap,
+        sessions: 1,
+        turns: 10_000,
+        run,
+    };
+    let apart = ["rb_broker", "serve", "--port", "7011"];
+    expect_options(&rt, rt.alloc(), &apart, expected);
+    let joined = ["rb_broker", "serve", "--port=7011"];
+    expect_options(&rt, rt.alloc(), &joined, expected);
+}
+
+#[test]
+fn takes_the_least_numbers(rt: HostRuntime) {
+    for (pace, policy) in [
+        ("--delay=0", Policy::fixed(0, 1)),
+        ("--rate=0", Policy::fixed_rate(0, 1)),
+    ] {
+        let run = ServeOptions {
+            workers: 1,
+            calls: 1,
+            policy: policy.expect(&rt, "a policy"),
+        };
+        let expected = ServerOptions {
+            port: 1,
+            timer: TimerKind::List,
+            sessions: 1,
+            turns: 0,
+            run,
+        };
+        let words = [
+            "rb_broker",
+            "serve",
+            "--port=1",
+            "--timer=list",
+            "--sessions=1",
+            "--turns=0",
+            "--workers=1",
+            "--calls=1",
+            pace,
+            "--attempts=1",
+        ];
+        expect_options(&rt, rt.alloc(), &words, expected);
+    }
+}
+
+#[test]
+fn takes_the_greatest_numbers(rt: HostRuntime) {
+    for (pace, policy) in [
+        ("--delay", Policy::fixed(u64::MAX, 1_000)),
+        ("--rate", Policy::fixed_rate(u64::MAX, 1_000)),
+    ] {
+        let run = ServeOptions {
+            workers: 16,
+            calls: 1_000_000,
+            policy: policy.expect(&rt, "a policy"),
+        };
+        let expected = ServerOptions {
+            port: 65_535,
+            timer: TimerKind::Wheel,
+            sessions: 10_000,
+            turns: 1_000_000,
+            run,
+        };
+        let words = [
+            "rb_broker",
+            "serve",
+            "--attempts",
+            "1000",
+            pace,
+            "18446744073709551615",
+            "--calls",
+            "1000000",
+            "--workers",
+            "16",
+            "--turns",
+            "1000000",
+            "--sessions",
+            "10000",
+            "--timer",
+            "wheel",
+            "--port",
+            "65535",
+        ];
+        expect_options(&rt, rt.alloc(), &words, expected);
+    }
+}
+
+// Compares the files that a server is given.
+fn expect_files(
+    rt: &impl Abort,
+    alloc: Global,
+    words: &[&str],
+    history: Option<&str>,
+    from: Option<&str>,
+) {
+    match read_words(alloc, words) {
+        Ok(
+            Words::Serve {
+                history: written,
+                from: read,
+                ..
+            },
+        ) => {
+            expect_same(rt, words, &written.as_deref(), &history);
+            expect_same(rt, words, &read.as_deref(), &from);
+        }
+        _ => assert!(rt; false, "{words:?}"),
+    }
+}
+
+#[test]
+fn takes_the_files_of_a_server(rt: HostRuntime) {
+    let alloc = rt.alloc();
+    let none = ["rb_broker", "serve", "--port=1"];
+    expect_files(&rt, alloc, &none, None, None);
+    let history = ["rb_broker", "serve", "--port=1", "--history", "run.txt"];
+    expect_files(&rt, alloc, &history, Some("run.txt"), None);
+    let both = [
+        "rb_broker",
+        "serve",
+        "--from=a b",
+        "--history=x",
+        "--port=1",
+    ];
+    expect_files(&rt, alloc, &both, Some("x"), Some("a b"));
+}
+
+#[test]
+fn refuses_other_ports(rt: HostRuntime) {
+    let missing = ["rb_broker", "serve"];
+    refuses(
+        &rt,
+        rt.alloc(),
+        &missing,
+        ErrorKind::MissingRequiredArgument,
+    );
+    let other_command = ["rb_broker", "script", "--port=1"];
+    refuses(&rt, rt.alloc(), &other_command, ErrorKind::UnknownArgument);
+    for port in ["--port=0", "--port=65536", "--port=-1", "--port=http"] {
+        let words = ["rb_broker", "serve", port];
+        refuses(&rt, rt.alloc(), &words, ErrorKind::ValueValidation);
+    }
+}
+
+#[test]
+fn refuses_other_values_of_a_server(rt: HostRuntime) {
+    for (option, kind) in [
+        ("--workers=0", ErrorKind::ValueValidation),
+        ("--workers=17", ErrorKind::ValueValidation),
+        ("--sessions=0", ErrorKind::ValueValidation),
+        ("--sessions=10001", ErrorKind::ValueValidation),
+        ("--turns=-1", ErrorKind::ValueValidation),
+        ("--turns=1000001", ErrorKind::ValueValidation),
+        ("--calls=0", ErrorKind::ValueValidation),
+        ("--calls=1000001", ErrorKind::ValueValidation),
+        ("--attempts=0", ErrorKind::ValueValidation),
+        ("--attempts=1001", ErrorKind::ValueValidation),
+        ("--delay=-1", ErrorKind::ValueValidation),
+        ("--delay=18446744073709551616", ErrorKind::ValueValidation),
+        ("--rate=-1", ErrorKind::ValueValidation),
+        ("--rate=18446744073709551616", ErrorKind::ValueValidation),
+        ("--timer=tree", ErrorKind::InvalidValue),
+        ("--chains", ErrorKind::UnknownArgument),
+        ("more", ErrorKind::UnknownArgument),
+    ] {
+        let words = ["rb_broker", "serve", "--port=1", option];
+        refuses(&rt, rt.alloc(), &words, kind);
+    }
+    let both = ["rb_broker", "serve", "--port=1", "--delay=5", "--rate=5"];
+    refuses(&rt, rt.alloc(), &both, ErrorKind::ArgumentConflict);
+    let both = ["rb_broker", "serve", "--port=1", "--delay=5", "--rate=5"];
+    refuses(&rt, rt.alloc(), &both, ErrorKind::ArgumentConflict);
+}
+
+#[test]
+fn help_names_the_options_of_a_server(rt: HostRuntime) -> Result<(), Fail> {
+    let alloc = rt.alloc();
+    let error = read_words(alloc, &["rb_broker", "serve", "--help"])
+        .err()
+        .expect(&rt, "help");
+    assert_eq!(rt; error.kind(), ErrorKind::DisplayHelp);
+    let text = error.to_string(alloc)?;
+    for part in [
+        "--port <P>",
+        "--workers <N>",
+        "--sessions <N>",
+        "--turns <N>",
+        "--calls <N>",
+        "--timer <T>",
+        "--delay <N>",
+        "--rate <N>",
+        "--attempts <N>",
+        "--history <FILE>",
+        "--from <FILE>",
+    ] {
+        assert!(rt; text.as_str().contains(part), "{part}");
+    }
+    Ok(())
+}
