@@ -1,3 +1,2 @@
 pub mod MadeCounts
 pub mod RunSteps
-pub mod SharedEndings

@@ -5,16 +5,11 @@ pub use Rattle.rb_queue.specs.Replies
 pub use Rattle.rb_kept.specs.Log
 pub use Rattle.rb_kept.specs.Tries
 pub use Rattle.rb_kept.specs.Shares
-pub use Rattle.rb_lock.specs.Passes
-pub use Rattle.rb_lock.specs.SharedCalls
-pub use Rattle.rb_blocking.specs.WaitingCalls
 pub mod Retry
 pub mod Made
 pub mod Asked
 pub mod RecordLaws
 pub mod KeptSteps
 pub mod KeptLaws
-pub mod SharedSteps
-pub mod SharedLaws
 pub mod Jobs
 pub mod WorkRuns

@@ -1,8 +1,6 @@
 ghost use Rattle.std.specs.Prelude.{◌≡◌};
 ghost use Rattle.rb_retry.specs.KeptSteps.{fault_of};
-ghost use Rattle.rb_retry.specs.SharedSteps.{fault_of_wait};
 
-use rb_blocking::WaitFault;
 use rb_kept::CallFault;
 use thiserror::Error;
 
@@ -27,17 +25,6 @@ impl From<CallFault> for DeskFault {
         match fault {
             CallFault::Full => DeskFault::Full,
             CallFault::Memory => DeskFault::Memory,
-        }
-    }
-}
-
-impl From<WaitFault> for DeskFault {
-    ghost from_gives = { λ fault result. result ≡ fault_of_wait fault };
-
-    fn from(fault: WaitFault) -> DeskFault {
-        match fault {
-            WaitFault::Full => DeskFault::Full,
-            WaitFault::Stopped => DeskFault::Stopped,
         }
     }
 }

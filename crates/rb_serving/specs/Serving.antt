@@ -7,7 +7,7 @@ use Rattle.rb_kept.specs.Log.{Log}
 use Rattle.rb_lock.specs.Passes.{Seen}
 use Rattle.rb_lock.specs.Gatherings.{IsGathered}
 use Rattle.rb_lock.specs.declared.record.Record.{Record}
-use Rattle.rb_retry.specs.SharedSteps.{SharedState, SharedSteps, SetsShared}
+use Rattle.rb_shared_desk.specs.SharedSteps.{SharedState, SharedSteps, SetsShared}
 use Rattle.rb_retry.specs.declared.policy.Policy.{Policy}
 use Rattle.rb_session.specs.declared.ended.Ended.{Ended}
 use Rattle.rb_session.specs.declared.session_fault.SessionFault.{SessionFault}

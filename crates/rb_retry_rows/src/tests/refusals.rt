@@ -12,9 +12,9 @@ use rb_ledger::{Tally, Totals};
 use rb_lock::{CloseFault, Shared};
 use rb_queue::{Act, Ask, Audit, Draft, Event, Reply};
 use rb_retry::{
-    Desk, DeskFault, Job, KeptDesk, Policy, SharedDesk, Verdict, Work, WorkReport, drain, fail,
-    poll, work_off,
+    Desk, DeskFault, Job, KeptDesk, Policy, Verdict, Work, WorkReport, drain, fail, poll, work_off,
 };
+use rb_shared_desk::SharedDesk;
 use rb_timer::Timer;
 use std::alloc::{AllocError, Global};
 use std::cell::{Cell, RefCell};

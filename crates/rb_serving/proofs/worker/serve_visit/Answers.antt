@@ -1,6 +1,6 @@
 use Rattle.std.proofs.Common.{rules, ◌≡◌, ◌∙◌, ap, ℕ, List, length, Option, Result}
 use Rattle.rb_lock.specs.Passes.{Seen}
-use Rattle.rb_retry.specs.SharedSteps.{SharedState, SharedSteps, SetsShared, name_of}
+use Rattle.rb_shared_desk.specs.SharedSteps.{SharedState, SharedSteps, SetsShared, name_of}
 use Rattle.rb_retry.specs.declared.policy.Policy.{Policy}
 use Rattle.rb_session.specs.declared.ended.Ended.{Ended}
 use Rattle.rb_session.specs.declared.session_fault.SessionFault.{SessionFault}

@@ -15,8 +15,8 @@ use Rattle.rb_blocking.specs.WaitingCalls.{try_of}
 use Rattle.rb_retry.specs.Made.{made_by}
 use Rattle.rb_retry.specs.Asked.{IsMomentOf}
 use Rattle.rb_retry.specs.KeptSteps.{fault_of}
-use Rattle.rb_retry.specs.SharedSteps.{Ends}
-use Rattle.rb_retry.specs.SharedLaws.{length_own}
+use Rattle.rb_shared_desk.specs.SharedSteps.{Ends}
+use Rattle.rb_shared_desk.specs.SharedLaws.{length_own}
 
 -- no more were made than the pass has seen
 pub few_through : (pass : Seen) (before : ℕ) → IsSoundPass pass → length (drop before (made_by pass.name pass.opening pass.seen)) ≤ MOST_CALLS

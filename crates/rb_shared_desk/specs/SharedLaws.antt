@@ -16,7 +16,7 @@ use Rattle.rb_blocking.specs.WaitingCalls.{try_of}
 use Rattle.rb_retry.specs.Made.{Made, made_after, made_by}
 use Rattle.rb_retry.specs.Asked.{MayGet, IsMomentOf, Makes}
 use Rattle.rb_retry.specs.RecordLaws.{recorded_reply, may_wait, made_after-more}
-use Rattle.rb_retry.specs.SharedSteps.{SharedState, SharedSteps, SetsShared, made_through}
+use Rattle.rb_shared_desk.specs.SharedSteps.{SharedState, SharedSteps, SetsShared, made_through}
 use Rattle.rb_retry.specs.declared.desk_fault.DeskFault.{DeskFault}
 use Rattle.rb_retry.specs.declared.desk_fault.DeskFault.TheVariants.{Full, Memory, Stopped}
 

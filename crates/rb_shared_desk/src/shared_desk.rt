@@ -1,13 +1,12 @@
 ghost use Rattle.std.specs.Prelude.{◌≡◌, ◌≤◌, length};
-ghost use Rattle.rb_retry.specs.SharedSteps.{SharedState, SharedName, SharedSteps, SetsShared, made_through, name_of};
-ghost use Rattle.rb_retry.specs.SharedLaws.{shared_makes, shared_refuses, shared_stays};
+ghost use Rattle.rb_shared_desk.specs.SharedSteps.{SharedState, SharedName, SharedSteps, SetsShared, fault_of_wait, made_through, name_of};
+ghost use Rattle.rb_shared_desk.specs.SharedLaws.{shared_makes, shared_refuses, shared_stays};
 
-use crate::desk::Desk;
-use crate::desk_fault::DeskFault;
-use rb_blocking::{Bell, Clock, Gate, offer_ring, poll_for, take};
+use rb_blocking::{Bell, Clock, Gate, WaitFault, offer_ring, poll_for, take};
 use rb_kept::Outcome;
 use rb_lock::{Pass, Shared};
 use rb_queue::{Ask, Reply};
+use rb_retry::{Desk, DeskFault};
 use rb_timer::Timer;
 use std::snapshot::Snapshot;
 use std::sync::Wait;
@@ -56,6 +55,16 @@ impl<'a, T: Timer, C: Clock, G: Gate, R: Wait + time::Clock> SharedDesk<'a, T, C
             bell,
             start,
         }
+    }
+}
+
+// Why a wait was not answered, as a desk says it.
+fn desk_fault_of(fault: WaitFault) -> DeskFault
+    ensures { result ≡ fault_of_wait fault }
+{
+    match fault {
+        WaitFault::Full => DeskFault::Full,
+        WaitFault::Stopped => DeskFault::Stopped,
     }
 }
 
@@ -108,14 +117,20 @@ impl<'a, T: Timer, C: Clock, G: Gate, R: Wait + time::Clock> Desk for SharedDesk
         let (rt, shared, clock, bell) = (self.rt, self.shared, self.clock, self.bell);
         match ask {
             Ask::Take => {
-                let element = take(rt, shared, self.pass, clock, self.gate, bell)?;
-                Ok(Reply::Item(element))
+                let taken = take(rt, shared, self.pass, clock, self.gate, bell);
+                match taken {
+                    Ok(element) => Ok(Reply::Item(element)),
+                    Err(fault) => Err(desk_fault_of(fault)),
+                }
             }
             Ask::PollFor { start, timeout } => {
-                let found = poll_for(
+                let polled = poll_for(
                     rt, shared, self.pass, clock, self.gate, bell, start, timeout,
-                )?;
-                Ok(found.map_or(Reply::Nothing, Reply::Item))
+                );
+                match polled {
+                    Ok(found) => Ok(found.map_or(Reply::Nothing, Reply::Item)),
+                    Err(fault) => Err(desk_fault_of(fault)),
+                }
             }
             Ask::Offer(draft) => {
                 let element = offer_ring(rt, shared, self.pass, asked, draft, bell)?;

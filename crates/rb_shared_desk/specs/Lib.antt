@@ -1,0 +1,10 @@
+pub use Rattle.rb_queue.specs.History
+pub use Rattle.rb_kept.specs.Log
+pub use Rattle.rb_kept.specs.Tries
+pub use Rattle.rb_lock.specs.Passes
+pub use Rattle.rb_lock.specs.SharedCalls
+pub use Rattle.rb_blocking.specs.WaitingCalls
+pub use Rattle.rb_retry.specs.Made
+pub use Rattle.rb_retry.specs.Asked
+pub mod SharedSteps
+pub mod SharedLaws
