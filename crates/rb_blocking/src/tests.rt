@@ -1,3 +1,4 @@
+mod ample;
 mod bells;
 mod calls;
 mod gates;
@@ -7,11 +8,13 @@ mod rows;
 mod takers;
 mod threads;
 
-ghost use Rattle.std.specs.Prelude.{◌≡◌, ◌≤◌, IfOk};
+ghost use Rattle.std.specs.Prelude.{◌≡◌, ◌≤◌, [], IfOk};
+ghost use Rattle.rb_ledger.specs.Totals.{nothing};
 
-use crate::{Clock, Gate};
+use crate::{Clock, Gate, WaitFault};
 use rb_delayed::{Element, Payload};
-use rb_kept::Kept;
+use rb_kept::{CallFault, Kept};
+use rb_ledger::Tally;
 use rb_lock::{Pass, Shared};
 use rb_queue::Draft;
 use rb_timer::ListTimer;
@@ -59,10 +62,67 @@ fn opened(alloc: Global, capacity: u64) -> Result<(ListShared, ListPass), Fail>
     ensures { IfOk result (λ opened. opened.1.table ≡ opened.0) }
 {
     let (kept, tally) = Kept::new(alloc, capacity)?;
+    shared(alloc, kept, tally)
+}
+
+// The same of a kept queue that was not called yet.
+fn shared(
+    alloc: Global,
+    kept: Kept<ListTimer>,
+    tally: Tally,
+) -> Result<(ListShared, ListPass), Fail>
+    requires history { kept.history ≡ [] }
+    requires tally { tally ≡ nothing }
+    ensures { IfOk result (λ opened. opened.1.table ≡ opened.0) }
+{
     match Shared::open(alloc, kept, tally) {
         Ok(opened) => Ok(opened),
         Err((_, _, fault)) => Err(Fail::from(fault)),
     }
+}
+
+// A new pass.
+fn split_off<R: Wait + Abort>(rt: &R, shared: &ListShared, pass: &mut ListPass) -> ListPass
+    requires { pass.old.table ≡ shared.now }
+    ensures first { pass.new.table ≡ pass.old.table }
+    ensures second { result.table ≡ pass.old.table }
+{
+    shared.split(rt, pass).ok().expect(rt, "a name is left")
+}
+
+// Each comparison is a function of its own with no clause, so that a test that makes it has nothing
+// to prove.
+
+fn expect_number(rt: &impl Abort, number: u64, wanted: u64) {
+    assert_eq!(rt; number, wanted);
+}
+
+fn expect(rt: &impl Abort, holds: bool) {
+    assert!(rt; holds);
+}
+
+fn expect_offered(
+    rt: &impl Abort,
+    offered: Result<Element, CallFault>,
+    wanted: Result<Element, CallFault>,
+) {
+    assert_eq!(rt; offered, wanted);
+}
+
+fn expect_taken(
+    rt: &impl Abort,
+    taken: Result<Element, WaitFault>,
+    wanted: Result<Element, WaitFault>,
+) {
+    assert_eq!(rt; taken, wanted);
+}
+
+fn expect_polled(
+    rt: &impl Abort,
+    polled: Result<Option<Element>, WaitFault>,
+    wanted: Result<Option<Element>, WaitFault>,
+) {
+    assert_eq!(rt; polled, wanted);
 }
 
 fn payload(rt: &impl Abort) -> Payload {

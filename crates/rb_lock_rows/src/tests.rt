@@ -1,3 +1,4 @@
+mod ample;
 mod calls;
 mod crowds;
 mod names;
@@ -5,14 +6,15 @@ mod refusals;
 mod rows;
 mod threads;
 
-ghost use Rattle.std.specs.Prelude.{◌≡◌, IfOk};
+ghost use Rattle.std.specs.Prelude.{◌≡◌, [], IfOk};
+ghost use Rattle.rb_ledger.specs.Totals.{nothing};
 
 use rb_delayed::{Element, Payload};
 use rb_kept::{CallFault, Kept, Outcome};
-use rb_ledger::Totals;
+use rb_ledger::{Tally, Totals};
 use rb_lock::{Pass, Shared};
 use rb_queue::{Ask, Audit, Draft, Reply};
-use rb_timer::ListTimer;
+use rb_timer::{ListTimer, Timer};
 use std::alloc::Global;
 use std::process::Abort;
 use std::sync::Wait;
@@ -23,31 +25,86 @@ type ListShared = Shared<ListTimer>;
 type ListPass = Pass<ListTimer>;
 
 // A shared queue with room for so many calls, and its first pass.
-fn opened(alloc: Global, capacity: u64) -> Result<(ListShared, ListPass), Fail>
+fn opened<T: Timer>(alloc: Global, capacity: u64) -> Result<(Shared<T>, Pass<T>), Fail>
     ensures { IfOk result (λ opened. opened.1.table ≡ opened.0) }
 {
     let (kept, tally) = Kept::new(alloc, capacity)?;
+    shared(alloc, kept, tally)
+}
+
+// The same of a kept queue that was not called yet.
+fn shared<T: Timer>(
+    alloc: Global,
+    kept: Kept<T>,
+    tally: Tally,
+) -> Result<(Shared<T>, Pass<T>), Fail>
+    requires history { kept.history ≡ [] }
+    requires tally { tally ≡ nothing }
+    ensures { IfOk result (λ opened. opened.1.table ≡ opened.0) }
+{
     match Shared::open(alloc, kept, tally) {
         Ok(opened) => Ok(opened),
         Err((_, _, fault)) => Err(Fail::from(fault)),
     }
 }
 
-// The reply to a call, which has to be answered.
-fn answer(
-    rt: &impl Wait,
-    shared: &ListShared,
-    pass: &mut ListPass,
+// Makes a call, and compares how it ended.
+fn expect_call<T: Timer, R: Wait + Abort>(
+    rt: &R,
+    shared: &Shared<T>,
+    pass: &mut Pass<T>,
     asked: u64,
     ask: Ask,
-) -> Result<Reply, Fail>
+    wanted: Result<Outcome, CallFault>,
+)
     requires { pass.old.table ≡ shared.now }
     ensures { pass.new.table ≡ pass.old.table }
 {
-    match shared.call(rt, pass, asked, ask)? {
-        Outcome::Done(reply) => Ok(reply),
-        Outcome::Later(_) => Err(Fail::from("the ask would wait")),
-    }
+    let outcome = shared.call(rt, pass, asked, ask);
+    expect_outcome(rt, outcome, wanted);
+}
+
+// A new pass, under this name.
+fn split_off<T: Timer, R: Wait + Abort>(
+    rt: &R,
+    shared: &Shared<T>,
+    pass: &mut Pass<T>,
+    name: u64,
+) -> Pass<T>
+    requires { pass.old.table ≡ shared.now }
+    ensures first { pass.new.table ≡ pass.old.table }
+    ensures second { result.table ≡ pass.old.table }
+{
+    let split = shared.split(rt, pass).ok().expect(rt, "a name is left");
+    expect_number(rt, split.name(), name);
+    split
+}
+
+// Each comparison is a function of its own with no clause, so that a test that makes it has nothing
+// to prove.
+
+fn expect_outcome(
+    rt: &impl Abort,
+    outcome: Result<Outcome, CallFault>,
+    wanted: Result<Outcome, CallFault>,
+) {
+    assert_eq!(rt; outcome, wanted);
+}
+
+fn expect_drained(rt: &impl Abort, outcome: Result<Outcome, CallFault>) {
+    assert!(rt; matches!(outcome, Ok(Outcome::Done(Reply::Drained(_)))));
+}
+
+fn expect_number(rt: &impl Abort, number: u64, wanted: u64) {
+    assert_eq!(rt; number, wanted);
+}
+
+fn expect_totals(rt: &impl Abort, found: Totals, wanted: Totals) {
+    assert_eq!(rt; found, wanted);
+}
+
+fn expect_audit(rt: &impl Abort, audit: Audit, wanted: Audit) {
+    assert_eq!(rt; audit, wanted);
 }
 
 fn payload(rt: &impl Abort) -> Payload {
@@ -69,6 +126,16 @@ fn element(rt: &impl Abort, id: u64, expiry: u64) -> Element {
         attempt: 1,
         payload: payload(rt),
     }
+}
+
+// How a call ends that is answered.
+fn done(reply: Reply) -> Result<Outcome, CallFault> {
+    Ok(Outcome::Done(reply))
+}
+
+// How a first offer ends.
+fn offered(rt: &impl Abort, id: u64, expiry: u64) -> Result<Outcome, CallFault> {
+    done(Reply::Offered(element(rt, id, expiry)))
 }
 
 fn totals(calls: u64, offered: u64, given: u64) -> Totals {

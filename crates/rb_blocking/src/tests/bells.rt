@@ -1,11 +1,12 @@
 // A bell by itself: counts, and rests that a ring ends or that nothing ends.
 
-use super::await_more;
+use super::{await_more, expect, expect_number};
 use crate::Bell;
+use std::process::Abort;
 use std::sync::Wait;
 use std::sync::atomic::{AtomicU64, Ordering};
 use std::test::Fail;
-use std::thread::{join, yield_now};
+use std::thread::{Threads, join, yield_now};
 use std::time::{Clock, Duration};
 
 // How often one thread rings between another's look at the count and its rest, or in the rest.
@@ -14,13 +15,27 @@ const ROUNDS: u64 = 10_000;
 // How long a rest lasts that misses its ring, in seconds: as long as a test may take.
 const MISSED: u64 = 60;
 
+// The count, and that of a rest that has seen no ring.
+fn expect_counts<R: Wait + Clock + Abort>(rt: &R, bell: &Bell, wanted: u64) {
+    expect_number(rt, bell.count(rt), wanted);
+    expect_number(rt, bell.rest(rt, 0), wanted);
+}
+
 #[test]
 fn counts_its_rings(rt: HostRuntime) -> Result<(), Fail> {
     let bell = Bell::new();
-    assert_eq!(rt; (bell.count(&rt), bell.rest(&rt, 0)), (0, 0));
+    expect_counts(&rt, &bell, 0);
     bell.ring(&rt);
-    assert_eq!(rt; (bell.count(&rt), bell.rest(&rt, 0)), (1, 1));
+    expect_counts(&rt, &bell, 1);
     Ok(())
+}
+
+// One thread rests in this round, and another rings.
+fn expect_rung<R: Threads + Wait + Clock + Abort + Sync>(rt: &R, bell: &Bell, round: u64) {
+    let (count, _) = join(rt, || bell.rest(rt, round), || bell.ring(rt));
+    let rings = round.saturating_add(1);
+    expect(rt, count == rings || count == round);
+    expect_number(rt, bell.rest(rt, round), rings);
 }
 
 // The rest of one thread ends when another rings, before it or in it.
@@ -28,9 +43,7 @@ fn counts_its_rings(rt: HostRuntime) -> Result<(), Fail> {
 fn a_ring_ends_a_rest(rt: HostRuntime) -> Result<(), Fail> {
     let bell = Bell::new();
     for round in 0..200 {
-        let (count, _) = join(&rt, || bell.rest(&rt, round), || bell.ring(&rt));
-        assert!(rt; count == round + 1 || count == round);
-        assert_eq!(rt; bell.rest(&rt, round), round + 1);
+        expect_rung(&rt, &bell, round);
     }
     Ok(())
 }
@@ -79,6 +92,7 @@ fn a_ring_between_a_look_and_the_rest_is_seen(rt: HostRuntime) -> Result<(), Fai
         || rest_often(&rt, bell, looks),
         || ring_often(&rt, bell, looks),
     );
-    assert_eq!(rt; (seen, bell.count(&rt)), (ROUNDS, ROUNDS));
+    expect_number(&rt, seen, ROUNDS);
+    expect_number(&rt, bell.count(&rt), ROUNDS);
     Ok(())
 }

@@ -1,67 +1,74 @@
 // Deadlines at the greatest moment, and a history with no room.
 
-use super::{FixedClock, draft, element, opened};
+ghost use Rattle.std.specs.Prelude.{◌≡◌};
+
+use super::{
+    FixedClock, ListPass, ListShared, draft, element, expect_number, expect_offered, expect_polled,
+    expect_taken, opened,
+};
 use crate::{Bell, TurnGate, WaitFault, offer_ring, poll_for, take};
+use rb_delayed::Element;
 use rb_kept::CallFault;
+use std::process::Abort;
+use std::sync::Wait;
 use std::test::Fail;
+use std::time;
+
+// Polls at this moment for 9 nanoseconds from the greatest moment on. The gate lets one turn be
+// made.
+fn expect_poll<R: Wait + time::Clock + Abort>(
+    rt: &R,
+    shared: &ListShared,
+    pass: &mut ListPass,
+    moment: u64,
+    wanted: Result<Option<Element>, WaitFault>,
+)
+    requires { pass.old.table ≡ shared.now }
+    ensures { pass.new.table ≡ pass.old.table }
+{
+    let bell = Bell::new();
+    let mut gate = TurnGate { limit: 1 };
+    let clock = FixedClock(moment);
+    let polled = poll_for(rt, shared, pass, &clock, &mut gate, &bell, u64::MAX, 9);
+    expect_polled(rt, polled, wanted);
+}
 
 #[test]
 fn waits_until_the_greatest_moment(rt: HostRuntime) -> Result<(), Fail> {
     let (shared, mut pass) = opened(rt.alloc(), 4)?;
-    let bell = Bell::new();
-    let mut gate = TurnGate { limit: 1 };
-    let early = FixedClock(u64::MAX - 1);
-    assert_eq!(rt;
-        poll_for(
-            &rt,
-            &shared,
-            &mut pass,
-            &early,
-            &mut gate,
-            &bell,
-            u64::MAX,
-            9
-        ),
-        Err(WaitFault::Stopped)
-    );
-    let last = FixedClock(u64::MAX);
-    assert_eq!(rt;
-        poll_for(
-            &rt,
-            &shared,
-            &mut pass,
-            &last,
-            &mut gate,
-            &bell,
-            u64::MAX,
-            9
-        )?,
-        None
-    );
-    assert_eq!(rt; pass.calls(), 1);
+    let stopped = Err(WaitFault::Stopped);
+    expect_poll(&rt, &shared, &mut pass, u64::MAX - 1, stopped);
+    expect_poll(&rt, &shared, &mut pass, u64::MAX, Ok(None));
+    expect_number(&rt, pass.calls(), 1);
     Ok(())
+}
+
+// The two calls for which the history has room, and two more.
+fn expect_answers<R: Wait + time::Clock + Abort>(
+    rt: &R,
+    shared: &ListShared,
+    pass: &mut ListPass,
+    bell: &Bell,
+)
+    requires { pass.old.table ≡ shared.now }
+{
+    let mut gate = TurnGate { limit: 5 };
+    let clock = FixedClock(9);
+    let offered = offer_ring(rt, shared, pass, 3, draft(rt, 9), bell);
+    expect_offered(rt, offered, Ok(element(rt, 0, 9)));
+    let polled = poll_for(rt, shared, pass, &clock, &mut gate, bell, 3, 6);
+    expect_polled(rt, polled, Ok(Some(element(rt, 0, 9))));
+    let offered = offer_ring(rt, shared, pass, 9, draft(rt, 9), bell);
+    expect_offered(rt, offered, Err(CallFault::Full));
+    let taken = take(rt, shared, pass, &clock, &mut gate, bell);
+    expect_taken(rt, taken, Err(WaitFault::Full));
+    expect_number(rt, pass.calls(), 2);
+    expect_number(rt, bell.count(rt), 1);
 }
 
 #[test]
 fn answers_with_ample_memory(rt: HostRuntime) -> Result<(), Fail> {
     let (shared, mut pass) = opened(rt.alloc(), 2)?;
-    let bell = Bell::new();
-    let mut gate = TurnGate { limit: 5 };
-    let clock = FixedClock(9);
-    let offered = offer_ring(&rt, &shared, &mut pass, 3, draft(&rt, 9), &bell)?;
-    assert_eq!(rt; offered, element(&rt, 0, 9));
-    assert_eq!(rt;
-        poll_for(&rt, &shared, &mut pass, &clock, &mut gate, &bell, 3, 6)?,
-        Some(element(&rt, 0, 9))
-    );
-    assert_eq!(rt;
-        offer_ring(&rt, &shared, &mut pass, 9, draft(&rt, 9), &bell),
-        Err(CallFault::Full)
-    );
-    assert_eq!(rt;
-        take(&rt, &shared, &mut pass, &clock, &mut gate, &bell),
-        Err(WaitFault::Full)
-    );
-    assert_eq!(rt; (pass.calls(), bell.count(&rt)), (2, 1));
+    expect_answers(&rt, &shared, &mut pass, &Bell::new());
     Ok(())
 }

@@ -1,43 +1,56 @@
 // Each growth that an offer may want, refused in turn.
 
-ghost use Rattle.std.specs.Prelude.{◌≡◌, IfOk};
+ghost use Rattle.std.specs.Prelude.{◌≡◌, [], IfOk};
+ghost use Rattle.rb_ledger.specs.Totals.{nothing};
 
-use super::{FixedClock, ListPass, ListShared, draft, element};
+use super::{
+    FixedClock, ListPass, ListShared, draft, element, expect_number, expect_offered, shared,
+};
 use crate::{Bell, TurnGate, offer_ring, take};
 use rb_delayed::Element;
-use rb_kept::{CallFault, Kept};
+use rb_kept::{CallFault, Kept, NewFault};
+use rb_ledger::Tally;
 use rb_lock::Shared;
+use rb_timer::ListTimer;
 use std::alloc::Global;
 use std::process::Abort;
 use std::sync::Wait;
 use std::test::Fail;
 
-// How many refusals the run meets. `tools/refuse_allocations` sets 1, and refuses each allocation of
-// the run in turn.
+// How many refusals the run meets. `tools/refuse_allocations` sets 1, and refuses each allocation
+// of the run in turn.
 const REFUSALS: u32 = 0;
 
 // Past several growths of slots, timer and directory.
 const MANY: u64 = 20;
 
-// What the calls are made on, made once more where it was refused: this test is not about it.
-fn opened_at_last(alloc: Global) -> Result<(ListShared, ListPass), Fail>
-    ensures { IfOk result (λ opened. opened.1.table ≡ opened.0) }
+// A kept queue, made once more where it was refused: this test is not about it.
+fn kept_at_last(alloc: Global) -> Result<(Kept<ListTimer>, Tally), NewFault>
+    ensures history { IfOk result (λ made. made.0.history ≡ []) }
+    ensures tally { IfOk result (λ made. made.1 ≡ nothing) }
 {
-    let (kept, tally) = match Kept::new(alloc, 60) {
-        Ok(made) => made,
-        Err(_) => Kept::new(alloc, 60)?,
-    };
-    let (kept, tally) = match Shared::open(alloc, kept, tally) {
-        Ok(opened) => return Ok(opened),
-        Err((kept, tally, _)) => (kept, tally),
-    };
-    match Shared::open(alloc, kept, tally) {
-        Ok(opened) => Ok(opened),
-        Err((_, _, fault)) => Err(Fail::from(fault)),
+    match Kept::new(alloc, 60) {
+        Ok(made) => Ok(made),
+        Err(_) => Kept::new(alloc, 60),
     }
 }
 
-// The offered element, offered once more where there was no memory. A refused offer is no call, and rings
+// What the calls are made on, made once more likewise.
+fn opened_at_last(alloc: Global) -> Result<(ListShared, ListPass), Fail>
+    ensures { IfOk result (λ opened. opened.1.table ≡ opened.0) }
+{
+    let (kept, tally) = kept_at_last(alloc)?;
+    match Shared::open(alloc, kept, tally) {
+        Ok(opened) => Ok(opened),
+        Err((kept, tally, _)) => shared(alloc, kept, tally),
+    }
+}
+
+fn expect_fault(rt: &impl Abort, offered: &Result<Element, CallFault>) {
+    assert_eq!(rt; offered.err(), Some(CallFault::Memory));
+}
+
+// An offer, made once more where there was no memory. A refused offer is no call, and rings
 // nothing.
 fn offer_at_last<R: Wait + Abort>(
     rt: &R,
@@ -45,25 +58,57 @@ fn offer_at_last<R: Wait + Abort>(
     pass: &mut ListPass,
     bell: &Bell,
     met: &mut u32,
-) -> Option<Element>
+) -> Result<Element, CallFault>
     requires { pass.old.table ≡ shared.now }
     ensures { pass.new.table ≡ pass.old.table }
 {
     let calls = pass.calls();
     let rung = bell.count(rt);
-    match offer_ring(rt, shared, pass, 9, draft(rt, 9), bell) {
-        Ok(element) => Some(element),
-        Err(fault) => {
-            *met = met.saturating_add(1);
-            assert_eq!(rt; fault, CallFault::Memory);
-            assert_eq!(rt; (pass.calls(), bell.count(rt)), (calls, rung));
-            offer_ring(rt, shared, pass, 9, draft(rt, 9), bell).ok()
-        }
+    let offered = offer_ring(rt, shared, pass, 9, draft(rt, 9), bell);
+    if offered.is_ok() {
+        return offered;
     }
+    *met = met.saturating_add(1);
+    expect_fault(rt, &offered);
+    expect_number(rt, pass.calls(), calls);
+    expect_number(rt, bell.count(rt), rung);
+    offer_ring(rt, shared, pass, 9, draft(rt, 9), bell)
 }
 
-// Takes the element of this id, which takes no memory.
-fn expect_taken<R: Wait + Abort + std::time::Clock>(
+fn expect_offer<R: Wait + Abort>(
+    rt: &R,
+    shared: &ListShared,
+    pass: &mut ListPass,
+    bell: &Bell,
+    id: u64,
+    met: &mut u32,
+)
+    requires { pass.old.table ≡ shared.now }
+    ensures { pass.new.table ≡ pass.old.table }
+{
+    let offered = offer_at_last(rt, shared, pass, bell, met);
+    expect_offered(rt, offered, Ok(element(rt, id, 9)));
+}
+
+fn expect_offers<R: Wait + Abort>(
+    rt: &R,
+    shared: &ListShared,
+    pass: &mut ListPass,
+    bell: &Bell,
+    met: &mut u32,
+)
+    requires { pass.old.table ≡ shared.now }
+    ensures { pass.new.table ≡ pass.old.table }
+{
+    for id in 0..MANY {
+        expect_offer(rt, shared, pass, bell, id, met);
+    }
+    expect_number(rt, pass.calls(), MANY);
+    expect_number(rt, bell.count(rt), MANY);
+}
+
+// The id of an element that is taken, which takes no memory.
+fn taken_id<R: Wait + Abort + std::time::Clock>(
     rt: &R,
     shared: &ListShared,
     pass: &mut ListPass,
@@ -77,22 +122,31 @@ fn expect_taken<R: Wait + Abort + std::time::Clock>(
     taken.ok().expect(rt, "an element is expired").id
 }
 
+// The sum of the ids of all that was offered.
+fn taken_ids<R: Wait + Abort + std::time::Clock>(
+    rt: &R,
+    shared: &ListShared,
+    pass: &mut ListPass,
+    bell: &Bell,
+) -> u64
+    requires { pass.old.table ≡ shared.now }
+    ensures { pass.new.table ≡ pass.old.table }
+{
+    let mut sum: u64 = 0;
+    for _ in 0..MANY {
+        sum = sum.saturating_add(taken_id(rt, shared, pass, bell));
+    }
+    sum
+}
+
 #[test]
 fn refusals_change_nothing(rt: HostRuntime) -> Result<(), Fail> {
     let mut met = 0;
     let (shared, mut pass) = opened_at_last(rt.alloc())?;
     let bell = Bell::new();
-    for id in 0..MANY {
-        let offered = offer_at_last(&rt, &shared, &mut pass, &bell, &mut met);
-        assert_eq!(rt; offered, Some(element(&rt, id, 9)));
-    }
-    assert_eq!(rt; (pass.calls(), bell.count(&rt)), (MANY, MANY));
-    let mut sum: u64 = 0;
-    for _ in 0..MANY {
-        let id = expect_taken(&rt, &shared, &mut pass, &bell);
-        sum = sum.saturating_add(id);
-    }
-    assert_eq!(rt; (pass.calls(), sum), (2 * MANY, 190));
-    assert_eq!(rt; met, REFUSALS);
+    expect_offers(&rt, &shared, &mut pass, &bell, &mut met);
+    expect_number(&rt, taken_ids(&rt, &shared, &mut pass, &bell), 190);
+    expect_number(&rt, pass.calls(), 2 * MANY);
+    expect_number(&rt, u64::from(met), u64::from(REFUSALS));
     Ok(())
 }

@@ -2,7 +2,7 @@
 
 ghost use Rattle.std.specs.Prelude.{◌≡◌};
 
-use super::{FixedClock, ListPass, ListShared, await_more, draft, opened};
+use super::{FixedClock, ListPass, ListShared, await_more, draft, opened, split_off};
 use crate::{Bell, Gate, WaitFault, offer_ring, take};
 use std::process::Abort;
 use std::sync::Wait;
@@ -115,15 +115,32 @@ fn ended_of_two<R: Threads + Wait + Clock + Abort + Sync>(
     }
 }
 
+type Ends = [(Option<WaitFault>, u64); 2];
+
+fn expect_ends(rt: &impl Abort, ended: Ends) {
+    assert_eq!(rt; ended, [(None, 3), (Some(WaitFault::Stopped), 0)]);
+}
+
+// Two takers and a giver, each with a pass of its own.
+fn expect_one_served<R: Threads + Wait + Clock + Abort + Sync>(
+    rt: &R,
+    shared: &ListShared,
+    first: &mut ListPass,
+)
+    requires { first.old.table ≡ shared.now }
+    ensures { first.new.table ≡ first.old.table }
+{
+    let one = split_off(rt, shared, first);
+    let other = split_off(rt, shared, first);
+    let giver = split_off(rt, shared, first);
+    expect_ends(rt, ended_of_two(rt, shared, one, other, giver));
+}
+
 #[test]
 fn one_of_two_takers_gets_it_and_the_other_waits_on(rt: HostRuntime) -> Result<(), Fail> {
     let (shared, mut first) = opened(rt.alloc(), 40)?;
     for _ in 0..10 {
-        let one = shared.split(&rt, &mut first)?;
-        let other = shared.split(&rt, &mut first)?;
-        let giver = shared.split(&rt, &mut first)?;
-        let ended = ended_of_two(&rt, &shared, one, other, giver);
-        assert_eq!(rt; ended, [(None, 3), (Some(WaitFault::Stopped), 0)]);
+        expect_one_served(&rt, &shared, &mut first);
     }
     Ok(())
 }

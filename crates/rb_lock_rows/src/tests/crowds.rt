@@ -1,14 +1,13 @@
-// Threads that offer and as many that take: nothing is lost and nothing doubled, and each seat has just the
-// calls that its thread made.
+// Threads that offer and as many that take: nothing is lost and nothing doubled, and each seat has
+// just the calls that its thread made.
 
-ghost use Rattle.std.specs.Prelude.{◌≡◌, IfOk, IfSome};
+ghost use Rattle.std.specs.Prelude.{◌≡◌, IfSome};
 
-use super::{all_given, offer};
+use super::{all_given, expect_audit, expect_number, offer, opened};
 use rb_binary::BinaryTimer;
-use rb_kept::{Kept, Outcome};
+use rb_kept::Outcome;
 use rb_lock::{Pass, Shared};
-use rb_queue::{Ask, Event};
-use std::alloc::Global;
+use rb_queue::{Ask, Audit, Event};
 use std::process::Abort;
 use std::sync::Wait;
 use std::test::Fail;
@@ -21,18 +20,18 @@ pub(super) type HeapPass = Pass<BinaryTimer>;
 // How many elements go through the queue in each run.
 const ELEMENTS: u64 = 100_000;
 
-// A shared queue with room for the calls of a run, and its first pass.
-pub(super) fn opened(alloc: Global) -> Result<(HeapShared, HeapPass), Fail>
-    ensures { IfOk result (λ opened. opened.1.table ≡ opened.0) }
+// Room for the calls of a run.
+pub(super) const ROOM: u64 = 2 * ELEMENTS;
+
+// Offers an element, which is expired at once.
+fn offer_one<R: Wait + Abort>(rt: &R, shared: &HeapShared, pass: &mut HeapPass)
+    requires { pass.old.table ≡ shared.now }
+    ensures { pass.new.table ≡ pass.old.table }
 {
-    let (kept, tally) = Kept::new(alloc, 2 * ELEMENTS)?;
-    match Shared::open(alloc, kept, tally) {
-        Ok(opened) => Ok(opened),
-        Err((_, _, fault)) => Err(Fail::from(fault)),
-    }
+    let _ = shared.call(rt, pass, 9, offer(rt, 9));
 }
 
-// Offers so many elements, which are expired at once.
+// Offers so many of them.
 pub(super) fn offer_all<R: Wait + Abort>(
     rt: &R,
     shared: &HeapShared,
@@ -43,9 +42,18 @@ pub(super) fn offer_all<R: Wait + Abort>(
     ensures { result.table ≡ pass.table }
 {
     for _ in 0..count {
-        let _ = shared.call(rt, &mut pass, 9, offer(rt, 9));
+        offer_one(rt, shared, &mut pass);
     }
     pass
+}
+
+// Whether an element was expired, which then was taken.
+fn has_taken(rt: &impl Wait, shared: &HeapShared, pass: &mut HeapPass) -> bool
+    requires { pass.old.table ≡ shared.now }
+    ensures { pass.new.table ≡ pass.old.table }
+{
+    let outcome = shared.call(rt, pass, 9, Ask::Take);
+    matches!(outcome, Ok(Outcome::Done(_)))
 }
 
 // Takes so many elements, and tries again where nothing is expired.
@@ -62,14 +70,15 @@ pub(super) fn take_all(
         if wanted == 0 {
             break;
         }
-        if let Ok(Outcome::Done(_)) = shared.call(rt, &mut pass, 9, Ask::Take) {
+        if has_taken(rt, shared, &mut pass) {
             wanted -= 1;
         }
     }
     pass
 }
 
-// One thread offers so many elements and another takes as many. Their passes are gathered in the one given.
+// One thread offers so many elements and another takes as many. Their passes are gathered in the
+// one given.
 fn pair<R: Threads + Wait + Abort + Sync>(
     rt: &R,
     shared: &HeapShared,
@@ -154,23 +163,33 @@ fn events_of(history: &[Event], seat: u64) -> usize {
     history.iter().filter(|event| event.seat == seat).count()
 }
 
-// Closes the queue by the pass in which all are gathered: so many seats have made their share of the calls.
+// This share of the calls was made by each seat.
+fn expect_share(rt: &impl Abort, history: &[Event], seat: u64, seats: u64) {
+    let count = events_of(history, seat) as u64;
+    expect_number(rt, count.saturating_mul(seats), ROOM);
+}
+
+fn expect_shares(rt: &impl Abort, history: &[Event], audit: Audit, seats: u64) {
+    expect_audit(rt, audit, all_given(ROOM, ELEMENTS));
+    for seat in 0..seats {
+        expect_share(rt, history, seat, seats);
+    }
+}
+
+// Closes the queue by the pass in which all are gathered: so many seats have made their share of
+// the calls.
 fn expect_calls<R: Wait + Abort>(rt: &R, shared: HeapShared, gathered: Option<HeapPass>, seats: u64)
     requires { IfSome gathered (λ pass. pass.table ≡ shared) }
 {
     let pass = gathered.expect(rt, "all passes are split off");
     let closed = shared.close(rt, pass).ok();
     let (kept, _, audit) = closed.expect(rt, "all passes are gathered");
-    assert_eq!(rt; audit, all_given(2 * ELEMENTS, ELEMENTS));
-    for seat in 0..seats {
-        let count = events_of(kept.history(), seat) as u64;
-        assert_eq!(rt; count.saturating_mul(seats), 2 * ELEMENTS);
-    }
+    expect_shares(rt, kept.history(), audit, seats);
 }
 
 #[test]
 fn one_pair_loses_nothing(rt: HostRuntime) -> Result<(), Fail> {
-    let (shared, first) = opened(rt.alloc())?;
+    let (shared, first) = opened(rt.alloc(), ROOM)?;
     let gathered = pair(&rt, &shared, first, ELEMENTS);
     expect_calls(&rt, shared, gathered, 2);
     Ok(())
@@ -178,7 +197,7 @@ fn one_pair_loses_nothing(rt: HostRuntime) -> Result<(), Fail> {
 
 #[test]
 fn two_pairs_lose_nothing(rt: HostRuntime) -> Result<(), Fail> {
-    let (shared, first) = opened(rt.alloc())?;
+    let (shared, first) = opened(rt.alloc(), ROOM)?;
     let gathered = two_pairs(&rt, &shared, first, ELEMENTS / 2);
     expect_calls(&rt, shared, gathered, 4);
     Ok(())
@@ -186,7 +205,7 @@ fn two_pairs_lose_nothing(rt: HostRuntime) -> Result<(), Fail> {
 
 #[test]
 fn four_pairs_lose_nothing(rt: HostRuntime) -> Result<(), Fail> {
-    let (shared, first) = opened(rt.alloc())?;
+    let (shared, first) = opened(rt.alloc(), ROOM)?;
     let gathered = four_pairs(&rt, &shared, first, ELEMENTS / 4);
     expect_calls(&rt, shared, gathered, 8);
     Ok(())

@@ -1,19 +1,48 @@
 // Every name, and the one after the last.
 
-use super::opened;
+ghost use Rattle.std.specs.Prelude.{◌≡◌};
+
+use super::{ListPass, ListShared, expect_number, opened, split_off};
 use rb_lock::SplitFault;
+use std::process::Abort;
+use std::sync::Wait;
 use std::test::Fail;
+
+// Splits the pass of this name off, and folds it.
+fn expect_name<R: Wait + Abort>(rt: &R, shared: &ListShared, first: &mut ListPass, name: u64)
+    requires { first.old.table ≡ shared.now }
+    ensures { first.new.table ≡ first.old.table }
+{
+    let other = split_off(rt, shared, first, name);
+    shared.fold(first, other);
+}
+
+fn expect_names<R: Wait + Abort>(rt: &R, shared: &ListShared, first: &mut ListPass)
+    requires { first.old.table ≡ shared.now }
+    ensures { first.new.table ≡ first.old.table }
+{
+    for name in 1..65_536 {
+        expect_name(rt, shared, first, name);
+    }
+}
+
+fn expect_fault(rt: &impl Abort, fault: Option<SplitFault>) {
+    assert_eq!(rt; fault, Some(SplitFault::Names));
+}
+
+fn expect_no_name<R: Wait + Abort>(rt: &R, shared: &ListShared, first: &mut ListPass)
+    requires { first.old.table ≡ shared.now }
+{
+    let refused = shared.split(rt, first).err();
+    expect_fault(rt, refused);
+    expect_number(rt, first.name(), 0);
+    expect_number(rt, first.calls(), 0);
+}
 
 #[test]
 fn gives_each_name_once(rt: HostRuntime) -> Result<(), Fail> {
     let (shared, mut first) = opened(rt.alloc(), 1)?;
-    for name in 1..65_536 {
-        let other = shared.split(&rt, &mut first)?;
-        assert_eq!(rt; other.name(), name);
-        shared.fold(&mut first, other);
-    }
-    let refused = shared.split(&rt, &mut first).err();
-    assert_eq!(rt; refused, Some(SplitFault::Names));
-    assert_eq!(rt; (first.name(), first.calls()), (0, 0));
+    expect_names(&rt, &shared, &mut first);
+    expect_no_name(&rt, &shared, &mut first);
     Ok(())
 }

@@ -2,8 +2,8 @@
 
 ghost use Rattle.std.specs.Prelude.{◌≡◌};
 
-use super::all_given;
-use super::crowds::{HeapPass, HeapShared, offer_all, opened, take_all};
+use super::crowds::{HeapPass, HeapShared, ROOM, offer_all, take_all};
+use super::{all_given, expect_number, opened, split_off};
 use rb_queue::{Ask, Audit};
 use std::alloc::Global;
 use std::process::Abort;
@@ -11,8 +11,8 @@ use std::sync::Wait;
 use std::test::Fail;
 use std::thread::{Threads, join};
 
-// One thread offers so many elements and another takes as many. Then their passes meet, and are gathered in
-// the giver's.
+// One thread offers so many elements and another takes as many. Then their passes meet, and are
+// gathered in the giver's.
 fn exchange<R: Threads + Wait + Abort + Sync>(
     rt: &R,
     shared: &HeapShared,
@@ -54,48 +54,75 @@ fn audit_of_two<R: Threads + Wait + Abort + Sync>(
     alloc: Global,
     count: u64,
 ) -> Result<Option<Audit>, Fail> {
-    let (shared, mut first) = opened(alloc)?;
-    let second = shared.split(rt, &mut first)?;
+    let (shared, mut first) = opened(alloc, ROOM)?;
+    let second = split_off(rt, &shared, &mut first, 1);
     let gathered = exchange(rt, &shared, first, second, count);
     Ok(audit_of(rt, shared, gathered))
 }
 
-#[test]
-fn one_offers_and_one_takes(rt: HostRuntime) -> Result<(), Fail> {
-    assert_eq!(rt; audit_of_two(&rt, rt.alloc(), 1)?, Some(all_given(2, 1)));
-    assert_eq!(rt;
-        audit_of_two(&rt, rt.alloc(), 999)?,
-        Some(all_given(1_998, 999))
-    );
+fn expect_two<R: Threads + Wait + Abort + Sync>(
+    rt: &R,
+    alloc: Global,
+    count: u64,
+    wanted: Audit,
+) -> Result<(), Fail> {
+    let audit = audit_of_two(rt, alloc, count)?;
+    assert_eq!(rt; audit, Some(wanted));
     Ok(())
 }
 
-// Asks so often what would wait: no event is made, and the lock is taken and given back. How many calls were
-// answered.
+#[test]
+fn one_offers_and_one_takes(rt: HostRuntime) -> Result<(), Fail> {
+    expect_two(&rt, rt.alloc(), 1, all_given(2, 1))?;
+    expect_two(&rt, rt.alloc(), 999, all_given(1_998, 999))
+}
+
+// Asks what would wait: no event is made, and the lock is taken and given back.
+fn ask(rt: &impl Wait, shared: &HeapShared, pass: &mut HeapPass)
+    requires { pass.old.table ≡ shared.now }
+    ensures { pass.new.table ≡ pass.old.table }
+{
+    let _ = shared.call(rt, pass, 0, Ask::Take);
+}
+
+// Asks so often. How many calls were answered.
 fn ask_often(rt: &impl Wait, shared: &HeapShared, mut pass: HeapPass, rounds: u64) -> u64
     requires { pass.table ≡ shared.now }
 {
     for _ in 0..rounds {
-        let _ = shared.call(rt, &mut pass, 0, Ask::Take);
+        ask(rt, shared, &mut pass);
     }
     pass.calls()
 }
 
-// Two threads that want the lock all the time: one that finds it taken sleeps, and is woken.
+// Two threads that want the lock all the time: one that finds it taken sleeps, and is woken. How
+// many calls were answered to each.
+fn answered_of_two<R: Threads + Wait + Sync>(
+    rt: &R,
+    shared: &HeapShared,
+    first: HeapPass,
+    second: HeapPass,
+) -> (u64, u64)
+    requires first { first.table ≡ shared.now }
+    requires second { second.table ≡ shared.now }
+{
+    join(
+        rt,
+        || -> u64
+            requires { second.table ≡ shared.now }
+        { ask_often(rt, shared, second, 200_000) },
+        || -> u64
+            requires { first.table ≡ shared.now }
+        { ask_often(rt, shared, first, 200_000) },
+    )
+}
+
 #[test]
 fn sleepers_are_woken(rt: HostRuntime) -> Result<(), Fail> {
-    let (shared, mut first) = opened(rt.alloc())?;
-    let second = shared.split(&rt, &mut first)?;
-    let lock = &shared;
-    let answered = join(
-        &rt,
-        || -> u64
-            requires { second.table ≡ lock.now }
-        { ask_often(&rt, lock, second, 200_000) },
-        || -> u64
-            requires { first.table ≡ lock.now }
-        { ask_often(&rt, lock, first, 200_000) },
-    );
-    assert_eq!(rt; answered, (0, 0));
+    let (shared, mut first) = opened(rt.alloc(), ROOM)?;
+    let second = split_off(&rt, &shared, &mut first, 1);
+    let answered = answered_of_two(&rt, &shared, first, second);
+    expect_number(&rt, answered.0, 0);
+    expect_number(&rt, answered.1, 0);
     Ok(())
 }

@@ -1,5 +1,0 @@
-use Rattle.std.proofs.Common.{◌≡◌}
-use Rattle.rb_blocking.proofs.tests.gates.stops_after_so_many_turns.Given as goal
-
-abbrev pub invariant-loop-limit : goal.invariant-loop-limit
-invariant-loop-limit g l = l.pass.table ≡ l.shared
