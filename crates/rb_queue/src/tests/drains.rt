@@ -1,52 +1,56 @@
-use super::*;
+use crate::tests::devices::{ListQueue, drained, element, expect_found, expect_number, expect_tie};
+use crate::tests::steps::Step::{Drain, Head, Offer, Remove, Size};
+use crate::tests::steps::{expect_run, expect_steps};
+use rb_delayed::Element;
+use std::process::Abort;
 
 #[test]
 fn drains_in_the_order_of_expiries(rt: HostRuntime) {
-    let mut queue = ListQueue::new(rt.alloc());
-    expect_offer(&rt, &mut queue, 0, 4096);
-    expect_offer(&rt, &mut queue, 1, 4095);
-    expect_offer(&rt, &mut queue, 2, 64);
-    expect_offer(&rt, &mut queue, 3, 63);
-    let entries = [(3, 63), (2, 64), (1, 4095), (0, 4096)];
-    expect_drain(&rt, rt.alloc(), &mut queue, 4096, 9, &entries);
-    expect_size(&rt, &queue, 0, 4);
-    expect_removal(&rt, &mut queue, 3, false);
+    let steps = [
+        Offer(0, 4096),
+        Offer(1, 4095),
+        Offer(2, 64),
+        Offer(3, 63),
+        Drain(4096, 9, &[(3, 63), (2, 64), (1, 4095), (0, 4096)]),
+        Size(0, 4),
+        Remove(3, false),
+    ];
+    expect_run(&rt, rt.alloc(), &steps);
 }
 
 #[test]
 fn drains_at_most_so_many_and_none_unexpired(rt: HostRuntime) {
-    let alloc = rt.alloc();
-    let mut queue = ListQueue::new(alloc);
-    expect_offer(&rt, &mut queue, 0, 1);
-    expect_offer(&rt, &mut queue, 1, 2);
-    expect_offer(&rt, &mut queue, 2, 3);
-    expect_offer(&rt, &mut queue, 3, 9);
-    expect_drain(&rt, alloc, &mut queue, 0, 5, &[]);
-    expect_drain(&rt, alloc, &mut queue, 3, 2, &[(0, 1), (1, 2)]);
-    expect_drain(&rt, alloc, &mut queue, 3, 0, &[]);
-    expect_size(&rt, &queue, 2, 4);
-    expect_drain(&rt, alloc, &mut queue, 3, 5, &[(2, 3)]);
-    expect_size(&rt, &queue, 1, 4);
-    expect_head(&rt, &queue, 3, 9);
-    // More than stand, by far: no room is asked for them.
-    expect_drain(&rt, alloc, &mut queue, 9, u64::MAX, &[(3, 9)]);
-    expect_size(&rt, &queue, 0, 4);
+    let steps = [
+        Offer(0, 1),
+        Offer(1, 2),
+        Offer(2, 3),
+        Offer(3, 9),
+        Drain(0, 5, &[]),
+        Drain(3, 2, &[(0, 1), (1, 2)]),
+        Drain(3, 0, &[]),
+        Size(2, 4),
+        Drain(3, 5, &[(2, 3)]),
+        Size(1, 4),
+        Head(3, 9),
+        // More than stand, by far: no room is asked for them.
+        Drain(9, u64::MAX, &[(3, 9)]),
+        Size(0, 4),
+    ];
+    expect_run(&rt, rt.alloc(), &steps);
 }
 
 // Which of two with one expiry comes first is left open.
 fn expect_both(rt: &impl Abort, items: &[Element]) {
-    let (one, other) = (element(rt, 0, 5), element(rt, 1, 5));
-    let soon = element(rt, 2, 4);
-    assert!(rt; items == [soon, one, other].as_slice() || items == [soon, other, one].as_slice());
+    expect_number(rt, items.len() as u64, 3, 0);
+    expect_found(rt, items.first().copied(), Some(element(rt, 2, 4)), 0);
+    let (first, second) = (items.get(1).copied(), items.get(2).copied());
+    expect_tie(rt, first, second, (0, 1), 5);
 }
 
 #[test]
 fn drains_both_of_a_tie(rt: HostRuntime) {
     let mut queue = ListQueue::new(rt.alloc());
-    expect_offer(&rt, &mut queue, 0, 5);
-    expect_offer(&rt, &mut queue, 1, 5);
-    expect_offer(&rt, &mut queue, 2, 4);
-    let items = queue.drain(5, 3).ok().expect(&rt, "items");
-    expect_both(&rt, items.as_slice());
-    expect_size(&rt, &queue, 0, 3);
+    expect_steps(&rt, &mut queue, &[Offer(0, 5), Offer(1, 5), Offer(2, 4)]);
+    expect_both(&rt, drained(&rt, &mut queue, 5, 3).as_slice());
+    expect_steps(&rt, &mut queue, &[Size(0, 3)]);
 }

@@ -1,5 +1,11 @@
-use super::refusals::run_through;
-use super::*;
+use crate::tests::devices::{
+    begun, expect, expect_elements, expect_number, expect_size, opening_of, standing,
+};
+use crate::tests::refusals::run_through;
+use crate::{DelayQueue, Opening};
+use rb_timer::{ListTimer, Timer};
+use std::alloc::{AllocError, Global};
+use std::process::Abort;
 use std::test::Fail;
 
 // A timer that answers want of memory once, at the first room above `MOST`, as its contract allows.
@@ -67,32 +73,25 @@ impl<T: Timer, const MOST: usize> Timer for RefusingTimer<T, MOST> {
 #[test]
 fn an_offer_refused_by_the_timer_changes_nothing(rt: HostRuntime) -> Result<(), Fail> {
     // The ninth element asks the timer for more room.
-    assert_eq!(rt;
-        run_through::<RefusingTimer<ListTimer, 8>>(&rt, rt.alloc())?,
-        1
-    );
+    let refused = run_through::<RefusingTimer<ListTimer, 8>>(&rt, rt.alloc())?;
+    expect_number(&rt, u64::from(refused), 1, 0);
     Ok(())
 }
 
-fn expect_refused(rt: &impl Abort, alloc: Global, opening: &Opening) {
-    assert!(rt; DelayQueue::<RefusingTimer<ListTimer, 4>>::new_from(alloc, opening).is_err());
+fn is_refused(alloc: Global, opening: &Opening) -> bool {
+    DelayQueue::<RefusingTimer<ListTimer, 4>>::new_from(alloc, opening).is_err()
 }
 
 fn expect_begun(rt: &impl Abort, alloc: Global, opening: &Opening) {
-    let queue = ListQueue::new_from(alloc, opening);
-    expect_size(rt, &queue.ok().expect(rt, "a queue"), 5, 5);
+    expect_size(rt, &begun(rt, alloc, opening), 5, 5);
 }
 
 #[test]
 fn an_opening_stays_where_the_timer_refuses(rt: HostRuntime) -> Result<(), Fail> {
     let entries = [(0, 9), (1, 8), (2, 7), (3, 6), (4, 5)];
-    let (items, expected) = (
-        standing(&rt, rt.alloc(), &entries)?,
-        standing(&rt, rt.alloc(), &entries)?,
-    );
-    let opening = Opening::new(items, 5, 0).expect(&rt, "an opening");
-    expect_refused(&rt, rt.alloc(), &opening);
-    assert_eq!(rt; opening.elements, expected);
+    let opening = opening_of(&rt, standing(&rt, rt.alloc(), &entries)?, 5, 0);
+    expect(&rt, is_refused(rt.alloc(), &opening), 0);
+    expect_elements(&rt, opening.elements.as_slice(), &entries, 0);
     expect_begun(&rt, rt.alloc(), &opening);
     Ok(())
 }
