@@ -1,62 +1,96 @@
-ghost use Rattle.std.specs.Prelude.{◌<◌};
-
 use crate::PairingTimer;
 use rb_timer::TimerCommand::{Due, Insert, Least, Remove};
 use rb_timer::{Timer, TimerAnswer, TimerCommand, run_timer, trials};
 use std::alloc::{AllocError, Global};
+use std::process::Abort;
 use std::test::Fail;
 
 // A prime, so that the products of a slot with a number below it differ from one another.
 const ROOM: usize = 3001;
 
+type Entry = Option<(usize, u64)>;
+
+// Comparisons and calls are functions with no clause, so that a test has little to prove.
+
+fn expect(rt: &impl Abort, holds: bool) {
+    assert!(rt; holds);
+}
+
+fn expect_size(rt: &impl Abort, timer: &PairingTimer, room: usize, len: usize) {
+    assert_eq!(rt; (timer.room(), timer.len()), (room, len));
+}
+
+fn expect_least(rt: &impl Abort, timer: &PairingTimer, wanted: Entry) {
+    assert_eq!(rt; timer.least(), wanted);
+}
+
+fn expect_due(rt: &impl Abort, timer: &mut PairingTimer, now: u64, wanted: Entry) {
+    assert_eq!(rt; timer.due(now), wanted);
+}
+
+fn expect_at(rt: &impl Abort, timer: &PairingTimer, slot: usize, wanted: Option<u64>) {
+    assert_eq!(rt; timer.get(slot), wanted);
+}
+
+fn reserve(rt: &impl Abort, timer: &mut PairingTimer, wanted: usize) {
+    assert_eq!(rt; timer.reserve(wanted), Ok(()));
+}
+
+fn insert(rt: &impl Abort, timer: &mut PairingTimer, slot: usize, expiry: u64) {
+    assert!(rt; timer.get(slot).is_none());
+    assert!(rt; slot < timer.room());
+    timer.insert(slot, expiry);
+}
+
+fn remove(rt: &impl Abort, timer: &mut PairingTimer, slot: usize, wanted: u64) {
+    assert!(rt; timer.get(slot).is_some());
+    assert_eq!(rt; timer.remove(slot), wanted);
+}
+
 #[test]
-fn passes_the_trials(rt: HostRuntime) -> Result<(), Fail> {
-    assert_eq!(rt; trials::first_failure::<PairingTimer>(rt.alloc())?, None);
-    Ok(())
+fn passes_the_trials(rt: HostRuntime) {
+    let failure = trials::first_failure::<PairingTimer>(rt.alloc());
+    assert_eq!(rt; failure, Ok(None));
 }
 
 // With ample memory each call does its work, which no contract can say of `reserve`.
 #[test]
-fn works_with_ample_memory(rt: HostRuntime) -> Result<(), Fail> {
+fn works_with_ample_memory(rt: HostRuntime) {
     let mut timer = PairingTimer::new(rt.alloc());
-    assert_eq!(rt; (timer.room(), timer.len()), (0, 0));
-    timer.reserve(3)?;
-    timer.reserve(2)?;
-    assert_eq!(rt; timer.room(), 3);
+    expect_size(&rt, &timer, 0, 0);
+    reserve(&rt, &mut timer, 3);
+    reserve(&rt, &mut timer, 2);
+    expect_size(&rt, &timer, 3, 0);
 
-    assert!(rt; timer.get(0).is_none());
-    timer.insert(0, 70);
-    assert!(rt; timer.get(2).is_none());
-    timer.insert(2, 50);
-    assert_eq!(rt;
-        (timer.len(), timer.get(2), timer.get(1)),
-        (2, Some(50), None)
-    );
-    assert_eq!(rt; timer.least(), Some((2, 50)));
-    assert_eq!(rt; (timer.due(49), timer.due(50)), (None, Some((2, 50))));
+    insert(&rt, &mut timer, 0, 70);
+    insert(&rt, &mut timer, 2, 50);
+    expect_size(&rt, &timer, 3, 2);
+    expect_at(&rt, &timer, 2, Some(50));
+    expect_at(&rt, &timer, 1, None);
+    expect_least(&rt, &timer, Some((2, 50)));
+    expect_due(&rt, &mut timer, 49, None);
+    expect_due(&rt, &mut timer, 50, Some((2, 50)));
 
-    timer.reserve(5)?;
-    assert_eq!(rt; (timer.room(), timer.get(2)), (5, Some(50)));
-    assert_eq!(rt; timer.remove(2), 50);
-    assert_eq!(rt; timer.least(), Some((0, 70)));
+    reserve(&rt, &mut timer, 5);
+    expect_size(&rt, &timer, 5, 2);
+    expect_at(&rt, &timer, 2, Some(50));
+    remove(&rt, &mut timer, 2, 50);
+    expect_least(&rt, &timer, Some((0, 70)));
     timer.clear();
-    assert_eq!(rt; (timer.room(), timer.len(), timer.least()), (5, 0, None));
-    Ok(())
+    expect_size(&rt, &timer, 5, 0);
+    expect_least(&rt, &timer, None);
 }
 
 // No memory is that large.
 #[test]
-fn refuses_an_impossible_room(rt: HostRuntime) -> Result<(), Fail> {
+fn refuses_an_impossible_room(rt: HostRuntime) {
     let mut timer = PairingTimer::new(rt.alloc());
-    timer.reserve(2)?;
-    assert!(rt; timer.get(1).is_none() && timer.room() == 2);
-    timer.insert(1, 30);
-    assert!(rt; timer.reserve(usize::MAX).is_err());
-    assert_eq!(rt;
-        (timer.room(), timer.len(), timer.least()),
-        (2, 1, Some((1, 30)))
-    );
-    Ok(())
+    reserve(&rt, &mut timer, 2);
+    expect_size(&rt, &timer, 2, 0);
+    insert(&rt, &mut timer, 1, 30);
+    expect(&rt, timer.reserve(usize::MAX).is_err());
+    expect_size(&rt, &timer, 2, 1);
+    expect_least(&rt, &timer, Some((1, 30)));
 }
 
 // Commands, and the answers that they must get.
@@ -86,6 +120,51 @@ impl Script {
         self.then(Remove(slot), TimerAnswer::Removed(expiry))
     }
 
+    // The slots are filled in order, so that the expiries come in no order.
+    fn then_insert(&mut self, slot: usize) -> Result<(), AllocError> {
+        let expiry = slot.wrapping_mul(1009) % ROOM;
+        self.then(Insert(slot, expiry as u64), TimerAnswer::Inserted)
+    }
+
+    // One entry of three is removed from wherever it is, in no order.
+    fn then_remove(&mut self, step: usize) -> Result<(), AllocError> {
+        let expiry = step.wrapping_mul(7) % 1000 * 3;
+        self.then(Remove(slot_of(expiry)), TimerAnswer::Removed(expiry as u64))
+    }
+
+    // The others are taken out in the order of their expiries. One of five comes back, later than all.
+    fn then_first_pop(&mut self, expiry: usize) -> Result<(), AllocError> {
+        let slot = slot_of(expiry);
+        self.then_pop(slot, expiry as u64)?;
+        if !comes_back(expiry) {
+            return Ok(());
+        }
+        self.then(Insert(slot, later(expiry, 10_000)), TimerAnswer::Inserted)
+    }
+
+    fn then_late_pop(&mut self, expiry: usize) -> Result<(), AllocError> {
+        self.then(Due(later(expiry, 9_999)), TimerAnswer::Entry(None))?;
+        self.then_pop(slot_of(expiry), later(expiry, 10_000))
+    }
+
+    fn then_first_pops(&mut self) -> Result<(), AllocError> {
+        for expiry in 0..ROOM {
+            if stays(expiry) {
+                self.then_first_pop(expiry)?;
+            }
+        }
+        Ok(())
+    }
+
+    fn then_late_pops(&mut self) -> Result<(), AllocError> {
+        for expiry in 0..ROOM {
+            if stays(expiry) && comes_back(expiry) {
+                self.then_late_pop(expiry)?;
+            }
+        }
+        Ok(())
+    }
+
     fn passes(&self, alloc: Global, timer: &mut PairingTimer) -> Result<bool, AllocError> {
         let answers = run_timer(alloc, timer, &self.commands)?;
         Ok(answers == self.answers)
@@ -93,77 +172,81 @@ impl Script {
 }
 
 // Where the entry of this expiry is: 2424 * 1009 is 1 more than a multiple of the room.
-fn slot_of(expiry: usize) -> usize
-    requires { expiry < 3001 }
-{
-    expiry * 2424 % ROOM
+fn slot_of(expiry: usize) -> usize {
+    expiry.wrapping_mul(2424) % ROOM
 }
 
-// The slots are filled in order, so that the expiries come in no order, while the room grows.
+fn later(expiry: usize, by: u64) -> u64 {
+    (expiry as u64).saturating_add(by)
+}
+
+// Whether `removals` leaves the entry of this expiry.
+fn stays(expiry: usize) -> bool {
+    expiry % 3 != 0 || expiry == 3000
+}
+
+fn comes_back(expiry: usize) -> bool {
+    expiry % 5 == 0
+}
+
+// The inserts of the 376 slots below `end`, or of fewer where the room ends.
+fn inserts_below(alloc: Global, end: usize) -> Result<Script, AllocError> {
+    let mut script = Script::new(alloc);
+    for slot in end.saturating_sub(376)..end.min(ROOM) {
+        script.then_insert(slot)?;
+    }
+    Ok(script)
+}
+
+fn fills_below(alloc: Global, timer: &mut PairingTimer, end: usize) -> Result<bool, AllocError> {
+    timer.reserve(end)?;
+    inserts_below(alloc, end)?.passes(alloc, timer)
+}
+
+// All slots, while the room grows.
 fn fill(alloc: Global, timer: &mut PairingTimer) -> Result<bool, AllocError> {
     let mut filled = true;
-    for batch in 0..8usize {
-        timer.reserve((batch + 1) * 376)?;
-        let mut script = Script::new(alloc);
-        for slot in batch * 376..(batch + 1) * 376 {
-            if slot < ROOM {
-                script.then(
-                    Insert(slot, (slot * 1009 % ROOM) as u64),
-                    TimerAnswer::Inserted,
-                )?;
-            }
-        }
-        filled = script.passes(alloc, timer)? && filled;
+    for end in [376, 752, 1128, 1504, 1880, 2256, 2632, 3008] {
+        filled = fills_below(alloc, timer, end)? && filled;
     }
     Ok(filled)
 }
 
-// One entry of three is removed from wherever it is, in no order.
 fn removals(alloc: Global) -> Result<Script, AllocError> {
     let mut script = Script::new(alloc);
     for step in 0..1000usize {
-        let expiry = 3 * (step * 7 % 1000);
-        script.then(Remove(slot_of(expiry)), TimerAnswer::Removed(expiry as u64))?;
+        script.then_remove(step)?;
     }
     Ok(script)
 }
 
-// The others are taken out in the order of their expiries. One of five comes back, later than all.
 fn pops(alloc: Global) -> Result<Script, AllocError> {
     let mut script = Script::new(alloc);
-    for expiry in 0..ROOM {
-        if expiry % 3 != 0 || expiry == 3000 {
-            script.then_pop(slot_of(expiry), expiry as u64)?;
-            if expiry % 5 == 0 {
-                script.then(
-                    Insert(slot_of(expiry), expiry as u64 + 10_000),
-                    TimerAnswer::Inserted,
-                )?;
-            }
-        }
-    }
-    for expiry in 0..ROOM {
-        if expiry % 5 == 0 && (expiry % 3 != 0 || expiry == 3000) {
-            script.then(Due(expiry as u64 + 9_999), TimerAnswer::Entry(None))?;
-            script.then_pop(slot_of(expiry), expiry as u64 + 10_000)?;
-        }
-    }
+    script.then_first_pops()?;
+    script.then_late_pops()?;
     script.then(Least, TimerAnswer::Entry(None))?;
     Ok(script)
+}
+
+fn removes(alloc: Global, timer: &mut PairingTimer) -> Result<bool, AllocError> {
+    removals(alloc)?.passes(alloc, timer)
+}
+
+fn pops_all(alloc: Global, timer: &mut PairingTimer) -> Result<bool, AllocError> {
+    pops(alloc)?.passes(alloc, timer)
 }
 
 #[test]
 fn orders_thousands_of_entries(rt: HostRuntime) -> Result<(), Fail> {
     let alloc = rt.alloc();
     let mut timer = PairingTimer::new(alloc);
-    assert!(rt; fill(alloc, &mut timer)?);
-    assert_eq!(rt;
-        (timer.room(), timer.len(), timer.least()),
-        (3008, 3001, Some((0, 0)))
-    );
-    assert!(rt; removals(alloc)?.passes(alloc, &mut timer)?);
-    assert_eq!(rt; (timer.len(), timer.least()), (2001, Some((slot_of(1), 1))));
-    assert!(rt; pops(alloc)?.passes(alloc, &mut timer)?);
-    assert_eq!(rt; timer.len(), 0);
+    expect(&rt, fill(alloc, &mut timer)?);
+    expect_size(&rt, &timer, 3008, 3001);
+    expect_least(&rt, &timer, Some((0, 0)));
+    expect(&rt, removes(alloc, &mut timer)?);
+    expect_size(&rt, &timer, 3008, 2001);
+    expect_least(&rt, &timer, Some((slot_of(1), 1)));
+    expect(&rt, pops_all(alloc, &mut timer)?);
+    expect_size(&rt, &timer, 3008, 0);
     Ok(())
 }
