@@ -2,63 +2,129 @@
 //!
 //! A timer that gives up for want of memory that is there, or past some number of entries or
 //! commands, meets every contract. These trials find it.
-use crate::command::TimerAnswer::{self, Entry, Inserted, Removed};
+use crate::command::TimerAnswer::{self, Entry, Inserted, Refused, Removed};
 use crate::command::TimerCommand::{self, Due, Insert, Remove};
-use crate::run::run_timer;
 use crate::timer::Timer;
+use crate::trials::{Trial, passes};
 use std::alloc::{AllocError, Global};
-
-/// How many slots the trials use. It is a prime, so that `rank_of` scatters the slots.
-const SLOTS: usize = 2503;
 
 /// The expiry at rank 0, in nanoseconds. It has 20 digits, and so have all the others.
 pub(crate) const LEAST_EXPIRY: u64 = 18_446_744_073_709_500_000;
 
-// A slot by the one is its rank, and a rank by the other its slot: by `SLOTS` the product leaves 1.
-const TO_RANK: usize = 1117;
+/// How many slots the trials use, and the rank of each: how many others expire before it.
+#[derive(Clone, Copy, Debug)]
+pub(crate) struct Scatter {
+    /// A prime, so that the products of a slot with a number below it are scattered.
+    pub(crate) slots: usize,
+    /// A slot by this is its rank, and a rank by `to_slot` its slot: by `slots` their product leaves 1.
+    pub(crate) to_rank: usize,
+    pub(crate) to_slot: usize,
+}
 
-const TO_SLOT: usize = 977;
+impl Scatter {
+    // How many slots expire before this one.
+    fn rank_of(&self, slot: usize) -> usize {
+        self.remainder(slot.wrapping_mul(self.to_rank))
+    }
+
+    // The slot before which so many expire.
+    fn slot_of(&self, rank: usize) -> usize {
+        self.remainder(rank.wrapping_mul(self.to_slot))
+    }
+
+    // There is no slot where `slots` is 0.
+    fn remainder(&self, number: usize) -> usize {
+        number.checked_rem(self.slots).unwrap_or(0)
+    }
+}
+
+/// What the public trials use.
+pub(crate) const MANY: Scatter = Scatter {
+    slots: 2503,
+    to_rank: 1117,
+    to_slot: 977,
+};
+
+/// What each trial expects of the entries that it put in. The right expiry is `LEAST_EXPIRY`, and
+/// the right room is the number of slots.
+#[derive(Clone, Copy, Debug)]
+pub(crate) struct Expected {
+    /// The least expiry of a timer that was filled.
+    pub(crate) filled: u64,
+    /// The least expiry of those that come due.
+    pub(crate) drained: u64,
+    /// The room of a timer that was cleared.
+    pub(crate) cleared: usize,
+    /// The least expiry that the long run answers.
+    pub(crate) ran: u64,
+}
+
+impl Expected {
+    /// What a right timer answers.
+    pub(crate) fn right(scatter: &Scatter) -> Expected {
+        Expected {
+            filled: LEAST_EXPIRY,
+            drained: LEAST_EXPIRY,
+            cleared: scatter.slots,
+            ran: LEAST_EXPIRY,
+        }
+    }
+}
 
 /// The name of the first trial that the timer answers otherwise, or `None` where it passes all.
 ///
 /// An `Err` says that the timer, or a trial, got no memory. With ample memory there is none.
 pub fn first_large_failure<T: Timer>(alloc: Global) -> Result<Option<&'static str>, AllocError> {
+    first_large_failure_of::<T>(alloc, &MANY, &Expected::right(&MANY))
+}
+
+/// The name of the first trial over these slots that the timer answers otherwise than expected.
+pub(crate) fn first_large_failure_of<T: Timer>(
+    alloc: Global,
+    scatter: &Scatter,
+    expected: &Expected,
+) -> Result<Option<&'static str>, AllocError> {
     let mut timer = T::new(alloc);
     for _ in 0..2 {
-        if !fills(&mut timer, LEAST_EXPIRY)? {
+        if !fills(&mut timer, scatter, expected.filled)? {
             return Ok(Some("room for one slot more, and an insert, again and again"));
         }
-        if !drains(&mut timer, LEAST_EXPIRY) {
+        if !drains(&mut timer, scatter, expected.drained) {
             return Ok(Some("each entry of many, when it is due"));
         }
     }
-    if !fills(&mut timer, LEAST_EXPIRY)? || !clears(&mut timer) {
+    if !fills(&mut timer, scatter, expected.filled)? || !clears(&mut timer, expected.cleared) {
         return Ok(Some("no entry of many is left, and the room stays"));
     }
-    if !runs_long::<T>(alloc, LEAST_EXPIRY)? {
+    if !runs_long::<T>(alloc, scatter, expected.ran)? {
         return Ok(Some("a run of many commands"));
     }
     Ok(None)
 }
 
 /// Whether a timer without entries takes one in each slot, with room made for one at a time.
-pub(crate) fn fills<T: Timer>(timer: &mut T, least: u64) -> Result<bool, AllocError> {
-    for slot in 0..SLOTS {
+pub(crate) fn fills<T: Timer>(
+    timer: &mut T,
+    scatter: &Scatter,
+    least: u64,
+) -> Result<bool, AllocError> {
+    for slot in 0..scatter.slots {
         timer.reserve(slot + 1)?;
         if timer.room() <= slot || timer.get(slot).is_some() || timer.len() != slot {
             return Ok(false);
         }
-        timer.insert(slot, expiry_at(least, rank_of(slot)));
+        timer.insert(slot, expiry_at(LEAST_EXPIRY, scatter.rank_of(slot)));
     }
     timer.reserve(1)?;
-    let expected = Some((slot_of(0), expiry_at(least, 0)));
-    Ok(timer.room() == SLOTS && timer.len() == SLOTS && timer.least() == expected)
+    let expected = Some((scatter.slot_of(0), least));
+    let is_full = timer.room() == scatter.slots && timer.len() == scatter.slots;
+    Ok(is_full && timer.least() == expected)
 }
 
 /// Whether a timer that was filled gives its entries in their order, each when it is due.
-pub(crate) fn drains<T: Timer>(timer: &mut T, least: u64) -> bool {
-    for rank in 0..SLOTS {
-        let (slot, expiry) = (slot_of(rank), expiry_at(least, rank));
+pub(crate) fn drains<T: Timer>(timer: &mut T, scatter: &Scatter, least: u64) -> bool {
+    for rank in 0..scatter.slots {
+        let (slot, expiry) = (scatter.slot_of(rank), expiry_at(least, rank));
         if timer.due(expiry.saturating_sub(1)).is_some()
             || timer.due(expiry) != Some((slot, expiry))
         {
@@ -68,71 +134,56 @@ pub(crate) fn drains<T: Timer>(timer: &mut T, least: u64) -> bool {
             return false;
         }
     }
-    timer.room() == SLOTS && timer.len() == 0 && timer.least().is_none()
+    timer.room() == scatter.slots && timer.len() == 0 && timer.least().is_none()
 }
 
 // Whether a timer that was filled lets all its entries go at once.
-fn clears<T: Timer>(timer: &mut T) -> bool {
+fn clears<T: Timer>(timer: &mut T, room: usize) -> bool {
     timer.clear();
-    timer.room() == SLOTS && timer.len() == 0 && timer.get(0).is_none() && timer.least().is_none()
+    timer.room() == room && timer.len() == 0 && timer.get(0).is_none() && timer.least().is_none()
 }
 
-// Commands in their order, each with its right answer.
-#[derive(Drop)]
-struct LongRun {
-    commands: Vec<TimerCommand>,
-    answers: Vec<TimerAnswer>,
-}
-
-impl LongRun {
-    fn push(&mut self, command: TimerCommand, answer: TimerAnswer) -> Result<(), AllocError> {
-        self.commands.push(command)?;
-        self.answers.push(answer)?;
-        Ok(())
+/// Whether `run_timer` answers eight commands for each slot, which is more than 20,000 for `MANY`.
+pub(crate) fn runs_long<T: Timer>(
+    alloc: Global,
+    scatter: &Scatter,
+    least: u64,
+) -> Result<bool, AllocError> {
+    let mut steps = Vec::new(alloc);
+    for slot in 0..scatter.slots {
+        let expiry = expiry_at(LEAST_EXPIRY, scatter.rank_of(slot));
+        steps.extend_from_slice(&filling(slot, expiry))?;
     }
-
-    // Fills each slot.
-    fn push_inserts(&mut self) -> Result<(), AllocError> {
-        for slot in 0..SLOTS {
-            let expiry = expiry_at(LEAST_EXPIRY, rank_of(slot));
-            self.push(Insert(slot, expiry), Inserted)?;
-        }
-        Ok(())
+    for rank in 0..scatter.slots {
+        let expiry = expiry_at(least, rank);
+        steps.extend_from_slice(&emptying(scatter.slot_of(rank), expiry))?;
     }
-
-    // Takes each entry out when it is due.
-    fn push_removals(&mut self, least: u64) -> Result<(), AllocError> {
-        for rank in 0..SLOTS {
-            let (slot, expiry) = (slot_of(rank), expiry_at(least, rank));
-            self.push(Due(expiry), Entry(Some((slot, expiry))))?;
-            self.push(Remove(slot), Removed(expiry))?;
-        }
-        Ok(())
-    }
-}
-
-/// Whether `run_timer` answers a command for each slot, and two more for each rank.
-pub(crate) fn runs_long<T: Timer>(alloc: Global, least: u64) -> Result<bool, AllocError> {
-    let mut run = LongRun {
-        commands: Vec::new(alloc),
-        answers: Vec::new(alloc),
+    let run = Trial {
+        name: "a run of many commands",
+        room: scatter.slots,
+        steps: &steps,
     };
-    run.push_inserts()?;
-    run.push_removals(least)?;
-    let mut timer = T::new(alloc);
-    timer.reserve(SLOTS)?;
-    let answers = run_timer(alloc, &mut timer, &run.commands)?;
-    Ok(answers == run.answers)
+    passes::<T>(alloc, &run)
 }
 
-// How many slots expire before this one.
-fn rank_of(slot: usize) -> usize {
-    slot.wrapping_mul(TO_RANK) % SLOTS
+// Fills a slot, empties it and fills it again. What is refused changes nothing.
+fn filling(slot: usize, expiry: u64) -> [(TimerCommand, TimerAnswer); 5] {
+    [
+        (Insert(slot, expiry), Inserted),
+        (Insert(slot, 0), Refused),
+        (Remove(slot), Removed(expiry)),
+        (Remove(slot), Refused),
+        (Insert(slot, expiry), Inserted),
+    ]
 }
 
-// The slot before which so many expire.
-fn slot_of(rank: usize) -> usize {
-    rank.wrapping_mul(TO_SLOT) % SLOTS
+// Takes an entry out when it is due.
+fn emptying(slot: usize, expiry: u64) -> [(TimerCommand, TimerAnswer); 3] {
+    [
+        (Due(expiry), Entry(Some((slot, expiry)))),
+        (Remove(slot), Removed(expiry)),
+        (Remove(slot), Refused),
+    ]
 }
 
 // No two expiries are equal, so that each answer is the only right one.

@@ -1,5 +1,7 @@
 use crate::command::{TimerAnswer, TimerCommand};
-use crate::large_trials::{LEAST_EXPIRY, drains, fills, runs_long};
+use crate::large_trials::{
+    Expected, LEAST_EXPIRY, MANY, Scatter, drains, fills, first_large_failure_of, runs_long,
+};
 use crate::limited_timer::LimitedTimer;
 use crate::trials::{TRIALS, Trial, first_failure_of};
 use crate::{ListTimer, Timer, trials};
@@ -7,15 +9,79 @@ use std::alloc::{AllocError, Global};
 use std::process::Abort;
 use std::test::Fail;
 
-#[test]
-fn passes_the_trials(rt: HostRuntime) -> Result<(), Fail> {
-    assert_eq!(rt; trials::first_failure::<ListTimer>(rt.alloc())?, None);
-    Ok(())
+type Failure = Option<&'static str>;
+
+// Comparisons and set-ups are functions with no clause, so that a test has little to prove.
+
+fn expect(rt: &impl Abort, holds: bool) {
+    assert!(rt; holds);
+}
+
+fn expect_passed(rt: &impl Abort, failure: Result<Failure, AllocError>) {
+    assert_eq!(rt; failure, Ok(None));
+}
+
+fn expect_no_memory(rt: &impl Abort, failure: Result<Failure, AllocError>) {
+    assert!(rt; failure.is_err());
+}
+
+fn expect_holds(rt: &impl Abort, holds: Result<bool, AllocError>, wanted: bool) {
+    assert_eq!(rt; holds, Ok(wanted));
+}
+
+fn expect_failed(rt: &impl Abort, failure: Failure, trial: &str, place: usize) {
+    assert_eq!(rt; failure, Some("wrong"), "{trial} {place}");
 }
 
 #[test]
-fn answers_with_ample_memory(rt: HostRuntime) -> Result<(), Fail> {
-    assert_eq!(rt; trials::first_large_failure::<ListTimer>(rt.alloc())?, None);
+fn passes_the_trials(rt: HostRuntime) {
+    expect_passed(&rt, trials::first_failure::<ListTimer>(rt.alloc()));
+}
+
+#[test]
+fn answers_with_ample_memory(rt: HostRuntime) {
+    expect_passed(&rt, trials::first_large_failure::<ListTimer>(rt.alloc()));
+}
+
+// The steps of a trial with another answer at this place.
+fn with_wrong_answer(
+    rt: &impl Abort,
+    alloc: Global,
+    trial: &Trial<'_>,
+    place: usize,
+) -> Result<Vec<(TimerCommand, TimerAnswer)>, AllocError> {
+    let mut wrong: Vec<(TimerCommand, TimerAnswer)> = Vec::from_slice(alloc, trial.steps)?;
+    let step = wrong.get_mut(place).expect(rt, "a step");
+    step.1 = match step.1 {
+        TimerAnswer::Refused => TimerAnswer::Cleared,
+        _ => TimerAnswer::Refused,
+    };
+    Ok(wrong)
+}
+
+fn named<'a>(
+    name: &'static str,
+    room: usize,
+    steps: &'a [(TimerCommand, TimerAnswer)],
+) -> Trial<'a> {
+    Trial { name, room, steps }
+}
+
+// The trial with the wrong steps fails, be it the first or the last.
+fn expect_named<'a>(
+    rt: &impl Abort,
+    alloc: Global,
+    trial: &Trial<'_>,
+    right: &'a [(TimerCommand, TimerAnswer)],
+    wrong: &'a [(TimerCommand, TimerAnswer)],
+    place: usize,
+) -> Result<(), AllocError> {
+    let right = named("right", trial.room, right);
+    let wrong = named("wrong", trial.room, wrong);
+    for trials in [[right, wrong], [wrong, right]] {
+        let failure = first_failure_of::<ListTimer>(alloc, &trials)?;
+        expect_failed(rt, failure, trial.name, place);
+    }
     Ok(())
 }
 
@@ -27,27 +93,8 @@ fn expect_failure(
     place: usize,
 ) -> Result<(), AllocError> {
     let right: Vec<(TimerCommand, TimerAnswer)> = Vec::from_slice(alloc, trial.steps)?;
-    let mut wrong: Vec<(TimerCommand, TimerAnswer)> = Vec::from_slice(alloc, trial.steps)?;
-    let step = wrong.get_mut(place).expect(rt, "a step");
-    step.1 = match step.1 {
-        TimerAnswer::Refused => TimerAnswer::Cleared,
-        _ => TimerAnswer::Refused,
-    };
-    let right = named("right", trial.room, &right);
-    let wrong = named("wrong", trial.room, &wrong);
-    for trials in [[right, wrong], [wrong, right]] {
-        let failure = first_failure_of::<ListTimer>(alloc, &trials)?;
-        assert_eq!(rt; failure, Some("wrong"), "{} {place}", trial.name);
-    }
-    Ok(())
-}
-
-fn named<'a>(
-    name: &'static str,
-    room: usize,
-    steps: &'a [(TimerCommand, TimerAnswer)],
-) -> Trial<'a> {
-    Trial { name, room, steps }
+    let wrong = with_wrong_answer(rt, alloc, trial, place)?;
+    expect_named(rt, alloc, trial, &right, &wrong, place)
 }
 
 #[test]
@@ -61,26 +108,131 @@ fn a_wrong_answer_names_its_trial(rt: HostRuntime) -> Result<(), Fail> {
 }
 
 #[test]
-fn a_wrong_expiry_of_many_fails(rt: HostRuntime) -> Result<(), Fail> {
+fn a_wrong_expiry_of_many_fails(rt: HostRuntime) {
     let mut timer = ListTimer::new(rt.alloc());
-    assert!(rt; fills(&mut timer, LEAST_EXPIRY)?);
-    assert!(rt; !drains(&mut timer, LEAST_EXPIRY + 1));
-    assert!(rt; !runs_long::<ListTimer>(rt.alloc(), LEAST_EXPIRY + 1)?);
-    Ok(())
+    expect_holds(&rt, fills(&mut timer, &MANY, LEAST_EXPIRY), true);
+    expect(&rt, !drains(&mut timer, &MANY, LEAST_EXPIRY + 1));
+    let ran = runs_long::<ListTimer>(rt.alloc(), &MANY, LEAST_EXPIRY + 1);
+    expect_holds(&rt, ran, false);
 }
 
-// Each trial is tried: the rooms of the small ones are 4, 3 and 12, and that of the large ones is 2503.
-#[test]
-fn a_timer_that_gives_up_fails(rt: HostRuntime) -> Result<(), Fail> {
-    let alloc = rt.alloc();
-    assert!(rt; trials::first_failure::<LimitedTimer<ListTimer, 3>>(alloc).is_err());
-    assert!(rt; trials::first_failure::<LimitedTimer<ListTimer, 11>>(alloc).is_err());
-    let passed = trials::first_failure::<LimitedTimer<ListTimer, 12>>(alloc)?;
-    assert_eq!(rt; passed, None);
+// The large trials over few slots, where any timer is quick.
+const FEW: Scatter = Scatter {
+    slots: 13,
+    to_rank: 5,
+    to_slot: 8,
+};
 
-    assert!(rt; trials::first_large_failure::<LimitedTimer<ListTimer, 16>>(alloc).is_err());
-    assert!(rt; trials::first_large_failure::<LimitedTimer<ListTimer, 2502>>(alloc).is_err());
-    let passed = trials::first_large_failure::<LimitedTimer<ListTimer, 2503>>(alloc)?;
-    assert_eq!(rt; passed, None);
-    Ok(())
+// A right timer fails where a large trial expects something else, so a wrong timer fails where it
+// expects the right.
+fn expect_few(rt: &impl Abort, alloc: Global, expected: Expected, name: Failure) {
+    let failure = first_large_failure_of::<ListTimer>(alloc, &FEW, &expected);
+    assert_eq!(rt; failure, Ok(name), "{expected:?}");
+}
+
+fn right() -> Expected {
+    Expected::right(&FEW)
+}
+
+// The expiries on either side of the right one.
+const WRONG: [u64; 2] = [LEAST_EXPIRY - 1, LEAST_EXPIRY + 1];
+
+#[test]
+fn few_slots_pass_the_large_trials(rt: HostRuntime) {
+    expect_few(&rt, rt.alloc(), right(), None);
+}
+
+#[test]
+fn a_wrong_fill_is_named(rt: HostRuntime) {
+    let name = "room for one slot more, and an insert, again and again";
+    for filled in WRONG {
+        let expected = Expected { filled, ..right() };
+        expect_few(&rt, rt.alloc(), expected, Some(name));
+    }
+}
+
+#[test]
+fn a_wrong_entry_of_many_is_named(rt: HostRuntime) {
+    for drained in WRONG {
+        let expected = Expected { drained, ..right() };
+        expect_few(
+            &rt,
+            rt.alloc(),
+            expected,
+            Some("each entry of many, when it is due"),
+        );
+    }
+}
+
+#[test]
+fn a_wrong_room_after_a_clear_is_named(rt: HostRuntime) {
+    let name = "no entry of many is left, and the room stays";
+    for cleared in [12, 14] {
+        let expected = Expected { cleared, ..right() };
+        expect_few(&rt, rt.alloc(), expected, Some(name));
+    }
+}
+
+#[test]
+fn a_wrong_long_run_is_named(rt: HostRuntime) {
+    for ran in WRONG {
+        let expected = Expected { ran, ..right() };
+        expect_few(&rt, rt.alloc(), expected, Some("a run of many commands"));
+    }
+}
+
+fn few_failure<T: Timer>(alloc: Global) -> Result<Failure, AllocError> {
+    first_large_failure_of::<T>(alloc, &FEW, &right())
+}
+
+fn many_filled<T: Timer>(alloc: Global) -> Result<bool, AllocError> {
+    fills(&mut T::new(alloc), &MANY, LEAST_EXPIRY)
+}
+
+fn many_ran<T: Timer>(alloc: Global) -> Result<bool, AllocError> {
+    runs_long::<T>(alloc, &MANY, LEAST_EXPIRY)
+}
+
+// Each trial is tried. The rooms of the small ones are 4, 3 and 12.
+#[test]
+fn a_timer_that_gives_up_fails(rt: HostRuntime) {
+    let alloc = rt.alloc();
+    expect_no_memory(
+        &rt,
+        trials::first_failure::<LimitedTimer<ListTimer, 3>>(alloc),
+    );
+    expect_no_memory(
+        &rt,
+        trials::first_failure::<LimitedTimer<ListTimer, 11>>(alloc),
+    );
+    expect_passed(
+        &rt,
+        trials::first_failure::<LimitedTimer<ListTimer, 12>>(alloc),
+    );
+}
+
+// The room of the large ones is 2503, and over few slots 13. Only the fill and the run make room.
+#[test]
+fn a_timer_that_gives_up_at_many_fails(rt: HostRuntime) {
+    let alloc = rt.alloc();
+    expect_no_memory(
+        &rt,
+        trials::first_large_failure::<LimitedTimer<ListTimer, 16>>(alloc),
+    );
+    expect_no_memory(
+        &rt,
+        trials::first_large_failure::<LimitedTimer<ListTimer, 2502>>(alloc),
+    );
+    expect_holds(
+        &rt,
+        many_filled::<LimitedTimer<ListTimer, 2503>>(alloc),
+        true,
+    );
+    expect(
+        &rt,
+        many_ran::<LimitedTimer<ListTimer, 2502>>(alloc).is_err(),
+    );
+
+    expect_no_memory(&rt, few_failure::<LimitedTimer<ListTimer, 12>>(alloc));
+    expect_passed(&rt, few_failure::<LimitedTimer<ListTimer, 13>>(alloc));
 }

@@ -126,8 +126,8 @@ pub(crate) fn first_failure_of<T: Timer>(
     Ok(None)
 }
 
-// Whether an empty timer, once it has the room, answers the commands so.
-fn passes<T: Timer>(alloc: Global, trial: &Trial<'_>) -> Result<bool, AllocError> {
+/// Whether an empty timer, once it has the room, answers the commands so.
+pub(crate) fn passes<T: Timer>(alloc: Global, trial: &Trial<'_>) -> Result<bool, AllocError> {
     let commands: Vec<TimerCommand> = trial.steps.iter().map(|step| step.0).collect(alloc)?;
     let expected: Vec<TimerAnswer> = trial.steps.iter().map(|step| step.1).collect(alloc)?;
     let mut timer = T::new(alloc);
