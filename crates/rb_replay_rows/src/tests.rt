@@ -1,20 +1,65 @@
 use rb_delayed::{Element, Payload};
-use rb_queue::{Act, Audit, Event, Ids, Items, Opening};
-use rb_replay::{
-    ChainFault, ChainReason, HistoryFault, Reason, ReplayFault, chains, check, write_history,
-};
-use rb_retry::Policy;
+use rb_queue::{Act, Event, Ids, Items, Opening, Sequence};
+use rb_replay::History;
 use std::alloc::{AllocError, Global};
 use std::process::Abort;
 use std::test::Fail;
 
+mod calls;
 mod chained;
+mod devices;
 mod legal;
+mod long;
 mod openings;
 mod reading;
 mod refusals;
 mod unreadable;
 mod written;
+
+/// What an event did, as a row tells it: a row is copied, and owns nothing.
+#[derive(Clone, Copy)]
+enum Deed {
+    Offer(Element),
+    Poll(Option<u64>),
+    Take(u64),
+    /// The start, the timeout, and what was got.
+    PollFor(u64, u64, Option<u64>),
+    Peek(Option<u64>),
+    /// The id, and whether it was found.
+    Remove(u64, bool),
+    /// The greatest number, and at most three ids.
+    Drain(u64, [Option<u64>; 3]),
+    Clear,
+    Size(u64),
+}
+
+/// An event: its seat, the moment that was asked for, that at which it took place, and what it did.
+type Row = (u64, u64, u64, Deed);
+
+/// What a run begins with: its elements, and the next id, or else the empty opening. Moments begin at 0.
+type Start<'a> = Option<(&'a [Element], u64)>;
+
+const EMPTY: Start<'static> = None;
+
+// What stands after a job failed once has this next id.
+const NEXT_ID: u64 = 2;
+
+fn payload(rt: &impl Abort, bytes: &[u8]) -> Payload {
+    Payload::new(bytes).ok().expect(rt, "a payload")
+}
+
+// The attempt of job 0 with this number, with the payload `a`.
+fn attempt(rt: &impl Abort, id: u64, expiry: u64, attempt: u32) -> Element {
+    assert!(rt; attempt >= 1 && attempt <= 1_000);
+    Element {
+        id,
+        expiry,
+        origin: 0,
+        first: 0,
+        attempt,
+        payload: payload(rt, b"a"),
+    }
+}
 
 // Element 0 or 1 of a run: the first of its job, with payload `a` or `b`.
 fn first(rt: &impl Abort, id: u64, expiry: u64) -> Element {
@@ -25,83 +70,115 @@ fn first(rt: &impl Abort, id: u64, expiry: u64) -> Element {
         origin: id,
         first: expiry,
         attempt: 1,
-        payload: Payload::new(bytes).ok().expect(rt, "a payload"),
+        payload: payload(rt, bytes),
     }
 }
 
 // The second attempt of job 0, offered as element 1.
 fn second(rt: &impl Abort) -> Element {
-    Element {
-        id: 1,
-        expiry: 1000,
-        origin: 0,
-        first: 0,
-        attempt: 2,
-        payload: Payload::new(b"a").ok().expect(rt, "a payload"),
-    }
-}
-
-fn event(seat: u64, asked: u64, at: u64, act: Act) -> Event {
-    Event {
-        seat,
-        asked,
-        at,
-        act,
-    }
-}
-
-fn poll_for(start: u64, timeout: u64) -> Act {
-    Act::PollFor {
-        start,
-        timeout,
-        got: None,
-    }
-}
-
-fn drain(alloc: Global, max: u64, given: &[u64]) -> Result<Act, AllocError> {
-    let ids = Ids::new(Vec::from_slice(alloc, given)?);
-    Ok(Act::Drain { max, ids })
+    attempt(rt, 1, 1000, 2)
 }
 
 // A run of two seats: an offer, its poll, a timed poll that gives up, and a count.
-fn two_seats(rt: &impl Abort, alloc: Global) -> Result<Vec<Event>, AllocError> {
-    let mut events = Vec::with_capacity(alloc, 4)?;
-    events.push(event(0, 10, 10, Act::Offer(first(rt, 0, 10))))?;
-    events.push(event(1, 5, 10, Act::Poll(Some(0))))?;
-    events.push(event(1, 3, 10, poll_for(3, 4)))?;
-    events.push(event(0, 11, 11, Act::Size(0)))?;
-    Ok(events)
+fn two_seats(rt: &impl Abort) -> [Row; 4] {
+    [
+        (0, 10, 10, Deed::Offer(first(rt, 0, 10))),
+        (1, 5, 10, Deed::Poll(Some(0))),
+        (1, 3, 10, Deed::PollFor(3, 4, None)),
+        (0, 11, 11, Deed::Size(0)),
+    ]
 }
 
 // A job that was offered, polled, failed at once, and was offered again.
-fn one_retry(rt: &impl Abort, alloc: Global, again: Element) -> Result<Vec<Event>, AllocError> {
-    let mut events = Vec::with_capacity(alloc, 3)?;
-    events.push(event(0, 0, 0, Act::Offer(first(rt, 0, 0))))?;
-    events.push(event(0, 0, 0, Act::Poll(Some(0))))?;
-    events.push(event(0, 0, 0, Act::Offer(again)))?;
+fn one_retry(rt: &impl Abort, again: Element) -> [Row; 3] {
+    [
+        (0, 0, 0, Deed::Offer(first(rt, 0, 0))),
+        (0, 0, 0, Deed::Poll(Some(0))),
+        (0, 0, 0, Deed::Offer(again)),
+    ]
+}
+
+// The run behind one in which a job failed once: a count, its poll, and another job.
+fn next_run(rt: &impl Abort) -> [Row; 3] {
+    let mut offered = first(rt, 1, 1000);
+    offered.id = 2;
+    offered.origin = 2;
+    [
+        (0, 0, 0, Deed::Size(1)),
+        (0, 1000, 1000, Deed::Poll(Some(1))),
+        (0, 1000, 1000, Deed::Offer(offered)),
+    ]
+}
+
+fn drained(alloc: Global, given: [Option<u64>; 3]) -> Result<Ids, AllocError> {
+    let mut ids = Vec::new(alloc);
+    for id in given {
+        if let Some(id) = id {
+            ids.push(id)?;
+        }
+    }
+    Ok(Ids::new(ids))
+}
+
+fn act(alloc: Global, deed: Deed) -> Result<Act, AllocError> {
+    Ok(match deed {
+        Deed::Offer(element) => Act::Offer(element),
+        Deed::Poll(given) => Act::Poll(given),
+        Deed::Take(id) => Act::Take(id),
+        Deed::PollFor(start, timeout, got) => {
+            Act::PollFor {
+                start,
+                timeout,
+                got,
+            }
+        }
+        Deed::Peek(shown) => Act::Peek(shown),
+        Deed::Remove(id, found) => Act::Remove { id, found },
+        Deed::Drain(max, given) => {
+            let ids = drained(alloc, given)?;
+            Act::Drain { max, ids }
+        }
+        Deed::Clear => Act::Clear,
+        Deed::Size(count) => Act::Size(count),
+    })
+}
+
+fn push_row(events: &mut Vec<Event>, alloc: Global, row: Row) -> Result<(), AllocError> {
+    let (seat, asked, at, deed) = row;
+    events.push(Event {
+        seat,
+        asked,
+        at,
+        act: act(alloc, deed)?,
+    })?;
+    Ok(())
+}
+
+fn events(alloc: Global, rows: &[Row]) -> Result<Vec<Event>, AllocError> {
+    let mut events = Vec::new(alloc);
+    for row in rows {
+        push_row(&mut events, alloc, *row)?;
+    }
     Ok(events)
 }
 
-// What stands after a job failed once, and the next run: a count, its poll, and another job.
-fn retried(rt: &impl Abort, alloc: Global) -> Result<Opening, Fail> {
-    opening(alloc, &[second(rt)], 2)
-}
-
-fn opening(alloc: Global, elements: &[Element], next_id: u64) -> Result<Opening, Fail> {
-    let elements = Items::new(Vec::from_slice(alloc, elements)?);
-    match Opening::new(elements, next_id, 0) {
+fn opening_at(elements: Items, next_id: u64, last_at: u64) -> Result<Opening, Fail> {
+    match Opening::new(elements, next_id, last_at) {
         Some(opening) => Ok(opening),
         None => Err(Fail::from("no opening")),
     }
 }
 
-fn next_run(rt: &impl Abort, alloc: Global) -> Result<Vec<Event>, AllocError> {
-    let mut offered = first(rt, 1, 1000);
-    offered.id = 2;
-    offered.origin = 2;
-    let mut events = Vec::with_capacity(alloc, 3)?;
-    events.push(event(0, 0, 0, Act::Size(1)))?;
-    events.push(event(0, 1000, 1000, Act::Poll(Some(1))))?;
-    events.push(event(0, 1000, 1000, Act::Offer(offered)))?;
-    Ok(events)
+fn opening(alloc: Global, start: Start<'_>) -> Result<Opening, Fail> {
+    let Some((elements, next_id)) = start else {
+        return Ok(Opening::empty(alloc));
+    };
+    let elements = Items::new(Vec::from_slice(alloc, elements)?);
+    opening_at(elements, next_id, 0)
+}
+
+fn history(alloc: Global, start: Start<'_>, rows: &[Row]) -> Result<History, Fail> {
+    let opening = opening(alloc, start)?;
+    let events = Sequence::new(events(alloc, rows)?);
+    Ok(History { opening, events })
 }

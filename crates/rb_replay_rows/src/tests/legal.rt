@@ -1,48 +1,47 @@
 use super::*;
+use crate::tests::calls::{checked, expect_audit};
+use crate::tests::devices::{expect, expect_text};
+use rb_queue::Audit;
+use rb_replay::{Reason, ReplayFault};
 
-fn checked(
+// That the run is checked with this answer.
+fn answered(
     rt: &impl Abort,
     alloc: Global,
-    opening: &Opening,
-    events: &[Event],
-) -> Result<Audit, ReplayFault> {
-    assert!(rt; events.len() <= 1_000_000);
-    check(alloc, opening, events)
+    start: Start<'_>,
+    rows: &[Row],
+    wanted: Result<Audit, ReplayFault>,
+) -> Result<(), Fail> {
+    let history = history(alloc, start, rows)?;
+    expect_audit(rt, checked(rt, alloc, &history), wanted);
+    Ok(())
 }
 
-// The run of two seats with another event in one place.
-fn with_event(
-    rt: &impl Abort,
-    alloc: Global,
-    index: usize,
-    other: Event,
-) -> Result<Vec<Event>, AllocError> {
-    let mut events = two_seats(rt, alloc)?;
-    if let Some(event) = events.get_mut(index) {
-        *event = other;
-    }
-    Ok(events)
-}
-
-// That the run with this event in this place is refused there, for this reason.
+// That the run of two seats with another event in this place is refused there, for this reason.
 fn refused(
     rt: &impl Abort,
     alloc: Global,
     index: usize,
-    other: Event,
+    other: Row,
     reason: Reason,
-) -> Result<(), AllocError> {
-    let events = with_event(rt, alloc, index, other)?;
+) -> Result<(), Fail> {
+    let mut rows: [Row; 4] = two_seats(rt);
+    if let Some(row) = rows.get_mut(index) {
+        *row = other;
+    }
     let index = index as u64;
-    let result = checked(rt, alloc, &Opening::empty(alloc), &events);
-    assert_eq!(rt; result, Err(ReplayFault::At { index, reason }));
-    Ok(())
+    answered(
+        rt,
+        alloc,
+        EMPTY,
+        &rows,
+        Err(ReplayFault::At { index, reason }),
+    )
 }
 
 #[test]
 fn legal_runs_have_their_audit(rt: HostRuntime) -> Result<(), Fail> {
     let alloc = rt.alloc();
-    let audit = checked(&rt, alloc, &Opening::empty(alloc), &two_seats(&rt, alloc)?);
     let counts = Audit {
         calls: 4,
         offered: 1,
@@ -52,8 +51,7 @@ fn legal_runs_have_their_audit(rt: HostRuntime) -> Result<(), Fail> {
         left: 0,
         opening: 0,
     };
-    assert_eq!(rt; audit, Ok(counts));
-    let audit = checked(&rt, alloc, &retried(&rt, alloc)?, &next_run(&rt, alloc)?);
+    answered(&rt, alloc, EMPTY, &two_seats(&rt), Ok(counts))?;
     let counts = Audit {
         calls: 3,
         offered: 1,
@@ -63,124 +61,107 @@ fn legal_runs_have_their_audit(rt: HostRuntime) -> Result<(), Fail> {
         left: 1,
         opening: 1,
     };
-    assert_eq!(rt; audit, Ok(counts));
-    Ok(())
+    answered(
+        &rt,
+        alloc,
+        Some((&[second(&rt)], NEXT_ID)),
+        &next_run(&rt),
+        Ok(counts),
+    )
 }
 
 #[test]
 fn a_forged_event_is_refused(rt: HostRuntime) -> Result<(), Fail> {
-    let alloc = rt.alloc();
-    let offer = Act::Offer(first(&rt, 1, 10));
-    refused(&rt, alloc, 0, event(0, 10, 10, offer), Reason::BadId)?;
-    refused(
-        &rt,
-        alloc,
-        1,
-        event(1, 5, 5, Act::Poll(Some(0))),
-        Reason::BadMoment,
-    )?;
-    refused(
-        &rt,
-        alloc,
-        1,
-        event(1, 5, 10, Act::Poll(None)),
-        Reason::NotNone,
-    )?;
-    refused(
-        &rt,
-        alloc,
-        1,
-        event(1, 5, 10, Act::Poll(Some(1))),
-        Reason::NotInQueue,
-    )?;
-    refused(
-        &rt,
-        alloc,
-        2,
-        event(1, 3, 10, poll_for(3, 8)),
-        Reason::TooEarly,
-    )?;
-    refused(
-        &rt,
-        alloc,
-        3,
-        event(0, 11, 11, Act::Size(1)),
-        Reason::WrongSize,
-    )?;
+    let offer = Deed::Offer(first(&rt, 1, 10));
+    for (index, other, reason) in [
+        (0, (0, 10, 10, offer), Reason::BadId),
+        (1, (1, 5, 5, Deed::Poll(Some(0))), Reason::BadMoment),
+        (1, (1, 5, 10, Deed::Poll(None)), Reason::NotNone),
+        (1, (1, 5, 10, Deed::Poll(Some(1))), Reason::NotInQueue),
+        (2, (1, 3, 10, Deed::PollFor(3, 8, None)), Reason::TooEarly),
+        (3, (0, 11, 11, Deed::Size(1)), Reason::WrongSize),
+    ] {
+        refused(&rt, rt.alloc(), index, other, reason)?;
+    }
     Ok(())
 }
 
 #[test]
 fn a_forged_drain_is_refused(rt: HostRuntime) -> Result<(), Fail> {
-    let alloc = rt.alloc();
-    refused(
-        &rt,
-        alloc,
-        1,
-        event(1, 5, 10, drain(alloc, 1, &[])?),
-        Reason::NotAll,
-    )?;
-    refused(
-        &rt,
-        alloc,
-        1,
-        event(1, 5, 10, drain(alloc, 0, &[0])?),
-        Reason::TooMany,
-    )?;
-    refused(
-        &rt,
-        alloc,
-        1,
-        event(1, 5, 10, drain(alloc, 2, &[0, 0])?),
-        Reason::NotInQueue,
-    )?;
+    for (max, ids, reason) in [
+        (1, [None, None, None], Reason::NotAll),
+        (0, [Some(0), None, None], Reason::TooMany),
+        (2, [Some(0), Some(0), None], Reason::NotInQueue),
+    ] {
+        refused(
+            &rt,
+            rt.alloc(),
+            1,
+            (1, 5, 10, Deed::Drain(max, ids)),
+            reason,
+        )?;
+    }
     Ok(())
 }
 
 // Two elements, of which the act of the third event gives, shows or removes one.
-fn of_two(rt: &impl Abort, alloc: Global, at: u64, act: Act) -> Result<Vec<Event>, AllocError> {
-    let mut events = Vec::with_capacity(alloc, 3)?;
-    events.push(event(0, 0, 0, Act::Offer(first(rt, 0, 5))))?;
-    events.push(event(0, 0, 0, Act::Offer(first(rt, 1, 7))))?;
-    events.push(event(0, at, at, act))?;
-    Ok(events)
+fn of_two(rt: &impl Abort, at: u64, deed: Deed) -> [Row; 3] {
+    [
+        (0, 0, 0, Deed::Offer(first(rt, 0, 5))),
+        (0, 0, 0, Deed::Offer(first(rt, 1, 7))),
+        (0, at, at, deed),
+    ]
+}
+
+fn expect_fault(rt: &impl Abort, fault: Option<ReplayFault>, wanted: Option<ReplayFault>) {
+    assert_eq!(rt; fault, wanted);
+}
+
+// That the act on the two elements is refused for this reason, or is legal.
+fn judged_of_two(
+    rt: &impl Abort,
+    alloc: Global,
+    at: u64,
+    deed: Deed,
+    reason: Option<Reason>,
+) -> Result<(), Fail> {
+    let history = history(alloc, EMPTY, &of_two(rt, at, deed))?;
+    let wanted = reason.map(|reason| ReplayFault::At { index: 2, reason });
+    expect_fault(rt, checked(rt, alloc, &history).err(), wanted);
+    Ok(())
+}
+
+// Whether the removal from the two elements is legal.
+fn removed_of_two(rt: &impl Abort, alloc: Global, deed: Deed, right: bool) -> Result<(), Fail> {
+    let history = history(alloc, EMPTY, &of_two(rt, 0, deed))?;
+    expect(rt, checked(rt, alloc, &history).is_ok() == right);
+    Ok(())
 }
 
 #[test]
 fn the_least_element_is_given(rt: HostRuntime) -> Result<(), Fail> {
-    let alloc = rt.alloc();
-    let empty = Opening::empty(alloc);
     for (at, id, reason) in [
         (10, 1, Some(Reason::NotLeast)),
         (4, 0, Some(Reason::NotExpired)),
         (10, 0, None),
     ] {
-        let events = of_two(&rt, alloc, at, Act::Poll(Some(id)))?;
-        let fault = checked(&rt, alloc, &empty, &events).err();
-        let expected = reason.map(|reason| ReplayFault::At { index: 2, reason });
-        assert_eq!(rt; fault, expected);
+        judged_of_two(&rt, rt.alloc(), at, Deed::Poll(Some(id)), reason)?;
     }
     Ok(())
 }
 
 #[test]
 fn shown_and_removed_elements_are_checked(rt: HostRuntime) -> Result<(), Fail> {
-    let alloc = rt.alloc();
-    let empty = Opening::empty(alloc);
     for (shown, reason) in [
         (None, Some(Reason::NotNone)),
         (Some(1), Some(Reason::NotLeast)),
         (Some(2), Some(Reason::NotInQueue)),
         (Some(0), None),
     ] {
-        let events = of_two(&rt, alloc, 0, Act::Peek(shown))?;
-        let fault = checked(&rt, alloc, &empty, &events).err();
-        let expected = reason.map(|reason| ReplayFault::At { index: 2, reason });
-        assert_eq!(rt; fault, expected);
+        judged_of_two(&rt, rt.alloc(), 0, Deed::Peek(shown), reason)?;
     }
     for (id, found, right) in [(1, true, true), (1, false, false), (2, true, false)] {
-        let events = of_two(&rt, alloc, 0, Act::Remove { id, found })?;
-        assert_eq!(rt; checked(&rt, alloc, &empty, &events).is_ok(), right);
+        removed_of_two(&rt, rt.alloc(), Deed::Remove(id, found), right)?;
     }
     Ok(())
 }
@@ -193,6 +174,6 @@ fn reasons_are_printed(rt: HostRuntime) {
         (Reason::WrongFound, "wrong found"),
         (Reason::NotAll, "not all"),
     ] {
-        assert_eq!(rt; reason.as_str(), text);
+        expect_text(&rt, reason.as_str(), text);
     }
 }

@@ -1,45 +1,40 @@
 use super::*;
-use rb_queue::Sequence;
-use rb_replay::{History, OpeningFault, opening_of};
+use crate::tests::calls::{expect_opening, opened};
+use rb_replay::{OpeningFault, Reason};
 
-fn opened(
+// That no run begins where this one ends, for this fault.
+fn refused(
     rt: &impl Abort,
     alloc: Global,
-    opening: Opening,
-    events: Vec<Event>,
-) -> Result<Opening, OpeningFault> {
-    let history = History {
-        opening,
-        events: Sequence::new(events),
-    };
-    assert!(rt; history.events().len() <= 1_000_000);
-    opening_of(alloc, &history)
+    start: Start<'_>,
+    rows: &[Row],
+    fault: OpeningFault,
+) -> Result<(), Fail> {
+    let history = history(alloc, start, rows)?;
+    expect_opening(rt, &opened(rt, alloc, &history), &Err(fault));
+    Ok(())
 }
 
 #[test]
 fn a_run_begins_where_another_ended(rt: HostRuntime) -> Result<(), Fail> {
     let alloc = rt.alloc();
-    let events = one_retry(&rt, alloc, second(&rt))?;
-    let opening = opened(&rt, alloc, Opening::empty(alloc), events);
-    assert_eq!(rt; opening, Ok(retried(&rt, alloc)?));
-    let again = first(&rt, 2, 5);
-    let events = one_retry(&rt, alloc, again)?;
-    let opening = opened(&rt, alloc, Opening::empty(alloc), events);
+    let history = history(alloc, EMPTY, &one_retry(&rt, second(&rt)))?;
+    let retried = Ok(opening(alloc, Some((&[second(&rt)], NEXT_ID)))?);
+    expect_opening(&rt, &opened(&rt, alloc, &history), &retried);
     let reason = Reason::BadId;
-    assert_eq!(rt; opening, Err(OpeningFault::At { index: 2, reason }));
-    Ok(())
+    let fault = OpeningFault::At { index: 2, reason };
+    refused(&rt, alloc, EMPTY, &one_retry(&rt, first(&rt, 2, 5)), fault)
 }
 
 #[test]
 fn an_opening_has_its_limits(rt: HostRuntime) -> Result<(), Fail> {
-    let alloc = rt.alloc();
     let last = 1_099_511_627_776;
-    let Some(opening) = Opening::new(Items::new(Vec::new(alloc)), last, 0) else {
-        return Err(Fail::from("no opening"));
-    };
-    let mut events = Vec::with_capacity(alloc, 1)?;
-    events.push(event(0, 0, 0, Act::Offer(first(&rt, last, 0))))?;
-    let opening = opened(&rt, alloc, opening, events);
-    assert_eq!(rt; opening, Err(OpeningFault::TooLarge));
-    Ok(())
+    let rows = [(0, 0, 0, Deed::Offer(first(&rt, last, 0)))];
+    refused(
+        &rt,
+        rt.alloc(),
+        Some((&[], last)),
+        &rows,
+        OpeningFault::TooLarge,
+    )
 }

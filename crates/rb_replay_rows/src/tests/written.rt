@@ -1,9 +1,7 @@
 use super::*;
-use rb_queue::Sequence;
-use rb_replay::{
-    History, no_fault_of_text, no_text_of_two, one_fault, one_text_each, read_history,
-};
-use std::io::{self, ErrorKind, Write};
+use crate::tests::calls::is_read_as;
+use crate::tests::devices::{Device, NEVER, expect, expect_bytes, expect_written, write_to};
+use rb_replay::{HistoryFault, no_fault_of_text, no_text_of_two, one_fault, one_text_each};
 
 const EMPTY_RUN: &[u8] = b"history 3\nopen 0 0 0\nend 0\n";
 
@@ -13,124 +11,73 @@ const TWO_SEATS: &[u8] =
 const NEXT_RUN: &[u8] =
     b"history 3\nopen 2 0 1\nkeep 1 1000 0 0 2 a\n0 0 0 size 1\n0 1000 1000 poll 1\n0 1000 1000 offer 2 1000 2 1000 1 b\nend 3\n";
 
-// Takes at most `most` bytes in one write, and fails at the call with this number, from 0.
-#[derive(Drop)]
-struct Device {
-    bytes: Vec<u8>,
-    most: usize,
-    calls: usize,
-    fails_at: usize,
-}
-
-impl Device {
-    fn new(alloc: Global, most: usize, fails_at: usize) -> Device {
-        Device {
-            bytes: Vec::new(alloc),
-            most,
-            calls: 0,
-            fails_at,
-        }
-    }
-
-    fn call(&mut self) -> io::Result<()> {
-        let call = self.calls;
-        self.calls = call.saturating_add(1);
-        if call == self.fails_at {
-            return Err(ErrorKind::BrokenPipe.into());
-        }
-        Ok(())
-    }
-}
-
-impl Write for Device {
-    fn write(&mut self, buf: &[u8]) -> io::Result<usize> {
-        self.call()?;
-        let count = self.most.min(buf.len());
-        self.bytes.extend_from_slice(&buf[..count])?;
-        Ok(count)
-    }
-
-    fn flush(&mut self) -> io::Result<()> {
-        self.call()
-    }
-}
-
-// Writes, and gives what the device has got.
-fn written(
+// That a device that takes so many bytes at a time, and fails at this call, has got these.
+fn written_as(
     rt: &impl Abort,
     alloc: Global,
-    opening: &Opening,
-    events: &[Event],
-    mut device: Device,
-) -> (Result<(), HistoryFault>, Vec<u8>) {
-    assert!(rt; events.len() <= 1_000_000);
-    let result = write_history(alloc, opening, events, &mut device);
-    (result, device.bytes)
+    history: &History,
+    (most, fails_at): (usize, usize),
+    answer: Result<(), HistoryFault>,
+    text: &[u8],
+) {
+    let mut device = Device::new(alloc, most, fails_at);
+    let ended = write_to(rt, alloc, history.opening(), history.events(), &mut device);
+    expect_written(rt, ended, answer);
+    expect_bytes(rt, &device.bytes, text);
 }
 
 #[test]
-fn an_empty_run_is_written(rt: HostRuntime) {
+fn an_empty_run_is_written(rt: HostRuntime) -> Result<(), Fail> {
     let alloc = rt.alloc();
-    let (result, bytes) = written(
-        &rt,
-        alloc,
-        &Opening::empty(alloc),
-        &[],
-        Device::new(alloc, 99, 99),
-    );
-    assert_eq!(rt; result, Ok(()));
-    assert_eq!(rt; bytes.as_slice(), EMPTY_RUN);
+    let run = history(alloc, EMPTY, &[])?;
+    written_as(&rt, alloc, &run, (99, 99), Ok(()), EMPTY_RUN);
     one_text_each();
     no_text_of_two();
     no_fault_of_text();
     one_fault();
+    Ok(())
 }
 
 #[test]
 fn runs_are_written(rt: HostRuntime) -> Result<(), Fail> {
     let alloc = rt.alloc();
-    let (opening, events) = (Opening::empty(alloc), two_seats(&rt, alloc)?);
-    let (result, bytes) = written(&rt, alloc, &opening, &events, Device::new(alloc, 999, 99));
-    assert_eq!(rt; result, Ok(()));
-    assert_eq!(rt; bytes.as_slice(), TWO_SEATS);
-    let (opening, events) = (retried(&rt, alloc)?, next_run(&rt, alloc)?);
-    let (result, bytes) = written(&rt, alloc, &opening, &events, Device::new(alloc, 7, 99));
-    assert_eq!(rt; result, Ok(()));
-    assert_eq!(rt; bytes.as_slice(), NEXT_RUN);
+    let run = history(alloc, EMPTY, &two_seats(&rt))?;
+    written_as(&rt, alloc, &run, (999, 99), Ok(()), TWO_SEATS);
+    let run = history(alloc, Some((&[second(&rt)], NEXT_ID)), &next_run(&rt))?;
+    written_as(&rt, alloc, &run, (7, 99), Ok(()), NEXT_RUN);
     Ok(())
 }
 
 #[test]
 fn what_was_written_is_read(rt: HostRuntime) -> Result<(), Fail> {
     let alloc = rt.alloc();
-    let (opening, events) = (retried(&rt, alloc)?, next_run(&rt, alloc)?);
-    let device = Device::new(alloc, 999, 99);
-    let (result, bytes) = written(&rt, alloc, &opening, &events, device);
-    assert_eq!(rt; result, Ok(()));
-    let history = History {
-        opening,
-        events: Sequence::new(events),
-    };
-    assert_eq!(rt; read_history(alloc, &bytes), Ok(history));
+    let run = history(alloc, Some((&[second(&rt)], NEXT_ID)), &next_run(&rt))?;
+    let mut device = Device::new(alloc, 999, NEVER);
+    let ended = write_to(&rt, alloc, run.opening(), run.events(), &mut device);
+    expect_written(&rt, ended, Ok(()));
+    expect(&rt, is_read_as(alloc, &device.bytes, &run));
     Ok(())
 }
 
 #[test]
 fn a_device_that_fails_has_the_first_part(rt: HostRuntime) -> Result<(), Fail> {
     let alloc = rt.alloc();
-    let (opening, events) = (Opening::empty(alloc), two_seats(&rt, alloc)?);
-    for (most, fails_at, count) in [(999, 0, 0), (40, 2, 80), (999, 1, TWO_SEATS.len())] {
-        let (result, bytes) = written(
+    let run = history(alloc, EMPTY, &two_seats(&rt))?;
+    for (most, fails_at, count) in [
+        (999, 0, 0),
+        (40, 2, 80),
+        (999, 1, TWO_SEATS.len()),
+        (0, 99, 0),
+    ] {
+        let text = TWO_SEATS.get(..count).unwrap_or_default();
+        written_as(
             &rt,
             alloc,
-            &opening,
-            &events,
-            Device::new(alloc, most, fails_at),
+            &run,
+            (most, fails_at),
+            Err(HistoryFault::Write),
+            text,
         );
-        assert_eq!(rt; result, Err(HistoryFault::Write));
-        assert_eq!(rt; Some(bytes.as_slice()), TWO_SEATS.get(..count));
     }
-    let (result, bytes) = written(&rt, alloc, &opening, &events, Device::new(alloc, 0, 99));
-    assert_eq!(rt; (result, bytes.len()), (Err(HistoryFault::Write), 0));
     Ok(())
 }

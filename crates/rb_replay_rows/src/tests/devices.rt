@@ -1,0 +1,117 @@
+use rb_queue::{Event, Opening};
+use rb_replay::{HistoryFault, TextFault, TextReason, write_history};
+use std::alloc::Global;
+use std::io::{self, ErrorKind, Write};
+use std::process::Abort;
+
+/// A call that never comes.
+pub const NEVER: usize = usize::MAX;
+
+/// Takes at most `most` bytes in one write, and fails at the call with this number, from 0.
+#[derive(Drop)]
+pub struct Device {
+    pub bytes: Vec<u8>,
+    pub most: usize,
+    pub calls: usize,
+    pub fails_at: usize,
+}
+
+impl Device {
+    pub fn new(alloc: Global, most: usize, fails_at: usize) -> Device {
+        Device {
+            bytes: Vec::new(alloc),
+            most,
+            calls: 0,
+            fails_at,
+        }
+    }
+
+    fn call(&mut self) -> io::Result<()> {
+        let call = self.calls;
+        self.calls = call.saturating_add(1);
+        if call == self.fails_at {
+            return Err(ErrorKind::BrokenPipe.into());
+        }
+        Ok(())
+    }
+}
+
+impl Write for Device {
+    fn write(&mut self, buf: &[u8]) -> io::Result<usize> {
+        self.call()?;
+        let count = self.most.min(buf.len());
+        self.bytes.extend_from_slice(&buf[..count])?;
+        Ok(count)
+    }
+
+    fn flush(&mut self) -> io::Result<()> {
+        self.call()
+    }
+}
+
+/// Takes at most `most` bytes at each third write, and is interrupted at the others.
+#[derive(Drop)]
+pub struct Restless {
+    pub bytes: Vec<u8>,
+    pub most: usize,
+    pub writes: u64,
+}
+
+impl Write for Restless {
+    fn write(&mut self, buf: &[u8]) -> io::Result<usize> {
+        self.writes = self.writes.saturating_add(1);
+        if self.writes % 3 != 0 {
+            return Err(ErrorKind::Interrupted.into());
+        }
+        let count = self.most.min(buf.len());
+        self.bytes.extend_from_slice(&buf[..count])?;
+        Ok(count)
+    }
+
+    fn flush(&mut self) -> io::Result<()> {
+        Ok(())
+    }
+}
+
+/// Writes a history of at most 1,000,000 events.
+pub fn write_to<W: Write>(
+    rt: &impl Abort,
+    alloc: Global,
+    opening: &Opening,
+    events: &[Event],
+    device: &mut W,
+) -> Result<(), HistoryFault> {
+    assert!(rt; events.len() <= 1_000_000);
+    write_history(alloc, opening, events, device)
+}
+
+// Each comparison is a function of its own with no clause, so that a test that makes it has nothing
+// to prove.
+
+pub fn expect(rt: &impl Abort, holds: bool) {
+    assert!(rt; holds);
+}
+
+pub fn expect_count(rt: &impl Abort, count: usize, wanted: usize) {
+    assert_eq!(rt; count, wanted);
+}
+
+pub fn expect_bytes(rt: &impl Abort, bytes: &[u8], wanted: &[u8]) {
+    assert_eq!(rt; bytes, wanted);
+}
+
+pub fn expect_text(rt: &impl Abort, text: &str, wanted: &str) {
+    assert_eq!(rt; text, wanted);
+}
+
+pub fn expect_written(
+    rt: &impl Abort,
+    answer: Result<(), HistoryFault>,
+    wanted: Result<(), HistoryFault>,
+) {
+    assert_eq!(rt; answer, wanted);
+}
+
+pub fn expect_unreadable(rt: &impl Abort, fault: Option<TextFault>, line: u64, reason: TextReason) {
+    assert_eq!(rt; fault, Some(TextFault::At { line, reason }));
+}
