@@ -3,9 +3,10 @@ use rb_ledger::Tally;
 use rb_retry::{KeptDesk, Policy};
 use rb_session::{Ended, SessionFault, run_session};
 use rb_timer::Timer;
-use std::alloc::Global;
+use std::alloc::{AllocError, Global};
 use std::io::{self, ErrorKind, Read, Write};
 use std::process::Abort;
+use std::test::Fail;
 
 /// Gives its bytes one by one, and fails at the call with this number, the first of which is 0.
 #[derive(Drop)]
@@ -113,6 +114,125 @@ pub fn run<T: Timer, W: Write>(
     writer: &mut W,
 ) -> Result<Ended, SessionFault> {
     let policy = Policy::fixed(1_000, 3).expect(rt, "a policy");
+    run_by(alloc, kept, tally, reader, writer, &policy)
+}
+
+/// Runs a session over the kept queue by a policy.
+pub fn run_by<T: Timer, R: Read, W: Write>(
+    alloc: Global,
+    kept: &mut Kept<T>,
+    tally: &mut Tally,
+    reader: &mut R,
+    writer: &mut W,
+    policy: &Policy,
+) -> Result<Ended, SessionFault> {
     let mut desk = KeptDesk::new(kept, tally);
-    run_session(alloc, reader, writer, &mut desk, &policy)
+    run_session(alloc, reader, writer, &mut desk, policy)
+}
+
+/// How a session came out.
+#[derive(Drop)]
+pub struct Outcome {
+    pub ended: Result<Ended, SessionFault>,
+    pub bytes: Vec<u8>,
+    pub calls: usize,
+}
+
+/// Runs a session over a queue of its own, whose reader and writer fail at these calls.
+pub fn ran<T: Timer>(
+    rt: &impl Abort,
+    alloc: Global,
+    script: &[u8],
+    read_fails_at: usize,
+    write_fails_at: usize,
+) -> Result<Outcome, Fail> {
+    let (mut kept, mut tally) = Kept::<T>::new(alloc, 100)?;
+    let (mut reader, mut writer) = (
+        Bytes::of(script, read_fails_at),
+        Sheet::new(alloc, write_fails_at),
+    );
+    let ended = run(rt, alloc, &mut kept, &mut tally, &mut reader, &mut writer);
+    Ok(Outcome {
+        ended,
+        bytes: writer.bytes,
+        calls: writer.calls,
+    })
+}
+
+/// Requests with their replies.
+#[derive(Drop)]
+pub struct Dialogue {
+    pub script: Vec<u8>,
+    pub replies: Vec<u8>,
+}
+
+impl Dialogue {
+    pub fn new(alloc: Global) -> Dialogue {
+        Dialogue {
+            script: Vec::new(alloc),
+            replies: Vec::new(alloc),
+        }
+    }
+
+    /// Appends a request with its replies.
+    pub fn push(&mut self, request: &[u8], replies: &[u8]) -> Result<(), AllocError> {
+        self.script.extend_from_slice(request)?;
+        self.replies.extend_from_slice(replies)
+    }
+}
+
+// Appends the last digit of a number.
+fn push_digit(text: &mut Vec<u8>, number: u64) -> Result<(), AllocError> {
+    text.extend_from_slice(&[b"0123456789"[(number % 10) as usize]])
+}
+
+// Appends a number of at most 20 digits.
+fn push_number(text: &mut Vec<u8>, number: u64) -> Result<(), AllocError> {
+    let mut power = 10_000_000_000_000_000_000_u64;
+    for _ in 0..19 {
+        if number >= power {
+            push_digit(text, number / power.max(1))?;
+        }
+        power /= 10;
+    }
+    push_digit(text, number)
+}
+
+/// Appends a number with what stands round it.
+pub fn push_line(
+    text: &mut Vec<u8>,
+    front: &[u8],
+    number: u64,
+    back: &[u8],
+) -> Result<(), AllocError> {
+    text.extend_from_slice(front)?;
+    push_number(text, number)?;
+    text.extend_from_slice(back)
+}
+
+// Each comparison is a function with no clause, which is proved once and not at each use.
+
+pub fn expect_end(
+    rt: &impl Abort,
+    ended: Result<Ended, SessionFault>,
+    wanted: Result<Ended, SessionFault>,
+    at: usize,
+) {
+    assert_eq!(rt; ended, wanted, "{at}");
+}
+
+pub fn expect_bytes(rt: &impl Abort, bytes: &[u8], wanted: &[u8], at: usize) {
+    assert_eq!(rt; bytes, wanted, "{at}");
+}
+
+pub fn expect_number(rt: &impl Abort, number: u64, wanted: u64, at: usize) {
+    assert_eq!(rt; number, wanted, "{at}");
+}
+
+pub fn expect_count(rt: &impl Abort, count: usize, wanted: usize, at: usize) {
+    assert_eq!(rt; count, wanted, "{at}");
+}
+
+pub fn expect(rt: &impl Abort, holds: bool) {
+    assert!(rt; holds);
 }

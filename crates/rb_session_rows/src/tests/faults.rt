@@ -1,7 +1,9 @@
-use crate::tests::devices::{Bytes, NEVER, Sheet, Slip, run};
+use crate::tests::devices::{Bytes, NEVER, Slip, expect_bytes, expect_count, expect_end, ran, run};
 use rb_binary::BinaryTimer;
 use rb_kept::Kept;
 use rb_session::{Ended, SessionFault};
+use std::alloc::Global;
+use std::process::Abort;
 use std::test::Fail;
 
 // A job with three attempts, whose third failure is its last.
@@ -11,16 +13,22 @@ const JOB: &[u8] =
 const REPLIES: &[u8] =
     b"NOW 100\nOFFERED 0 100\nITEM 0 100 1 j\nNOW 200\nAGAIN 1 1200\nNOW 1200\nITEM 1 1200 2 j\nAGAIN 2 2200\nNOW 2200\nITEM 2 2200 3 j\nDEAD 2\nERR 5 not-held\n";
 
-// What a write does not take is written again, however often.
-#[test]
-fn a_writer_may_take_a_byte_at_a_time(rt: HostRuntime) -> Result<(), Fail> {
-    let alloc = rt.alloc();
+type Slipped = (Result<Ended, SessionFault>, Vec<u8>);
+
+fn slipped(rt: &impl Abort, alloc: Global) -> Result<Slipped, Fail> {
     let (mut kept, mut tally) = Kept::<BinaryTimer>::new(alloc, 100)?;
     let bytes = Vec::new(alloc);
     let (mut reader, mut writer) = (Bytes::of(JOB, NEVER), Slip { bytes });
-    let ended = run(&rt, alloc, &mut kept, &mut tally, &mut reader, &mut writer);
-    assert_eq!(rt; ended, Ok(Ended::EndOfInput { lost: 0 }));
-    assert_eq!(rt; writer.bytes.as_slice(), REPLIES);
+    let ended = run(rt, alloc, &mut kept, &mut tally, &mut reader, &mut writer);
+    Ok((ended, writer.bytes))
+}
+
+// What a write does not take is written again, however often.
+#[test]
+fn a_writer_may_take_a_byte_at_a_time(rt: HostRuntime) -> Result<(), Fail> {
+    let (ended, bytes) = slipped(&rt, rt.alloc())?;
+    expect_end(&rt, ended, Ok(Ended::EndOfInput { lost: 0 }), 0);
+    expect_bytes(&rt, &bytes, REPLIES, 0);
     Ok(())
 }
 
@@ -37,18 +45,18 @@ fn end_of_line(lines: usize) -> usize {
     end
 }
 
+fn first_replies(lines: usize) -> &'static [u8] {
+    REPLIES.get(..end_of_line(lines)).unwrap_or(REPLIES)
+}
+
 // Each line has one reply, so a read that fails behind `lines` whole lines leaves as many.
 #[test]
 fn a_read_may_fail_anywhere(rt: HostRuntime) -> Result<(), Fail> {
-    let alloc = rt.alloc();
     let mut lines = 0_usize;
     for call in 0..=JOB.len() {
-        let (mut kept, mut tally) = Kept::<BinaryTimer>::new(alloc, 100)?;
-        let (mut reader, mut writer) = (Bytes::of(JOB, call), Sheet::new(alloc, NEVER));
-        let ended = run(&rt, alloc, &mut kept, &mut tally, &mut reader, &mut writer);
-        assert_eq!(rt; ended, Err(SessionFault::Read { lost: 0 }), "{call}");
-        let replies = REPLIES.get(..end_of_line(lines)).unwrap_or(REPLIES);
-        assert_eq!(rt; writer.bytes.as_slice(), replies, "{call}");
+        let ran = ran::<BinaryTimer>(&rt, rt.alloc(), JOB, call, NEVER)?;
+        expect_end(&rt, ran.ended, Err(SessionFault::Read { lost: 0 }), call);
+        expect_bytes(&rt, &ran.bytes, first_replies(lines), call);
         if JOB.get(call) == Some(&b'\n') {
             lines = lines.saturating_add(1);
         }
@@ -56,20 +64,15 @@ fn a_read_may_fail_anywhere(rt: HostRuntime) -> Result<(), Fail> {
     Ok(())
 }
 
-// Each reply is one write and one flush, so call 2 k is the write of reply k, and the next its flush.
+// Each reply is one write and one flush, so call 2 k is the write of reply k, and the next its
+// flush.
 #[test]
 fn a_write_or_a_flush_may_fail_anywhere(rt: HostRuntime) -> Result<(), Fail> {
-    let alloc = rt.alloc();
     for call in 0..24_usize {
-        let (mut kept, mut tally) = Kept::<BinaryTimer>::new(alloc, 100)?;
-        let (mut reader, mut writer) = (Bytes::of(JOB, NEVER), Sheet::new(alloc, call));
-        let ended = run(&rt, alloc, &mut kept, &mut tally, &mut reader, &mut writer);
-        assert_eq!(rt; ended, Err(SessionFault::Write { lost: 0 }), "{call}");
-        let replies = REPLIES
-            .get(..end_of_line(call.div_ceil(2)))
-            .unwrap_or(REPLIES);
-        assert_eq!(rt; writer.bytes.as_slice(), replies, "{call}");
-        assert_eq!(rt; writer.calls, call.saturating_add(1), "{call}");
+        let ran = ran::<BinaryTimer>(&rt, rt.alloc(), JOB, NEVER, call)?;
+        expect_end(&rt, ran.ended, Err(SessionFault::Write { lost: 0 }), call);
+        expect_bytes(&rt, &ran.bytes, first_replies(call.div_ceil(2)), call);
+        expect_count(&rt, ran.calls, call.saturating_add(1), call);
     }
     Ok(())
 }

@@ -1,4 +1,6 @@
-use crate::tests::devices::{Bytes, NEVER, Sheet, run};
+use crate::tests::devices::{
+    Bytes, NEVER, Sheet, expect, expect_bytes, expect_count, expect_end, expect_number, run,
+};
 use rb_binary::BinaryTimer;
 use rb_kept::Kept;
 use rb_queue::{Act, Event};
@@ -20,14 +22,19 @@ fn letter(event: &Event) -> u8 {
     }
 }
 
+fn expect_event(rt: &impl Abort, event: &Event, wanted: u8, moment: (u64, u64)) {
+    expect_number(rt, u64::from(letter(event)), u64::from(wanted), 0);
+    expect_number(rt, event.asked, moment.0, 0);
+    expect_number(rt, event.at, moment.1, 0);
+    expect_number(rt, event.seat, 0, 0);
+}
+
 // Compares what the events did, and at which moments they were asked and took place.
 fn expect_events(rt: &impl Abort, events: &[Event], letters: &[u8], moments: &[(u64, u64)]) {
-    assert_eq!(rt; events.len(), letters.len());
-    assert_eq!(rt; events.len(), moments.len());
+    expect_count(rt, events.len(), letters.len(), 0);
+    expect_count(rt, events.len(), moments.len(), 0);
     for (event, (&wanted, &moment)) in events.iter().zip(letters.iter().zip(moments)) {
-        assert_eq!(rt; letter(event), wanted);
-        assert_eq!(rt; (event.asked, event.at), moment);
-        assert_eq!(rt; event.seat, 0);
+        expect_event(rt, event, wanted, moment);
     }
 }
 
@@ -38,10 +45,10 @@ fn expect_calls<T: Timer>(rt: &impl Abort, alloc: Global) -> Result<(), Fail> {
         b"NOW 100\nOFFERED 0 150\nSIZE 1\nERR 1 syntax\nNONE\nERR 3 range\nHEAD 0 150 1 a\nERR 8 line\n";
     let (mut reader, mut writer) = (Bytes::of(script, NEVER), Sheet::new(alloc, NEVER));
     let ended = run(rt, alloc, &mut kept, &mut tally, &mut reader, &mut writer);
-    assert_eq!(rt; ended, Ok(Ended::EndOfInput { lost: 0 }));
-    assert_eq!(rt; writer.bytes.as_slice(), replies.as_slice());
+    expect_end(rt, ended, Ok(Ended::EndOfInput { lost: 0 }), 0);
+    expect_bytes(rt, &writer.bytes, replies, 0);
     expect_events(rt, kept.history(), b"osnk", &[(100, 100); 4]);
-    assert_eq!(rt; tally.calls(), 4);
+    expect_number(rt, tally.calls(), 4, 0);
     Ok(())
 }
 
@@ -55,18 +62,20 @@ fn each_call_is_one_event(rt: HostRuntime) -> Result<(), Fail> {
 // The job that is held at the end failed then, by an offer of its second attempt.
 fn expect_retry(rt: &impl Abort, events: &[Event], expiry: u64) {
     expect_events(rt, events, b"opo", &[(0, 0); 3]);
-    if let Some(
-        Event {
-            act: Act::Offer(retry),
-            ..
-        },
-    ) = events.last()
-    {
-        assert_eq!(rt; (retry.id, retry.expiry), (1, expiry));
-        assert_eq!(rt; (retry.origin, retry.first), (0, 0));
-        assert_eq!(rt; retry.attempt, 2);
-    } else {
-        assert!(rt; false);
+    match events.last() {
+        Some(
+            Event {
+                act: Act::Offer(retry),
+                ..
+            },
+        ) => {
+            expect_number(rt, retry.id, 1, 0);
+            expect_number(rt, retry.expiry, expiry, 0);
+            expect_number(rt, retry.origin, 0, 0);
+            expect_number(rt, retry.first, 0, 0);
+            expect_number(rt, u64::from(retry.attempt), 2, 0);
+        }
+        _ => expect(rt, false),
     }
 }
 
@@ -76,8 +85,8 @@ fn what_is_held_after_a_write_fault_fails(rt: HostRuntime) -> Result<(), Fail> {
     let (mut kept, mut tally) = Kept::<BinaryTimer>::new(alloc, 10)?;
     let (mut reader, mut writer) = (Bytes::of(b"OFFER 0 a\nPOLL\n", NEVER), Sheet::new(alloc, 2));
     let ended = run(&rt, alloc, &mut kept, &mut tally, &mut reader, &mut writer);
-    assert_eq!(rt; ended, Err(SessionFault::Write { lost: 0 }));
-    assert_eq!(rt; writer.bytes.as_slice(), b"OFFERED 0 0\n".as_slice());
+    expect_end(&rt, ended, Err(SessionFault::Write { lost: 0 }), 0);
+    expect_bytes(&rt, &writer.bytes, b"OFFERED 0 0\n", 0);
     expect_retry(&rt, kept.history(), 1_000);
     Ok(())
 }
@@ -86,20 +95,30 @@ fn what_is_held_after_a_write_fault_fails(rt: HostRuntime) -> Result<(), Fail> {
 fn what_is_held_after_a_read_fault_fails(rt: HostRuntime) -> Result<(), Fail> {
     let alloc = rt.alloc();
     let script = b"OFFER 0 a\nPOLL\n";
-    for (calls, lost) in [(10, 0), (2, 1)] {
-        let (mut kept, mut tally) = Kept::<ListTimer>::new(alloc, calls)?;
-        let (mut reader, mut writer) = (Bytes::of(script, script.len()), Sheet::new(alloc, NEVER));
-        let ended = run(&rt, alloc, &mut kept, &mut tally, &mut reader, &mut writer);
-        assert_eq!(rt; ended, Err(SessionFault::Read { lost }));
-        assert_eq!(rt;
-            writer.bytes.as_slice(),
-            b"OFFERED 0 0\nITEM 0 0 1 a\n".as_slice()
-        );
-        if lost == 0 {
-            expect_retry(&rt, kept.history(), 1_000);
-        } else {
-            expect_events(&rt, kept.history(), b"op", &[(0, 0); 2]);
-        }
-    }
+    expect_read_fault(&rt, alloc, script, 10, 0)?;
+    expect_read_fault(&rt, alloc, script, 2, 1)
+}
+
+fn expect_read_fault(
+    rt: &impl Abort,
+    alloc: Global,
+    script: &[u8],
+    calls: u64,
+    lost: u64,
+) -> Result<(), Fail> {
+    let (mut kept, mut tally) = Kept::<ListTimer>::new(alloc, calls)?;
+    let (mut reader, mut writer) = (Bytes::of(script, script.len()), Sheet::new(alloc, NEVER));
+    let ended = run(rt, alloc, &mut kept, &mut tally, &mut reader, &mut writer);
+    expect_end(rt, ended, Err(SessionFault::Read { lost }), 0);
+    expect_bytes(rt, &writer.bytes, b"OFFERED 0 0\nITEM 0 0 1 a\n", 0);
+    expect_failed(rt, kept.history(), lost);
     Ok(())
+}
+
+fn expect_failed(rt: &impl Abort, events: &[Event], lost: u64) {
+    if lost == 0 {
+        expect_retry(rt, events, 1_000);
+    } else {
+        expect_events(rt, events, b"op", &[(0, 0); 2]);
+    }
 }

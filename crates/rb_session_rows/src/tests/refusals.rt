@@ -1,4 +1,7 @@
-use crate::tests::devices::{Bytes, NEVER, Sheet, run};
+use crate::tests::devices::{
+    Bytes, Dialogue, NEVER, Sheet, expect, expect_bytes, expect_count, expect_end, expect_number,
+    push_line, run,
+};
 use rb_binary::BinaryTimer;
 use rb_kept::{Kept, NewFault};
 use rb_ledger::Tally;
@@ -39,52 +42,43 @@ fn kept(alloc: Global) -> Result<(Kept<BinaryTimer>, Tally), NewFault> {
     }
 }
 
+fn is_memory(ended: &Result<Ended, SessionFault>) -> bool {
+    matches!(ended, Err(SessionFault::Memory))
+}
+
 // Counts the offers that were refused, once nothing was refused at the start.
 fn refused_offer(rt: &impl Abort, alloc: Global) -> Result<u32, Fail> {
     let script = b"AT 100\nOFFER 50 a\nSIZE\nPOLL\nPEEK\n";
     let (mut kept, mut tally) = kept(alloc)?;
     let (mut reader, mut writer) = (Bytes::of(script, NEVER), sheet(alloc)?);
     let ended = run(rt, alloc, &mut kept, &mut tally, &mut reader, &mut writer);
-    if ended == Err(SessionFault::Memory) {
-        assert_eq!(rt; (reader.calls, writer.calls), (0, 0));
-        assert!(rt; kept.history().is_empty());
-        return Ok(1);
+    let calls = (reader.calls, writer.calls);
+    Ok(offers_refused(rt, ended, calls, &kept, &writer.bytes))
+}
+
+// What it compares is borrowed: what a function owns is let go at each of its exits.
+fn offers_refused(
+    rt: &impl Abort,
+    ended: Result<Ended, SessionFault>,
+    calls: (usize, usize),
+    kept: &Kept<BinaryTimer>,
+    text: &[u8],
+) -> u32 {
+    if is_memory(&ended) {
+        expect(rt, calls.0 == 0 && calls.1 == 0);
+        expect(rt, kept.history().is_empty());
+        return 1;
     }
-    assert_eq!(rt; ended, Ok(Ended::EndOfInput { lost: 0 }));
+    expect_end(rt, ended, Ok(Ended::EndOfInput { lost: 0 }), 0);
     if kept.audit().offered == 1 {
         let replies = b"NOW 100\nOFFERED 0 150\nSIZE 1\nNONE\nHEAD 0 150 1 a\n";
-        assert_eq!(rt; writer.bytes.as_slice(), replies.as_slice());
-        return Ok(0);
+        expect_bytes(rt, text, replies, 0);
+        return 0;
     }
     let replies = b"NOW 100\nERR 7 memory\nSIZE 0\nNONE\nNONE\n";
-    assert_eq!(rt; writer.bytes.as_slice(), replies.as_slice());
-    assert_eq!(rt; kept.history().len(), 3);
-    Ok(1)
-}
-
-// Appends the last digit of a number.
-fn push_digit(text: &mut Vec<u8>, number: u64) -> Result<(), AllocError> {
-    text.extend_from_slice(&[b"0123456789"[(number % 10) as usize]])
-}
-
-// Appends a number below 1,000 with what stands round it.
-fn push_line(text: &mut Vec<u8>, front: &[u8], number: u64, back: &[u8]) -> Result<(), AllocError> {
-    text.extend_from_slice(front)?;
-    if number >= 100 {
-        push_digit(text, number / 100)?;
-    }
-    if number >= 10 {
-        push_digit(text, number / 10)?;
-    }
-    push_digit(text, number)?;
-    text.extend_from_slice(back)
-}
-
-// Requests with their replies.
-#[derive(Drop)]
-struct Dialogue {
-    script: Vec<u8>,
-    replies: Vec<u8>,
+    expect_bytes(rt, text, replies, 0);
+    expect_count(rt, kept.history().len(), 3, 0);
+    1
 }
 
 // Jobs that are offered and fetched, each before the next is offered, while no other element stands.
@@ -128,7 +122,7 @@ fn refused_lines(text: &[u8]) -> u32 {
 }
 
 // The replies to the last 64 failures: the next ids in their order, but where one was refused.
-fn expect_again(rt: &impl Abort, replies: &[u8], mut line: Vec<u8>) -> Result<u32, Fail> {
+fn expect_again(rt: &impl Abort, replies: &[u8], line: &mut Vec<u8>) -> Result<u32, AllocError> {
     let (mut next_id, mut refused) = (66_u64, 0_u32);
     for reply in replies.split_inclusive(|&byte| byte == b'\n') {
         if reply == REFUSED {
@@ -136,57 +130,104 @@ fn expect_again(rt: &impl Abort, replies: &[u8], mut line: Vec<u8>) -> Result<u3
             continue;
         }
         line.clear();
-        push_line(&mut line, b"AGAIN ", next_id, b" 1100\n")?;
-        assert_eq!(rt; reply, line.as_slice());
+        push_line(line, b"AGAIN ", next_id, b" 1100\n")?;
+        expect_bytes(rt, reply, line, 0);
         next_id = next_id.saturating_add(1);
     }
-    assert_eq!(rt; next_id.saturating_add(u64::from(refused)), 130);
+    expect_number(rt, next_id.saturating_add(u64::from(refused)), 130, 0);
     Ok(refused)
+}
+
+// What a session over a queue of its own came to.
+#[derive(Drop)]
+struct Session {
+    ended: Result<Ended, SessionFault>,
+    text: Vec<u8>,
+    calls: (usize, usize),
+    offered: u64,
+}
+
+fn session_at_last(rt: &impl Abort, alloc: Global, script: &[u8]) -> Result<Session, Fail> {
+    let mut writer = sheet(alloc)?;
+    let (mut kept, mut tally) = kept(alloc)?;
+    let mut reader = Bytes::of(script, NEVER);
+    let ended = run(rt, alloc, &mut kept, &mut tally, &mut reader, &mut writer);
+    Ok(Session {
+        ended,
+        calls: (reader.calls, writer.calls),
+        text: writer.bytes,
+        offered: kept.audit().offered,
+    })
 }
 
 // Jobs fail while no element stands, one, and so on up to 64. One whose failure was refused is held on,
 // and offered again at the end.
 fn refused_failures(rt: &impl Abort, alloc: Global) -> Result<u32, Fail> {
     let dialogue = failures(alloc)?;
-    let (mut kept, mut tally) = kept(alloc)?;
-    let (mut reader, mut writer) = (Bytes::of(&dialogue.script, NEVER), sheet(alloc)?);
-    let line = roomy(alloc)?;
-    let ended = run(rt, alloc, &mut kept, &mut tally, &mut reader, &mut writer);
-    if ended == Err(SessionFault::Memory) {
-        assert_eq!(rt; (reader.calls, writer.calls), (0, 0));
-        return Ok(1);
+    let session = session_at_last(rt, alloc, &dialogue.script)?;
+    if is_memory(&session.ended) {
+        return Ok(no_calls(rt, session.calls));
     }
-    assert_eq!(rt; ended, Ok(Ended::EndOfInput { lost: 0 }));
-    let text = writer.bytes.as_slice();
-    let Some(replies) = text.strip_prefix(dialogue.replies.as_slice()) else {
+    let mut line = roomy(alloc)?;
+    Ok(failures_refused(rt, &session, &dialogue.replies, &mut line)?)
+}
+
+fn no_calls(rt: &impl Abort, calls: (usize, usize)) -> u32 {
+    expect(rt, calls.0 == 0 && calls.1 == 0);
+    1
+}
+
+fn failures_refused(
+    rt: &impl Abort,
+    session: &Session,
+    wanted: &[u8],
+    line: &mut Vec<u8>,
+) -> Result<u32, AllocError> {
+    expect_end(rt, session.ended, Ok(Ended::EndOfInput { lost: 0 }), 0);
+    let Some(replies) = session.text.strip_prefix(wanted) else {
         // An offer was refused, so that its job was not fetched.
-        return Ok(refused_lines(text));
+        return Ok(refused_lines(&session.text));
     };
-    let refused = expect_again(rt, replies, line)?;
-    assert_eq!(rt; kept.audit().offered, 130);
-    Ok(refused)
+    expect_number(rt, session.offered, 130, 0);
+    expect_again(rt, replies, line)
 }
 
 // All jobs are held at the end, and fail then. One whose failure is refused is lost.
 fn refused_endings(rt: &impl Abort, alloc: Global) -> Result<u32, Fail> {
     let dialogue = fetches(alloc)?;
-    let (mut kept, mut tally) = kept(alloc)?;
-    let (mut reader, mut writer) = (Bytes::of(&dialogue.script, NEVER), sheet(alloc)?);
-    let lost = match run(rt, alloc, &mut kept, &mut tally, &mut reader, &mut writer) {
+    let session = session_at_last(rt, alloc, &dialogue.script)?;
+    let (calls, offered) = (session.calls, session.offered);
+    Ok(endings_refused(
+        rt,
+        session.ended,
+        calls,
+        offered,
+        &session.text,
+        &dialogue.replies,
+    ))
+}
+
+fn endings_refused(
+    rt: &impl Abort,
+    ended: Result<Ended, SessionFault>,
+    calls: (usize, usize),
+    offered: u64,
+    text: &[u8],
+    wanted: &[u8],
+) -> u32 {
+    let lost = match ended {
         Ok(Ended::EndOfInput { lost }) => lost,
         ended => {
-            assert_eq!(rt; ended, Err(SessionFault::Memory));
-            assert_eq!(rt; (reader.calls, writer.calls), (0, 0));
-            return Ok(1);
+            expect_end(rt, ended, Err(SessionFault::Memory), 0);
+            return no_calls(rt, calls);
         }
     };
-    let text = writer.bytes.as_slice();
-    if text != dialogue.replies.as_slice() {
+    if text != wanted {
         // An offer was refused, so that its job was not fetched.
-        return Ok(refused_lines(text));
+        return refused_lines(text);
     }
-    assert_eq!(rt; kept.audit().offered.saturating_add(lost), 128);
-    Ok(u32::from(lost == 1))
+    expect_number(rt, offered.saturating_add(lost), 128, 0);
+    u32::from(lost == 1)
 }
 
 #[test]

@@ -1,0 +1,257 @@
+use crate::tests::devices::{Dialogue, NEVER, Sheet, expect_bytes, expect_end, push_line, run_by};
+use rb_binary::BinaryTimer;
+use rb_kept::Kept;
+use rb_retry::Policy;
+use rb_session::{Ended, SessionFault};
+use std::alloc::{AllocError, Global};
+use std::process::Abort;
+use std::test::Fail;
+
+// Two jobs are fetched at moment 300, which were to expire at 150 and at 160. The first fails by
+// its line, the second at the end of the session.
+const SCRIPT: &[u8] = b"AT 300\nOFFERAT 150 a\nPOLL\nOFFERAT 160 b\nPOLL\nFAIL 0\nREMOVE 2\n";
+
+const FETCHED: &[u8] = b"NOW 300\nOFFERED 0 150\nITEM 0 150 1 a\nOFFERED 1 160\nITEM 1 160 1 b\n";
+
+// What a second session asks, to see what the first left.
+const AFTER: &[u8] = b"PEEK\nSIZE\n";
+
+// How two sessions over one queue came out, one after the other.
+#[derive(Drop)]
+struct Outcome {
+    ended: Result<Ended, SessionFault>,
+    after: Result<Ended, SessionFault>,
+    text: Vec<u8>,
+}
+
+fn ran_twice(alloc: Global, script: &[u8], policy: &Policy) -> Result<Outcome, Fail> {
+    let (mut kept, mut tally) = Kept::<BinaryTimer>::new(alloc, 3_000)?;
+    let mut writer = Sheet::new(alloc, NEVER);
+    let (mut first, mut second) = (script, AFTER);
+    let ended = run_by(
+        alloc,
+        &mut kept,
+        &mut tally,
+        &mut first,
+        &mut writer,
+        policy,
+    );
+    let after = run_by(
+        alloc,
+        &mut kept,
+        &mut tally,
+        &mut second,
+        &mut writer,
+        policy,
+    );
+    Ok(Outcome {
+        ended,
+        after,
+        text: writer.bytes,
+    })
+}
+
+// Compares the text that stands behind these replies, and that both sessions came to their end.
+fn expect_outcome(rt: &impl Abort, outcome: &Outcome, replies: &[u8], wanted: &[u8], at: usize) {
+    expect_end(rt, outcome.ended, Ok(Ended::EndOfInput { lost: 0 }), at);
+    expect_end(rt, outcome.after, Ok(Ended::EndOfInput { lost: 0 }), at);
+    let text = outcome.text.as_slice();
+    expect_bytes(rt, text.get(..replies.len()).unwrap_or(text), replies, at);
+    expect_bytes(rt, text.get(replies.len()..).unwrap_or(text), wanted, at);
+}
+
+fn expect_failures(
+    rt: &impl Abort,
+    alloc: Global,
+    policy: Option<Policy>,
+    wanted: &[u8],
+    at: usize,
+) -> Result<(), Fail> {
+    let policy = policy.expect(rt, "a policy");
+    let outcome = ran_twice(alloc, SCRIPT, &policy)?;
+    expect_outcome(rt, &outcome, FETCHED, wanted, at);
+    Ok(())
+}
+
+// A delay counts from the failure, a rate from the first expiry, and neither leads past 2^64 - 1.
+#[test]
+fn what_fails_follows_the_policy(rt: HostRuntime) -> Result<(), Fail> {
+    for (at, (policy, wanted)) in [
+        (
+            Policy::fixed(0, 1_000),
+            b"AGAIN 2 300\nREMOVED yes\nHEAD 3 300 2 b\nSIZE 1\n".as_slice(),
+        ),
+        (
+            Policy::fixed(7, 1_000),
+            b"AGAIN 2 307\nREMOVED yes\nHEAD 3 307 2 b\nSIZE 1\n".as_slice(),
+        ),
+        (
+            Policy::fixed(u64::MAX, 1_000),
+            b"AGAIN 2 18446744073709551615\nREMOVED yes\nHEAD 3 18446744073709551615 2 b\nSIZE 1\n".as_slice(),
+        ),
+        (
+            Policy::fixed_rate(0, 1_000),
+            b"AGAIN 2 150\nREMOVED yes\nHEAD 3 160 2 b\nSIZE 1\n".as_slice(),
+        ),
+        (
+            Policy::fixed_rate(7, 1_000),
+            b"AGAIN 2 157\nREMOVED yes\nHEAD 3 167 2 b\nSIZE 1\n".as_slice(),
+        ),
+        (
+            Policy::fixed_rate(u64::MAX, 1_000),
+            b"AGAIN 2 18446744073709551615\nREMOVED yes\nHEAD 3 18446744073709551615 2 b\nSIZE 1\n".as_slice(),
+        ),
+    ]
+    .into_iter()
+    .enumerate()
+    {
+        expect_failures(&rt, rt.alloc(), policy, wanted, at)?;
+    }
+    Ok(())
+}
+
+#[test]
+fn the_first_attempt_may_be_the_last(rt: HostRuntime) -> Result<(), Fail> {
+    for (at, policy) in [
+        Policy::fixed(0, 1),
+        Policy::fixed(7, 1),
+        Policy::fixed(u64::MAX, 1),
+        Policy::fixed_rate(0, 1),
+        Policy::fixed_rate(7, 1),
+        Policy::fixed_rate(u64::MAX, 1),
+    ]
+    .into_iter()
+    .enumerate()
+    {
+        let wanted = b"DEAD 0\nREMOVED no\nNONE\nSIZE 0\n";
+        expect_failures(&rt, rt.alloc(), policy, wanted, at)?;
+    }
+    Ok(())
+}
+
+// A job that fails at 2^64 - 1, the greatest moment. It was to expire at 5, and after k failures k
+// steps behind the start.
+#[derive(Clone, Copy)]
+struct Chain {
+    start: u64,
+    step: u64,
+}
+
+impl Chain {
+    fn expiry(&self, failures: u64) -> u64 {
+        if failures == 0 {
+            return 5;
+        }
+        self.start
+            .saturating_add(self.step.saturating_mul(failures))
+    }
+
+    // The line of the attempt behind so many failures, each of which gave the next id.
+    fn push_attempt(
+        &self,
+        replies: &mut Vec<u8>,
+        word: &[u8],
+        failures: u64,
+    ) -> Result<(), AllocError> {
+        push_line(replies, word, failures, b" ")?;
+        push_line(replies, b"", self.expiry(failures), b" ")?;
+        push_line(replies, b"", failures.saturating_add(1), b" j\n")
+    }
+
+    // The attempt behind so many failures is fetched and fails.
+    fn push_failure(&self, dialogue: &mut Dialogue, failures: u64) -> Result<(), AllocError> {
+        push_line(&mut dialogue.script, b"POLL\nFAIL ", failures, b"\n")?;
+        self.push_attempt(&mut dialogue.replies, b"ITEM ", failures)?;
+        let next = failures.saturating_add(1);
+        push_line(&mut dialogue.replies, b"AGAIN ", next, b" ")?;
+        push_line(&mut dialogue.replies, b"", self.expiry(next), b"\n")
+    }
+
+    // The job fails so often, and is then fetched once more.
+    fn push_failures(&self, dialogue: &mut Dialogue, failures: u64) -> Result<(), AllocError> {
+        dialogue.push(
+            b"AT 18446744073709551615\nOFFERAT 5 j\n",
+            b"NOW 18446744073709551615\nOFFERED 0 5\n",
+        )?;
+        for failure in 0..failures {
+            self.push_failure(dialogue, failure)?;
+        }
+        dialogue.script.extend_from_slice(b"POLL\n")?;
+        self.push_attempt(&mut dialogue.replies, b"ITEM ", failures)
+    }
+}
+
+// The 999th attempt is held at the end, and a 1,000th is offered.
+fn expect_one_more(
+    rt: &impl Abort,
+    alloc: Global,
+    policy: &Policy,
+    chain: Chain,
+    at: usize,
+) -> Result<(), Fail> {
+    let mut dialogue = Dialogue::new(alloc);
+    chain.push_failures(&mut dialogue, 998)?;
+    let outcome = ran_twice(alloc, &dialogue.script, policy)?;
+    let mut left = Vec::new(alloc);
+    chain.push_attempt(&mut left, b"HEAD ", 999)?;
+    left.extend_from_slice(b"SIZE 1\n")?;
+    expect_outcome(rt, &outcome, &dialogue.replies, &left, at);
+    Ok(())
+}
+
+// The 1,000th attempt is held at the end, or fails by its line: nothing follows it.
+fn expect_no_more(
+    rt: &impl Abort,
+    alloc: Global,
+    policy: &Policy,
+    chain: Chain,
+    last: (&[u8], &[u8]),
+    at: usize,
+) -> Result<(), Fail> {
+    let mut dialogue = Dialogue::new(alloc);
+    chain.push_failures(&mut dialogue, 999)?;
+    dialogue.script.extend_from_slice(last.0)?;
+    let outcome = ran_twice(alloc, &dialogue.script, policy)?;
+    expect_outcome(rt, &outcome, &dialogue.replies, last.1, at);
+    Ok(())
+}
+
+fn expect_attempts(
+    rt: &impl Abort,
+    alloc: Global,
+    policy: Option<Policy>,
+    chain: Chain,
+    at: usize,
+) -> Result<(), Fail> {
+    let policy = policy.expect(rt, "a policy");
+    expect_one_more(rt, alloc, &policy, chain, at)?;
+    let held = (b"".as_slice(), b"NONE\nSIZE 0\n".as_slice());
+    expect_no_more(rt, alloc, &policy, chain, held, at)?;
+    let failed = (
+        b"FAIL 999\n".as_slice(),
+        b"DEAD 999\nNONE\nSIZE 0\n".as_slice(),
+    );
+    expect_no_more(rt, alloc, &policy, chain, failed, at)
+}
+
+fn chain_from(start: u64, step: u64) -> Chain {
+    Chain { start, step }
+}
+
+#[test]
+fn a_job_has_a_thousand_attempts(rt: HostRuntime) -> Result<(), Fail> {
+    for (at, (policy, chain)) in [
+        (Policy::fixed(0, 1_000), chain_from(u64::MAX, 0)),
+        (Policy::fixed(7, 1_000), chain_from(u64::MAX, 0)),
+        (Policy::fixed(u64::MAX, 1_000), chain_from(u64::MAX, 0)),
+        (Policy::fixed_rate(0, 1_000), chain_from(5, 0)),
+        (Policy::fixed_rate(7, 1_000), chain_from(5, 7)),
+        (Policy::fixed_rate(u64::MAX, 1_000), chain_from(5, u64::MAX)),
+    ]
+    .into_iter()
+    .enumerate()
+    {
+        expect_attempts(&rt, rt.alloc(), policy, chain, at)?;
+    }
+    Ok(())
+}
