@@ -4,10 +4,4 @@
 #![tactic(auto)]
 
 #[cfg(test)]
-mod command_line_rows;
-#[cfg(test)]
-mod expecting;
-#[cfg(test)]
-mod server_words_rows;
-#[cfg(test)]
 mod tests;

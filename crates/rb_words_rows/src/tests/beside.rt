@@ -1,6 +1,6 @@
 // Each option of a command alone, and beside the others.
 
-use crate::expecting::expect_same;
+use crate::tests::devices::{expect, expect_same};
 use rb_retry::{Pace, Policy};
 use rb_words::{ServerOptions, TimerKind, Words, read_words};
 use std::alloc::{AllocError, Global};
@@ -91,7 +91,7 @@ impl Line<'_, '_> {
         }
     }
 
-    fn expect_words(&self, rt: &impl Abort, read: Words) {
+    fn expect_words(&self, rt: &impl Abort, read: &Words) {
         let words = self.words;
         match read {
             Words::Script {
@@ -99,12 +99,12 @@ impl Line<'_, '_> {
                 history,
                 from,
             } => {
-                assert!(rt; self.has("script"), "{words:?}");
+                expect(rt, words, self.has("script"));
                 self.expect_run(rt, options.timer, options.calls, options.policy);
                 self.expect_files(rt, history.as_deref(), from.as_deref());
             }
             Words::Replay { options, file } => {
-                assert!(rt; self.has("replay"), "{words:?}");
+                expect(rt, words, self.has("replay"));
                 expect_same(rt, words, &file.as_str(), &"run.txt");
                 self.expect_chains(rt, options.chains);
             }
@@ -113,8 +113,8 @@ impl Line<'_, '_> {
                 history,
                 from,
             } => {
-                assert!(rt; self.has("serve"), "{words:?}");
-                self.expect_server(rt, &options);
+                expect(rt, words, self.has("serve"));
+                self.expect_server(rt, options);
                 self.expect_files(rt, history.as_deref(), from.as_deref());
             }
         }
@@ -139,6 +139,11 @@ fn chosen<'a>(
     Ok(words)
 }
 
+fn expect_line(rt: &impl Abort, alloc: Global, words: &[&str]) {
+    let read = read_words(alloc, words).ok().expect(rt, "words");
+    Line { words }.expect_words(rt, &read);
+}
+
 // Reads the words in front with each option and with none, or with all but each and with all.
 fn expect_lines(
     rt: &impl Abort,
@@ -149,9 +154,7 @@ fn expect_lines(
 ) -> Result<(), AllocError> {
     for number in 0..=options.len() {
         let words = chosen(alloc, front, options, number, alone)?;
-        let read = read_words(alloc, &words).ok().expect(rt, "words");
-        let line = Line { words: &words };
-        line.expect_words(rt, read);
+        expect_line(rt, alloc, &words);
     }
     Ok(())
 }

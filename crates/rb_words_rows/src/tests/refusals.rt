@@ -1,6 +1,6 @@
 // Each allocation of the reading of words, refused in turn.
 
-use crate::expecting::expect_same;
+use crate::tests::devices::expect_same;
 use clap::Error;
 use clap::error::ErrorKind;
 use rb_retry::Policy;
@@ -24,7 +24,7 @@ enum Answer {
 }
 
 // What the words were read as, if the files are those of each line.
-fn answer_of(read: Result<Words, Error>) -> Option<Answer> {
+fn answer_of(read: &Result<Words, Error>) -> Option<Answer> {
     match read {
         Ok(
             Words::Script {
@@ -32,17 +32,17 @@ fn answer_of(read: Result<Words, Error>) -> Option<Answer> {
                 history,
                 from,
             },
-        ) => with_files(Answer::Script(options), &history, &from),
+        ) => with_files(Answer::Script(*options), history, from),
         Ok(
             Words::Serve {
                 options,
                 history,
                 from,
             },
-        ) => with_files(Answer::Serve(options), &history, &from),
+        ) => with_files(Answer::Serve(*options), history, from),
         Ok(Words::Replay { options, file }) => {
             if file.as_str() == "run.txt" {
-                Some(Answer::Replay(options))
+                Some(Answer::Replay(*options))
             } else {
                 None
             }
@@ -68,13 +68,13 @@ fn is_text(found: &Option<String>, wanted: &str) -> bool {
 
 // Whether the line met a refusal. It is read once more then.
 fn refused_line(rt: &impl Abort, alloc: Global, words: &[&str], answer: Answer) -> bool {
-    let read = answer_of(read_words(alloc, words));
+    let read = answer_of(&read_words(alloc, words));
     if read == Some(answer) {
         return false;
     }
     let wanted = Some(Answer::Refused(ErrorKind::OutOfMemory));
     expect_same(rt, words, &read, &wanted);
-    let again = answer_of(read_words(alloc, words));
+    let again = answer_of(&read_words(alloc, words));
     expect_same(rt, words, &again, &Some(answer));
     true
 }

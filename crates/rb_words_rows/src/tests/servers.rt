@@ -1,22 +1,20 @@
-// What the words of `serve` ask for.
-
-ghost use Rattle.std.specs.Prelude.{◌≡◌};
-
-use crate::command_line_rows::refuses;
-use crate::expecting::expect_same;
+use crate::tests::devices::{expect_same, refuses, words_of};
 use clap::error::ErrorKind;
 use rb_retry::Policy;
-use rb_words::{ServeOptions, ServerOptions, TimerKind, Words, read_words};
+use rb_words::{ServeOptions, ServerOptions, TimerKind, Words};
 use std::alloc::Global;
 use std::process::Abort;
-use std::test::Fail;
+
+fn options_of(alloc: Global, words: &[&str]) -> Option<ServerOptions> {
+    match words_of(alloc, words) {
+        Some(Words::Serve { options, .. }) => Some(options),
+        _ => None,
+    }
+}
 
 // Compares the options that a server is given.
 fn expect_options(rt: &impl Abort, alloc: Global, words: &[&str], expected: ServerOptions) {
-    match read_words(alloc, words) {
-        Ok(Words::Serve { options, .. }) => expect_same(rt, words, &options, &expected),
-        _ => assert!(rt; false, "{words:?}"),
-    }
+    expect_same(rt, words, &options_of(alloc, words), &Some(expected));
 }
 
 #[test]
@@ -40,38 +38,78 @@ fn takes_a_port_alone(rt: HostRuntime) {
     expect_options(&rt, rt.alloc(), &joined, expected);
 }
 
+fn expect_least(rt: &impl Abort, alloc: Global, pace: &str, policy: Option<Policy>) {
+    let run = ServeOptions {
+        workers: 1,
+        calls: 1,
+        policy: policy.expect(rt, "a policy"),
+    };
+    let expected = ServerOptions {
+        port: 1,
+        timer: TimerKind::List,
+        sessions: 1,
+        turns: 0,
+        run,
+    };
+    let words = [
+        "rb_broker",
+        "serve",
+        "--port=1",
+        "--timer=list",
+        "--sessions=1",
+        "--turns=0",
+        "--workers=1",
+        "--calls=1",
+        pace,
+        "--attempts=1",
+    ];
+    expect_options(rt, alloc, &words, expected);
+}
+
 #[test]
 fn takes_the_least_numbers(rt: HostRuntime) {
     for (pace, policy) in [
         ("--delay=0", Policy::fixed(0, 1)),
         ("--rate=0", Policy::fixed_rate(0, 1)),
     ] {
-        let run = ServeOptions {
-            workers: 1,
-            calls: 1,
-            policy: policy.expect(&rt, "a policy"),
-        };
-        let expected = ServerOptions {
-            port: 1,
-            timer: TimerKind::List,
-            sessions: 1,
-            turns: 0,
-            run,
-        };
-        let words = [
-            "rb_broker",
-            "serve",
-            "--port=1",
-            "--timer=list",
-            "--sessions=1",
-            "--turns=0",
-            "--workers=1",
-            "--calls=1",
-            pace,
-            "--attempts=1",
-        ];
-        expect_options(&rt, rt.alloc(), &words, expected);
+        expect_least(&rt, rt.alloc(), pace, policy);
     }
+}
+
+fn expect_greatest(rt: &impl Abort, alloc: Global, pace: &str, policy: Option<Policy>) {
+    let run = ServeOptions {
+        workers: 16,
+        calls: 1_000_000,
+        policy: policy.expect(rt, "a policy"),
+    };
+    let expected = ServerOptions {
+        port: 65_535,
+        timer: TimerKind::Wheel,
+        sessions: 10_000,
+        turns: 1_000_000,
+        run,
+    };
+    let words = [
+        "rb_broker",
+        "serve",
+        "--attempts",
+        "1000",
+        pace,
+        "18446744073709551615",
+        "--calls",
+        "1000000",
+        "--workers",
+        "16",
+        "--turns",
+        "1000000",
+        "--sessions",
+        "10000",
+        "--timer",
+        "wheel",
+        "--port",
+        "65535",
+    ];
+    expect_options(rt, alloc, &words, expected);
 }
 
 #[test]
@@ -80,43 +118,18 @@ fn takes_the_greatest_numbers(rt: HostRuntime) {
         ("--delay", Policy::fixed(u64::MAX, 1_000)),
         ("--rate", Policy::fixed_rate(u64::MAX, 1_000)),
     ] {
-        let run = ServeOptions {
-            workers: 16,
-            calls: 1_000_000,
-            policy: policy.expect(&rt, "a policy"),
-        };
-        let expected = ServerOptions {
-            port: 65_535,
-            timer: TimerKind::Wheel,
-            sessions: 10_000,
-            turns: 1_000_000,
-            run,
-        };
-        let words = [
-            "rb_broker",
-            "serve",
-            "--attempts",
-            "1000",
-            pace,
-            "18446744073709551615",
-            "--calls",
-            "1000000",
-            "--workers",
-            "16",
-            "--turns",
-            "1000000",
-            "--sessions",
-            "10000",
-            "--timer",
-            "wheel",
-            "--port",
-            "65535",
-        ];
-        expect_options(&rt, rt.alloc(), &words, expected);
+        expect_greatest(&rt, rt.alloc(), pace, policy);
     }
 }
 
-// Compares the files that a server is given.
+// The files that a server is given: that of its history and that behind which it goes on.
+fn files(asked: &Option<Words>) -> Option<(Option<&str>, Option<&str>)> {
+    match asked {
+        Some(Words::Serve { history, from, .. }) => Some((history.as_deref(), from.as_deref())),
+        _ => None,
+    }
+}
+
 fn expect_files(
     rt: &impl Abort,
     alloc: Global,
@@ -124,19 +137,8 @@ fn expect_files(
     history: Option<&str>,
     from: Option<&str>,
 ) {
-    match read_words(alloc, words) {
-        Ok(
-            Words::Serve {
-                history: written,
-                from: read,
-                ..
-            },
-        ) => {
-            expect_same(rt, words, &written.as_deref(), &history);
-            expect_same(rt, words, &read.as_deref(), &from);
-        }
-        _ => assert!(rt; false, "{words:?}"),
-    }
+    let asked = words_of(alloc, words);
+    expect_same(rt, words, &files(&asked), &Some((history, from)));
 }
 
 #[test]
@@ -156,6 +158,11 @@ fn takes_the_files_of_a_server(rt: HostRuntime) {
     expect_files(&rt, alloc, &both, Some("x"), Some("a b"));
 }
 
+fn refuses_port(rt: &impl Abort, alloc: Global, port: &str) {
+    let words = ["rb_broker", "serve", port];
+    refuses(rt, alloc, &words, ErrorKind::ValueValidation);
+}
+
 #[test]
 fn refuses_other_ports(rt: HostRuntime) {
     let missing = ["rb_broker", "serve"];
@@ -168,9 +175,13 @@ fn refuses_other_ports(rt: HostRuntime) {
     let other_command = ["rb_broker", "script", "--port=1"];
     refuses(&rt, rt.alloc(), &other_command, ErrorKind::UnknownArgument);
     for port in ["--port=0", "--port=65536", "--port=-1", "--port=http"] {
-        let words = ["rb_broker", "serve", port];
-        refuses(&rt, rt.alloc(), &words, ErrorKind::ValueValidation);
+        refuses_port(&rt, rt.alloc(), port);
     }
+}
+
+fn refuses_option(rt: &impl Abort, alloc: Global, option: &str, kind: ErrorKind) {
+    let words = ["rb_broker", "serve", "--port=1", option];
+    refuses(rt, alloc, &words, kind);
 }
 
 #[test]
@@ -194,37 +205,10 @@ fn refuses_other_values_of_a_server(rt: HostRuntime) {
         ("--chains", ErrorKind::UnknownArgument),
         ("more", ErrorKind::UnknownArgument),
     ] {
-        let words = ["rb_broker", "serve", "--port=1", option];
-        refuses(&rt, rt.alloc(), &words, kind);
+        refuses_option(&rt, rt.alloc(), option, kind);
     }
     let both = ["rb_broker", "serve", "--port=1", "--delay=5", "--rate=5"];
     refuses(&rt, rt.alloc(), &both, ErrorKind::ArgumentConflict);
     let both = ["rb_broker", "serve", "--port=1", "--delay=5", "--rate=5"];
     refuses(&rt, rt.alloc(), &both, ErrorKind::ArgumentConflict);
-}
-
-#[test]
-fn help_names_the_options_of_a_server(rt: HostRuntime) -> Result<(), Fail> {
-    let alloc = rt.alloc();
-    let error = read_words(alloc, &["rb_broker", "serve", "--help"])
-        .err()
-        .expect(&rt, "help");
-    assert_eq!(rt; error.kind(), ErrorKind::DisplayHelp);
-    let text = error.to_string(alloc)?;
-    for part in [
-        "--port <P>",
-        "--workers <N>",
-        "--sessions <N>",
-        "--turns <N>",
-        "--calls <N>",
-        "--timer <T>",
-        "--delay <N>",
-        "--rate <N>",
-        "--attempts <N>",
-        "--history <FILE>",
-        "--from <FILE>",
-    ] {
-        assert!(rt; text.as_str().contains(part), "{part}");
-    }
-    Ok(())
 }
