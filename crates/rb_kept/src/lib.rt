@@ -9,8 +9,6 @@ mod fault;
 mod kept;
 mod outcome;
 mod perform;
-#[cfg(test)]
-mod tests;
 mod tries;
 
 pub use fault::{CallFault, NewFault};

@@ -1,15 +1,14 @@
 // Runs of tries.
 
+use super::devices::{
+    done, drained, drained_act, element, event, expect_events, expect_opening, expect_steps, head,
+    item, later, offer, offered, opening, timed_act, timed_poll,
+};
 use super::run::Run;
-use super::{drained, drained_act, element, event, item, offer, offered, timed_act, timed_poll};
-use crate::{CallFault, Outcome, Step};
+use rb_kept::{CallFault, Step};
 use rb_queue::{Act, Ask, Event, Reply};
 use std::alloc::Global;
 use std::process::Abort;
-
-fn done(reply: Reply) -> Step {
-    Ok(Outcome::Done(reply))
-}
 
 // The act of a first offer.
 fn inserted(rt: &impl Abort, id: u64, expiry: u64, bytes: &[u8]) -> Act {
@@ -21,11 +20,11 @@ fn expect_six(rt: &impl Abort, steps: &[Step]) {
         done(offered(rt, 0, 10, b"a")),
         done(item(rt, 0, 10, b"a")),
         done(Reply::Nothing),
-        Ok(Outcome::Later(None)),
+        later(None),
         done(Reply::Size(0)),
         Err(CallFault::Full),
     ];
-    assert_eq!(rt; steps, expected.as_slice());
+    expect_steps(rt, steps, expected.as_slice());
 }
 
 fn expect_four_events(rt: &impl Abort, history: &[Event]) {
@@ -35,7 +34,7 @@ fn expect_four_events(rt: &impl Abort, history: &[Event]) {
         event(1, 3, 10, timed_act(3, 4, None)),
         event(0, 11, 11, Act::Size(0)),
     ];
-    assert_eq!(rt; history, expected.as_slice());
+    expect_events(rt, history, expected.as_slice());
 }
 
 fn run_six(rt: &impl Abort, alloc: Global, run: &mut Run) -> Vec<Step> {
@@ -50,24 +49,28 @@ fn run_six(rt: &impl Abort, alloc: Global, run: &mut Run) -> Vec<Step> {
     run.run_tries(rt, alloc, &tries)
 }
 
+fn expect_run_of_six(rt: &impl Abort, alloc: Global, run: &mut Run) {
+    let steps = run_six(rt, alloc, run);
+    expect_six(rt, &steps);
+    expect_four_events(rt, run.kept.history());
+    run.expect_audit(rt, [4, 1, 1, 0, 0, 0, 0]);
+    run.expect_share(rt, 4, 1, 1);
+}
+
 #[test]
 fn a_run_answers_each_try_in_its_turn(rt: HostRuntime) {
     let mut run = Run::new(&rt, rt.alloc(), 4);
-    let steps = run_six(&rt, rt.alloc(), &mut run);
-    expect_six(&rt, &steps);
-    expect_four_events(&rt, run.kept.history());
-    run.expect_audit(&rt, [4, 1, 1, 0, 0, 0, 0]);
-    run.expect_share(&rt, 4, 1, 1);
+    expect_run_of_six(&rt, rt.alloc(), &mut run);
 }
 
 fn expect_second(rt: &impl Abort, steps: &[Step]) {
     let expected = [
-        done(Reply::Head(element(rt, 0, 30, b"a"))),
+        done(head(rt, 0, 30, b"a")),
         done(offered(rt, 1, 25, b"b")),
         done(item(rt, 1, 25, b"b")),
         Err(CallFault::Full),
     ];
-    assert_eq!(rt; steps, expected.as_slice());
+    expect_steps(rt, steps, expected.as_slice());
 }
 
 fn expect_five_events(rt: &impl Abort, history: &[Event]) {
@@ -78,7 +81,7 @@ fn expect_five_events(rt: &impl Abort, history: &[Event]) {
         event(2, 29, 29, inserted(rt, 1, 25, b"b")),
         event(2, 29, 29, Act::Poll(Some(1))),
     ];
-    assert_eq!(rt; history, expected.as_slice());
+    expect_events(rt, history, expected.as_slice());
 }
 
 fn run_two(rt: &impl Abort, alloc: Global, run: &mut Run) -> Vec<Step> {
@@ -96,13 +99,17 @@ fn run_four(rt: &impl Abort, alloc: Global, run: &mut Run) -> Vec<Step> {
     run.run_tries(rt, alloc, &tries)
 }
 
+fn expect_two_runs(rt: &impl Abort, alloc: Global, run: &mut Run) {
+    let _ = run_two(rt, alloc, run);
+    let steps = run_four(rt, alloc, run);
+    expect_second(rt, &steps);
+    expect_five_events(rt, run.kept.history());
+}
+
 #[test]
 fn a_second_run_goes_on(rt: HostRuntime) {
     let mut run = Run::new(&rt, rt.alloc(), 5);
-    let _ = run_two(&rt, rt.alloc(), &mut run);
-    let steps = run_four(&rt, rt.alloc(), &mut run);
-    expect_second(&rt, &steps);
-    expect_five_events(&rt, run.kept.history());
+    expect_two_runs(&rt, rt.alloc(), &mut run);
 }
 
 fn expect_twelve(rt: &impl Abort, alloc: Global, steps: &[Step]) {
@@ -110,8 +117,8 @@ fn expect_twelve(rt: &impl Abort, alloc: Global, steps: &[Step]) {
     let expected = [
         done(offered(rt, 0, 9, b"a")),
         done(offered(rt, 1, 8, b"b")),
-        Ok(Outcome::Later(Some(8))),
-        done(Reply::Head(element(rt, 1, 8, b"b"))),
+        later(Some(8)),
+        done(head(rt, 1, 8, b"b")),
         done(Reply::Nothing),
         done(item(rt, 1, 8, b"b")),
         done(item(rt, 0, 9, b"a")),
@@ -121,7 +128,7 @@ fn expect_twelve(rt: &impl Abort, alloc: Global, steps: &[Step]) {
         done(Reply::Cleared),
         done(Reply::Size(0)),
     ];
-    assert_eq!(rt; steps, expected.as_slice());
+    expect_steps(rt, steps, expected.as_slice());
 }
 
 fn expect_eleven_events(rt: &impl Abort, alloc: Global, history: &[Event]) {
@@ -143,7 +150,7 @@ fn expect_eleven_events(rt: &impl Abort, alloc: Global, history: &[Event]) {
         event(11, 9, 9, Act::Clear),
         event(12, 9, 9, Act::Size(0)),
     ];
-    assert_eq!(rt; history, expected.as_slice());
+    expect_events(rt, history, expected.as_slice());
 }
 
 fn run_twelve(rt: &impl Abort, alloc: Global, run: &mut Run) -> Vec<Step> {
@@ -164,11 +171,59 @@ fn run_twelve(rt: &impl Abort, alloc: Global, run: &mut Run) -> Vec<Step> {
     run.run_tries(rt, alloc, &tries)
 }
 
+fn expect_run_of_twelve(rt: &impl Abort, alloc: Global, run: &mut Run) {
+    let steps = run_twelve(rt, alloc, run);
+    expect_twelve(rt, alloc, &steps);
+    expect_eleven_events(rt, alloc, run.kept.history());
+}
+
 // A wait is a step too, and the tries behind it are made.
 #[test]
 fn each_ask_is_recorded_by_its_own_act(rt: HostRuntime) {
     let mut run = Run::new(&rt, rt.alloc(), 11);
-    let steps = run_twelve(&rt, rt.alloc(), &mut run);
-    expect_twelve(&rt, rt.alloc(), &steps);
-    expect_eleven_events(&rt, rt.alloc(), run.kept.history());
+    expect_run_of_twelve(&rt, rt.alloc(), &mut run);
+}
+
+fn expect_no_step(rt: &impl Abort, alloc: Global, run: &mut Run) {
+    let steps = run.run_tries(rt, alloc, &[]);
+    expect_steps(rt, &steps, &[]);
+}
+
+// Before the first event, behind the first, and once the history is full.
+fn runs_of_no_tries(rt: &impl Abort, alloc: Global, run: &mut Run) {
+    expect_no_step(rt, alloc, run);
+    run.expect_audit(rt, [0; 7]);
+    run.expect_share(rt, 0, 0, 0);
+    run.offer(rt, 3, 0, 9, b"a");
+    expect_no_step(rt, alloc, run);
+    expect_no_step(rt, alloc, run);
+    run.expect_audit(rt, [1, 1, 0, 0, 0, 1, 0]);
+    run.expect_share(rt, 1, 1, 0);
+    run.expect_last(rt, 3, 3, inserted(rt, 0, 9, b"a"));
+    run.expect(rt, 9, Ask::Poll, item(rt, 0, 9, b"a"));
+    expect_no_step(rt, alloc, run);
+    run.expect_audit(rt, [2, 1, 1, 0, 0, 0, 0]);
+    run.expect_share(rt, 2, 1, 1);
+    run.expect_last(rt, 9, 9, Act::Poll(Some(0)));
+}
+
+#[test]
+fn a_run_of_no_tries_changes_nothing(rt: HostRuntime) {
+    let mut run = Run::new(&rt, rt.alloc(), 2);
+    runs_of_no_tries(&rt, rt.alloc(), &mut run);
+}
+
+// The same behind an opening, which stays as it was too.
+fn runs_of_no_tries_from_two(rt: &impl Abort, alloc: Global, run: &mut Run) {
+    expect_no_step(rt, alloc, run);
+    run.expect_audit(rt, [0, 0, 0, 0, 0, 2, 2]);
+    expect_opening(rt, run.kept.opening(), &opening(rt, alloc));
+    run.expect(rt, 0, Ask::Size, Reply::Size(2));
+    run.expect_last(rt, 0, 30, Act::Size(2));
+}
+
+#[test]
+fn a_run_of_no_tries_leaves_the_opening(rt: HostRuntime) {
+    let mut run = Run::begun(&rt, rt.alloc());
+    runs_of_no_tries_from_two(&rt, rt.alloc(), &mut run);
 }

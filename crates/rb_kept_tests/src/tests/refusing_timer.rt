@@ -1,8 +1,8 @@
-use super::refusals::{opening, run_through};
-use crate::{Kept, NewFault};
+use super::devices::{expect_handed_back, expect_number};
+use super::refusals::{opening_of, run_through};
+use rb_kept::{Kept, NewFault};
 use rb_timer::{ListTimer, Timer};
 use std::alloc::{AllocError, Global};
-use std::test::Fail;
 
 // A timer that answers want of memory once, at the first room above `MOST`, as its contract allows.
 #[derive(Debug, Drop)]
@@ -67,20 +67,16 @@ impl<T: Timer, const MOST: usize> Timer for RefusingTimer<T, MOST> {
 }
 
 #[test]
-fn an_offer_refused_by_the_timer_changes_nothing(rt: HostRuntime) -> Result<(), Fail> {
+fn an_offer_refused_by_the_timer_changes_nothing(rt: HostRuntime) {
     // The ninth element asks the timer for more room.
-    assert_eq!(rt;
-        run_through::<RefusingTimer<ListTimer, 8>>(&rt, rt.alloc())?,
-        1
-    );
-    Ok(())
+    let met = run_through::<RefusingTimer<ListTimer, 8>>(&rt, rt.alloc());
+    expect_number(&rt, u64::from(met), 1);
 }
 
 #[test]
-fn an_opening_refused_by_the_timer_is_handed_back(rt: HostRuntime) -> Result<(), Fail> {
-    let given = opening(&rt, rt.alloc(), 9)?;
-    let handed_back = Some((opening(&rt, rt.alloc(), 9)?, NewFault::Memory));
+fn an_opening_refused_by_the_timer_is_handed_back(rt: HostRuntime) {
+    let given = opening_of(&rt, rt.alloc(), 9);
+    let handed_back = Some((opening_of(&rt, rt.alloc(), 9), NewFault::Memory));
     let refused = Kept::<RefusingTimer<ListTimer, 8>>::new_from(rt.alloc(), 1, given).err();
-    assert_eq!(rt; refused, handed_back);
-    Ok(())
+    expect_handed_back(&rt, &refused, &handed_back, 1);
 }

@@ -1,0 +1,14 @@
+mod allocations;
+mod ample;
+mod devices;
+mod each_timer;
+mod extremes;
+mod faults;
+mod later;
+mod openings;
+mod refusals;
+mod refusing_timer;
+mod rows;
+mod run;
+mod runs;
+mod shares;

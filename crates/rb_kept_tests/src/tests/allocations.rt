@@ -1,0 +1,299 @@
+// Calls that take no memory. `tools/count_allocations` counts what the two tests of this file allocate:
+// they make the same things, and only the second makes the calls, so they have to allocate as often.
+
+use crate::tests::devices::{expect_number, payload};
+use rb_binary::BinaryTimer;
+use rb_delayed::{Delayed, Element, Payload, add_capped, add_delay, is_expired};
+use rb_kept::{Kept, Outcome};
+use rb_ledger::{Books, Tally};
+use rb_pairing::PairingTimer;
+use rb_protocol::{LineReply, read_request, write_reply};
+use rb_queue::{Ask, DelayQueue, Draft, Opening, Reply};
+use rb_replay::read_history;
+use rb_timer::{ListTimer, Timer};
+use rb_wheel::WheelTimer;
+use std::alloc::{AllocError, Global};
+use std::process::Abort;
+use std::test::Fail;
+
+// How often each call is made.
+const ROUNDS: u64 = 100;
+
+// How many elements the calls take out: three of them by a fetch, one by a removal, in each round.
+const ELEMENTS: u64 = 400;
+
+// A moment at which all of them have expired.
+const LATE: u64 = 1_000;
+
+#[test]
+fn none_of_the_calls(rt: HostRuntime) -> Result<(), Fail> {
+    expect_answers(&rt, rt.alloc(), 0)
+}
+
+#[test]
+fn each_of_the_calls(rt: HostRuntime) -> Result<(), Fail> {
+    expect_answers(&rt, rt.alloc(), ROUNDS)
+}
+
+// Each round of each group counts how many of its calls answered as they have to.
+fn expect_answers(rt: &impl Abort, alloc: Global, rounds: u64) -> Result<(), Fail> {
+    expect_number(rt, values(rt, rounds), rounds.saturating_mul(6));
+    expect_number(rt, books(rounds), rounds.saturating_mul(3));
+    expect_number(rt, lines(alloc, rounds)?, rounds.saturating_mul(3));
+    expect_number(rt, events(alloc, rounds)?, rounds);
+    expect_over::<ListTimer>(rt, alloc, rounds)?;
+    expect_over::<BinaryTimer>(rt, alloc, rounds)?;
+    expect_over::<PairingTimer>(rt, alloc, rounds)?;
+    expect_over::<WheelTimer>(rt, alloc, rounds)
+}
+
+fn expect_over<T: Timer>(rt: &impl Abort, alloc: Global, rounds: u64) -> Result<(), Fail> {
+    expect_number(rt, timers::<T>(alloc, rounds)?, rounds.saturating_mul(7));
+    expect_number(
+        rt,
+        queues::<T>(rt, alloc, rounds)?,
+        rounds.saturating_mul(6),
+    );
+    expect_number(
+        rt,
+        kept_queues::<T>(rt, alloc, rounds)?,
+        rounds.saturating_mul(9),
+    );
+    Ok(())
+}
+
+fn count(answers: &[bool]) -> u64 {
+    answers.iter().filter(|&&answer| answer).count() as u64
+}
+
+// Payloads, moments and delays.
+fn values(rt: &impl Abort, rounds: u64) -> u64 {
+    let element = element(rt);
+    let mut right = 0_u64;
+    for round in 0..rounds {
+        right = right.saturating_add(value_round(&element, round));
+    }
+    right
+}
+
+fn element(rt: &impl Abort) -> Element {
+    Element {
+        id: 0,
+        expiry: LATE,
+        origin: 0,
+        first: LATE,
+        attempt: 1,
+        payload: payload(rt, b"a"),
+    }
+}
+
+fn value_round(element: &Element, round: u64) -> u64 {
+    count(&[
+        Payload::new(b"job").is_ok_and(|payload| payload.as_bytes() == b"job".as_slice()),
+        add_delay(round, 1) == round.checked_add(1),
+        add_capped(u64::MAX, round) == u64::MAX,
+        !is_expired(element, round),
+        element.delay(LATE) == 0,
+        element.delay_order(element).is_eq(),
+    ])
+}
+
+// Books, and shares of them.
+fn books(rounds: u64) -> u64 {
+    let mut right = 0_u64;
+    for _ in 0..rounds {
+        right = right.saturating_add(book_round());
+    }
+    right
+}
+
+fn book_round() -> u64 {
+    let (mut books, mut tally) = Books::new();
+    let mut other = tally.split();
+    books.note(&mut tally, 1, 0);
+    books.note(&mut other, 0, 2);
+    tally.join(other);
+    count(&[
+        books.calls() == 2 && tally.calls() == 2,
+        books.offered() == 1 && tally.offered() == 1,
+        books.totals() == tally.totals() && tally.given() == 2,
+    ])
+}
+
+// Lines of requests, and replies into room for the longest one.
+fn lines(alloc: Global, rounds: u64) -> Result<u64, AllocError> {
+    let mut text = Vec::with_capacity(alloc, 128)?;
+    let mut right = 0_u64;
+    for _ in 0..rounds {
+        right = right.saturating_add(line_round(&mut text));
+    }
+    Ok(right)
+}
+
+fn line_round(text: &mut Vec<u8>) -> u64 {
+    text.clear();
+    count(&[
+        read_request(b"OFFER 5 job").is_ok(),
+        read_request(b"offer").is_err(),
+        write_reply(&LineReply::Size(u64::MAX), text).is_ok(),
+    ])
+}
+
+// The events of a history that was read.
+fn events(alloc: Global, rounds: u64) -> Result<u64, Fail> {
+    let history = read_history(alloc, b"history 3\nopen 0 0 0\n0 0 0 size 0\nend 1\n")?;
+    let mut right = 0_u64;
+    for _ in 0..rounds {
+        right = right.saturating_add(history.events().len() as u64);
+    }
+    Ok(right)
+}
+
+// A timer, but for its room.
+fn timers<T: Timer>(alloc: Global, rounds: u64) -> Result<u64, AllocError> {
+    let mut timer = T::new(alloc);
+    timer.reserve(70)?;
+    let mut right = 0_u64;
+    for round in 0..rounds {
+        right = right.saturating_add(timer_round(alloc, &mut timer, round));
+    }
+    Ok(right)
+}
+
+// An entry near the round's moment and one far behind it.
+fn timer_round<T: Timer>(alloc: Global, timer: &mut T, round: u64) -> u64 {
+    let far = round.saturating_add(1_000_000);
+    let answers = [
+        T::new(alloc).len() == 0,
+        puts(timer, 64, far),
+        puts(timer, 1, round),
+        timer.least() == Some((1, round)),
+        timer.due(round) == Some((1, round)),
+        takes(timer, 1),
+        timer.due(far) == Some((64, far)) && timer.len() == 1,
+    ];
+    timer.clear();
+    count(&answers)
+}
+
+fn puts<T: Timer>(timer: &mut T, slot: usize, expiry: u64) -> bool {
+    if timer.room() <= slot || timer.get(slot).is_some() {
+        return false;
+    }
+    timer.insert(slot, expiry);
+    true
+}
+
+fn takes<T: Timer>(timer: &mut T, slot: usize) -> bool {
+    if timer.get(slot).is_none() {
+        return false;
+    }
+    timer.remove(slot);
+    true
+}
+
+fn draft(rt: &impl Abort, expiry: u64) -> Draft {
+    Draft::first(expiry, payload(rt, b"a"))
+}
+
+// A queue, but for its offers and drains.
+fn queues<T: Timer>(rt: &impl Abort, alloc: Global, rounds: u64) -> Result<u64, AllocError> {
+    let mut queue = filled::<T>(rt, alloc)?;
+    let mut right = 0_u64;
+    for round in 0..rounds {
+        right = right.saturating_add(queue_round(alloc, &mut queue, round));
+    }
+    empty(&mut queue, rounds);
+    Ok(right)
+}
+
+// A queue of these elements, whose expiries are their ids.
+fn filled<T: Timer>(rt: &impl Abort, alloc: Global) -> Result<DelayQueue<T>, AllocError> {
+    let mut queue = DelayQueue::new(alloc);
+    for expiry in 0..ELEMENTS {
+        if queue.next_id() < u64::MAX {
+            queue.offer(draft(rt, expiry))?;
+        }
+    }
+    Ok(queue)
+}
+
+fn queue_round<T: Timer>(alloc: Global, queue: &mut DelayQueue<T>, round: u64) -> u64 {
+    let left = ELEMENTS.saturating_sub(round.saturating_mul(2));
+    count(&[
+        DelayQueue::<T>::new(alloc).peek().is_none(),
+        queue.next_expiry() == Some(round) && queue.next_id() == ELEMENTS,
+        queue.peek().is_some_and(|element| element.id == round),
+        queue.poll(LATE).is_some_and(|element| element.id == round),
+        queue.remove(ELEMENTS.saturating_sub(1).saturating_sub(round)),
+        queue.size() == left.saturating_sub(2),
+    ])
+}
+
+fn empty<T: Timer>(queue: &mut DelayQueue<T>, rounds: u64) {
+    if rounds > 0 {
+        queue.clear();
+    }
+}
+
+// A kept queue, but for its offers and drains.
+fn kept_queues<T: Timer>(rt: &impl Abort, alloc: Global, rounds: u64) -> Result<u64, Fail> {
+    let (mut kept, mut tally) = Kept::<T>::new_from(alloc, 10_000, Opening::empty(alloc))
+        .ok()
+        .expect(rt, "a kept queue");
+    for expiry in 0..ELEMENTS {
+        let offered = kept.act(&mut tally, 0, 0, Ask::Offer(draft(rt, expiry)));
+        expect_done(rt, &offered);
+    }
+    let mut right = 0_u64;
+    for round in 0..rounds {
+        right = right.saturating_add(kept_round(&mut kept, &mut tally, round));
+    }
+    clears(rt, &mut kept, &mut tally, rounds);
+    Ok(right)
+}
+
+fn expect_done(rt: &impl Abort, step: &rb_kept::Step) {
+    assert!(rt; matches!(step, Ok(Outcome::Done(_))));
+}
+
+fn kept_round<T: Timer>(kept: &mut Kept<T>, tally: &mut Tally, round: u64) -> u64 {
+    let (start, timeout) = (0, 5);
+    let last = ELEMENTS.saturating_sub(1).saturating_sub(round);
+    let before = kept.history().len();
+    count(&[
+        gives(kept, tally, Ask::Poll),
+        gives(kept, tally, Ask::Take),
+        gives(kept, tally, Ask::PollFor { start, timeout }),
+        answers(kept, tally, Ask::Peek),
+        answers(kept, tally, Ask::Remove(last)),
+        answers(kept, tally, Ask::Size),
+        kept.history().len() == before.saturating_add(6),
+        kept.capacity() == 10_000,
+        kept.audit().calls == tally.calls(),
+    ])
+}
+
+fn gives<T: Timer>(kept: &mut Kept<T>, tally: &mut Tally, ask: Ask) -> bool {
+    let step = kept.act(tally, 0, LATE, ask);
+    matches!(&step, Ok(Outcome::Done(Reply::Item(_))))
+}
+
+fn answers<T: Timer>(kept: &mut Kept<T>, tally: &mut Tally, ask: Ask) -> bool {
+    let step = kept.act(tally, 0, LATE, ask);
+    matches!(&step, Ok(Outcome::Done(_)))
+}
+
+// What is empty lets a take wait, which is no event.
+fn clears<T: Timer>(rt: &impl Abort, kept: &mut Kept<T>, tally: &mut Tally, rounds: u64) {
+    if rounds > 0 {
+        let cleared = kept.act(tally, 0, LATE, Ask::Clear);
+        expect_done(rt, &cleared);
+        let later = kept.act(tally, 0, LATE, Ask::Take);
+        expect_later(rt, &later);
+    }
+}
+
+fn expect_later(rt: &impl Abort, step: &rb_kept::Step) {
+    assert!(rt; matches!(step, Ok(Outcome::Later(None))));
+}

@@ -1,0 +1,55 @@
+use super::devices::{ListKept, expect_new_fault, expect_number};
+use super::run::Run;
+use rb_kept::{CallFault, MOST_CALLS, NewFault};
+use std::alloc::Global;
+use std::process::Abort;
+
+#[test]
+fn a_capacity_is_1_to_1_000_000(rt: HostRuntime) {
+    expect_number(&rt, MOST_CALLS, 1_000_000);
+    expect_refused(&rt, rt.alloc(), 0);
+    expect_new(&rt, rt.alloc(), 1);
+    expect_new(&rt, rt.alloc(), 1_000_000);
+    expect_refused(&rt, rt.alloc(), 1_000_001);
+    expect_refused(&rt, rt.alloc(), u64::MAX);
+}
+
+fn expect_refused(rt: &impl Abort, alloc: Global, capacity: u64) {
+    let fault = ListKept::new(alloc, capacity).err();
+    expect_new_fault(rt, fault, Some(NewFault::BadCapacity), "list", capacity);
+}
+
+fn expect_new(rt: &impl Abort, alloc: Global, capacity: u64) {
+    let run = Run::new(rt, alloc, capacity);
+    expect_nothing(rt, &run, capacity);
+}
+
+fn expect_nothing(rt: &impl Abort, run: &Run, capacity: u64) {
+    expect_number(rt, run.kept.capacity(), capacity);
+    run.expect_audit(rt, [0; 7]);
+    run.expect_share(rt, 0, 0, 0);
+}
+
+fn expect_shown(rt: &impl Abort, shown: &str, wanted: &str) {
+    assert_eq!(rt; shown, wanted);
+}
+
+fn expect_call_fault(rt: &impl Abort, alloc: Global, fault: CallFault, text: &str) {
+    let shown = fault.to_string(alloc).ok().expect(rt, "a text");
+    expect_shown(rt, shown.as_str(), text);
+}
+
+fn expect_new_fault_shown(rt: &impl Abort, alloc: Global, fault: NewFault, text: &str) {
+    let shown = fault.to_string(alloc).ok().expect(rt, "a text");
+    expect_shown(rt, shown.as_str(), text);
+}
+
+#[test]
+fn shows_faults(rt: HostRuntime) {
+    let alloc = rt.alloc();
+    let room = "a history has room for 1 to 1,000,000 calls";
+    expect_new_fault_shown(&rt, alloc, NewFault::BadCapacity, room);
+    expect_new_fault_shown(&rt, alloc, NewFault::Memory, "out of memory");
+    expect_call_fault(&rt, alloc, CallFault::Full, "the history is full");
+    expect_call_fault(&rt, alloc, CallFault::Memory, "out of memory");
+}
