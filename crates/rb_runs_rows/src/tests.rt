@@ -1,1 +1,9 @@
+mod audits;
+mod devices;
+mod faults;
+mod files;
+mod gathering;
+mod large;
+mod reads;
 mod refusals;
+mod writes;

@@ -1,10 +1,11 @@
 // Each allocation of a script's run, and of what is read, told and audited, refused in turn.
 
+use crate::tests::devices::{KINDS, Sink, Source, expect, expect_bytes, recorded};
 use rb_queue::{Audit, Opening};
 use rb_retry::Policy;
-use rb_runs::{BrokerFault, audit_line, opening_in, read_all, run_replay, run_script};
+use rb_runs::{BrokerFault, audit_line, opening_in, read_all, run_replay};
 use rb_session::Ended;
-use rb_words::{ReplayOptions, ScriptOptions, TimerKind};
+use rb_words::{ReplayOptions, TimerKind};
 use std::alloc::{AllocError, Global};
 use std::process::Abort;
 use std::test::Fail;
@@ -98,71 +99,73 @@ impl Outcome {
     // came to its end was refused one request.
     fn expect_refused(&self, rt: &impl Abort) {
         if self.ended.is_ok() {
-            assert!(rt; REFUSED.iter().any(|run| self.is_as(run)));
+            expect(rt, REFUSED.iter().any(|run| self.is_as(run)));
             return;
         }
-        assert_eq!(rt; self.ended, Err(BrokerFault::Memory));
+        expect(rt, self.ended == Err(BrokerFault::Memory));
         let begun = self.unread != SCRIPT.len();
         let replies = if begun { WHOLE_REPLIES } else { &[] };
-        assert_eq!(rt; self.replies.as_slice(), replies);
-        assert_eq!(rt; self.history.as_slice(), b"".as_slice());
+        expect_bytes(rt, &self.replies, replies, 0);
+        expect_bytes(rt, &self.history, b"", 0);
+    }
+
+    // Whether the run is whole. Else it met a refusal.
+    fn is_whole(&self, rt: &impl Abort) -> bool {
+        if self.is_as(&WHOLE) {
+            return true;
+        }
+        self.expect_refused(rt);
+        false
     }
 }
 
 fn run_once(rt: &impl Abort, alloc: Global, timer: TimerKind) -> Result<Outcome, Fail> {
-    let policy = Policy::fixed(1_000, 3).expect(rt, "a policy");
-    let options = ScriptOptions {
-        timer,
-        calls: 100,
-        policy,
-    };
-    let (mut reader, mut writer, mut history) = (SCRIPT, page(alloc)?, Some(page(alloc)?));
-    let ended = run_script(
-        alloc,
-        &options,
-        Opening::empty(alloc),
-        &mut reader,
-        &mut writer,
-        &mut history,
-    );
+    let (sink, mut history) = (Sink::of(page(alloc)?), Some(Sink::of(page(alloc)?)));
+    let source = Source::of(SCRIPT, usize::MAX);
+    let ran = recorded(rt, alloc, timer, 100, source, sink, &mut history);
     Ok(Outcome {
-        ended,
-        unread: reader.len(),
-        replies: writer,
-        history: history.expect(rt, "a history"),
+        ended: ran.ended,
+        unread: ran.unread,
+        replies: ran.bytes,
+        history: history.expect(rt, "a history").bytes,
     })
+}
+
+fn runs(rt: &impl Abort, alloc: Global, timer: TimerKind) -> Result<bool, Fail> {
+    let outcome = run_once(rt, alloc, timer)?;
+    Ok(outcome.is_whole(rt))
 }
 
 // Whether the run met a refusal. It is made once more then, and is whole.
 fn refused_run(rt: &impl Abort, alloc: Global, timer: TimerKind) -> Result<bool, Fail> {
-    for refused in [false, true] {
-        let outcome = run_once(rt, alloc, timer)?;
-        if outcome.is_as(&WHOLE) {
-            return Ok(refused);
-        }
-        assert!(rt; !refused);
-        outcome.expect_refused(rt);
+    if runs(rt, alloc, timer)? {
+        return Ok(false);
     }
+    expect(rt, runs(rt, alloc, timer)?);
     Ok(true)
 }
 
-// Whether the call met a refusal. So it is with the functions below.
-fn refused_replay(rt: &impl Abort, alloc: Global) -> bool {
-    let chains = Policy::fixed(1_000, 3);
-    assert!(rt; chains.is_some());
-    for refused in [false, true] {
-        match run_replay(alloc, &ReplayOptions { chains }, WHOLE_HISTORY) {
-            Ok((line, status)) => {
-                assert_eq!(rt; (line.as_str(), status), (WHOLE_AUDIT, 0));
-                return refused;
-            }
-            Err(fault) => assert_eq!(rt; (fault, refused), (BrokerFault::Memory, false)),
-        }
-    }
-    true
+// The fault of a call that is not whole.
+fn is_refused(rt: &impl Abort, fault: BrokerFault) -> bool {
+    expect(rt, fault == BrokerFault::Memory);
+    false
 }
 
-fn refused_audit(rt: &impl Abort, alloc: Global) -> bool {
+// Each of these calls is whole, or it met a refusal.
+
+fn replays(rt: &impl Abort, alloc: Global) -> bool {
+    let chains = Policy::fixed(1_000, 3);
+    expect(rt, chains.is_some());
+    match run_replay(alloc, &ReplayOptions { chains }, WHOLE_HISTORY) {
+        Ok((line, status)) => {
+            expect(rt, (line.as_str(), status) == (WHOLE_AUDIT, 0));
+            true
+        }
+        Err(fault) => is_refused(rt, fault),
+    }
+}
+
+fn tells(rt: &impl Abort, alloc: Global) -> bool {
     let audit = Audit {
         calls: 5,
         offered: 4,
@@ -172,67 +175,84 @@ fn refused_audit(rt: &impl Abort, alloc: Global) -> bool {
         left: 2,
         opening: 0,
     };
-    for refused in [false, true] {
-        match audit_line(alloc, &audit) {
-            Ok(line) => {
-                assert_eq!(rt; line.as_str(), WHOLE_AUDIT);
-                return refused;
-            }
-            Err(fault) => assert_eq!(rt; (fault, refused), (BrokerFault::Memory, false)),
+    match audit_line(alloc, &audit) {
+        Ok(line) => {
+            expect(rt, line.as_str() == WHOLE_AUDIT);
+            true
         }
+        Err(fault) => is_refused(rt, fault),
     }
+}
+
+fn opens(rt: &impl Abort, alloc: Global) -> bool {
+    match opening_in(alloc, WHOLE_HISTORY) {
+        Ok(opening) => {
+            expect(rt, (opening.next_id, opening.last_at) == (4, 5));
+            expect(rt, opening.elements.as_slice().len() == 2);
+            true
+        }
+        Err(fault) => is_refused(rt, fault),
+    }
+}
+
+fn reads(rt: &impl Abort, alloc: Global) -> bool {
+    let mut reader = Source::of(WHOLE_HISTORY, usize::MAX);
+    match read_all(alloc, &mut reader) {
+        Ok(text) => {
+            expect_bytes(rt, &text, WHOLE_HISTORY, 0);
+            true
+        }
+        Err(fault) => is_refused(rt, fault),
+    }
+}
+
+// What the second call is that is made after a refusal.
+fn again(rt: &impl Abort, is_whole: bool) -> bool {
+    expect(rt, is_whole);
     true
+}
+
+fn refused_replay(rt: &impl Abort, alloc: Global) -> bool {
+    !replays(rt, alloc) && again(rt, replays(rt, alloc))
+}
+
+fn refused_audit(rt: &impl Abort, alloc: Global) -> bool {
+    !tells(rt, alloc) && again(rt, tells(rt, alloc))
 }
 
 fn refused_opening(rt: &impl Abort, alloc: Global) -> bool {
-    for refused in [false, true] {
-        match opening_in(alloc, WHOLE_HISTORY) {
-            Ok(opening) => {
-                assert_eq!(rt; (opening.next_id, opening.last_at), (4, 5));
-                assert_eq!(rt; opening.elements.as_slice().len(), 2);
-                return refused;
-            }
-            Err(fault) => assert_eq!(rt; (fault, refused), (BrokerFault::Memory, false)),
-        }
-    }
-    true
+    !opens(rt, alloc) && again(rt, opens(rt, alloc))
 }
 
 fn refused_reading(rt: &impl Abort, alloc: Global) -> bool {
-    for refused in [false, true] {
-        let mut reader = WHOLE_HISTORY;
-        match read_all(alloc, &mut reader) {
-            Ok(text) => {
-                assert_eq!(rt; text.as_slice(), WHOLE_HISTORY);
-                return refused;
-            }
-            Err(fault) => assert_eq!(rt; (fault, refused), (BrokerFault::Memory, false)),
-        }
+    !reads(rt, alloc) && again(rt, reads(rt, alloc))
+}
+
+fn refused_runs(rt: &impl Abort, alloc: Global) -> Result<u32, Fail> {
+    let mut refusals = 0_u32;
+    for timer in KINDS {
+        let refused = refused_run(rt, alloc, timer)?;
+        refusals = refusals.saturating_add(u32::from(refused));
     }
-    true
+    Ok(refusals)
+}
+
+fn refused_calls(rt: &impl Abort, alloc: Global) -> u32 {
+    let mut refusals = 0_u32;
+    for refused in [
+        refused_replay(rt, alloc),
+        refused_audit(rt, alloc),
+        refused_opening(rt, alloc),
+        refused_reading(rt, alloc),
+    ] {
+        refusals = refusals.saturating_add(u32::from(refused));
+    }
+    refusals
 }
 
 #[test]
 fn a_refused_allocation_is_answered(rt: HostRuntime) -> Result<(), Fail> {
-    let alloc = rt.alloc();
-    let mut refusals = 0_u32;
-    for timer in [
-        TimerKind::List,
-        TimerKind::Heap,
-        TimerKind::Pairing,
-        TimerKind::Wheel,
-    ] {
-        let refused = refused_run(&rt, alloc, timer)?;
-        refusals = refusals.saturating_add(u32::from(refused));
-    }
-    for refused in [
-        refused_replay(&rt, alloc),
-        refused_audit(&rt, alloc),
-        refused_opening(&rt, alloc),
-        refused_reading(&rt, alloc),
-    ] {
-        refusals = refusals.saturating_add(u32::from(refused));
-    }
+    let refusals = refused_runs(&rt, rt.alloc())?.saturating_add(refused_calls(&rt, rt.alloc()));
     assert_eq!(rt; refusals, REFUSALS);
     Ok(())
 }

@@ -1,7 +1,25 @@
 use rb_replay::HistoryFault;
 use rb_runs::BrokerFault;
 use rb_session::SessionFault;
+use std::alloc::{AllocError, Global};
+use std::process::Abort;
 use std::test::Fail;
+
+fn expect_fault(
+    rt: &impl Abort,
+    alloc: Global,
+    fault: BrokerFault,
+    status: u8,
+    text: &str,
+) -> Result<(), AllocError> {
+    assert_eq!(rt; fault.status(), status);
+    assert_eq!(rt; fault.to_string(alloc)?.as_str(), text);
+    Ok(())
+}
+
+fn expect_same(rt: &impl Abort, fault: BrokerFault, wanted: BrokerFault) {
+    assert_eq!(rt; fault, wanted);
+}
 
 #[test]
 fn faults_have_a_status_and_a_text(rt: HostRuntime) -> Result<(), Fail> {
@@ -32,9 +50,8 @@ fn faults_have_a_status_and_a_text(rt: HostRuntime) -> Result<(), Fail> {
             "out of memory",
         ),
     ] {
-        assert_eq!(rt; BrokerFault::from(session), fault);
-        assert_eq!(rt; fault.status(), status);
-        assert_eq!(rt; fault.to_string(alloc)?.as_str(), text);
+        expect_same(&rt, BrokerFault::from(session), fault);
+        expect_fault(&rt, alloc, fault, status, text)?;
     }
     Ok(())
 }
@@ -50,12 +67,11 @@ fn faults_of_files_and_servers_have_a_status_and_a_text(rt: HostRuntime) -> Resu
         (BrokerFault::Worker, 3, "cannot start worker"),
         (BrokerFault::NotGathered, 3, "passes not gathered"),
     ] {
-        assert_eq!(rt; fault.status(), status);
-        assert_eq!(rt; fault.to_string(alloc)?.as_str(), text);
+        expect_fault(&rt, alloc, fault, status, text)?;
     }
     let written = BrokerFault::from(HistoryFault::Write);
-    assert_eq!(rt; written, BrokerFault::WriteHistory);
+    expect_same(&rt, written, BrokerFault::WriteHistory);
     let missing = BrokerFault::from(HistoryFault::Memory);
-    assert_eq!(rt; missing, BrokerFault::Memory);
+    expect_same(&rt, missing, BrokerFault::Memory);
     Ok(())
 }

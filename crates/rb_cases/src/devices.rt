@@ -1,0 +1,117 @@
+use crate::flaw::Flaw;
+use crate::numbers::number;
+
+/// The timers over which a script is run.
+pub const TIMERS: [&str; 4] = ["list", "heap", "pairing", "wheel"];
+
+/// How many bytes of a script a read gives at most. The first is the whole script.
+pub const SIZES: [usize; 3] = [usize::MAX, 1, 7];
+
+/// Over what a script is run, where a case tells it.
+#[derive(Clone, Copy)]
+pub struct Devices {
+    /// Whether the case tells anything of them.
+    pub are_given: bool,
+    timer: Option<&'static str>,
+    size: Option<usize>,
+    /// Whether every second read is interrupted.
+    pub is_interrupted: bool,
+    /// Behind how many bytes a read fails.
+    pub reader_fails: Option<usize>,
+    /// Which call of the writer fails, from 0.
+    pub writer_fails: Option<usize>,
+    /// How many bytes a write takes at most.
+    pub writer_takes: Option<usize>,
+    /// Which call of the device that gets the history fails, from 0.
+    pub recorder_fails: Option<usize>,
+}
+
+impl Devices {
+    pub fn new() -> Devices {
+        Devices {
+            are_given: false,
+            timer: None,
+            size: None,
+            is_interrupted: false,
+            reader_fails: None,
+            writer_fails: None,
+            writer_takes: None,
+            recorder_fails: None,
+        }
+    }
+
+    /// Whether the script is run over this timer.
+    pub fn have_timer(&self, timer: &str) -> bool {
+        match self.timer {
+            Some(only) => only == timer,
+            None => true,
+        }
+    }
+
+    /// Whether the script is read by so many bytes.
+    pub fn have_size(&self, size: usize) -> bool {
+        match self.size {
+            Some(only) => only == size,
+            None => true,
+        }
+    }
+
+    /// Takes a line, which begins with this word.
+    pub fn take(&mut self, word: &str, text: &str) -> Result<(), Flaw> {
+        self.are_given = true;
+        let (kind, rest) = text.split_once(' ').unwrap_or((text, ""));
+        match (word, kind) {
+            ("timer", _) => set_once(&mut self.timer, timer_of(text)?),
+            ("reads", _) => set_once(&mut self.size, size_of(text)?),
+            ("reader", "fails") => set_once(&mut self.reader_fails, number(rest)?),
+            ("writer", "fails") => set_once(&mut self.writer_fails, number(rest)?),
+            ("writer", "takes") => set_once(&mut self.writer_takes, number(rest)?),
+            ("recorder", "fails") => set_once(&mut self.recorder_fails, number(rest)?),
+            ("reader", "interrupted") => self.interrupt(),
+            _ => Err(Flaw::Device),
+        }
+    }
+
+    fn interrupt(&mut self) -> Result<(), Flaw> {
+        if self.is_interrupted {
+            return Err(Flaw::Twice);
+        }
+        self.is_interrupted = true;
+        Ok(())
+    }
+
+    /// Whether a read that is to fail can do so in an input of so many bytes.
+    pub fn check(&self, input: usize) -> Result<(), Flaw> {
+        match self.reader_fails {
+            Some(behind) if behind > input => Err(Flaw::BehindInput),
+            _ => Ok(()),
+        }
+    }
+}
+
+// Puts a value where none stands yet.
+fn set_once<T: Copy>(place: &mut Option<T>, value: T) -> Result<(), Flaw> {
+    if place.is_some() {
+        return Err(Flaw::Twice);
+    }
+    *place = Some(value);
+    Ok(())
+}
+
+fn timer_of(name: &str) -> Result<&'static str, Flaw> {
+    for timer in TIMERS {
+        if timer == name {
+            return Ok(timer);
+        }
+    }
+    Err(Flaw::Device)
+}
+
+fn size_of(name: &str) -> Result<usize, Flaw> {
+    match name {
+        "whole" => Ok(usize::MAX),
+        "1" => Ok(1),
+        "7" => Ok(7),
+        _ => Err(Flaw::Device),
+    }
+}

@@ -1,0 +1,59 @@
+use crate::case::Case;
+use crate::replays::replay_difference;
+use crate::scripts::script_difference;
+use std::alloc::{AllocError, Global};
+
+/// What differs from what the case says, if something does.
+pub fn difference(alloc: Global, case: &Case) -> Result<Option<String>, AllocError> {
+    if case.is_script() {
+        script_difference(alloc, case)
+    } else {
+        replay_difference(alloc, case)
+    }
+}
+
+/// What came in place of what was wanted, if they differ.
+pub fn of_texts(
+    alloc: Global,
+    what: &str,
+    came: &str,
+    wanted: &str,
+) -> Result<Option<String>, AllocError> {
+    if came == wanted {
+        return Ok(None);
+    }
+    Ok(Some(format!(in alloc; "{what}: {came:?} in place of {wanted:?}")?))
+}
+
+/// The first line that came in place of another, if the texts differ.
+pub fn of_bytes(
+    alloc: Global,
+    what: &str,
+    came: &[u8],
+    wanted: &[u8],
+) -> Result<Option<String>, AllocError> {
+    if came == wanted {
+        return Ok(None);
+    }
+    let same = same_lines(came, wanted);
+    let came = String::from_utf8_lossy(alloc, line_at(came, same))?;
+    let wanted = String::from_utf8_lossy(alloc, line_at(wanted, same))?;
+    let number = same.saturating_add(1);
+    Ok(Some(format!(in alloc; "{what}, line {number}: {came:?} in place of {wanted:?}")?))
+}
+
+// How many lines the texts have in common, from the first on.
+fn same_lines(one: &[u8], other: &[u8]) -> usize {
+    let lines = one.split_inclusive(|&byte| byte == b'\n');
+    let others = other.split_inclusive(|&byte| byte == b'\n');
+    lines
+        .zip(others)
+        .take_while(|(line, twin)| line == twin)
+        .count()
+}
+
+// The line with this number, from 0, or nothing.
+fn line_at(text: &[u8], number: usize) -> &[u8] {
+    let mut lines = text.split_inclusive(|&byte| byte == b'\n');
+    lines.nth(number).unwrap_or(&[])
+}

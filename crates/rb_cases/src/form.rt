@@ -1,0 +1,26 @@
+use crate::flaw::Flaw;
+use crate::numbers::number;
+
+/// How a line of a case gives a part of a text.
+#[derive(Clone, Copy)]
+pub enum Form {
+    /// As one line.
+    Line,
+    /// As a part of a line, without an end.
+    Part,
+    /// As so many lines.
+    Lines(usize),
+}
+
+impl Form {
+    /// The mark of a text, and the form that is told behind it.
+    pub fn split(word: &str) -> Result<(&str, Form), Flaw> {
+        if let Some(mark) = word.strip_suffix('~') {
+            return Ok((mark, Form::Part));
+        }
+        match word.split_once('*') {
+            Some((mark, times)) => Ok((mark, Form::Lines(number(times)?))),
+            None => Ok((word, Form::Line)),
+        }
+    }
+}

@@ -1,0 +1,8 @@
+use crate::flaw::Flaw;
+
+/// The first flaw of a case file, and the number of its line, from 1.
+#[derive(Clone, Copy)]
+pub struct Malformed {
+    pub line: usize,
+    pub flaw: Flaw,
+}

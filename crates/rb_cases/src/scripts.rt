@@ -1,0 +1,158 @@
+use crate::case::Case;
+use crate::devices::{SIZES, TIMERS};
+use crate::differences::{of_bytes, of_texts};
+use crate::outcome::Outcome;
+use crate::sink::Sink;
+use crate::source::Source;
+use rb_queue::Opening;
+use rb_runs::{BrokerFault, opening_in, run_script};
+use rb_session::Ended;
+use rb_words::{ScriptOptions, Words, read_words};
+use std::alloc::{AllocError, Global};
+
+/// What differs from the case in the first of its runs that is not as it must be.
+pub fn script_difference(alloc: Global, case: &Case) -> Result<Option<String>, AllocError> {
+    for timer in TIMERS {
+        if case.devices.have_timer(timer)
+            && let Some(text) = over_timer(alloc, case, timer)?
+        {
+            return Ok(Some(text));
+        }
+    }
+    Ok(None)
+}
+
+// Runs the script over a timer with each size of reads.
+fn over_timer(alloc: Global, case: &Case, timer: &str) -> Result<Option<String>, AllocError> {
+    let Some(options) = options_of(alloc, case, timer)? else {
+        return Ok(Some("the words of `args` are refused".to_string(alloc)?));
+    };
+    for size in SIZES {
+        if case.devices.have_size(size)
+            && let Some(text) = by_reads(alloc, case, &options, size)?
+        {
+            let reads = if size == usize::MAX {
+                "whole"
+            } else if size == 1 {
+                "1"
+            } else {
+                "7"
+            };
+            return Ok(Some(format!(in alloc; "over {timer}, reads {reads}: {text}")?));
+        }
+    }
+    Ok(None)
+}
+
+fn by_reads(
+    alloc: Global,
+    case: &Case,
+    options: &ScriptOptions,
+    size: usize,
+) -> Result<Option<String>, AllocError> {
+    let outcome = run(alloc, case, options, size)?;
+    compared(alloc, case, &outcome)
+}
+
+// What differs first: the replies, the end or the history.
+fn compared(alloc: Global, case: &Case, outcome: &Outcome) -> Result<Option<String>, AllocError> {
+    if let Some(text) = of_bytes(alloc, "replies", &outcome.replies, &case.replies.bytes)? {
+        return Ok(Some(text));
+    }
+    if let Some(ends) = &case.ends
+        && let Some(text) = of_texts(alloc, "ends", &outcome.ends, ends)?
+    {
+        return Ok(Some(text));
+    }
+    match &outcome.history {
+        Some(history) => of_bytes(alloc, "history", history, &case.history.bytes),
+        None => Ok(None),
+    }
+}
+
+// Runs the script over a timer, with reads of at most so many bytes.
+fn run(
+    alloc: Global,
+    case: &Case,
+    options: &ScriptOptions,
+    size: usize,
+) -> Result<Outcome, AllocError> {
+    let devices = &case.devices;
+    let mut reader = source_of(case, size);
+    let mut writer = Sink::new(alloc, devices.writer_fails, devices.writer_takes);
+    let mut recorder = recorder_of(alloc, case);
+    let ended = match opening_of(alloc, case) {
+        Ok(opening) => {
+            run_script(
+                alloc,
+                options,
+                opening,
+                &mut reader,
+                &mut writer,
+                &mut recorder,
+            )
+        }
+        Err(fault) => Err(fault),
+    };
+    Ok(Outcome {
+        ends: text_of(alloc, ended)?,
+        replies: writer.bytes,
+        history: recorder.map(|recorder| recorder.bytes),
+    })
+}
+
+fn source_of(case: &Case, size: usize) -> Source<'_> {
+    let devices = &case.devices;
+    let input = case.input.bytes.as_slice();
+    let rest = match devices.reader_fails {
+        Some(behind) => input.get(..behind).unwrap_or(input),
+        None => input,
+    };
+    Source::new(
+        rest,
+        size,
+        devices.reader_fails.is_some(),
+        devices.is_interrupted,
+    )
+}
+
+fn recorder_of(alloc: Global, case: &Case) -> Option<Sink> {
+    if case.history.is_given {
+        Some(Sink::new(alloc, case.devices.recorder_fails, None))
+    } else {
+        None
+    }
+}
+
+fn opening_of(alloc: Global, case: &Case) -> Result<Opening, BrokerFault> {
+    if case.from.is_given {
+        opening_in(alloc, &case.from.bytes)
+    } else {
+        Ok(Opening::empty(alloc))
+    }
+}
+
+fn options_of(
+    alloc: Global,
+    case: &Case,
+    timer: &str,
+) -> Result<Option<ScriptOptions>, AllocError> {
+    let mut words: Vec<&str> = Vec::new(alloc);
+    words.extend_from_slice(&["rb_broker", "script", "--timer", timer])?;
+    for word in case.words() {
+        words.push(word)?;
+    }
+    match read_words(alloc, words.as_slice()) {
+        Ok(Words::Script { options, .. }) => Ok(Some(options)),
+        _ => Ok(None),
+    }
+}
+
+// How a run ended, in the words of a case.
+fn text_of(alloc: Global, ended: Result<Ended, BrokerFault>) -> Result<String, AllocError> {
+    match ended {
+        Ok(Ended::Quit { lost }) => format!(in alloc; "quit {lost}"),
+        Ok(Ended::EndOfInput { lost }) => format!(in alloc; "input {lost}"),
+        Err(fault) => format!(in alloc; "{fault}"),
+    }
+}

@@ -1,0 +1,41 @@
+use std::io::{self, ErrorKind, Read};
+
+/// Gives its bytes by at most so many at a read, and then ends or fails.
+#[derive(Drop)]
+pub struct Source<'a> {
+    rest: &'a [u8],
+    size: usize,
+    fails: bool,
+    is_interrupted: bool,
+    /// Whether the next read is interrupted.
+    is_due: bool,
+}
+
+impl<'a> Source<'a> {
+    pub fn new(rest: &'a [u8], size: usize, fails: bool, is_interrupted: bool) -> Source<'a> {
+        Source {
+            rest,
+            size,
+            fails,
+            is_interrupted,
+            is_due: is_interrupted,
+        }
+    }
+}
+
+impl Read for Source<'_> {
+    fn read(&mut self, buf: &mut [u8]) -> io::Result<usize> {
+        if self.is_due {
+            self.is_due = false;
+            return Err(ErrorKind::Interrupted.into());
+        }
+        self.is_due = self.is_interrupted;
+        if self.fails && self.rest.is_empty() {
+            return Err(ErrorKind::ConnectionReset.into());
+        }
+        let count = self.size.min(buf.len()).min(self.rest.len());
+        buf[..count].copy_from_slice(&self.rest[..count]);
+        self.rest = &self.rest[count..];
+        Ok(count)
+    }
+}

@@ -1,0 +1,122 @@
+use crate::flaw::Flaw;
+use crate::form::Form;
+use crate::numbers::number;
+use std::alloc::{AllocError, Global};
+
+/// A text of a case: a script, its replies or a history.
+#[derive(Drop)]
+pub struct Text {
+    alloc: Global,
+    pub bytes: Vec<u8>,
+    /// Whether a line of the case tells it. It may be empty then.
+    pub is_given: bool,
+}
+
+impl Text {
+    pub fn new(alloc: Global) -> Text {
+        Text {
+            alloc,
+            bytes: Vec::new(alloc),
+            is_given: false,
+        }
+    }
+
+    /// Appends what a line of the case gives.
+    pub fn push(&mut self, form: Form, told: &str) -> Result<(), Flaw> {
+        self.is_given = true;
+        match form {
+            Form::Line => self.push_line(0, told),
+            Form::Part => self.push_told(0, told),
+            Form::Lines(count) => self.push_lines(count, told),
+        }
+    }
+
+    fn push_lines(&mut self, count: usize, told: &str) -> Result<(), Flaw> {
+        for index in 0..count {
+            self.push_line(index, told)?;
+        }
+        Ok(())
+    }
+
+    fn push_line(&mut self, index: usize, told: &str) -> Result<(), Flaw> {
+        self.push_told(index, told)?;
+        Ok(self.bytes.extend_from_slice(b"\n")?)
+    }
+
+    // Appends the bytes that are told. There are no more escapes than bytes.
+    fn push_told(&mut self, index: usize, told: &str) -> Result<(), Flaw> {
+        let mut rest = told;
+        for _ in 0..told.len() {
+            rest = self.push_piece(index, rest)?;
+        }
+        Ok(())
+    }
+
+    // Appends what stands before the first escape, and that. What stands behind it is left.
+    fn push_piece<'a>(&mut self, index: usize, told: &'a str) -> Result<&'a str, Flaw> {
+        let Some((plain, escaped)) = told.split_once('\\') else {
+            self.bytes.extend_from_slice(told.as_bytes())?;
+            return Ok("");
+        };
+        self.bytes.extend_from_slice(plain.as_bytes())?;
+        let Some((mark, rest)) = escaped.split_at_checked(1) else {
+            return Err(Flaw::Escape);
+        };
+        match mark {
+            "\\" => self.push_byte(b'\\', rest),
+            "r" => self.push_byte(b'\r', rest),
+            "n" => self.push_byte(b'\n', rest),
+            "x" => self.push_hex(rest),
+            "(" => self.push_repeated(index, rest),
+            "#" => self.push_number(index, rest),
+            _ => Err(Flaw::Escape),
+        }
+    }
+
+    fn push_byte<'a>(&mut self, byte: u8, rest: &'a str) -> Result<&'a str, Flaw> {
+        self.bytes.extend_from_slice(&[byte])?;
+        Ok(rest)
+    }
+
+    // Appends the byte of the two digits at the front.
+    fn push_hex<'a>(&mut self, told: &'a str) -> Result<&'a str, Flaw> {
+        let Some((digits, rest)) = told.split_at_checked(2) else {
+            return Err(Flaw::Escape);
+        };
+        if !digits.bytes().all(|digit| digit.is_ascii_hexdigit()) {
+            return Err(Flaw::Escape);
+        }
+        match u8::from_str_radix(digits, 16) {
+            Ok(byte) => self.push_byte(byte, rest),
+            Err(_) => Err(Flaw::Escape),
+        }
+    }
+
+    // Appends the text of `65 a)`, or the sum of `# 65)`.
+    fn push_repeated<'a>(&mut self, index: usize, told: &'a str) -> Result<&'a str, Flaw> {
+        let Some((inner, rest)) = told.split_once(')') else {
+            return Err(Flaw::Escape);
+        };
+        let Some((count, unit)) = inner.split_once(' ') else {
+            return Err(Flaw::Escape);
+        };
+        if count == "#" {
+            return self.push_number(index.saturating_add(number(unit)?), rest);
+        }
+        self.push_units(number(count)?, unit.as_bytes())?;
+        Ok(rest)
+    }
+
+    fn push_units(&mut self, count: usize, unit: &[u8]) -> Result<(), AllocError> {
+        for _ in 0..count {
+            self.bytes.extend_from_slice(unit)?;
+        }
+        Ok(())
+    }
+
+    fn push_number<'a>(&mut self, index: usize, rest: &'a str) -> Result<&'a str, Flaw> {
+        let digits = format!(in self.alloc; "{index}")?;
+        self.bytes.extend_from_slice(digits.as_bytes())?;
+        Ok(rest)
+    }
+}
