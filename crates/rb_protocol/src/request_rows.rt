@@ -19,13 +19,23 @@ fn with_letters(alloc: Global, front: &[u8], count: usize) -> Result<Vec<u8>, Al
     Ok(line)
 }
 
+// Comparisons and set-ups are functions with no clause, so that a test has little to prove.
+
+fn expect(rt: &impl Abort, holds: bool) {
+    assert!(rt; holds);
+}
+
 fn accepts(rt: &impl Abort, line: &[u8], request: Request) {
     assert_eq!(rt; read_request(line), Ok(request), "{line:?}");
 }
 
+fn refuses_line(rt: &impl Abort, line: &[u8], fault: LineFault) {
+    assert_eq!(rt; read_request(line), Err(fault), "{line:?}");
+}
+
 fn refuses(rt: &impl Abort, lines: &[&[u8]], fault: LineFault) {
     for line in lines {
-        assert_eq!(rt; read_request(line), Err(fault), "{line:?}");
+        refuses_line(rt, line, fault);
     }
 }
 
@@ -33,31 +43,30 @@ fn refuses(rt: &impl Abort, lines: &[&[u8]], fault: LineFault) {
 fn the_format_has_its_numbers(rt: HostRuntime) {
     one_reading();
     request_has_text();
-    assert_eq!(rt; MOST_LINE_BYTES, 256);
-    assert_eq!(rt; SPACE, 0x20);
-    assert_eq!(rt; LINE_FEED, 0x0A);
+    expect(&rt, MOST_LINE_BYTES == 256);
+    expect(&rt, SPACE == 0x20);
+    expect(&rt, LINE_FEED == 0x0A);
+}
+
+fn accepts_offer(rt: &impl Abort, line: &[u8], delay: u64, bytes: &[u8]) {
+    let payload = payload(rt, bytes);
+    accepts(rt, line, Request::Offer { delay, payload });
+}
+
+fn accepts_offer_at(rt: &impl Abort, line: &[u8], expiry: u64, bytes: &[u8]) {
+    let payload = payload(rt, bytes);
+    accepts(rt, line, Request::OfferAt { expiry, payload });
 }
 
 #[test]
 fn reads_offers(rt: HostRuntime) -> Result<(), Fail> {
-    let offer = |delay, bytes: &[u8]| Request::Offer {
-        delay,
-        payload: payload(&rt, bytes),
-    };
-    accepts(&rt, b"OFFER 50 a", offer(50, b"a"));
-    accepts(&rt, b"OFFER 18446744073709551615 x", offer(u64::MAX, b"x"));
-    accepts(&rt, b"OFFER 0 !~", offer(0, b"!~"));
-    accepts(&rt, b"OFFER 7 POLL", offer(7, b"POLL"));
+    accepts_offer(&rt, b"OFFER 50 a", 50, b"a");
+    accepts_offer(&rt, b"OFFER 18446744073709551615 x", u64::MAX, b"x");
+    accepts_offer(&rt, b"OFFER 0 !~", 0, b"!~");
+    accepts_offer(&rt, b"OFFER 7 POLL", 7, b"POLL");
+    accepts_offer_at(&rt, b"OFFERAT 4096 b", 4096, b"b");
     let longest = with_letters(rt.alloc(), b"OFFER 0 ", 64)?;
-    accepts(&rt, &longest, offer(0, &[b'a'; 64]));
-    accepts(
-        &rt,
-        b"OFFERAT 4096 b",
-        Request::OfferAt {
-            expiry: 4096,
-            payload: payload(&rt, b"b"),
-        },
-    );
+    accepts_offer(&rt, &longest, 0, &[b'a'; 64]);
     Ok(())
 }
 
@@ -171,13 +180,24 @@ fn refuses_other_numbers(rt: HostRuntime) {
     refuses(&rt, &lines, LineFault::Number);
 }
 
+// The front with so many `a` behind it is refused.
+fn refuses_letters(
+    rt: &impl Abort,
+    alloc: Global,
+    front: &[u8],
+    count: usize,
+    fault: LineFault,
+) -> Result<(), AllocError> {
+    let line = with_letters(alloc, front, count)?;
+    refuses_line(rt, &line, fault);
+    Ok(())
+}
+
 #[test]
 fn refuses_other_payloads(rt: HostRuntime) -> Result<(), Fail> {
-    let long = with_letters(rt.alloc(), b"OFFER 1 ", 65)?;
-    let long_at = with_letters(rt.alloc(), b"OFFERAT 1 ", 65)?;
-    let lines: [&[u8]; 7] = [
-        &long,
-        &long_at,
+    refuses_letters(&rt, rt.alloc(), b"OFFER 1 ", 65, LineFault::Payload)?;
+    refuses_letters(&rt, rt.alloc(), b"OFFERAT 1 ", 65, LineFault::Payload)?;
+    let lines: [&[u8]; 5] = [
         b"OFFER 1 \x7F",
         b"OFFER 1 a\r",
         b"OFFER 1 \xC3",
@@ -200,7 +220,7 @@ fn refuses_long_lines(rt: HostRuntime) {
 
 #[test]
 fn answers_the_first_fault(rt: HostRuntime) -> Result<(), Fail> {
-    for (front, count, fault) in [
+    for (front, count, fault) in &[
         (b"OFFER 01".as_slice(), 0, LineFault::Syntax),
         (b"OFFER 01 b ".as_slice(), 65, LineFault::Syntax),
         (b"SIZE 01".as_slice(), 0, LineFault::Syntax),
@@ -213,8 +233,7 @@ fn answers_the_first_fault(rt: HostRuntime) -> Result<(), Fail> {
         (b"AT 1".as_slice(), 252, LineFault::Number),
         (b"AT 1".as_slice(), 253, LineFault::Line),
     ] {
-        let line = with_letters(rt.alloc(), front, count)?;
-        refuses(&rt, &[&line], fault);
+        refuses_letters(&rt, rt.alloc(), front, *count, *fault)?;
     }
     Ok(())
 }

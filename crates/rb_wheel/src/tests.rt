@@ -3,11 +3,37 @@ use rb_timer::TimerAnswer::{Entry, Inserted, Removed};
 use rb_timer::TimerCommand::{self, Clear, Due, Insert, Least, Remove};
 use rb_timer::{ListTimer, Timer, TimerAnswer, run_timer, trials};
 use std::alloc::{AllocError, Global};
+use std::process::Abort;
 use std::test::Fail;
 
+// Comparisons and set-ups are functions with no clause, so that a test has little to prove.
+
+fn expect_passed(rt: &impl Abort, failure: Result<Option<&'static str>, AllocError>) {
+    assert_eq!(rt; failure, Ok(None));
+}
+
+fn expect_size(rt: &impl Abort, timer: &WheelTimer, room: usize, len: usize) {
+    assert_eq!(rt; (timer.room(), timer.len()), (room, len));
+}
+
+fn expect_answers(rt: &impl Abort, answers: &[TimerAnswer], wanted: &[TimerAnswer]) {
+    assert_eq!(rt; answers, wanted);
+}
+
+fn with_room<T: Timer>(alloc: Global, room: usize) -> Result<T, AllocError> {
+    let mut timer = T::new(alloc);
+    timer.reserve(room)?;
+    Ok(timer)
+}
+
 #[test]
-fn passes_the_trials(rt: HostRuntime) -> Result<(), Fail> {
-    assert_eq!(rt; trials::first_failure::<WheelTimer>(rt.alloc())?, None);
+fn passes_the_trials(rt: HostRuntime) {
+    expect_passed(&rt, trials::first_failure::<WheelTimer>(rt.alloc()));
+}
+
+fn grows(rt: &impl Abort, timer: &mut WheelTimer, wanted: usize) -> Result<(), AllocError> {
+    timer.reserve(wanted)?;
+    expect_size(rt, timer, wanted, 0);
     Ok(())
 }
 
@@ -15,34 +41,53 @@ fn passes_the_trials(rt: HostRuntime) -> Result<(), Fail> {
 #[test]
 fn makes_room_with_ample_memory(rt: HostRuntime) -> Result<(), Fail> {
     let mut timer = WheelTimer::new(rt.alloc());
-    assert_eq!(rt; (timer.room(), timer.len()), (0, 0));
-    timer.reserve(3)?;
+    expect_size(&rt, &timer, 0, 0);
+    grows(&rt, &mut timer, 3)?;
     timer.reserve(2)?;
-    assert_eq!(rt; timer.room(), 3);
+    expect_size(&rt, &timer, 3, 0);
     for wanted in [10usize, 100, 1000] {
-        timer.reserve(wanted)?;
-        assert_eq!(rt; (timer.room(), timer.len()), (wanted, 0));
+        grows(&rt, &mut timer, wanted)?;
     }
     Ok(())
 }
 
-// What stands in the wheel stays where room is made, and goes where it is cleared.
-#[test]
-fn keeps_its_entries(rt: HostRuntime) -> Result<(), Fail> {
-    let mut timer = WheelTimer::new(rt.alloc());
-    timer.reserve(3)?;
+fn finds_the_due_entry(
+    rt: &impl Abort,
+    alloc: Global,
+    timer: &mut WheelTimer,
+) -> Result<(), AllocError> {
     let commands = [Insert(0, 70), Insert(2, 50), Least, Due(49), Due(50)];
     let least = Entry(Some((2, 50)));
-    let expected = [Inserted, Inserted, least, Entry(None), least];
-    let answers = run_timer(rt.alloc(), &mut timer, &commands)?;
-    assert_eq!(rt; answers.as_slice(), expected.as_slice());
+    let answers = run_timer(alloc, timer, &commands)?;
+    expect_answers(
+        rt,
+        &answers,
+        &[Inserted, Inserted, least, Entry(None), least],
+    );
+    Ok(())
+}
+
+fn keeps_in_more_room(rt: &impl Abort, timer: &mut WheelTimer) -> Result<(), AllocError> {
     timer.reserve(5)?;
     assert_eq!(rt;
         (timer.room(), timer.get(2), timer.get(1)),
         (5, Some(50), None)
     );
+    Ok(())
+}
+
+fn lets_go(rt: &impl Abort, timer: &mut WheelTimer) {
     timer.clear();
     assert_eq!(rt; (timer.room(), timer.len(), timer.least()), (5, 0, None));
+}
+
+// What stands in the wheel stays where room is made, and goes where it is cleared.
+#[test]
+fn keeps_its_entries(rt: HostRuntime) -> Result<(), Fail> {
+    let mut timer = with_room::<WheelTimer>(rt.alloc(), 3)?;
+    finds_the_due_entry(&rt, rt.alloc(), &mut timer)?;
+    keeps_in_more_room(&rt, &mut timer)?;
+    lets_go(&rt, &mut timer);
     Ok(())
 }
 
@@ -64,11 +109,19 @@ static BOUNDARIES: [[u64; 3]; 10] = [
     ],
 ];
 
+// The answers of a timer with this room to the commands.
+fn answers_of<T: Timer>(
+    alloc: Global,
+    room: usize,
+    commands: &[TimerCommand],
+) -> Result<Vec<TimerAnswer>, AllocError> {
+    let mut timer = with_room::<T>(alloc, room)?;
+    run_timer(alloc, &mut timer, commands)
+}
+
 // Whether an entry that expires at `moment` is found due then, and not one nanosecond before, by
 // a timer whose base is `from`.
 fn finds_due(alloc: Global, from: u64, moment: u64) -> Result<bool, AllocError> {
-    let mut timer = WheelTimer::new(alloc);
-    timer.reserve(1)?;
     let commands = [
         Due(from),
         Insert(0, moment),
@@ -87,55 +140,76 @@ fn finds_due(alloc: Global, from: u64, moment: u64) -> Result<bool, AllocError> 
         Removed(moment),
         Entry(None),
     ];
-    let answers = run_timer(alloc, &mut timer, &commands)?;
+    let answers = answers_of::<WheelTimer>(alloc, 1, &commands)?;
     Ok(answers.as_slice() == expected.as_slice())
 }
 
-#[test]
-fn finds_each_boundary_from_zero(rt: HostRuntime) -> Result<(), Fail> {
+fn expect_due(rt: &impl Abort, alloc: Global, from: u64, moment: u64) {
+    assert_eq!(rt;
+        finds_due(alloc, from, moment),
+        Ok(true),
+        "{moment} from {from}"
+    );
+}
+
+fn finds_each_boundary(rt: &impl Abort, alloc: Global, from: u64) {
     for moment in BOUNDARIES.iter().flatten() {
-        assert!(rt; finds_due(rt.alloc(), 0, *moment)?, "{moment}");
+        expect_due(rt, alloc, from, *moment);
     }
-    assert!(rt; finds_due(rt.alloc(), 0, u64::MAX)?);
-    Ok(())
+    expect_due(rt, alloc, from, u64::MAX);
 }
 
 #[test]
-fn finds_each_boundary_from_each(rt: HostRuntime) -> Result<(), Fail> {
+fn finds_each_boundary_from_zero(rt: HostRuntime) {
+    finds_each_boundary(&rt, rt.alloc(), 0);
+}
+
+#[test]
+fn finds_each_boundary_from_each(rt: HostRuntime) {
     for from in BOUNDARIES.iter().flatten() {
-        for moment in BOUNDARIES.iter().flatten() {
-            assert!(rt;
-                finds_due(rt.alloc(), *from, *moment)?,
-                "{moment} from {from}"
-            );
-        }
-        assert!(rt;
-            finds_due(rt.alloc(), *from, u64::MAX)?,
-            "the last from {from}"
-        );
+        finds_each_boundary(&rt, rt.alloc(), *from);
+    }
+}
+
+// Each boundary stands at a slot of its own.
+fn push_inserts(commands: &mut Vec<TimerCommand>) -> Result<(), AllocError> {
+    for (slot, moment) in BOUNDARIES.iter().flatten().enumerate() {
+        commands.push(Insert(slot, *moment))?;
     }
     Ok(())
+}
+
+// Each is looked for one nanosecond early and in time, and is taken out.
+fn push_removals(commands: &mut Vec<TimerCommand>) -> Result<(), AllocError> {
+    for (slot, moment) in BOUNDARIES.iter().flatten().enumerate() {
+        let early = Due(moment.saturating_sub(1));
+        commands.extend_from_slice(&[early, Due(*moment), Remove(slot)])?;
+    }
+    Ok(())
+}
+
+fn push_removed(answers: &mut Vec<TimerAnswer>) -> Result<(), AllocError> {
+    for (slot, moment) in BOUNDARIES.iter().flatten().enumerate() {
+        let due = Entry(Some((slot, *moment)));
+        answers.extend_from_slice(&[Entry(None), due, Removed(*moment)])?;
+    }
+    Ok(())
+}
+
+fn boundary_answers(alloc: Global) -> Result<Vec<TimerAnswer>, AllocError> {
+    let mut commands = Vec::new(alloc);
+    push_inserts(&mut commands)?;
+    push_removals(&mut commands)?;
+    answers_of::<WheelTimer>(alloc, 30, &commands)
 }
 
 // All boundaries stand at once, and are taken in their order: each cascade finds others beside it.
 #[test]
 fn takes_all_boundaries_in_order(rt: HostRuntime) -> Result<(), Fail> {
-    let mut timer = WheelTimer::new(rt.alloc());
-    timer.reserve(30)?;
-    let mut commands = Vec::new(rt.alloc());
-    for (slot, moment) in BOUNDARIES.iter().flatten().enumerate() {
-        commands.push(Insert(slot, *moment))?;
-    }
     let mut expected = [Inserted; 30].to_vec(rt.alloc())?;
-    for (slot, moment) in BOUNDARIES.iter().flatten().enumerate() {
-        commands.push(Due(moment.saturating_sub(1)))?;
-        expected.push(Entry(None))?;
-        commands.push(Due(*moment))?;
-        expected.push(Entry(Some((slot, *moment))))?;
-        commands.push(Remove(slot))?;
-        expected.push(Removed(*moment))?;
-    }
-    assert_eq!(rt; run_timer(rt.alloc(), &mut timer, &commands)?, expected);
+    push_removed(&mut expected)?;
+    let answers = boundary_answers(rt.alloc())?;
+    expect_answers(&rt, &answers, &expected);
     Ok(())
 }
 
@@ -174,6 +248,21 @@ fn next_command(random: &mut Random, now: u64) -> TimerCommand {
     }
 }
 
+// 1,000 commands. The time goes on by steps of any size, from 0 to its end.
+fn next_commands(
+    random: &mut Random,
+    alloc: Global,
+    run: u32,
+) -> Result<Vec<TimerCommand>, AllocError> {
+    let mut now = 0u64;
+    let mut commands = Vec::new(alloc);
+    for _ in 0..1000u32 {
+        now = now.saturating_add(random.of_any_size() >> (run % 60));
+        commands.push(next_command(random, now))?;
+    }
+    Ok(commands)
+}
+
 // The answers are equal, but that another entry of the same expiry may be given.
 fn agree(one: &TimerAnswer, other: &TimerAnswer) -> bool {
     match (one, other) {
@@ -182,33 +271,33 @@ fn agree(one: &TimerAnswer, other: &TimerAnswer) -> bool {
     }
 }
 
-// 100 runs of 1,000 commands each. In a run the time goes on by steps of any size, from 0 to its end.
+fn expect_agreement(rt: &impl Abort, answers: &[TimerAnswer], expected: &[TimerAnswer], run: u32) {
+    assert_eq!(rt; answers.len(), expected.len());
+    assert!(rt;
+        answers
+            .iter()
+            .zip(expected.iter())
+            .all(|(one, other)| agree(one, other)),
+        "run {run}"
+    );
+}
+
+fn agrees(rt: &impl Abort, alloc: Global, random: &mut Random, run: u32) -> Result<(), AllocError> {
+    let commands = next_commands(random, alloc, run)?;
+    let expected = answers_of::<ListTimer>(alloc, 48, &commands)?;
+    let answers = answers_of::<WheelTimer>(alloc, 48, &commands)?;
+    expect_agreement(rt, &answers, &expected, run);
+    Ok(())
+}
+
+// 100 runs of 1,000 commands each.
 #[test]
 fn agrees_with_the_plain_timer(rt: HostRuntime) -> Result<(), Fail> {
     let mut random = Random {
         state: 88172645463325252,
     };
     for run in 0..100u32 {
-        let mut plain = ListTimer::new(rt.alloc());
-        let mut wheel = WheelTimer::new(rt.alloc());
-        plain.reserve(48)?;
-        wheel.reserve(48)?;
-        let mut now = 0u64;
-        let mut commands = Vec::new(rt.alloc());
-        for _ in 0..1000u32 {
-            now = now.saturating_add(random.of_any_size() >> (run % 60));
-            commands.push(next_command(&mut random, now))?;
-        }
-        let expected = run_timer(rt.alloc(), &mut plain, &commands)?;
-        let answers = run_timer(rt.alloc(), &mut wheel, &commands)?;
-        assert_eq!(rt; answers.len(), expected.len());
-        assert!(rt;
-            answers
-                .iter()
-                .zip(expected.iter())
-                .all(|(one, other)| agree(one, other)),
-            "run {run}"
-        );
+        agrees(&rt, rt.alloc(), &mut random, run)?;
     }
     Ok(())
 }
