@@ -1,7 +1,10 @@
+mod allocations;
 mod desks;
 mod devices;
+mod far_moments;
 mod fixtures;
 mod jobs;
+mod long_runs;
 mod policies;
 mod refusals;
 mod shared_desks;

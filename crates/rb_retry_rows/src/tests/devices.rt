@@ -3,6 +3,8 @@ ghost use Rattle.std.specs.Prelude.{◌≡◌};
 use rb_blocking::Clock;
 use rb_lock::{Pass, Shared};
 use rb_timer::ListTimer;
+use std::fmt::Debug;
+use std::process::Abort;
 
 pub type ListShared = Shared<ListTimer>;
 
@@ -18,4 +20,22 @@ impl Clock for FixedClock {
     fn now(&self) -> u64 {
         self.0
     }
+}
+
+// Each comparison is a function of its own with no clause, so that a test that makes it has nothing to prove.
+
+pub fn expect_same<T: PartialEq + Debug + Drop>(rt: &impl Abort, found: T, wanted: T) {
+    assert_eq!(rt; found, wanted);
+}
+
+pub fn expect_number(rt: &impl Abort, number: u64, wanted: u64) {
+    expect_same(rt, number, wanted);
+}
+
+pub fn expect_count(rt: &impl Abort, count: usize, wanted: usize) {
+    expect_same(rt, count, wanted);
+}
+
+pub fn expect_holds(rt: &impl Abort, holds: bool) {
+    assert!(rt; holds);
 }

@@ -1,25 +1,51 @@
-ghost use Rattle.std.specs.Prelude.{◌≡◌};
+ghost use Rattle.std.specs.Prelude.{◌≡◌, [], vec_len, vec_capacity};
+ghost use Rattle.rb_ledger.specs.Totals.{nothing};
 
+use crate::tests::devices::{ListPass, ListShared, expect_same};
 use rb_delayed::Payload;
 use rb_kept::Kept;
 use rb_ledger::Tally;
+use rb_lock::Shared;
 use rb_queue::{Ask, Draft, Reply};
-use rb_retry::{Desk, DeskFault};
-use rb_timer::Timer;
+use rb_retry::{Desk, DeskFault, Job};
+use rb_timer::{ListTimer, Timer};
 use std::alloc::Global;
 use std::process::Abort;
 
 /// A kept queue with room for so many calls, and its tally.
-pub fn kept<T: Timer>(rt: &impl Abort, alloc: Global, calls: u64) -> (Kept<T>, Tally) {
-    Kept::new(alloc, calls).ok().expect(rt, "a kept queue")
+pub fn kept<T: Timer>(rt: &impl Abort, alloc: Global, calls: u64) -> (Kept<T>, Tally)
+    ensures history { result.0.history ≡ [] }
+    ensures tally { result.1 ≡ nothing }
+{
+    match Kept::new(alloc, calls) {
+        Ok(made) => made,
+        Err(_) => rt.abort(),
+    }
+}
+
+/// A shared queue with room for so many calls, and its first pass.
+pub fn opened(rt: &impl Abort, alloc: Global, calls: u64) -> (ListShared, ListPass)
+    ensures { result.1.table ≡ result.0 }
+{
+    let (kept, tally) = kept::<ListTimer>(rt, alloc, calls);
+    Shared::open(alloc, kept, tally)
+        .ok()
+        .expect(rt, "a shared queue")
+}
+
+pub fn payload(rt: &impl Abort) -> Payload {
+    Payload::new(b"a").ok().expect(rt, "a payload")
 }
 
 /// Offers an element that expires at this moment.
 pub fn offer<D: Desk>(rt: &impl Abort, desk: &mut D, asked: u64, expiry: u64)
     ensures name { D.name (D.state desk.new) ≡ D.name (D.state desk.old) }
 {
-    let payload = Payload::new(b"a").ok().expect(rt, "a payload");
-    let offered = desk.call(asked, Ask::Offer(Draft::first(expiry, payload)));
+    let offered = desk.call(asked, Ask::Offer(Draft::first(expiry, payload(rt))));
+    expect_offered(rt, offered);
+}
+
+fn expect_offered(rt: &impl Abort, offered: Result<Reply, DeskFault>) {
     assert!(rt; offered.is_ok());
 }
 
@@ -43,5 +69,38 @@ pub fn expect<D: Desk>(
 )
     ensures name { D.name (D.state desk.new) ≡ D.name (D.state desk.old) }
 {
-    assert_eq!(rt; number_of(&desk.call(asked, ask)), number);
+    let reply = desk.call(asked, ask);
+    expect_number_of(rt, reply, number);
+}
+
+fn expect_number_of(
+    rt: &impl Abort,
+    reply: Result<Reply, DeskFault>,
+    number: Result<Option<u64>, DeskFault>,
+) {
+    expect_same(rt, number_of(&reply), number);
+}
+
+/// Sets a desk's clock, and looks at what it answers.
+pub fn expect_set<D: Desk>(rt: &impl Abort, desk: &mut D, moment: u64, wanted: Option<u64>)
+    ensures name { D.name (D.state desk.new) ≡ D.name (D.state desk.old) }
+{
+    let set = desk.set(moment);
+    expect_moment(rt, set, wanted);
+}
+
+fn expect_moment(rt: &impl Abort, moment: Option<u64>, wanted: Option<u64>) {
+    expect_same(rt, moment, wanted);
+}
+
+/// Room for so many jobs.
+pub fn room(rt: &impl Abort, alloc: Global, count: usize) -> Vec<Job>
+    ensures empty { vec_len result ≡ 0 }
+    ensures capacity { vec_capacity result ≡ count }
+{
+    Vec::with_capacity(alloc, count).ok().expect(rt, "memory")
+}
+
+pub fn expect_drained(rt: &impl Abort, drained: Result<(), DeskFault>) {
+    expect_same(rt, drained, Ok(()));
 }

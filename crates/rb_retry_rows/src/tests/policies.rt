@@ -1,4 +1,6 @@
+use crate::tests::devices::{expect_holds, expect_same};
 use rb_delayed::{Element, Payload};
+use rb_queue::Draft;
 use rb_retry::Policy;
 use std::process::Abort;
 
@@ -16,26 +18,46 @@ fn element(rt: &impl Abort, expiry: u64, first: u64, attempt: u32) -> Element {
     }
 }
 
+fn expect_no_policy(rt: &impl Abort, policy: Option<Policy>) {
+    expect_same(rt, policy, None);
+}
+
+fn expect_refused(rt: &impl Abort, attempts: u32) {
+    expect_no_policy(rt, Policy::fixed(5, attempts));
+    expect_no_policy(rt, Policy::fixed_rate(5, attempts));
+}
+
+fn expect_made(rt: &impl Abort, attempts: u32) {
+    expect_holds(rt, Policy::fixed(5, attempts).is_some());
+    expect_holds(rt, Policy::fixed_rate(5, attempts).is_some());
+}
+
 #[test]
 fn a_policy_has_1_to_1000_attempts(rt: HostRuntime) {
     for attempts in [0, 1_001, u32::MAX] {
-        assert_eq!(rt; Policy::fixed(5, attempts), None);
-        assert_eq!(rt; Policy::fixed_rate(5, attempts), None);
+        expect_refused(&rt, attempts);
     }
     for attempts in [1, 1_000] {
-        assert!(rt; Policy::fixed(5, attempts).is_some());
-        assert!(rt; Policy::fixed_rate(5, attempts).is_some());
+        expect_made(&rt, attempts);
     }
+}
+
+fn expect_draft(rt: &impl Abort, draft: &Draft, attempt: u32) {
+    expect_same(rt, draft.origin, Some(3));
+    expect_same(rt, draft.first, Some(150));
+    expect_same(rt, draft.attempt, attempt.saturating_add(1));
 }
 
 // The next expiry of a job of this attempt, whose first expiry was 150, that fails at 400.
 fn next_expiry(rt: &impl Abort, policy: Option<Policy>, attempt: u32) -> Option<u64> {
     let policy = policy.expect(rt, "a policy");
     let draft = policy.retry_of(&element(rt, 250, 150, attempt), 400)?;
-    assert_eq!(rt; draft.origin, Some(3));
-    assert_eq!(rt; draft.first, Some(150));
-    assert_eq!(rt; draft.attempt, attempt.saturating_add(1));
+    expect_draft(rt, &draft, attempt);
     Some(draft.expiry)
+}
+
+fn expect_next(rt: &impl Abort, policy: Option<Policy>, attempt: u32, expiry: Option<u64>) {
+    expect_same(rt, next_expiry(rt, policy, attempt), expiry);
 }
 
 #[test]
@@ -52,6 +74,6 @@ fn a_delay_counts_from_the_failure_and_a_rate_from_the_first_expiry(rt: HostRunt
         (Policy::fixed(0, 1_000), 999, Some(400)),
         (Policy::fixed(0, 1_000), 1_000, None),
     ] {
-        assert_eq!(rt; next_expiry(&rt, policy, attempt), expiry);
+        expect_next(&rt, policy, attempt, expiry);
     }
 }

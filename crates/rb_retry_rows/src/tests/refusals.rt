@@ -3,11 +3,13 @@
 ghost use Rattle.std.specs.Prelude.{◌≡◌, IfOk, []};
 ghost use Rattle.rb_ledger.specs.Totals.{nothing};
 
-use crate::tests::devices::{FixedClock, ListPass, ListShared};
+use crate::tests::devices::{
+    FixedClock, ListPass, ListShared, expect_count, expect_holds, expect_number, expect_same,
+};
 use rb_binary::BinaryTimer;
 use rb_blocking::{Bell, TurnGate};
 use rb_delayed::{Element, Payload};
-use rb_kept::{Kept, NewFault};
+use rb_kept::{CallFault, Kept, NewFault};
 use rb_ledger::{Tally, Totals};
 use rb_lock::{CloseFault, Shared};
 use rb_queue::{Act, Ask, Audit, Draft, Event, Reply};
@@ -15,7 +17,7 @@ use rb_retry::{
     Desk, DeskFault, Job, KeptDesk, Policy, Verdict, Work, WorkReport, drain, fail, poll, work_off,
 };
 use rb_shared_desk::SharedDesk;
-use rb_timer::Timer;
+use rb_timer::{ListTimer, Timer};
 use std::alloc::{AllocError, Global};
 use std::cell::{Cell, RefCell};
 use std::process::Abort;
@@ -104,46 +106,64 @@ fn first_offer(rt: &impl Abort, expiry: u64) -> Ask {
     Ask::Offer(Draft::first(expiry, payload(rt)))
 }
 
+fn expect_element(rt: &impl Abort, found: &Element, id: u64) {
+    expect_same(rt, *found, element(rt, id));
+}
+
 // The drained elements are to be so many, from the id `last` down.
 fn expect_elements(rt: &impl Abort, elements: &[Element], last: u64, count: usize) {
-    assert_eq!(rt; elements.len(), count);
+    expect_count(rt, elements.len(), count);
     let mut id = last;
-    for &found in elements {
-        assert_eq!(rt; found, element(rt, id));
+    for found in elements {
+        expect_element(rt, found, id);
         id = id.saturating_sub(1);
     }
 }
 
 // The jobs are 59 to 40.
 fn expect_jobs(rt: &impl Abort, jobs: &[Job]) {
-    assert_eq!(rt; jobs.len(), 20);
+    expect_count(rt, jobs.len(), 20);
     let mut id: u64 = 59;
     for job in jobs {
-        assert_eq!(rt; *job.element(), element(rt, id));
+        expect_element(rt, job.element(), id);
         id = id.saturating_sub(1);
     }
 }
 
-fn expect_drain(rt: &impl Abort, act: &Act, most: u64, last: u64, count: usize) {
-    let Act::Drain { max, ids } = act else {
-        return assert!(rt; false, "{act:?}");
-    };
-    assert_eq!(rt; (*max, ids.as_slice().len()), (most, count));
+fn expect_ids(rt: &impl Abort, ids: &[u64], last: u64, count: usize) {
+    expect_count(rt, ids.len(), count);
     let mut expected = last;
-    for &id in ids.as_slice() {
-        assert_eq!(rt; id, expected);
+    for &id in ids {
+        expect_number(rt, id, expected);
         expected = expected.saturating_sub(1);
     }
 }
 
+fn expect_drain(rt: &impl Abort, act: &Act, most: u64, last: u64, count: usize) {
+    match act {
+        Act::Drain { max, ids } => {
+            expect_number(rt, *max, most);
+            expect_ids(rt, ids.as_slice(), last, count);
+        }
+        _ => expect_holds(rt, false),
+    }
+}
+
+fn expect_act(rt: &impl Abort, act: &Act, wanted: Act) {
+    assert_eq!(rt; *act, wanted);
+}
+
+fn expect_moments(rt: &impl Abort, event: &Event, moment: u64) {
+    expect_same(rt, (event.seat, event.asked, event.at), (0, moment, moment));
+}
+
 fn expect_event(rt: &impl Abort, event: &Event, place: u64) {
-    let moment = moment_of(place);
-    assert_eq!(rt; (event.seat, event.asked, event.at), (0, moment, moment));
+    expect_moments(rt, event, moment_of(place));
     match deed_of(place) {
         Deed::Offer(id) | Deed::Fail(id) => {
-            assert_eq!(rt; event.act, Act::Offer(element(rt, id)));
+            expect_act(rt, &event.act, Act::Offer(element(rt, id)));
         }
-        Deed::Poll(id) => assert_eq!(rt; event.act, Act::Poll(Some(id))),
+        Deed::Poll(id) => expect_act(rt, &event.act, Act::Poll(Some(id))),
         Deed::Drain => expect_drain(rt, &event.act, 30, 89, 30),
         Deed::Fetch => expect_drain(rt, &event.act, 50, 58, 19),
     }
@@ -158,6 +178,65 @@ fn expect_history(rt: &impl Abort, history: &[Event]) {
     }
 }
 
+fn expect_reply(rt: &impl Abort, reply: &Reply, wanted: Reply) {
+    assert_eq!(rt; *reply, wanted);
+}
+
+// Offers the first element of a job.
+fn offers<D: Desk>(rt: &impl Abort, desk: &mut D, id: u64) -> Result<(), DeskFault>
+    ensures name { D.name (D.state desk.new) ≡ D.name (D.state desk.old) }
+{
+    let offered = desk.call(100, first_offer(rt, element(rt, id).expiry));
+    see_offered(rt, offered, id)
+}
+
+fn see_offered(
+    rt: &impl Abort,
+    offered: Result<Reply, DeskFault>,
+    id: u64,
+) -> Result<(), DeskFault> {
+    expect_reply(rt, &offered?, Reply::Offered(element(rt, id)));
+    Ok(())
+}
+
+// Polls an element, which becomes the last job.
+fn polls<D: Desk>(
+    rt: &impl Abort,
+    desk: &mut D,
+    place: u64,
+    id: u64,
+    jobs: &mut Vec<Job>,
+) -> Result<(), DeskFault>
+    ensures name { D.name (D.state desk.new) ≡ D.name (D.state desk.old) }
+{
+    let polled = poll(desk, moment_of(place));
+    see_polled(rt, polled, id, jobs)
+}
+
+fn see_polled(
+    rt: &impl Abort,
+    polled: Result<Option<Job>, DeskFault>,
+    id: u64,
+    jobs: &mut Vec<Job>,
+) -> Result<(), DeskFault> {
+    let job = polled?.expect(rt, "a job");
+    expect_element(rt, job.element(), id);
+    keep(rt, job, jobs);
+    Ok(())
+}
+
+fn keep(rt: &impl Abort, job: Job, jobs: &mut Vec<Job>) {
+    jobs.push(job).ok().expect(rt, "room for a job");
+}
+
+fn last_of(rt: &impl Abort, jobs: &mut Vec<Job>) -> Job {
+    jobs.pop().expect(rt, "a job")
+}
+
+fn two_attempts(rt: &impl Abort) -> Policy {
+    Policy::fixed_rate(20, 2).expect(rt, "a policy")
+}
+
 // The last job fails. Where it is handed back, it is the last once more.
 fn fails<D: Desk>(
     rt: &impl Abort,
@@ -167,16 +246,53 @@ fn fails<D: Desk>(
 ) -> Result<(), DeskFault>
     ensures name { D.name (D.state desk.new) ≡ D.name (D.state desk.old) }
 {
-    let policy = Policy::fixed_rate(20, 2).expect(rt, "a policy");
-    let job = jobs.pop().expect(rt, "a job");
+    let policy = two_attempts(rt);
+    let job = last_of(rt, jobs);
     let failed = *job.element();
-    match fail(desk, &policy, job, 100) {
-        Ok(verdict) => assert_eq!(rt; verdict, Verdict::Again(element(rt, id))),
-        Err((back, fault)) => {
-            assert_eq!(rt; *back.element(), failed);
-            jobs.push(back).ok().expect(rt, "room for a job");
-            return Err(DeskFault::from(fault));
+    let ended = fail(desk, &policy, job, 100);
+    see_failed(rt, ended, id, failed, jobs)
+}
+
+fn expect_again(rt: &impl Abort, verdict: Verdict, id: u64) {
+    expect_same(rt, verdict, Verdict::Again(element(rt, id)));
+}
+
+fn expect_handed_back(rt: &impl Abort, back: &Job, failed: Element) {
+    expect_same(rt, *back.element(), failed);
+}
+
+fn see_failed(
+    rt: &impl Abort,
+    ended: Result<Verdict, (Job, CallFault)>,
+    id: u64,
+    failed: Element,
+    jobs: &mut Vec<Job>,
+) -> Result<(), DeskFault> {
+    match ended {
+        Ok(verdict) => {
+            expect_again(rt, verdict, id);
+            Ok(())
         }
+        Err((back, fault)) => {
+            expect_handed_back(rt, &back, failed);
+            keep(rt, back, jobs);
+            Err(DeskFault::from(fault))
+        }
+    }
+}
+
+// Drains elements 89 to 60 by the desk's call.
+fn drains<D: Desk>(rt: &impl Abort, desk: &mut D) -> Result<(), DeskFault>
+    ensures name { D.name (D.state desk.new) ≡ D.name (D.state desk.old) }
+{
+    let drained = desk.call(100, Ask::Drain(30));
+    see_drained(rt, drained)
+}
+
+fn see_drained(rt: &impl Abort, drained: Result<Reply, DeskFault>) -> Result<(), DeskFault> {
+    match drained? {
+        Reply::Drained(items) => expect_elements(rt, items.as_slice(), 89, 30),
+        _ => rt.abort(),
     }
     Ok(())
 }
@@ -187,7 +303,16 @@ fn fetches<D: Desk>(rt: &impl Abort, desk: &mut D, jobs: &mut Vec<Job>) -> Resul
 {
     assert!(rt; jobs.len() <= 1);
     assert!(rt; jobs.capacity() >= 60);
-    drain(desk, 100, 50, jobs)?;
+    let drained = drain(desk, 100, 50, jobs);
+    see_fetched(rt, drained, jobs)
+}
+
+fn see_fetched(
+    rt: &impl Abort,
+    drained: Result<(), DeskFault>,
+    jobs: &[Job],
+) -> Result<(), DeskFault> {
+    drained?;
     expect_jobs(rt, jobs);
     Ok(())
 }
@@ -202,26 +327,12 @@ fn does<D: Desk>(
     ensures name { D.name (D.state desk.new) ≡ D.name (D.state desk.old) }
 {
     match deed_of(place) {
-        Deed::Offer(id) => {
-            let offer = first_offer(rt, element(rt, id).expiry);
-            let reply = desk.call(100, offer)?;
-            assert_eq!(rt; reply, Reply::Offered(element(rt, id)));
-        }
-        Deed::Poll(id) => {
-            let job = poll(desk, moment_of(place))?.expect(rt, "a job");
-            assert_eq!(rt; *job.element(), element(rt, id));
-            jobs.push(job).ok().expect(rt, "room for a job");
-        }
-        Deed::Fail(id) => fails(rt, desk, id, jobs)?,
-        Deed::Drain => {
-            let Reply::Drained(items) = desk.call(100, Ask::Drain(30))? else {
-                rt.abort()
-            };
-            expect_elements(rt, items.as_slice(), 89, 30);
-        }
-        Deed::Fetch => fetches(rt, desk, jobs)?,
+        Deed::Offer(id) => offers(rt, desk, id),
+        Deed::Poll(id) => polls(rt, desk, place, id, jobs),
+        Deed::Fail(id) => fails(rt, desk, id, jobs),
+        Deed::Drain => drains(rt, desk),
+        Deed::Fetch => fetches(rt, desk, jobs),
     }
-    Ok(())
 }
 
 // How many jobs there are, and the element of the last.
@@ -251,10 +362,21 @@ fn opened_at_last(alloc: Global) -> Result<(ListShared, ListPass), Fail>
     ensures { IfOk result (λ opened. opened.1.table ≡ opened.0) }
 {
     let (kept, tally) = kept_at_last(alloc)?;
-    let (kept, tally) = match Shared::open(alloc, kept, tally) {
-        Ok(opened) => return Ok(opened),
-        Err((kept, tally, _)) => (kept, tally),
-    };
+    match Shared::open(alloc, kept, tally) {
+        Ok(opened) => Ok(opened),
+        Err((kept, tally, _)) => opened_again(alloc, kept, tally),
+    }
+}
+
+fn opened_again(
+    alloc: Global,
+    kept: Kept<ListTimer>,
+    tally: Tally,
+) -> Result<(ListShared, ListPass), Fail>
+    requires history { kept.history ≡ [] }
+    requires tally { tally ≡ nothing }
+    ensures { IfOk result (λ opened. opened.1.table ≡ opened.0) }
+{
     match Shared::open(alloc, kept, tally) {
         Ok(opened) => Ok(opened),
         Err((_, _, fault)) => Err(Fail::from(fault)),
@@ -273,50 +395,86 @@ fn does_kept<T: Timer>(
     does(rt, &mut desk, place, jobs)
 }
 
+fn expect_memory(rt: &impl Abort, fault: DeskFault) {
+    expect_same(rt, fault, DeskFault::Memory);
+}
+
+fn expect_done(rt: &impl Abort, done: Result<(), DeskFault>) {
+    expect_same(rt, done, Ok(()));
+}
+
+// What a deed that was refused has left.
+type KeptState = (Audit, Totals, (usize, Option<Element>));
+
+fn state_of<T: Timer>(kept: &Kept<T>, tally: &Tally, jobs: &[Job]) -> KeptState {
+    (kept.audit(), tally.totals(), held(jobs))
+}
+
+fn expect_state(rt: &impl Abort, found: KeptState, wanted: KeptState) {
+    expect_same(rt, found, wanted);
+}
+
 // The same once more where it was refused, which has left the numbers, each event and the jobs. The
-// elements are shown by the deeds after it.
+// elements are shown by the deeds after it. Answers how often it was refused.
 fn has_done_kept<T: Timer>(
     rt: &impl Abort,
     kept: &mut Kept<T>,
     tally: &mut Tally,
     place: u64,
     jobs: &mut Vec<Job>,
-    met: &mut u32,
-) {
-    let before = (kept.audit(), tally.totals(), held(jobs));
-    if let Err(fault) = does_kept(rt, kept, tally, place, jobs) {
-        assert_eq!(rt; fault, DeskFault::Memory);
-        assert_eq!(rt; (kept.audit(), tally.totals(), held(jobs)), before);
-        expect_history(rt, kept.history());
-        *met = met.saturating_add(1);
-        assert_eq!(rt; does_kept(rt, kept, tally, place, jobs), Ok(()));
+) -> u32 {
+    let before = state_of(kept, tally, jobs);
+    match does_kept(rt, kept, tally, place, jobs) {
+        Ok(()) => 0,
+        Err(fault) => {
+            expect_memory(rt, fault);
+            expect_state(rt, state_of(kept, tally, jobs), before);
+            expect_history(rt, kept.history());
+            expect_done(rt, does_kept(rt, kept, tally, place, jobs));
+            1
+        }
     }
+}
+
+fn expect_numbers(rt: &impl Abort, audit: Audit, totals: Totals) {
+    expect_same(
+        rt,
+        (audit.calls, audit.offered, audit.given, audit.left),
+        (DEEDS, 90, 90, 0),
+    );
+    expect_same(
+        rt,
+        (totals.calls, totals.offered, totals.given),
+        (DEEDS, 90, 90),
+    );
 }
 
 // What all deeds come to.
 fn expect_all(rt: &impl Abort, history: &[Event], audit: Audit, totals: Totals) {
-    assert_eq!(rt; history.len() as u64, DEEDS);
+    expect_number(rt, history.len() as u64, DEEDS);
     expect_history(rt, history);
-    assert_eq!(rt;
-        (audit.calls, audit.offered, audit.given, audit.left),
-        (DEEDS, 90, 90, 0)
-    );
-    assert_eq!(rt;
-        (totals.calls, totals.offered, totals.given),
-        (DEEDS, 90, 90)
-    );
+    expect_numbers(rt, audit, totals);
 }
 
 // Does all deeds at desks over a kept queue, and answers how often one was refused.
-fn refused_at_kept<T: Timer>(rt: &impl Abort, alloc: Global) -> Result<u32, Fail> {
-    let (mut kept, mut tally) = kept_at_last::<T>(alloc)?;
-    let mut jobs = room(alloc)?;
-    let mut met = 0;
+fn has_done_all_kept<T: Timer>(
+    rt: &impl Abort,
+    kept: &mut Kept<T>,
+    tally: &mut Tally,
+    jobs: &mut Vec<Job>,
+) -> u32 {
+    let mut met = 0_u32;
     for place in 0..DEEDS {
-        has_done_kept(rt, &mut kept, &mut tally, place, &mut jobs, &mut met);
+        met = met.saturating_add(has_done_kept(rt, kept, tally, place, jobs));
     }
     expect_all(rt, kept.history(), kept.audit(), tally.totals());
-    Ok(met)
+    met
+}
+
+fn refused_at_kept<T: Timer>(rt: &impl Abort, alloc: Global) -> Result<u32, Fail> {
+    let mut jobs = room(alloc)?;
+    let (mut kept, mut tally) = kept_at_last::<T>(alloc)?;
+    Ok(has_done_all_kept(rt, &mut kept, &mut tally, &mut jobs))
 }
 
 // Does a deed at a desk over a shared queue.
@@ -336,8 +494,15 @@ fn does_shared<R: Wait + time::Clock + Abort>(
     does(rt, &mut desk, place, jobs)
 }
 
+// What a deed that was refused has left of a pass, a bell and the jobs.
+type SharedState = (u64, u64, (usize, Option<Element>));
+
+fn expect_shared_state(rt: &impl Abort, found: SharedState, wanted: SharedState) {
+    expect_same(rt, found, wanted);
+}
+
 // The same once more where it was refused, which has left the pass's calls, the bell and the jobs. The
-// history is shown at the end.
+// history is shown at the end. Answers how often it was refused.
 fn has_done_shared<R: Wait + time::Clock + Abort>(
     rt: &R,
     shared: &ListShared,
@@ -345,33 +510,58 @@ fn has_done_shared<R: Wait + time::Clock + Abort>(
     bell: &Bell,
     place: u64,
     jobs: &mut Vec<Job>,
-    met: &mut u32,
-)
+) -> u32
     requires { pass.old.table ≡ shared.now }
     ensures { pass.new.table ≡ pass.old.table }
 {
     let before = (pass.calls(), bell.count(rt), held(jobs));
-    if let Err(fault) = does_shared(rt, shared, pass, bell, place, jobs) {
-        assert_eq!(rt; fault, DeskFault::Memory);
-        assert_eq!(rt; (pass.calls(), bell.count(rt), held(jobs)), before);
-        *met = met.saturating_add(1);
-        assert_eq!(rt; does_shared(rt, shared, pass, bell, place, jobs), Ok(()));
+    match does_shared(rt, shared, pass, bell, place, jobs) {
+        Ok(()) => 0,
+        Err(fault) => {
+            expect_memory(rt, fault);
+            expect_shared_state(rt, (pass.calls(), bell.count(rt), held(jobs)), before);
+            expect_done(rt, does_shared(rt, shared, pass, bell, place, jobs));
+            1
+        }
     }
 }
 
 // Does all deeds at desks over a shared queue, and answers how often one was refused.
-fn refused_at_shared<R: Wait + time::Clock + Abort>(rt: &R, alloc: Global) -> Result<u32, Fail> {
-    let (shared, mut pass) = opened_at_last(alloc)?;
-    let mut jobs = room(alloc)?;
-    let (bell, mut met) = (Bell::new(), 0);
+fn has_done_all_shared<R: Wait + time::Clock + Abort>(
+    rt: &R,
+    shared: &ListShared,
+    pass: &mut ListPass,
+    jobs: &mut Vec<Job>,
+) -> u32
+    requires { pass.old.table ≡ shared.now }
+    ensures { pass.new.table ≡ pass.old.table }
+{
+    let (bell, mut met) = (Bell::new(), 0_u32);
     for place in 0..DEEDS {
-        has_done_shared(rt, &shared, &mut pass, &bell, place, &mut jobs, &mut met);
+        met = met.saturating_add(has_done_shared(rt, shared, pass, &bell, place, jobs));
     }
-    assert_eq!(rt; bell.count(rt), 90);
-    let Ok((kept, tally, audit)) = shared.close(rt, pass) else {
-        return Err(Fail::from("it did not close"));
-    };
-    expect_all(rt, kept.history(), audit, tally.totals());
+    expect_number(rt, bell.count(rt), 90);
+    met
+}
+
+// What a queue that was shared comes to.
+fn expect_closed<R: Wait + Abort>(rt: &R, shared: ListShared, pass: ListPass) -> Result<(), Fail>
+    requires { pass.table ≡ shared }
+{
+    match shared.close(rt, pass) {
+        Ok((kept, tally, audit)) => {
+            expect_all(rt, kept.history(), audit, tally.totals());
+            Ok(())
+        }
+        Err(_) => Err(Fail::from("it did not close")),
+    }
+}
+
+fn refused_at_shared<R: Wait + time::Clock + Abort>(rt: &R, alloc: Global) -> Result<u32, Fail> {
+    let mut jobs = room(alloc)?;
+    let (shared, mut pass) = opened_at_last(alloc)?;
+    let met = has_done_all_shared(rt, &shared, &mut pass, &mut jobs);
+    expect_closed(rt, shared, pass)?;
     Ok(met)
 }
 
@@ -392,23 +582,32 @@ impl<D: Desk> Failing<D> {
             runs: Cell::new([0; JOBS as usize]),
         }
     }
+
+    fn offer_filler(&self) {
+        if let Some(crowd) = &self.crowd
+            && let Ok(mut desk) = crowd.try_borrow_mut()
+        {
+            offers_at_last(&mut *desk, self.filler);
+        }
+    }
 }
 
 impl<D: Desk> Work for Failing<D> {
     ghost may = { λ work element answer. Unit {0} };
 
     fn run(&self, element: &Element) -> bool {
-        if let Some(crowd) = &self.crowd
-            && let Ok(mut desk) = crowd.try_borrow_mut()
-        {
-            offers_at_last(&mut *desk, self.filler);
-        }
+        self.offer_filler();
         let mut runs = self.runs.get();
-        if let Some(count) = runs.get_mut(element.origin as usize) {
-            *count = count.saturating_add(1);
-        }
+        count(&mut runs, element.origin);
         self.runs.set(runs);
         false
+    }
+}
+
+// One more of this job.
+fn count(runs: &mut [u32], job: u64) {
+    if let Some(count) = runs.get_mut(job as usize) {
+        *count = count.saturating_add(1);
     }
 }
 
@@ -422,20 +621,46 @@ fn offers_at_last<D: Desk>(desk: &mut D, offer: Ask)
     }
 }
 
-// Offers the jobs and works them off. What is left are the elements that the work offered.
-fn works_off<D: Desk, C: Desk>(rt: &impl Abort, desk: &mut D, work: &Failing<C>) -> WorkReport
+fn expect_answer(rt: &impl Abort, answer: Result<Reply, DeskFault>, wanted: Reply) {
+    expect_same(rt, answer, Ok(wanted));
+}
+
+// What is left are the elements that the work offered.
+fn expect_left<D: Desk>(rt: &impl Abort, desk: &mut D, fillers: u64)
+    ensures name { D.name (D.state desk.new) ≡ D.name (D.state desk.old) }
+{
+    let polled = desk.call(100, Ask::Poll);
+    expect_answer(rt, polled, Reply::Nothing);
+    let size = desk.call(100, Ask::Size);
+    expect_answer(rt, size, Reply::Size(fillers));
+}
+
+fn offers_jobs<D: Desk>(rt: &impl Abort, desk: &mut D)
     ensures name { D.name (D.state desk.new) ≡ D.name (D.state desk.old) }
 {
     for _ in 0..JOBS {
         offers_at_last(desk, first_offer(rt, 100));
     }
-    let policy = Policy::fixed(0, 2).expect(rt, "a policy");
-    let report = work_off(desk, &policy, work);
+}
+
+fn two_at_once(rt: &impl Abort) -> Policy {
+    Policy::fixed(0, 2).expect(rt, "a policy")
+}
+
+// Offers the jobs and works them off.
+fn works_off<D: Desk, C: Desk>(rt: &impl Abort, desk: &mut D, work: &Failing<C>) -> WorkReport
+    ensures name { D.name (D.state desk.new) ≡ D.name (D.state desk.old) }
+{
+    offers_jobs(rt, desk);
+    let report = work_off(desk, &two_at_once(rt), work);
     expect_report(rt, report, &work.runs.get());
     let fillers = if work.crowd.is_some() { report.runs } else { 0 };
-    assert_eq!(rt; desk.call(100, Ask::Poll), Ok(Reply::Nothing));
-    assert_eq!(rt; desk.call(100, Ask::Size), Ok(Reply::Size(fillers)));
+    expect_left(rt, desk, fillers);
     report
+}
+
+fn expect_same_report(rt: &impl Abort, found: WorkReport, wanted: WorkReport) {
+    expect_same(rt, found, wanted);
 }
 
 // A job whose second attempt was refused was run once, and each other twice.
@@ -448,13 +673,13 @@ fn expect_report(rt: &impl Abort, report: WorkReport, runs: &[u32]) {
         deads: again,
         lost: report.lost,
     };
-    assert_eq!(rt; report, expected);
+    expect_same_report(rt, report, expected);
     let mut once = 0_u64;
     for &count in runs {
-        assert!(rt; count == 1 || count == 2);
+        expect_holds(rt, count == 1 || count == 2);
         once = once.saturating_add(u64::from(count == 1));
     }
-    assert_eq!(rt; once, report.lost);
+    expect_number(rt, once, report.lost);
 }
 
 // The totals of a run with this report, in which so many more elements were offered. A refused offer is
@@ -468,17 +693,28 @@ fn totals_of(report: WorkReport, fillers: u64) -> Totals {
     }
 }
 
+fn expect_set(rt: &impl Abort, moment: Option<u64>) {
+    expect_same(rt, moment, Some(100));
+}
+
+fn expect_totals(rt: &impl Abort, found: Totals, wanted: Totals) {
+    expect_same(rt, found, wanted);
+}
+
+fn worked_off_kept<T: Timer>(rt: &impl Abort, kept: &mut Kept<T>, tally: &mut Tally) -> WorkReport {
+    let mut desk = KeptDesk::new(kept, tally);
+    expect_set(rt, desk.set(100));
+    let work = Failing::<KeptDesk<'_, T>>::new(rt, None);
+    works_off(rt, &mut desk, &work)
+}
+
 // At a desk that nobody shares no more elements stand than were there at first, so that no memory is
 // wanted, and no job is lost.
 fn works_at_kept<T: Timer>(rt: &impl Abort, alloc: Global) -> Result<(), Fail> {
     let (mut kept, mut tally) = kept_at_last::<T>(alloc)?;
-    let mut desk = KeptDesk::new(&mut kept, &mut tally);
-    assert_eq!(rt; desk.set(100), Some(100));
-    let work = Failing::<KeptDesk<'_, T>>::new(rt, None);
-    let report = works_off(rt, &mut desk, &work);
-    drop(desk);
-    assert_eq!(rt; report.lost, 0);
-    assert_eq!(rt; tally.totals(), totals_of(report, 0));
+    let report = worked_off_kept(rt, &mut kept, &mut tally);
+    expect_number(rt, report.lost, 0);
+    expect_totals(rt, tally.totals(), totals_of(report, 0));
     Ok(())
 }
 
@@ -501,19 +737,31 @@ fn works_at_shared<R: Wait + time::Clock + Abort>(
     works_off(rt, &mut desk, &work)
 }
 
+// The totals of the first pass, and those of both, where the first did not close for the calls of the second.
+fn not_all<R: Wait>(rt: &R, shared: ListShared, first: ListPass) -> Result<(Totals, Totals), Fail>
+    requires { first.table ≡ shared }
+{
+    match shared.close(rt, first) {
+        Err((_, _, CloseFault::NotAll { gathered, booked })) => Ok((gathered, booked)),
+        Ok(_) => Err(Fail::from("the second pass made no call")),
+    }
+}
+
 // A refused attempt loses its job. The totals of both passes, and those of the first, are those of the
 // report.
 fn lost_at_shared<R: Wait + time::Clock + Abort>(rt: &R, alloc: Global) -> Result<u32, Fail> {
     let (shared, mut first) = opened_at_last(alloc)?;
     let second = shared.split(rt, &mut first)?;
     let report = works_at_shared(rt, &shared, &mut first, second);
-    let Err((_, _, CloseFault::NotAll { gathered, booked })) = shared.close(rt, first) else {
-        return Err(Fail::from("the second pass made no call"));
-    };
-    assert_eq!(rt; gathered, totals_of(report, 0));
-    assert_eq!(rt; booked, totals_of(report, report.runs));
-    assert!(rt; report.lost <= 1);
+    let (gathered, booked) = not_all(rt, shared, first)?;
+    expect_totals(rt, gathered, totals_of(report, 0));
+    expect_totals(rt, booked, totals_of(report, report.runs));
+    expect_holds(rt, report.lost <= 1);
     Ok(u32::from(report.lost == 1))
+}
+
+fn expect_refusals(rt: &impl Abort, met: u32) {
+    expect_same(rt, met, REFUSALS);
 }
 
 #[test]
@@ -525,6 +773,6 @@ fn a_refusal_changes_nothing(rt: HostRuntime) -> Result<(), Fail> {
     let lost = lost_at_shared(&rt, alloc)?;
     let kept = refused_at_kept::<BinaryTimer>(&rt, alloc)?;
     let shared = refused_at_shared(&rt, alloc)?;
-    assert_eq!(rt; lost.saturating_add(kept).saturating_add(shared), REFUSALS);
+    expect_refusals(&rt, lost.saturating_add(kept).saturating_add(shared));
     Ok(())
 }

@@ -1,17 +1,19 @@
 // Desks over a shared queue, by clocks that stand still.
 
-ghost use Rattle.std.specs.Prelude.{◌≡◌, IfOk};
+ghost use Rattle.std.specs.Prelude.{◌≡◌};
 
 use crate::tests::desks::expect_all_drained;
-use crate::tests::devices::{FixedClock, ListPass, ListShared};
-use crate::tests::fixtures::{expect, offer};
-use crate::tests::jobs::{End, end_of};
+use crate::tests::devices::{
+    FixedClock, ListPass, ListShared, expect_count, expect_holds, expect_number, expect_same,
+};
+use crate::tests::fixtures::{expect, expect_set, offer, opened};
+use crate::tests::jobs::{End, expect_end};
 use rb_blocking::{Bell, Gate, TurnGate};
 use rb_kept::Kept;
-use rb_lock::Shared;
-use rb_queue::Ask;
-use rb_retry::{Desk, DeskFault, take};
+use rb_queue::{Ask, Event};
+use rb_retry::{Desk, DeskFault, Job, take};
 use rb_shared_desk::SharedDesk;
+use rb_timer::ListTimer;
 use std::alloc::Global;
 use std::process::Abort;
 use std::sync::Wait;
@@ -34,23 +36,12 @@ impl Gate for CountingGate {
     }
 }
 
-// A shared queue with room for so many calls, and its first pass.
-fn opened(alloc: Global, calls: u64) -> Result<(ListShared, ListPass), Fail>
-    ensures { IfOk result (λ opened. opened.1.table ≡ opened.0) }
-{
-    let (kept, tally) = Kept::new(alloc, calls)?;
-    match Shared::open(alloc, kept, tally) {
-        Ok(opened) => Ok(opened),
-        Err((_, _, fault)) => Err(Fail::from(fault)),
-    }
-}
-
 // The clock can't be set, and waits are made at its readings, whatever moment is handed in.
 fn expect_calls<D: Desk>(rt: &impl Abort, desk: &mut D)
     ensures name { D.name (D.state desk.new) ≡ D.name (D.state desk.old) }
 {
-    assert_eq!(rt; desk.set(9), None);
-    assert_eq!(rt; desk.now(), 7);
+    expect_set(rt, desk, 9, None);
+    expect_number(rt, desk.now(), 7);
     expect(rt, desk, 99, Ask::Take, Err(DeskFault::Stopped));
     offer(rt, desk, 3, 7);
     expect(rt, desk, 99, Ask::Take, Ok(Some(0)));
@@ -65,20 +56,30 @@ fn expect_calls<D: Desk>(rt: &impl Abort, desk: &mut D)
     expect(rt, desk, 12, Ask::Clear, Err(DeskFault::Full));
 }
 
-// The history that was made, with its moments, where this pass made it all.
-fn expect_history<R: Wait + Abort>(rt: &R, shared: ListShared, pass: ListPass)
+fn expect_event(rt: &impl Abort, event: &Event, moment: (u64, u64)) {
+    expect_same(
+        rt,
+        (event.seat, event.asked, event.at),
+        (0, moment.0, moment.1),
+    );
+}
+
+// The history that was made, with its moments.
+fn expect_history(rt: &impl Abort, history: &[Event]) {
+    let moments = [(3, 3), (7, 7), (7, 7), (11, 11)];
+    expect_count(rt, history.len(), 4);
+    for (event, moment) in history.iter().zip(moments) {
+        expect_event(rt, event, moment);
+    }
+}
+
+// The kept queue, where this pass made the whole history.
+fn closed<R: Wait + Abort>(rt: &R, shared: ListShared, pass: ListPass) -> Kept<ListTimer>
     requires { pass.table ≡ shared }
 {
-    let Ok((kept, _, _)) = shared.close(rt, pass) else {
-        rt.abort()
-    };
-    let moments = [(3, 3), (7, 7), (7, 7), (11, 11)];
-    assert_eq!(rt; kept.history().len(), 4);
-    for (event, moment) in kept.history().iter().zip(moments) {
-        assert_eq!(rt;
-            (event.seat, event.asked, event.at),
-            (0, moment.0, moment.1)
-        );
+    match shared.close(rt, pass) {
+        Ok((kept, _, _)) => kept,
+        Err(_) => rt.abort(),
     }
 }
 
@@ -98,44 +99,78 @@ fn expect_run<R: Wait + time::Clock + Abort>(
     expect_calls(rt, &mut desk);
 }
 
+fn expect_three(rt: &impl Abort, found: (u64, u64, u64), wanted: (u64, u64, u64)) {
+    expect_same(rt, found, wanted);
+}
+
 // An offer alone rings, and the gate is asked where a wait finds nothing.
 #[test]
-fn a_shared_desk_waits_by_its_gate(rt: HostRuntime) -> Result<(), Fail> {
-    let (shared, mut pass) = opened(rt.alloc(), 4)?;
+fn a_shared_desk_waits_by_its_gate(rt: HostRuntime) {
+    let (shared, mut pass) = opened(&rt, rt.alloc(), 4);
     let bell = Bell::new();
     let mut gate = CountingGate { asked: 0 };
     expect_run(&rt, &shared, &mut pass, &mut gate, &bell);
-    assert_eq!(rt; (gate.asked, bell.count(&rt), pass.calls()), (2, 1, 4));
-    expect_history(&rt, shared, pass);
-    Ok(())
+    expect_three(&rt, (gate.asked, bell.count(&rt), pass.calls()), (2, 1, 4));
+    expect_history(&rt, closed(&rt, shared, pass).history());
 }
 
 #[test]
-fn a_drain_at_a_shared_desk_gives_all_that_are_expired(rt: HostRuntime) -> Result<(), Fail> {
-    let (shared, mut pass) = opened(rt.alloc(), 201)?;
+fn a_drain_at_a_shared_desk_gives_all_that_are_expired(rt: HostRuntime) {
+    let (shared, mut pass) = opened(&rt, rt.alloc(), 201);
     let (clock, bell, mut gate) = (FixedClock(7), Bell::new(), TurnGate { limit: 0 });
     let mut desk = SharedDesk::new(&rt, &shared, &mut pass, &clock, &mut gate, &bell);
     expect_all_drained(&rt, rt.alloc(), &mut desk);
-    Ok(())
+}
+
+fn fails_once<D: Desk>(rt: &impl Abort, desk: &mut D) {
+    offer(rt, desk, 0, 0);
+    expect_end(rt, desk, 7, End::Again(1, 17));
+    expect(rt, desk, 0, Ask::Take, Err(DeskFault::Stopped));
+}
+
+// A job fails once at a desk over this pass.
+fn fails_at<R: Wait + time::Clock + Abort>(
+    rt: &R,
+    shared: &ListShared,
+    pass: &mut ListPass,
+    bell: &Bell,
+)
+    requires { pass.old.table ≡ shared.now }
+{
+    let (clock, mut gate) = (FixedClock(7), TurnGate { limit: 0 });
+    let mut desk = SharedDesk::new(rt, shared, pass, &clock, &mut gate, bell);
+    fails_once(rt, &mut desk);
+}
+
+// The next attempt is taken at a desk over this pass, and is dead.
+fn dies_at<R: Wait + time::Clock + Abort>(
+    rt: &R,
+    shared: &ListShared,
+    pass: &mut ListPass,
+    bell: &Bell,
+)
+    requires { pass.old.table ≡ shared.now }
+{
+    let (clock, mut gate) = (FixedClock(17), TurnGate { limit: 0 });
+    let mut desk = SharedDesk::new(rt, shared, pass, &clock, &mut gate, bell);
+    expect_end(rt, &mut desk, 17, End::Dead(1));
 }
 
 // What one desk offers again, another takes.
 #[test]
 fn desks_share_their_jobs(rt: HostRuntime) -> Result<(), Fail> {
-    let (shared, mut first) = opened(rt.alloc(), 4)?;
+    let (shared, mut first) = opened(&rt, rt.alloc(), 4);
     let mut second = shared.split(&rt, &mut first)?;
-    let (early, late, bell) = (FixedClock(7), FixedClock(17), Bell::new());
-    let mut gate = TurnGate { limit: 0 };
-    let mut desk = SharedDesk::new(&rt, &shared, &mut first, &early, &mut gate, &bell);
-    offer(&rt, &mut desk, 0, 0);
-    assert_eq!(rt; end_of(&rt, &mut desk, 7), End::Again(1, 17));
-    expect(&rt, &mut desk, 0, Ask::Take, Err(DeskFault::Stopped));
-    drop(desk);
-    let mut desk = SharedDesk::new(&rt, &shared, &mut second, &late, &mut gate, &bell);
-    assert_eq!(rt; end_of(&rt, &mut desk, 17), End::Dead(1));
-    drop(desk);
-    assert_eq!(rt; (first.calls(), second.calls(), bell.count(&rt)), (3, 1, 2));
+    let bell = Bell::new();
+    fails_at(&rt, &shared, &mut first, &bell);
+    dies_at(&rt, &shared, &mut second, &bell);
+    let counts = (first.calls(), second.calls(), bell.count(&rt));
+    expect_three(&rt, counts, (3, 1, 2));
     Ok(())
+}
+
+fn is_taken(job: Result<Job, DeskFault>) -> bool {
+    job.is_ok()
 }
 
 // Whether a take at a desk gets an element before its gate ends the wait.
@@ -150,7 +185,7 @@ fn gets_one<R: Wait + time::Clock>(
     let clock = FixedClock(7);
     let mut gate = TurnGate { limit: 1_000 };
     let mut desk = SharedDesk::new(rt, shared, &mut pass, &clock, &mut gate, bell);
-    take(&mut desk).is_ok()
+    is_taken(take(&mut desk))
 }
 
 // Offers an element that is expired at once.
@@ -172,7 +207,7 @@ fn one_gets_what_another_offers<R: Threads + Wait + time::Clock + Abort + Sync>(
     rt: &R,
     alloc: Global,
 ) -> Result<bool, Fail> {
-    let (shared, mut first) = opened(alloc, 2)?;
+    let (shared, mut first) = opened(rt, alloc, 2);
     let second = shared.split(rt, &mut first)?;
     let lock = &shared;
     let bell = &Bell::new();
@@ -190,6 +225,6 @@ fn one_gets_what_another_offers<R: Threads + Wait + time::Clock + Abort + Sync>(
 
 #[test]
 fn a_wait_at_a_desk_gets_what_another_offers(rt: HostRuntime) -> Result<(), Fail> {
-    assert!(rt; one_gets_what_another_offers(&rt, rt.alloc())?);
+    expect_holds(&rt, one_gets_what_another_offers(&rt, rt.alloc())?);
     Ok(())
 }

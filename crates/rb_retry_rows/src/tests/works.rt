@@ -1,8 +1,9 @@
 ghost use Rattle.std.specs.Prelude.{◌≡◌};
 
+use crate::tests::devices::expect_same;
 use crate::tests::fixtures::{kept, offer};
 use rb_delayed::Element;
-use rb_retry::{KeptDesk, Policy, Work, WorkReport, work_off};
+use rb_retry::{Desk, KeptDesk, Policy, Work, WorkReport, work_off};
 use rb_timer::ListTimer;
 use std::alloc::Global;
 use std::cell::Cell;
@@ -59,22 +60,35 @@ fn count(counts: &mut [u64], id: u64) {
     }
 }
 
-// Works off so many jobs at moment 0, with at most `attempts` and no delay between them.
+// So many jobs at moment 0, and how many attempts each has. Nothing lies between two of them.
+#[derive(Clone, Copy)]
+struct Jobs {
+    count: u64,
+    attempts: u32,
+}
+
+fn policy(rt: &impl Abort, attempts: u32) -> Policy {
+    Policy::fixed(0, attempts).expect(rt, "a policy")
+}
+
+fn worked_off<D: Desk, W: Work>(rt: &impl Abort, desk: &mut D, jobs: Jobs, work: &W) -> WorkReport {
+    for _ in 0..jobs.count {
+        offer(rt, desk, 0, 0);
+    }
+    work_off(desk, &policy(rt, jobs.attempts), work)
+}
+
+// Works the jobs off where there is room for so many calls.
 fn report_of<W: Work>(
     rt: &impl Abort,
     alloc: Global,
     calls: u64,
-    jobs: u64,
-    attempts: u32,
+    jobs: Jobs,
     work: &W,
 ) -> WorkReport {
-    let policy = Policy::fixed(0, attempts).expect(rt, "a policy");
     let (mut kept, mut tally) = kept::<ListTimer>(rt, alloc, calls);
     let mut desk = KeptDesk::new(&mut kept, &mut tally);
-    for _ in 0..jobs {
-        offer(rt, &mut desk, 0, 0);
-    }
-    work_off(&mut desk, &policy, work)
+    worked_off(rt, &mut desk, jobs, work)
 }
 
 fn report(runs: u64, dones: u64, agains: u64, deads: u64, lost: u64) -> WorkReport {
@@ -87,33 +101,51 @@ fn report(runs: u64, dones: u64, agains: u64, deads: u64, lost: u64) -> WorkRepo
     }
 }
 
+fn expect_report(rt: &impl Abort, found: WorkReport, wanted: WorkReport) {
+    expect_same(rt, found, wanted);
+}
+
+// One job, of which each run answers the same.
+fn expect_always(
+    rt: &impl Abort,
+    alloc: Global,
+    calls: u64,
+    attempts: u32,
+    answer: bool,
+    wanted: WorkReport,
+) {
+    let jobs = Jobs { count: 1, attempts };
+    expect_report(
+        rt,
+        report_of(rt, alloc, calls, jobs, &Always(answer)),
+        wanted,
+    );
+}
+
 #[test]
 fn a_worker_counts_its_runs(rt: HostRuntime) {
     let alloc = rt.alloc();
-    assert_eq!(rt;
-        report_of(&rt, alloc, 100, 1, 3, &Always(false)),
-        report(3, 0, 2, 1, 0)
-    );
-    assert_eq!(rt;
-        report_of(&rt, alloc, 100, 1, 3, &Always(true)),
-        report(1, 1, 0, 0, 0)
-    );
-    assert_eq!(rt;
-        report_of(&rt, alloc, 1, 1, 3, &Always(true)),
-        report(0, 0, 0, 0, 0)
-    );
+    expect_always(&rt, alloc, 100, 3, false, report(3, 0, 2, 1, 0));
+    expect_always(&rt, alloc, 100, 3, true, report(1, 1, 0, 0, 0));
+    expect_always(&rt, alloc, 1, 3, true, report(0, 0, 0, 0, 0));
+}
+
+fn expect_counts(rt: &impl Abort, work: &Counting) {
+    expect_same(rt, work.by_job.get(), [1, 3, 2]);
+    expect_same(rt, work.by_element.get(), [1; 6]);
 }
 
 // Six elements are taken: the three jobs, two more attempts of the second, and one of the third.
 #[test]
 fn each_element_is_run_once(rt: HostRuntime) {
     let work = Counting::new();
-    assert_eq!(rt;
-        report_of(&rt, rt.alloc(), 100, 3, 3, &work),
-        report(6, 2, 3, 1, 0)
-    );
-    assert_eq!(rt; work.by_job.get(), [1, 3, 2]);
-    assert_eq!(rt; work.by_element.get(), [1; 6]);
+    let jobs = Jobs {
+        count: 3,
+        attempts: 3,
+    };
+    let found = report_of(&rt, rt.alloc(), 100, jobs, &work);
+    expect_report(&rt, found, report(6, 2, 3, 1, 0));
+    expect_counts(&rt, &work);
 }
 
 // The offer and the take fill the history. An attempt that is left is then refused, and the last one
@@ -121,12 +153,6 @@ fn each_element_is_run_once(rt: HostRuntime) {
 #[test]
 fn a_refused_failure_is_lost_and_not_dead(rt: HostRuntime) {
     let alloc = rt.alloc();
-    assert_eq!(rt;
-        report_of(&rt, alloc, 2, 1, 2, &Always(false)),
-        report(1, 0, 0, 0, 1)
-    );
-    assert_eq!(rt;
-        report_of(&rt, alloc, 2, 1, 1, &Always(false)),
-        report(1, 0, 0, 1, 0)
-    );
+    expect_always(&rt, alloc, 2, 2, false, report(1, 0, 0, 0, 1));
+    expect_always(&rt, alloc, 2, 1, false, report(1, 0, 0, 1, 0));
 }
