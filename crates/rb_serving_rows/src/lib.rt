@@ -4,16 +4,4 @@
 #![tactic(auto)]
 
 #[cfg(test)]
-mod batch_rows;
-#[cfg(test)]
-mod clock_rows;
-#[cfg(test)]
-mod served_jobs_rows;
-#[cfg(test)]
-mod server_end_rows;
-#[cfg(test)]
-mod serving_rows;
-#[cfg(test)]
-mod tcp_rows;
-#[cfg(test)]
 mod tests;

@@ -3,7 +3,7 @@
 ghost use Rattle.std.specs.Prelude.{◌≡◌, ◌≤◌};
 
 use rb_blocking::{Clock, Gate};
-use rb_queue::Opening;
+use rb_queue::{Audit, Opening};
 use rb_retry::Policy;
 use rb_runs::BrokerFault;
 use rb_serving::{Door, DoorFault, ServeReport, Visit, serve_door};
@@ -214,23 +214,16 @@ impl<'a, R: Wait + time::Clock + Sync> Door for PlannedDoor<'a, R> {
     }
 }
 
-/// Serves these visits over the plain timer, with room for 100 calls.
-pub fn served_plans<R: Threads + Wait + time::Clock + Abort + Sync>(
-    rt: &R,
-    alloc: Global,
-    plans: &[Plan<'_>],
-    workers: u64,
-) -> Result<ServeReport<ListTimer>, BrokerFault>
+/// Room for 100 calls, and three attempts a job.
+pub fn hundred_calls(rt: &impl Abort, workers: u64) -> ServeOptions
     requires some { 1 ≤ workers }
     requires few { workers ≤ 16 }
 {
-    let policy = Policy::fixed(1_000, 3).expect(rt, "a policy");
-    let options = ServeOptions {
+    ServeOptions {
         workers,
         calls: 100,
-        policy,
-    };
-    served_so(rt, alloc, plans, &options)
+        policy: Policy::fixed(1_000, 3).expect(rt, "a policy"),
+    }
 }
 
 /// Serves these visits over the plain timer with these options.
@@ -253,4 +246,68 @@ pub fn served_so<R: Threads + Wait + time::Clock + Sync>(
         options,
         Opening::empty(alloc),
     )
+}
+
+/// What a server counted, and the audit of its history.
+#[derive(Clone, Copy)]
+pub struct Counts {
+    pub sessions: u64,
+    pub faults: u64,
+    pub lost: u64,
+    pub audit: Audit,
+}
+
+/// What a server came to that served these visits with these options.
+pub fn counted<R: Threads + Wait + time::Clock + Abort + Sync>(
+    rt: &R,
+    alloc: Global,
+    plans: &[Plan<'_>],
+    options: &ServeOptions,
+) -> Counts {
+    let served = served_so(rt, alloc, plans, options);
+    counts_of(&served.ok().expect(rt, "a report"))
+}
+
+pub fn counts_of(report: &ServeReport<ListTimer>) -> Counts {
+    Counts {
+        sessions: report.sessions,
+        faults: report.faults,
+        lost: report.lost,
+        audit: report.audit,
+    }
+}
+
+// Each comparison is a function of its own with no clause, so that a test that makes it has nothing to prove.
+
+/// Compares what a visitor was sent.
+pub fn expect_text<R: Wait + Abort>(rt: &R, received: &Mutex<Received>, wanted: &[u8]) {
+    expect_bytes(rt, received.lock(rt).text.as_slice(), wanted);
+}
+
+/// Compares by how many writes.
+pub fn expect_writes<R: Wait + Abort>(rt: &R, received: &Mutex<Received>, wanted: u64) {
+    expect_number(rt, received.lock(rt).writes, wanted);
+}
+
+pub fn expect_bytes(rt: &impl Abort, bytes: &[u8], wanted: &[u8]) {
+    assert_eq!(rt; bytes, wanted);
+}
+
+pub fn expect_number(rt: &impl Abort, number: u64, wanted: u64) {
+    assert_eq!(rt; number, wanted);
+}
+
+pub fn expect_counts(rt: &impl Abort, counts: Counts, sessions: u64, faults: u64, lost: u64) {
+    assert_eq!(rt;
+        (counts.sessions, counts.faults, counts.lost),
+        (sessions, faults, lost)
+    );
+}
+
+pub fn expect_audit(rt: &impl Abort, audit: Audit, wanted: Audit) {
+    assert_eq!(rt; audit, wanted);
+}
+
+pub fn expect(rt: &impl Abort, holds: bool) {
+    assert!(rt; holds);
 }

@@ -2,7 +2,10 @@
 
 ghost use Rattle.std.specs.Prelude.{◌≤◌};
 
-use crate::tests::devices::{Received, at_once, planned, served_plans};
+use crate::tests::devices::{
+    Counts, Received, at_once, counts_of, expect, expect_bytes, expect_counts, expect_number,
+    hundred_calls, planned, served_so,
+};
 use rb_runs::BrokerFault;
 use rb_serving::{ServeReport, end_server};
 use rb_timer::ListTimer;
@@ -69,80 +72,113 @@ impl Sent {
     }
 }
 
-// How a server of so many workers, 1 or 2, ended that as many visitors came to, and what they were sent.
+// How a server ended, and what its visitors were sent.
+#[derive(Drop)]
+struct Served {
+    outcome: Result<ServeReport<ListTimer>, BrokerFault>,
+    sent: Sent,
+}
+
+// Serves as many visitors as there are workers, 1 or 2.
 fn served_lines<R: Threads + Wait + time::Clock + Abort + Sync>(
     rt: &R,
     alloc: Global,
     workers: u64,
-) -> Result<(Result<ServeReport<ListTimer>, BrokerFault>, Sent), Fail>
+) -> Result<Served, Fail>
+    requires some { 1 ≤ workers }
+    requires few { workers ≤ 2 }
+{
+    let first = page(alloc)?;
+    let second = page(alloc)?;
+    Ok(served_into(rt, alloc, workers, first, second))
+}
+
+fn served_into<R: Threads + Wait + time::Clock + Abort + Sync>(
+    rt: &R,
+    alloc: Global,
+    workers: u64,
+    first: Vec<u8>,
+    second: Vec<u8>,
+) -> Served
     requires some { 1 ≤ workers }
     requires few { workers ≤ 2 }
 {
     let turns = AtomicU64::new(0);
-    let (first, second) = (Received::into(page(alloc)?), Received::into(page(alloc)?));
+    let (first, second) = (Received::into(first), Received::into(second));
     let plans = [
         planned(at_once(LINES), &first, &turns),
         planned(at_once(LINES), &second, &turns),
     ];
     let visitors = if workers == 1 { 1 } else { 2 };
-    let outcome = served_plans(rt, alloc, &plans[..visitors], workers);
+    let outcome = served_so(rt, alloc, &plans[..visitors], &hundred_calls(rt, workers));
     let mut sent = NOBODY;
     sent.note(first.lock(rt).text.as_slice());
     if workers == 2 {
         sent.note(second.lock(rt).text.as_slice());
     }
-    Ok((outcome, sent))
+    Served { outcome, sent }
 }
 
 // A server that ends well has served each visitor, but for those who were sent nothing, and has the calls
 // of those who were sent an id.
-fn expect_report(rt: &impl Abort, report: &ServeReport<ListTimer>, sent: Sent, visitors: u64) {
-    assert_eq!(rt;
-        (report.sessions, report.faults, report.lost),
-        (visitors, sent.nothing, 0)
-    );
-    let served = sent.offered().saturating_add(sent.refused);
-    assert_eq!(rt; served.saturating_add(sent.nothing), visitors);
-    assert!(rt; sent.first <= 1 && sent.second <= sent.first);
-    let (audit, offered) = (report.audit, sent.offered());
-    assert_eq!(rt;
-        (audit.calls, audit.offered, audit.left),
-        (offered, offered, offered)
-    );
-    assert_eq!(rt; u64::try_from(report.kept.history().len()), Ok(offered));
+fn expect_report(rt: &impl Abort, counts: Counts, events: usize, sent: Sent, visitors: u64) {
+    expect_counts(rt, counts, visitors, sent.nothing, 0);
+    let (audit, offered) = (counts.audit, sent.offered());
+    let served = offered.saturating_add(sent.refused);
+    expect_number(rt, served.saturating_add(sent.nothing), visitors);
+    expect(rt, sent.first <= 1 && sent.second <= sent.first);
+    expect_number(rt, audit.calls, offered);
+    expect_number(rt, audit.offered, offered);
+    expect_number(rt, audit.left, offered);
+    expect(rt, u64::try_from(events) == Ok(offered));
 }
 
-// The report of a server that was refused nothing. It is run once more where it was.
+// Who was started before a worker that could not be has served all.
+fn expect_fault(rt: &impl Abort, fault: BrokerFault, sent: Sent, workers: u64) {
+    if fault == BrokerFault::Memory {
+        expect_number(rt, sent.nothing, workers);
+    } else {
+        expect(rt, fault == BrokerFault::Worker);
+        expect(rt, sent.is_whole(workers) || sent.nothing == workers);
+    }
+}
+
+// The report of a server that was refused nothing.
+fn whole_report(rt: &impl Abort, served: Served, workers: u64) -> Option<ServeReport<ListTimer>> {
+    let Served { outcome, sent } = served;
+    match outcome {
+        Ok(report) => {
+            let events = report.kept.history().len();
+            expect_report(rt, counts_of(&report), events, sent, workers);
+            if sent.is_whole(workers) {
+                Some(report)
+            } else {
+                None
+            }
+        }
+        Err(fault) => {
+            expect_fault(rt, fault, sent, workers);
+            None
+        }
+    }
+}
+
+// That report, and how many refusals were met. The server is run once more where one was.
 fn report_at_last<R: Threads + Wait + time::Clock + Abort + Sync>(
     rt: &R,
     alloc: Global,
     workers: u64,
-    met: &mut u32,
-) -> Result<ServeReport<ListTimer>, Fail>
+) -> Result<(ServeReport<ListTimer>, u32), Fail>
     requires some { 1 ≤ workers }
     requires few { workers ≤ 2 }
 {
-    for refusals in [0, 1] {
-        let (outcome, sent) = served_lines(rt, alloc, workers)?;
-        let whole = sent.is_whole(workers);
-        match outcome {
-            Ok(report) => {
-                expect_report(rt, &report, sent, workers);
-                if whole {
-                    *met = met.saturating_add(refusals);
-                    return Ok(report);
-                }
-            }
-            Err(BrokerFault::Memory) => assert_eq!(rt; sent.nothing, workers),
-            // One who was started before has served all.
-            Err(fault) => {
-                assert_eq!(rt; fault, BrokerFault::Worker);
-                assert!(rt; whole || sent.nothing == workers);
-            }
-        }
-        assert_eq!(rt; refusals, 0);
+    if let Some(report) = whole_report(rt, served_lines(rt, alloc, workers)?, workers) {
+        return Ok((report, 0));
     }
-    Err(Fail::from("it was refused twice"))
+    match whole_report(rt, served_lines(rt, alloc, workers)?, workers) {
+        Some(report) => Ok((report, 1)),
+        None => Err(Fail::from("it was refused twice")),
+    }
 }
 
 const PRINTED: &[u8] =
@@ -150,37 +186,82 @@ const PRINTED: &[u8] =
 
 const SERVED_HISTORY: &[u8] = b"history 3\nopen 0 0 0\n1 7 7 offer 0 7 0 7 1 a\nend 1\n";
 
-// Whether the end of a server met a refusal. Then one of both texts is missing, and is there the next time.
-fn refused_end(
+// What the end of a server leaves.
+#[derive(Drop)]
+struct End {
+    outcome: Result<(), BrokerFault>,
+    printed: Vec<u8>,
+    history: Option<Vec<u8>>,
+}
+
+fn ended(alloc: Global, report: &ServeReport<ListTimer>) -> Result<End, AllocError> {
+    let printed = page(alloc)?;
+    let history = page(alloc)?;
+    Ok(ended_into(alloc, report, printed, Some(history)))
+}
+
+fn ended_into(
+    alloc: Global,
+    report: &ServeReport<ListTimer>,
+    mut printed: Vec<u8>,
+    mut history: Option<Vec<u8>>,
+) -> End {
+    let outcome = end_server(alloc, report, &mut printed, &mut history);
+    End {
+        outcome,
+        printed,
+        history,
+    }
+}
+
+// Whether the end met no refusal. One of both texts is missing where it met one.
+fn is_whole(rt: &impl Abort, end: &End) -> bool {
+    let printed = end.printed.as_slice();
+    let history = end.history.as_ref().expect(rt, "a history").as_slice();
+    if end.outcome.is_ok() {
+        expect_bytes(rt, printed, PRINTED);
+        expect_bytes(rt, history, SERVED_HISTORY);
+        return true;
+    }
+    expect(rt, end.outcome == Err(BrokerFault::Memory));
+    let unwritten = printed == PRINTED && history.is_empty();
+    expect(
+        rt,
+        unwritten || printed.is_empty() && history == SERVED_HISTORY,
+    );
+    false
+}
+
+// How many refusals the end of a server met. What is missing then is there the next time.
+fn refused_ends(
     rt: &impl Abort,
     alloc: Global,
     report: &ServeReport<ListTimer>,
-) -> Result<bool, Fail> {
-    for refused in [false, true] {
-        let (mut writer, mut history) = (page(alloc)?, Some(page(alloc)?));
-        let ended = end_server(alloc, report, &mut writer, &mut history);
-        let history = history.expect(rt, "a history");
-        let (printed, written) = (writer.as_slice(), history.as_slice());
-        if ended.is_ok() {
-            assert_eq!(rt; printed, PRINTED);
-            assert_eq!(rt; written, SERVED_HISTORY);
-            return Ok(refused);
-        }
-        assert_eq!(rt; (ended, refused), (Err(BrokerFault::Memory), false));
-        let unwritten = printed == PRINTED && written.is_empty();
-        assert!(rt; unwritten || printed.is_empty() && written == SERVED_HISTORY);
+) -> Result<u32, Fail> {
+    if is_whole(rt, &ended(alloc, report)?) {
+        return Ok(0);
     }
-    Ok(true)
+    expect(rt, is_whole(rt, &ended(alloc, report)?));
+    Ok(1)
+}
+
+// What a server of one worker meets, and its end.
+fn refused_server<R: Threads + Wait + time::Clock + Abort + Sync>(
+    rt: &R,
+    alloc: Global,
+) -> Result<u32, Fail> {
+    let (report, met) = report_at_last(rt, alloc, 1)?;
+    Ok(met.saturating_add(refused_ends(rt, alloc, &report)?))
+}
+
+fn expect_refusals(rt: &impl Abort, refusals: u32) {
+    assert_eq!(rt; refusals, REFUSALS);
 }
 
 #[test]
 fn a_refused_allocation_is_answered(rt: HostRuntime) -> Result<(), Fail> {
-    let alloc = rt.alloc();
-    let mut refusals = 0_u32;
-    let report = report_at_last(&rt, alloc, 1, &mut refusals)?;
-    let _ = report_at_last(&rt, alloc, 2, &mut refusals)?;
-    let refused = refused_end(&rt, alloc, &report)?;
-    refusals = refusals.saturating_add(u32::from(refused));
-    assert_eq!(rt; refusals, REFUSALS);
+    let one = refused_server(&rt, rt.alloc())?;
+    let (_, two) = report_at_last(&rt, rt.alloc(), 2)?;
+    expect_refusals(&rt, one.saturating_add(two));
     Ok(())
 }

@@ -1,10 +1,11 @@
 // A server over TCP on loopback, both ends in one process.
 
-use crate::tests::devices::SevenClock;
+use crate::tests::devices::{
+    Counts, SevenClock, counts_of, expect_bytes, expect_counts, expect_number,
+};
 use rb_queue::Opening;
 use rb_retry::Policy;
-use rb_runs::BrokerFault;
-use rb_serving::{ServeReport, TcpDoor, serve_door};
+use rb_serving::{TcpDoor, serve_door};
 use rb_timer::ListTimer;
 use rb_words::ServeOptions;
 use std::alloc::Global;
@@ -35,7 +36,7 @@ fn served<R: Threads + Wait + time::Clock + Abort + Sync>(
     rt: &R,
     alloc: Global,
     listener: TcpListener,
-) -> Result<ServeReport<ListTimer>, BrokerFault> {
+) -> Counts {
     let policy = Policy::fixed(1_000, 3).expect(rt, "a policy");
     let options = ServeOptions {
         workers: 2,
@@ -44,20 +45,19 @@ fn served<R: Threads + Wait + time::Clock + Abort + Sync>(
     };
     let door = TcpDoor::new(listener, 2, 200);
     let opening = Opening::empty(alloc);
-    serve_door(rt, alloc, &door, &SevenClock, &options, opening)
+    let report = serve_door::<ListTimer, _, _, _>(rt, alloc, &door, &SevenClock, &options, opening);
+    counts_of(&report.ok().expect(rt, "a report"))
 }
 
-fn expect_report(rt: &impl Abort, report: &ServeReport<ListTimer>) {
-    assert_eq!(rt; (report.sessions, report.faults, report.lost), (2, 0, 0));
-    assert_eq!(rt;
-        (report.audit.calls, report.audit.offered, report.audit.given),
-        (2, 1, 1)
-    );
+fn expect_report(rt: &impl Abort, counts: Counts) {
+    expect_counts(rt, counts, 2, 0, 0);
+    expect_number(rt, counts.audit.calls, 2);
+    expect_number(rt, counts.audit.offered, 1);
+    expect_number(rt, counts.audit.given, 1);
 }
 
 fn expect_sent(rt: &impl Abort, alloc: Global, stream: TcpStream, text: &[u8]) -> Result<(), Fail> {
-    let sent = sent(alloc, stream)?;
-    assert_eq!(rt; sent.as_slice(), text);
+    expect_bytes(rt, sent(alloc, stream)?.as_slice(), text);
     Ok(())
 }
 
@@ -69,7 +69,7 @@ fn two_clients_share_a_queue(rt: HostRuntime) -> Result<(), Fail> {
     let taker = client(&rt, server, b"TAKE\nDONE 0\nQUIT\n")?;
     let giver = client(&rt, server, b"OFFER 0 a\nQUIT\n")?;
     let alloc = rt.alloc();
-    expect_report(&rt, &served(&rt, alloc, listener)?);
+    expect_report(&rt, served(&rt, alloc, listener));
     expect_sent(&rt, alloc, taker, b"ITEM 0 7 1 a\nDONE 0\nBYE\n")?;
     expect_sent(&rt, alloc, giver, b"OFFERED 0 7\nBYE\n")
 }

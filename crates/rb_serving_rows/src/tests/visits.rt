@@ -2,48 +2,29 @@
 
 ghost use Rattle.std.specs.Prelude.{◌≤◌};
 
-use crate::tests::devices::{Plan, Received, Sends, after, at_once, planned, served_plans};
+use crate::tests::devices::{
+    Counts, Plan, Received, Sends, after, at_once, counted, expect, expect_audit, expect_counts,
+    expect_number, expect_text, hundred_calls, planned,
+};
 use rb_queue::Audit;
-use rb_serving::ServeReport;
-use rb_timer::ListTimer;
 use std::alloc::Global;
 use std::process::Abort;
 use std::sync::atomic::AtomicU64;
 use std::sync::{Mutex, Wait};
-use std::test::Fail;
 use std::thread::Threads;
 use std::time;
 
-/// Serves these visits.
+/// What a server of so many workers comes to that serves these visits.
 pub fn served<R: Threads + Wait + time::Clock + Abort + Sync>(
     rt: &R,
     alloc: Global,
     plans: &[Plan<'_>],
     workers: u64,
-) -> ServeReport<ListTimer>
+) -> Counts
     requires some { 1 ≤ workers }
     requires few { workers ≤ 16 }
 {
-    served_plans(rt, alloc, plans, workers)
-        .ok()
-        .expect(rt, "a report")
-}
-
-/// What a visitor was sent.
-pub fn expect_text<R: Wait + Abort>(rt: &R, received: &Mutex<Received>, expected: &[u8]) {
-    assert_eq!(rt; received.lock(rt).text.as_slice(), expected);
-}
-
-pub fn expect_counts<R: Abort>(
-    rt: &R,
-    report: &ServeReport<ListTimer>,
-    sessions: u64,
-    faults: u64,
-) {
-    assert_eq!(rt;
-        (report.sessions, report.faults, report.lost),
-        (sessions, faults, 0)
-    );
+    counted(rt, alloc, plans, &hundred_calls(rt, workers))
 }
 
 /// So many elements were offered, each was given, and nothing else was asked.
@@ -66,7 +47,7 @@ fn expect_two<R: Threads + Wait + time::Clock + Abort + Sync>(
     workers: u64,
     taker: &[u8],
     giver: &[u8],
-) -> ServeReport<ListTimer>
+) -> Counts
     requires some { 1 ≤ workers }
     requires few { workers ≤ 16 }
 {
@@ -80,29 +61,28 @@ fn expect_two<R: Threads + Wait + time::Clock + Abort + Sync>(
             &others,
         ),
     ];
-    let report = served(rt, alloc, &plans, workers);
+    let counts = served(rt, alloc, &plans, workers);
     expect_text(rt, &first, taker);
     expect_text(rt, &second, giver);
-    report
+    counts
 }
 
 #[test]
-fn workers_run_together(rt: HostRuntime) -> Result<(), Fail> {
+fn workers_run_together(rt: HostRuntime) {
     let taker = b"ITEM 0 7 1 a\nDONE 0\nBYE\n";
-    let report = expect_two(&rt, rt.alloc(), 2, taker, b"OFFERED 0 7\nBYE\n");
-    expect_counts(&rt, &report, 2, 0);
-    assert_eq!(rt; report.audit, all_given(1));
-    Ok(())
+    let counts = expect_two(&rt, rt.alloc(), 2, taker, b"OFFERED 0 7\nBYE\n");
+    expect_counts(&rt, counts, 2, 0, 0);
+    expect_audit(&rt, counts.audit, all_given(1));
 }
 
 // One worker serves the visits one after the other, so that the take finds nothing.
 #[test]
-fn one_worker_serves_in_turn(rt: HostRuntime) -> Result<(), Fail> {
+fn one_worker_serves_in_turn(rt: HostRuntime) {
     let taker = b"STOPPED\nERR 5 not-held\nBYE\n";
-    let report = expect_two(&rt, rt.alloc(), 1, taker, b"OFFERED 0 7\nBYE\n");
-    expect_counts(&rt, &report, 2, 0);
-    assert_eq!(rt; (report.audit.calls, report.audit.left), (1, 1));
-    Ok(())
+    let counts = expect_two(&rt, rt.alloc(), 1, taker, b"OFFERED 0 7\nBYE\n");
+    expect_counts(&rt, counts, 2, 0, 0);
+    expect_number(&rt, counts.audit.calls, 1);
+    expect_number(&rt, counts.audit.left, 1);
 }
 
 // Whether the two were sent these texts, in either order.
@@ -121,7 +101,7 @@ fn are_sent<R: Wait>(
 
 // Two takes wait at once, and each gets an element of its own.
 #[test]
-fn each_taker_gets_its_own(rt: HostRuntime) -> Result<(), Fail> {
+fn each_taker_gets_its_own(rt: HostRuntime) {
     let alloc = rt.alloc();
     let (turns, others, last) = (AtomicU64::new(0), AtomicU64::new(0), AtomicU64::new(0));
     let (first, second) = (Received::none(alloc), Received::none(alloc));
@@ -133,35 +113,33 @@ fn each_taker_gets_its_own(rt: HostRuntime) -> Result<(), Fail> {
         planned(takes, &second, &others),
         planned(offers, &third, &last),
     ];
-    let report = served(&rt, alloc, &plans, 3);
+    let counts = served(&rt, alloc, &plans, 3);
     let got_first = b"ITEM 0 7 1 a\nDONE 0\nERR 5 not-held\nBYE\n";
     let got_second = b"ITEM 1 7 1 b\nERR 5 not-held\nDONE 1\nBYE\n";
-    assert!(rt; are_sent(&rt, &first, &second, got_first, got_second));
+    expect(&rt, are_sent(&rt, &first, &second, got_first, got_second));
     expect_text(&rt, &third, b"OFFERED 0 7\nOFFERED 1 7\nBYE\n");
-    expect_counts(&rt, &report, 3, 0);
-    assert_eq!(rt; report.audit, all_given(2));
-    Ok(())
+    expect_counts(&rt, counts, 3, 0, 0);
+    expect_audit(&rt, counts.audit, all_given(2));
 }
 
 // A refused visit and one whose first read fails are two faults, and make no call.
 #[test]
-fn faults_are_counted(rt: HostRuntime) -> Result<(), Fail> {
+fn faults_are_counted(rt: HostRuntime) {
     let turns = AtomicU64::new(0);
     let text = Received::none(rt.alloc());
     let plans = [
         planned(None, &text, &turns),
         planned(Some(Sends::Nothing), &text, &turns),
     ];
-    let report = served(&rt, rt.alloc(), &plans, 1);
-    expect_counts(&rt, &report, 2, 2);
+    let counts = served(&rt, rt.alloc(), &plans, 1);
+    expect_counts(&rt, counts, 2, 2, 0);
     expect_text(&rt, &text, b"");
-    assert_eq!(rt; report.audit, all_given(0));
-    Ok(())
+    expect_audit(&rt, counts.audit, all_given(0));
 }
 
 // The one worker serves on behind both.
 #[test]
-fn faults_end_no_other_visit(rt: HostRuntime) -> Result<(), Fail> {
+fn faults_end_no_other_visit(rt: HostRuntime) {
     let turns = AtomicU64::new(0);
     let (faulty, text) = (Received::none(rt.alloc()), Received::none(rt.alloc()));
     let plans = [
@@ -169,16 +147,15 @@ fn faults_end_no_other_visit(rt: HostRuntime) -> Result<(), Fail> {
         planned(None, &faulty, &turns),
         planned(at_once(b"OFFER 0 a\nQUIT\n"), &text, &turns),
     ];
-    let report = served(&rt, rt.alloc(), &plans, 1);
-    expect_counts(&rt, &report, 3, 2);
+    let counts = served(&rt, rt.alloc(), &plans, 1);
+    expect_counts(&rt, counts, 3, 2, 0);
     expect_text(&rt, &text, b"OFFERED 0 7\nBYE\n");
-    Ok(())
 }
 
 // Each take waits before the next begins, and the fifth visit offers for all four: so none of the five
 // workers may idle.
 #[test]
-fn each_worker_serves(rt: HostRuntime) -> Result<(), Fail> {
+fn each_worker_serves(rt: HostRuntime) {
     let alloc = rt.alloc();
     let (first, second) = (AtomicU64::new(0), AtomicU64::new(0));
     let (third, fourth) = (AtomicU64::new(0), AtomicU64::new(0));
@@ -208,15 +185,14 @@ fn each_worker_serves(rt: HostRuntime) -> Result<(), Fail> {
         ),
         planned(after(offers, &fourth, &fourth), &text, &last),
     ];
-    let report = served(&rt, alloc, &plans, 5);
-    expect_counts(&rt, &report, 5, 0);
-    assert_eq!(rt; report.audit, all_given(4));
-    Ok(())
+    let counts = served(&rt, alloc, &plans, 5);
+    expect_counts(&rt, counts, 5, 0, 0);
+    expect_audit(&rt, counts.audit, all_given(4));
 }
 
 // No client sets the clock that all share.
 #[test]
-fn no_client_sets_the_clock(rt: HostRuntime) -> Result<(), Fail> {
+fn no_client_sets_the_clock(rt: HostRuntime) {
     let turns = AtomicU64::new(0);
     let text = Received::none(rt.alloc());
     let plans = [planned(
@@ -224,9 +200,8 @@ fn no_client_sets_the_clock(rt: HostRuntime) -> Result<(), Fail> {
         &text,
         &turns,
     )];
-    let report = served(&rt, rt.alloc(), &plans, 1);
-    expect_counts(&rt, &report, 1, 0);
+    let counts = served(&rt, rt.alloc(), &plans, 1);
+    expect_counts(&rt, counts, 1, 0, 0);
     let expected = b"ERR 1 syntax\nERR 2 number\nOFFERED 0 8\nNONE\nERR 8 line\n";
     expect_text(&rt, &text, expected);
-    Ok(())
 }
