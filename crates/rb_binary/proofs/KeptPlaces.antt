@@ -103,14 +103,6 @@ pub record Carries (heap : List Entry) (places : List (Option ℕ)) (hole : ℕ)
   pub in_heap : hole < length heap
   pub agrees : Agrees (set heap hole entry) (set places entry.slot (Some hole))
   pub same : expiries (set heap hole entry) (set places entry.slot (Some hole)) ≡ row
-
-pub carries_first : (heap : List Entry) (places : List (Option ℕ)) (hole : ℕ)
-    → IsPutAt heap places hole
-    → Carries heap places hole (get_or heap hole no_entry) (expiries heap (note heap places hole))
-carries_first heap places hole is_put = record {
-  in_heap = is_put.in_heap;
-  agrees = rw (set-get_or heap hole no_entry) is_put.agrees;
-  same = rw (set-get_or heap hole no_entry) refl;
 }
 
 module _ (heap : List Entry) (places : List (Option ℕ)) (hole : ℕ) (entry : Entry) (row : List (Option ℕ))

@@ -10,7 +10,7 @@ mod fault;
 mod gate;
 mod machine_clock;
 mod offers;
-mod pace;
+mod rests;
 #[cfg(test)]
 mod tests;
 mod turn_gate;

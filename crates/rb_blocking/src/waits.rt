@@ -8,7 +8,7 @@ use crate::bell::Bell;
 use crate::clock::Clock;
 use crate::fault::WaitFault;
 use crate::gate::Gate;
-use crate::pace::Pace;
+use crate::rests::Rests;
 use rb_delayed::Element;
 use rb_kept::{CallFault, Outcome};
 use rb_lock::{Pass, Shared};
@@ -91,7 +91,7 @@ fn wait<T: Timer, C: Clock, G: Gate, R: Wait + time::Clock>(
 {
     // The proof reads here that the pass has seen a legal history.
     let _ = pass.name();
-    let mut pace = Pace::new(ask);
+    let mut rests = Rests::new(ask);
     let mut turns: u64 = 0;
     for _ in rt.forever() {
         let seen = bell.count(rt);
@@ -106,7 +106,7 @@ fn wait<T: Timer, C: Clock, G: Gate, R: Wait + time::Clock>(
             return Err(WaitFault::Stopped);
         }
         turns = turns.saturating_add(1);
-        bell.rest_at_most(rt, seen, pace.rest_after(asked, expiry));
+        bell.rest_at_most(rt, seen, rests.rest_after(asked, expiry));
     }
     unreachable!()
 }

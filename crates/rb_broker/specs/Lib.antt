@@ -1,2 +1,2 @@
-pub use Rattle.rb_runs.specs.BrokerFault
+pub use Rattle.rb_ending.specs.BrokerFault
 pub mod ExitStatus

@@ -1,12 +1,10 @@
-use rb_binary::BinaryTimer;
-use rb_pairing::PairingTimer;
+use rb_arguments::{ReplayOptions, RunOptions, ScriptOptions, ServeOptions};
+use rb_ending::BrokerFault;
 use rb_queue::Opening;
-use rb_runs::{BrokerFault, opening_in, read_all, run_replay, run_script};
+use rb_runs::{opening_in, over_timer, read_all, run_replay, run_script};
 use rb_serving::{ServeClock, ServeReport, TcpDoor, end_server, print_listening, serve_door};
 use rb_session::Ended;
-use rb_timer::{ListTimer, Timer};
-use rb_wheel::WheelTimer;
-use rb_words::{ReplayOptions, ScriptOptions, ServeOptions, ServerOptions, TimerKind};
+use rb_timer::Timer;
 use std::fs::{self, File};
 use std::io::Write;
 use std::net::{Ipv4Addr, SocketAddr, SocketAddrV4, TcpListener};
@@ -57,7 +55,7 @@ pub fn replay(rt: &HostRuntime, options: &ReplayOptions, file: &str) -> Result<u
 pub fn serve<R: Threads + Wait + time::Clock + Sync>(
     rt: &HostRuntime,
     handle: &R,
-    options: &ServerOptions,
+    options: &ServeOptions,
     history: Option<&str>,
     from: Option<&str>,
 ) -> Result<(), BrokerFault> {
@@ -71,20 +69,10 @@ pub fn serve<R: Threads + Wait + time::Clock + Sync>(
     print_listening(rt.alloc(), &mut rt.stdout(), options.port)?;
     let door = TcpDoor::new(listener, options.sessions, options.turns);
     let run = &options.run;
-    match options.timer {
-        TimerKind::List => {
-            serve_over::<ListTimer, R>(rt, handle, &door, run, opening, &mut device)
-        }
-        TimerKind::Heap => {
-            serve_over::<BinaryTimer, R>(rt, handle, &door, run, opening, &mut device)
-        }
-        TimerKind::Pairing => {
-            serve_over::<PairingTimer, R>(rt, handle, &door, run, opening, &mut device)
-        }
-        TimerKind::Wheel => {
-            serve_over::<WheelTimer, R>(rt, handle, &door, run, opening, &mut device)
-        }
-    }
+    over_timer!(
+        options.timer,
+        serve_over::<_, R>(rt, handle, &door, run, opening, &mut device)
+    )
 }
 
 // Serves the clients of a door over this timer.
@@ -92,7 +80,7 @@ fn serve_over<T: Timer + Send, R: Threads + Wait + time::Clock + Sync>(
     rt: &HostRuntime,
     handle: &R,
     door: &TcpDoor,
-    run: &ServeOptions,
+    run: &RunOptions,
     opening: Opening,
     history: &mut Option<File>,
 ) -> Result<(), BrokerFault> {

@@ -11,14 +11,14 @@ mod commands;
 
 ghost use Rattle.std.specs.Process.{exit_status};
 ghost use Rattle.clap.specs.Words.{kind_of};
-ghost use Rattle.rb_runs.specs.BrokerFault.{status_of};
+ghost use Rattle.rb_ending.specs.BrokerFault.{status_of};
 ghost use Rattle.std.specs.Prelude.{◌≡◌};
 ghost use Rattle.rb_broker.specs.ExitStatus.{IsStatusOfWords, status_of_replay, status_of_run};
 
 use clap::Error;
 use clap::error::ErrorKind;
-use rb_runs::BrokerFault;
-use rb_words::{Words, read_words};
+use rb_arguments::{Words, read_words};
+use rb_ending::BrokerFault;
 use std::alloc::{AllocError, Global};
 use std::process::ExitCode;
 use std::sync::Wait;
@@ -29,13 +29,13 @@ use std::{env, io, time};
 const WORDS_REFUSED: u8 = 2;
 
 fn main(rt: HostRuntime) -> ExitCode {
-    match gathered_words(&rt) {
+    match command_line(&rt) {
         Ok(words) => match lent_words(rt.alloc(), &words) {
             Ok(words) => run(&rt, &rt, words.as_slice()),
-            Err(AllocError) => ended_by(&rt, BrokerFault::Memory),
+            Err(AllocError) => exit_with_fault(&rt, BrokerFault::Memory),
         },
         Err(error) if error.kind() == io::ErrorKind::OutOfMemory => {
-            ended_by(&rt, BrokerFault::Memory)
+            exit_with_fault(&rt, BrokerFault::Memory)
         }
         Err(_) => {
             let _ = rt.eprintln("rb_broker: a word of the command line is not UTF-8 text");
@@ -45,7 +45,7 @@ fn main(rt: HostRuntime) -> ExitCode {
 }
 
 /// The words of the command line, the program's own name first.
-fn gathered_words(rt: &HostRuntime) -> io::Result<Vec<String>> {
+fn command_line(rt: &HostRuntime) -> io::Result<Vec<String>> {
     Ok(env::args(rt)?.collect(rt.alloc())?)
 }
 
@@ -68,7 +68,7 @@ fn run<R: Threads + Wait + time::Clock + Sync>(
                 history,
                 from,
             },
-        ) => ended_as(
+        ) => exit_after_run(
             rt,
             commands::script(rt, &options, history.as_deref(), from.as_deref()),
         ),
@@ -78,46 +78,49 @@ fn run<R: Threads + Wait + time::Clock + Sync>(
                 history,
                 from,
             },
-        ) => ended_as(
+        ) => exit_after_run(
             rt,
             commands::serve(rt, handle, &options, history.as_deref(), from.as_deref()),
         ),
-        Ok(Words::Replay { options, file }) => told_as(rt, commands::replay(rt, &options, &file)),
-        Err(error) => refused_by(rt, &error),
+        Ok(Words::Replay { options, file }) => exit_after_replay(
+            rt,
+            commands::replay(rt, &options, &file),
+        ),
+        Err(error) => exit_for_refused_words(rt, &error),
     }
 }
 
 /// Prints the line of the fault, where there is one, and answers the exit status.
-fn ended_as<T: Copy>(rt: &HostRuntime, outcome: Result<T, BrokerFault>) -> ExitCode
+fn exit_after_run<T: Copy>(rt: &HostRuntime, outcome: Result<T, BrokerFault>) -> ExitCode
     ensures { exit_status result ≡ status_of_run outcome }
 {
     match outcome {
         Ok(_) => ExitCode::SUCCESS,
-        Err(fault) => ended_by(rt, fault),
+        Err(fault) => exit_with_fault(rt, fault),
     }
 }
 
 /// Prints the line of the fault, where there is one, and answers the exit status, which is that of the
 /// verdict where there is none.
-fn told_as(rt: &HostRuntime, outcome: Result<u8, BrokerFault>) -> ExitCode
+fn exit_after_replay(rt: &HostRuntime, outcome: Result<u8, BrokerFault>) -> ExitCode
     ensures { exit_status result ≡ status_of_replay outcome }
 {
     match outcome {
         Ok(status) => ExitCode::from(status),
-        Err(ended) => ended_by(rt, ended),
+        Err(ended) => exit_with_fault(rt, ended),
     }
 }
 
 /// Prints the text of `error`, help to standard output and else to standard error, and answers its
 /// exit status. Help that cannot be written is a fault of output.
-fn refused_by(rt: &HostRuntime, error: &Error) -> ExitCode
+fn exit_for_refused_words(rt: &HostRuntime, error: &Error) -> ExitCode
     ensures { IsStatusOfWords (kind_of error.now) (exit_status result) }
 {
     match error.kind() {
-        ErrorKind::OutOfMemory => ended_by(rt, BrokerFault::Memory),
+        ErrorKind::OutOfMemory => exit_with_fault(rt, BrokerFault::Memory),
         ErrorKind::DisplayHelp | ErrorKind::DisplayVersion => match error.print(rt) {
             Ok(()) => ExitCode::SUCCESS,
-            Err(_) => ended_by(rt, BrokerFault::Write),
+            Err(_) => exit_with_fault(rt, BrokerFault::Write),
         },
         _ => {
             let _ = error.print(rt);
@@ -127,7 +130,7 @@ fn refused_by(rt: &HostRuntime, error: &Error) -> ExitCode
 }
 
 /// Prints the line of `fault` to standard error and answers its exit status.
-fn ended_by(rt: &HostRuntime, fault: BrokerFault) -> ExitCode
+fn exit_with_fault(rt: &HostRuntime, fault: BrokerFault) -> ExitCode
     ensures { exit_status result ≡ status_of fault }
 {
     let _ = eprintln!(rt; "rb_broker: {fault}");

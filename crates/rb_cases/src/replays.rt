@@ -1,7 +1,7 @@
 use crate::case::Case;
 use crate::differences::of_texts;
+use rb_arguments::{ReplayOptions, Words, read_words};
 use rb_runs::run_replay;
-use rb_words::{ReplayOptions, Words, read_words};
 use std::alloc::{AllocError, Global};
 
 /// What differs from the case where its history is replayed.

@@ -4,10 +4,11 @@ use crate::differences::{of_bytes, of_texts};
 use crate::outcome::Outcome;
 use crate::sink::Sink;
 use crate::source::Source;
+use rb_arguments::{ScriptOptions, Words, read_words};
+use rb_ending::BrokerFault;
 use rb_queue::Opening;
-use rb_runs::{BrokerFault, opening_in, run_script};
+use rb_runs::{opening_in, run_script};
 use rb_session::Ended;
-use rb_words::{ScriptOptions, Words, read_words};
 use std::alloc::{AllocError, Global};
 
 /// What differs from the case in the first of its runs that is not as it must be.

@@ -11,7 +11,7 @@ pub mod RestingPasses
 pub mod SplitPasses
 pub mod FoldedPasses
 pub mod Meetings
-pub mod GatheredCalls
+pub mod CountedCalls
 pub mod Closings
 pub mod EqualTotals
 pub mod Takings

@@ -20,9 +20,9 @@ use Rattle.rb_lock.specs.Records.{calls_of}
 use Rattle.rb_lock.specs.Passes.{Seen, IsSoundPass, Learns, log_at, capped, tally_of}
 use Rattle.rb_lock.specs.SharedCalls.{Answered}
 use Rattle.rb_lock.specs.Views.{idle, pass_of, holder_of, settled}
-use Rattle.rb_lock.specs.Rule.{home_of}
-use Rattle.rb_lock.specs.LockSteps.{Sat, Found, Got, Grown, MayGive, ActsIn, IsPass, in_hand}
-use Rattle.rb_lock.specs.declared.home.Home.{Home}
+use Rattle.rb_lock.specs.Rule.{pair_of}
+use Rattle.rb_lock.specs.LockSteps.{LockSeat, Noted, TakesLock, Grown, MayGive, ActsIn, IsPass, in_hand}
+use Rattle.rb_lock.specs.declared.pair.Pair.{Pair}
 use Rattle.rb_lock.specs.declared.stage.Stage.TheVariants.{Idle}
 use Rattle.rb_lock.proofs.Beginnings.{prefix_trans, append_same}
 use Rattle.rb_lock.proofs.LongerHistories.{events_of-append}
@@ -103,7 +103,7 @@ answered_by pass try (Err Memory) names log new more ours (room, takes, is) adds
 
 -- a call was made: from the log that the pass found, one step of the kept queue
 pub record IsMade (pass : Seen) (try : Try) (step : Result Outcome CallFault) (share share' : Totals) (names : ℕ) (log new : Log) : Type 0 where
-  pub found : Found log names (idle pass)
+  pub found : Noted log names (idle pass)
   pub legal : IsLegal log.opening log.history
   pub steps : StepsTo log try step new
   pub grows : Grows log new share share'
@@ -163,27 +163,27 @@ module _ (pass : Seen) (try : Try) (step : Result Outcome CallFault) (share shar
   answered = answered_by pass try step names log new made.grows.more found_log made.steps made.grows.log mine_more made.found.fits.begins (sym more_counted)
 
 -- From the seat at rest to the seat that has given the lock back.
-module _ {T : Type 0} (pass : Seen) (try : Try) (step : Result Outcome CallFault) (share share' : Totals) (seat0 seat1 seat2 : Sat T)
-    (rest : seat0 ≡ (idle pass, [])) (got : Got seat0 seat1) (acts : ActsIn try step share share' seat1 seat2) (named : try.seat ≡ pass.name) where
-  before_is : acts.acts.before ≡ home_of got.log got.names
+module _ {T : Type 0} (pass : Seen) (try : Try) (step : Result Outcome CallFault) (share share' : Totals) (seat0 seat1 seat2 : LockSeat T)
+    (rest : seat0 ≡ (idle pass, [])) (got : TakesLock seat0 seat1) (acts : ActsIn try step share share' seat1 seat2) (named : try.seat ≡ pass.name) where
+  before_is : acts.acts.before ≡ pair_of got.log got.names
   before_is = found_pair pass seat0 seat1 acts.slot acts.acts.before rest got acts.was acts.acts.was
 
   pub made : IsMade pass try step share share' got.names got.log acts.acts.after.kept
   made = record {
-    found = subst (λ (m : Sat T). Found got.log got.names m.0) rest got.found;
-    legal = subst (λ (h : Home T). IsLegal h.kept.opening h.kept.history) before_is acts.acts.legal;
-    steps = subst (λ (h : Home T). StepsTo h.kept try step acts.acts.after.kept) before_is acts.acts.steps;
-    grows = subst (λ (h : Home T). Grows h.kept acts.acts.after.kept share share') before_is acts.acts.grows;
+    found = subst (λ (m : LockSeat T). Noted got.log got.names m.0) rest got.found;
+    legal = subst (λ (h : Pair T). IsLegal h.kept.opening h.kept.history) before_is acts.acts.legal;
+    steps = subst (λ (h : Pair T). StepsTo h.kept try step acts.acts.after.kept) before_is acts.acts.steps;
+    grows = subst (λ (h : Pair T). Grows h.kept acts.acts.after.kept share share') before_is acts.acts.grows;
   }
 
-  after_is : acts.slot' ≡ Some (home_of acts.acts.after.kept got.names)
+  after_is : acts.slot' ≡ Some (pair_of acts.acts.after.kept got.names)
   after_is =
       acts.acts.is
-      ∙ (λ i. Some (record { kept = acts.acts.after.kept; names = (acts.acts.names ∙ ap (λ (h : Home T). h.names) before_is) i }))
+      ∙ (λ i. Some (record { kept = acts.acts.after.kept; names = (acts.acts.names ∙ ap (λ (h : Pair T). h.names) before_is) i }))
 
-  seat2_is : seat2 ≡ (holder_of (idle pass) got.log.history got.names, (0, Some (home_of acts.acts.after.kept got.names)) ∷ [])
+  seat2_is : seat2 ≡ (holder_of (idle pass) got.log.history got.names, (0, Some (pair_of acts.acts.after.kept got.names)) ∷ [])
   seat2_is =
-      let view : seat1.0 ≡ holder_of (idle pass) got.log.history got.names = got.view ∙ ap (λ (m : Sat T). holder_of m.0 got.log.history got.names) rest in
+      let view : seat1.0 ≡ holder_of (idle pass) got.log.history got.names = got.view ∙ ap (λ (m : LockSeat T). holder_of m.0 got.log.history got.names) rest in
       acts.is ∙ (λ i. (view i, (0, after_is i) ∷ []))
 
   pub may_give : MayGive seat2
@@ -199,9 +199,9 @@ module _ {T : Type 0} (pass : Seen) (try : Try) (step : Result Outcome CallFault
     few = got.found.few;
   }
 
-  module _ (table : TableId) (seat3 : Sat T) (of_pass : table ≡ pass.table) (gave : seat3 ≡ (settled seat2.0 (in_hand seat2.1) Idle, [])) where
+  module _ (table : TableId) (seat3 : LockSeat T) (of_pass : table ≡ pass.table) (gave : seat3 ≡ (settled seat2.0 (in_hand seat2.1) Idle, [])) where
     seat3_is : seat3 ≡ (idle (learned pass got.names acts.acts.after.kept.history), [])
-    seat3_is = gave ∙ ap (λ (m : Sat T). (settled m.0 (in_hand m.1) Idle, [])) seat2_is
+    seat3_is = gave ∙ ap (λ (m : LockSeat T). (settled m.0 (in_hand m.1) Idle, [])) seat2_is
 
     -- what the pass is seen as now
     view3 : pass_of table seat3.0 ≡ learned pass got.names acts.acts.after.kept.history
@@ -209,8 +209,8 @@ module _ {T : Type 0} (pass : Seen) (try : Try) (step : Result Outcome CallFault
 
     pub called_pass : (name : ℕ) → name ≡ pass.name → share ≡ tally_of pass → IsSoundPass pass → IsPass table seat3 name share'
     called_pass name is was sound = record {
-      rest = seat3_is ∙ sym (ap (λ (m : Sat T). (idle (pass_of table m.0), [])) seat3_is);
-      name_is = is ∙ sym (ap (λ (m : Sat T). m.0.name) seat3_is);
+      rest = seat3_is ∙ sym (ap (λ (m : LockSeat T). (idle (pass_of table m.0), [])) seat3_is);
+      name_is = is ∙ sym (ap (λ (m : LockSeat T). m.0.name) seat3_is);
       counted = counted pass try step share share' got.names got.log acts.acts.after.kept made named was ∙ sym (ap tally_of view3);
       sound = subst IsSoundPass (sym view3) (learns pass try step share share' got.names got.log acts.acts.after.kept made named sound).sound;
     }

@@ -9,7 +9,7 @@ use Rattle.rb_queue.specs.declared.opening.Opening.{Opening}
 use Rattle.rb_lock.specs.Passes.{Seen}
 use Rattle.rb_lock.specs.Views.{idle, pass_of, holders, total, rested, note_of, nobody, longer, meeting}
 use Rattle.rb_lock.specs.Rule.{Locked, IsFree, IsHeld}
-use Rattle.rb_lock.specs.LockSteps.{Sat, AtRest, learned}
+use Rattle.rb_lock.specs.LockSteps.{LockSeat, AtRest, learned}
 use Rattle.atomic_table.specs.Seated.{TableId}
 use Rattle.rb_lock.specs.declared.stage.Stage.TheVariants.{Meets}
 use Rattle.rb_lock.specs.declared.view.View.{View}
@@ -128,25 +128,25 @@ compares {T} slots id pass other room start s law many at small =
     )
 
 -- The same at seats that are at rest.
-module _ {T : Type 0} (table table' : TableId) (seat other : Sat T) (rest : AtRest table seat) (rest' : AtRest table' other) where
+module _ {T : Type 0} (table table' : TableId) (seat other : LockSeat T) (rest : AtRest table seat) (rest' : AtRest table' other) where
   pub notes_at : (id : ℕ) → Splits (Locked {T = T}) id other.0 other.0 (note_of other.0)
-  notes_at id = subst (λ (m : Sat T). Splits (Locked {T = T}) id m.0 m.0 (note_of m.0)) (sym rest') (notes id (pass_of table' other.0))
+  notes_at id = subst (λ (m : LockSeat T). Splits (Locked {T = T}) id m.0 m.0 (note_of m.0)) (sym rest') (notes id (pass_of table' other.0))
 
-  module _ (note : Sat T) (noted : note ≡ (note_of other.0, [])) where
+  module _ (note : LockSeat T) (noted : note ≡ (note_of other.0, [])) where
     note_is : note ≡ (note_of (idle (pass_of table' other.0)), [])
-    note_is = noted ∙ ap (λ (m : Sat T). (note_of m.0, [])) rest'
+    note_is = noted ∙ ap (λ (m : LockSeat T). (note_of m.0, [])) rest'
 
     pub meets_at : (id of_note : ℕ) → Joins (Locked {T = T}) id seat.0 of_note note.0 (meeting seat.0 note.0) nobody
     meets_at id of_note =
-        subst (λ (m : Sat T). Joins (Locked {T = T}) id m.0 of_note note.0 (meeting m.0 note.0) nobody) (sym rest)
-        (subst (λ (m : Sat T). Joins (Locked {T = T}) id (idle (pass_of table seat.0)) of_note m.0 (meeting (idle (pass_of table seat.0)) m.0) nobody) (sym note_is)
+        subst (λ (m : LockSeat T). Joins (Locked {T = T}) id m.0 of_note note.0 (meeting m.0 note.0) nobody) (sym rest)
+        (subst (λ (m : LockSeat T). Joins (Locked {T = T}) id (idle (pass_of table seat.0)) of_note m.0 (meeting (idle (pass_of table seat.0)) m.0) nobody) (sym note_is)
         (meets id of_note (pass_of table seat.0) (pass_of table' other.0)))
 
-    pub compares_at : (slots id : ℕ) (seat2 : Sat T) → seat2 ≡ (meeting seat.0 note.0, seat.1)
+    pub compares_at : (slots id : ℕ) (seat2 : LockSeat T) → seat2 ≡ (meeting seat.0 note.0, seat.1)
         → Allows (Locked {T = T}) slots id seat2 0 (λ n. n) (learned {T = T} (step 0 0 0 0 none) seat2)
     compares_at slots id seat2 met =
         let one : Seen = pass_of table seat.0 in
         let two : Seen = pass_of table' other.0 in
         let is : seat2 ≡ (comparing one two.seen two.capacity two.opening, []) = met ∙ (λ i. (meeting (rest i).0 (note_is i).0, (rest i).1)) in
-        subst (λ (m : Sat T). Allows (Locked {T = T}) slots id m 0 (λ n. n) (learned {T = T} (step 0 0 0 0 none) m)) (sym is)
+        subst (λ (m : LockSeat T). Allows (Locked {T = T}) slots id m 0 (λ n. n) (learned {T = T} (step 0 0 0 0 none) m)) (sym is)
         (compares slots id one two.seen two.capacity two.opening)

@@ -8,7 +8,7 @@ use Rattle.rb_queue.specs.declared.event.Event.{Event}
 use Rattle.rb_queue.specs.Counts.{events_of}
 use Rattle.rb_kept.specs.Log.{Log}
 use Rattle.rb_lock.specs.Views.{newcomer}
-use Rattle.rb_lock.specs.Rule.{Fits, Locked, home_of}
+use Rattle.rb_lock.specs.Rule.{Fits, Locked, pair_of}
 use Rattle.rb_lock.specs.declared.view.View.{View}
 use Rattle.rb_lock.proofs.Sums.{bit_apart, bit_small}
 use Rattle.rb_lock.proofs.Beginnings.{prefix_none}
@@ -22,7 +22,7 @@ first_fits start empty = record {
   stage = tt;
 }
 
-pub opens : {T : Type 0} (start : Log) → start.history ≡ [] → Locked {T = T} (opening (0 ∷ []) (Some (home_of start 1) ∷ []) (newcomer start))
+pub opens : {T : Type 0} (start : Log) → start.history ≡ [] → Locked {T = T} (opening (0 ∷ []) (Some (pair_of start 1) ∷ []) (newcomer start))
 opens start empty = record {
   log = start;
   names = 1;
@@ -31,7 +31,7 @@ opens start empty = record {
   fits = λ by v at. only by v at;
   once = λ name. omega (arith, bit_small (0 == name));
   below = λ name above. omega (arith, bit_apart 0 name (λ e. omega arith));
-  strangers = λ name above. subst (λ (h : List Event). events_of h name ≡ []) (sym empty) refl;
+  not_given = λ name above. subst (λ (h : List Event). events_of h name ≡ []) (sym empty) refl;
 }
   where
     only : (by : ℕ) (v : View) → get_elem? (newcomer start ∷ []) by ≡ some v → Fits start 1 v

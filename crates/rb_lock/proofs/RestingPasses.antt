@@ -9,42 +9,42 @@ use Rattle.rb_queue.specs.declared.event.Event.{Event}
 use Rattle.rb_kept.specs.Log.{Log}
 use Rattle.rb_lock.specs.Passes.{Seen, IsSoundPass, tally_of}
 use Rattle.rb_lock.specs.Views.{idle, pass_of}
-use Rattle.rb_lock.specs.Rule.{home_of}
-use Rattle.rb_lock.specs.LockSteps.{Sat, AtRest, IsPass, Found, Got}
-use Rattle.rb_lock.specs.declared.home.Home.{Home}
+use Rattle.rb_lock.specs.Rule.{pair_of}
+use Rattle.rb_lock.specs.LockSteps.{LockSeat, AtRest, IsPass, Noted, TakesLock}
+use Rattle.rb_lock.specs.declared.pair.Pair.{Pair}
 use Rattle.rb_lock.proofs.HeldPairs.{same_slot, same_pair}
 
 -- the pass, once it has seen this history
 abbrev pub learned : Seen → ℕ → List Event → Seen
 learned pass names history = record pass { noted = names; seen = history; mine = events_of history pass.name }
 
-module _ {T : Type 0} (table : TableId) (seat : Sat T) (pass : Seen) (of_pass : table ≡ pass.table) (is : seat ≡ (idle pass, [])) where
+module _ {T : Type 0} (table : TableId) (seat : LockSeat T) (pass : Seen) (of_pass : table ≡ pass.table) (is : seat ≡ (idle pass, [])) where
   -- what the seat is seen as
   pub seen_as : pass_of table seat.0 ≡ pass
   seen_as i = pass_of (of_pass i) (is i).0
 
   pub at_rest : AtRest table seat
-  at_rest = is ∙ sym (ap (λ (m : Sat T). (idle (pass_of table m.0), [])) is)
+  at_rest = is ∙ sym (ap (λ (m : LockSeat T). (idle (pass_of table m.0), [])) is)
 
   pub is_pass : (name : ℕ) (tally : Totals) → name ≡ pass.name → tally ≡ tally_of pass → IsSoundPass pass → IsPass table seat name tally
   is_pass name tally named counted sound = record {
     rest = at_rest;
-    name_is = named ∙ sym (ap (λ (m : Sat T). m.0.name) is);
+    name_is = named ∙ sym (ap (λ (m : LockSeat T). m.0.name) is);
     counted = counted ∙ sym (ap tally_of seen_as);
     sound = subst IsSoundPass (sym seen_as) sound;
   }
 
 -- the pair that lies in the slot in hand is the one that was found
-pub found_pair : {T : Type 0} (pass : Seen) (seat0 seat1 : Sat T) (slot : Option (Home T)) (before : Home T) → seat0 ≡ (idle pass, []) → (got : Got seat0 seat1)
-    → seat1.1 ≡ (0, slot) ∷ [] → slot ≡ Some before → before ≡ home_of got.log got.names
+pub found_pair : {T : Type 0} (pass : Seen) (seat0 seat1 : LockSeat T) (slot : Option (Pair T)) (before : Pair T) → seat0 ≡ (idle pass, []) → (got : TakesLock seat0 seat1)
+    → seat1.1 ≡ (0, slot) ∷ [] → slot ≡ Some before → before ≡ pair_of got.log got.names
 found_pair {T} pass seat0 seat1 slot before rest got was is =
-    let home : Option (Home T) = Some (home_of {T = T} got.log got.names) in
-    let found : slot ≡ home = same_slot seat1.1 [] home slot (got.hand ∙ ap (λ (m : Sat T). (0, home) ∷ m.1) rest) was in
-    same_pair before (home_of got.log got.names) (sym is ∙ found)
+    let pair : Option (Pair T) = Some (pair_of {T = T} got.log got.names) in
+    let found : slot ≡ pair = same_slot seat1.1 [] pair slot (got.hand ∙ ap (λ (m : LockSeat T). (0, pair) ∷ m.1) rest) was in
+    same_pair before (pair_of got.log got.names) (sym is ∙ found)
 
 -- a pass took the lock, and found a legal history with room
 pub record HasLooked (pass : Seen) (names : ℕ) (log : Log) : Type 0 where
-  pub found : Found log names (idle pass)
+  pub found : Noted log names (idle pass)
   pub legal : IsLegal log.opening log.history
   pub few : length log.history ≤ log.capacity
 

@@ -14,10 +14,10 @@ use Rattle.rb_kept.specs.Log.{Log}
 use Rattle.rb_lock.specs.Records.{bit, times_in, names_of}
 use Rattle.rb_lock.specs.Passes.{Seen}
 use Rattle.rb_lock.specs.Views.{idle, records_of, weight, holders, is_held, drawn, total, holder_of, settled}
-use Rattle.rb_lock.specs.Rule.{AtStage, IsThere, Fits, Locked, IsFree, IsHeld, home_of}
-use Rattle.rb_lock.specs.LockSteps.{Sat, MayGive, MayDraw, Grown, gave, drew}
-use Rattle.rb_lock.specs.declared.home.Home.{Home}
-use Rattle.rb_lock.specs.declared.home.TheConstants.{MOST_NAMES}
+use Rattle.rb_lock.specs.Rule.{AtStage, IsThere, Fits, Locked, IsFree, IsHeld, pair_of}
+use Rattle.rb_lock.specs.LockSteps.{LockSeat, MayGive, MayDraw, Grown, gave, drew}
+use Rattle.rb_lock.specs.declared.pair.Pair.{Pair}
+use Rattle.rb_lock.specs.declared.pair.TheConstants.{MOST_NAMES}
 use Rattle.rb_lock.specs.declared.stage.Stage.{Stage}
 use Rattle.rb_lock.specs.declared.stage.Stage.TheVariants.{Idle, Holds, Drew, Meets, Gone}
 use Rattle.rb_lock.specs.declared.view.View.{View}
@@ -47,7 +47,7 @@ after_it pass found names new next = settled (before pass found names) new next
 module _ {T : Type 0} (pass : Seen) (found new : Log) (names after : ℕ) (next : Stage)
     (capacity : new.capacity ≡ pass.capacity) (opening : new.opening ≡ pass.opening)
     (grown : Grown pass.name found.history new.history) (goes : IsNext names after new next)
-    (s : State (Option (Home T)) View) (law : Locked s) (id : ℕ) (at : get_elem? s.views id ≡ some (before pass found.history names)) where
+    (s : State (Option (Pair T)) View) (law : Locked s) (id : ℕ) (at : get_elem? s.views id ≡ some (before pass found.history names)) where
   own : Fits law.log law.names (before pass found.history names)
   own = law.fits id (before pass found.history names) at
 
@@ -121,7 +121,7 @@ module _ {T : Type 0} (pass : Seen) (found new : Log) (names after : ℕ) (next 
   strangers_stay n above =
       let less = own_below in
       let other : n ≢ pass.name = λ e. omega arith in
-      others_stay pass.name law.log.history new.history grown_now n other ∙ law.strangers n above
+      others_stay pass.name law.log.history new.history grown_now n other ∙ law.not_given n above
 
   names_is : names ≡ law.names
   names_is = own.stage.1
@@ -161,21 +161,21 @@ module _ {T : Type 0} (pass : Seen) (found new : Log) (names after : ℕ) (next 
   now_below n above = omega (arith, now_total n, law.below n, goes.below n above, goes.more, names_is)
 
   -- the rule holds again
-  pub given : Locked (stepped s 0 0 id ((0, Some (home_of new after)) ∷ []) (after_it pass found.history names new.history next) gives)
+  pub given : Locked (stepped s 0 0 id ((0, Some (pair_of new after)) ∷ []) (after_it pass found.history names new.history next) gives)
   given = record {
     log = new;
     names = after;
     few = goes.few;
     place = inl (record {
       words = ap (λ ws. slice_set ws 0 0) is_out.words;
-      homes = ap (λ (hs : List (maybe.Option (Option (Home T)))). slice_set hs 0 (some (Some (home_of new after)))) is_out.homes;
+      homes = ap (λ (hs : List (maybe.Option (Option (Pair T)))). slice_set hs 0 (some (Some (pair_of new after)))) is_out.homes;
       nobody = now_held;
     });
     fits = λ by u there. ⊎_elim (λ (here : (by ≡ id) × (after_it pass found.history names new.history next ≡ u)). subst (Fits new after) here.1 own_fits)
         (λ (else : (by ≢ id) × (get_elem? s.views by ≡ some u)). fits_stay by u else.0 else.1) (at_set s.views id by (after_it pass found.history names new.history next) u there);
     once = now_once;
     below = now_below;
-    strangers = λ n above. strangers_stay n (omega (arith, goes.more, names_is, above));
+    not_given = λ n above. strangers_stay n (omega (arith, goes.more, names_is, above));
   }
 
 -- a seat that is about to do nothing
@@ -188,7 +188,7 @@ next_idle names log few = record {
   old = λ n less. refl;
   below = λ n above. refl;
   there = tt;
-  stage = λ strangers. tt;
+  stage = λ not_given. tt;
 }
 
 -- a seat that has drawn the next name
@@ -201,14 +201,14 @@ next_drew names log few = record {
   old = λ n less. omega (arith, bit_apart names n (λ e. omega arith));
   below = λ n above. omega (arith, bit_apart names n (λ e. omega arith));
   there = tt;
-  stage = λ strangers. (omega arith, strangers names (omega arith));
+  stage = λ not_given. (omega arith, not_given names (omega arith));
 }
 
 -- the lock is given back, at any history that only this pass's events made longer
 pub gives_lock : {T : Type 0} (slots id : ℕ) (pass : Seen) (found new : Log) (names : ℕ) → new.capacity ≡ pass.capacity → new.opening ≡ pass.opening
     → Grown pass.name found.history new.history → names ≤ MOST_NAMES
-    → Allows (Locked {T = T}) slots id (before pass found.history names, (0, Some (home_of new names)) ∷ []) 0 (λ _. 0)
-    (gave {T = T} (step 0 0 0 0 none) (before pass found.history names, (0, Some (home_of new names)) ∷ []))
+    → Allows (Locked {T = T}) slots id (before pass found.history names, (0, Some (pair_of new names)) ∷ []) 0 (λ _. 0)
+    (gave {T = T} (step 0 0 0 0 none) (before pass found.history names, (0, Some (pair_of new names)) ∷ []))
 gives_lock slots id pass found new names capacity opening grown few s law many at small = (
   after_it pass found.history names new.history Idle,
   gives,
@@ -219,8 +219,8 @@ gives_lock slots id pass found new names capacity opening grown few s law many a
 
 -- and with the next name drawn
 pub draws_name : {T : Type 0} (slots id : ℕ) (pass : Seen) (found : Log) (names : ℕ) → found.capacity ≡ pass.capacity → found.opening ≡ pass.opening → names < MOST_NAMES
-    → Allows (Locked {T = T}) slots id (before pass found.history names, (0, Some (home_of found (names + 1))) ∷ []) 0 (λ _. 0)
-    (drew {T = T} (step 0 0 0 0 none) (before pass found.history names, (0, Some (home_of found (names + 1))) ∷ []))
+    → Allows (Locked {T = T}) slots id (before pass found.history names, (0, Some (pair_of found (names + 1))) ∷ []) 0 (λ _. 0)
+    (drew {T = T} (step 0 0 0 0 none) (before pass found.history names, (0, Some (pair_of found (names + 1))) ∷ []))
 draws_name slots id pass found names capacity opening few s law many at small = (
   after_it pass found.history names found.history (Drew names),
   gives,
@@ -230,12 +230,12 @@ draws_name slots id pass found names capacity opening few s law many at small = 
 )
 
 -- the same at a seat that may give it back
-pub gives_at : {T : Type 0} (slots id : ℕ) (seat : Sat T) → MayGive seat → Allows (Locked {T = T}) slots id seat 0 (λ _. 0) (gave {T = T} (step 0 0 0 0 none) seat)
+pub gives_at : {T : Type 0} (slots id : ℕ) (seat : LockSeat T) → MayGive seat → Allows (Locked {T = T}) slots id seat 0 (λ _. 0) (gave {T = T} (step 0 0 0 0 none) seat)
 gives_at {T} slots id seat may =
-    subst (λ (m : Sat T). Allows (Locked {T = T}) slots id m 0 (λ _. 0) (gave {T = T} (step 0 0 0 0 none) m)) (sym may.is)
+    subst (λ (m : LockSeat T). Allows (Locked {T = T}) slots id m 0 (λ _. 0) (gave {T = T} (step 0 0 0 0 none) m)) (sym may.is)
     (gives_lock slots id may.pass may.found may.new may.names may.capacity may.opening may.grown may.few)
 
-pub draws_at : {T : Type 0} (slots id : ℕ) (seat : Sat T) → MayDraw seat → Allows (Locked {T = T}) slots id seat 0 (λ _. 0) (drew {T = T} (step 0 0 0 0 none) seat)
+pub draws_at : {T : Type 0} (slots id : ℕ) (seat : LockSeat T) → MayDraw seat → Allows (Locked {T = T}) slots id seat 0 (λ _. 0) (drew {T = T} (step 0 0 0 0 none) seat)
 draws_at {T} slots id seat may =
-    subst (λ (m : Sat T). Allows (Locked {T = T}) slots id m 0 (λ _. 0) (drew {T = T} (step 0 0 0 0 none) m)) (sym may.is)
+    subst (λ (m : LockSeat T). Allows (Locked {T = T}) slots id m 0 (λ _. 0) (drew {T = T} (step 0 0 0 0 none) m)) (sym may.is)
     (draws_name slots id may.pass may.found may.names may.capacity may.opening may.few)

@@ -7,11 +7,11 @@ use Rattle.atomic_table.specs.Table.{State}
 use Rattle.atomic_table.proofs.Lists.{at_set, at_snoc}
 use Rattle.rb_lock.specs.Views.{weight, holders, total}
 use Rattle.rb_lock.specs.Rule.{Fits, Locked, IsFree, IsHeld}
-use Rattle.rb_lock.specs.declared.home.Home.{Home}
+use Rattle.rb_lock.specs.declared.pair.Pair.{Pair}
 use Rattle.rb_lock.specs.declared.view.View.{View}
 use Rattle.rb_lock.proofs.Sums.{total_set, total_snoc}
 
-module _ {T : Type 0} (s : State (Option (Home T)) View) (law : Locked s) where
+module _ {T : Type 0} (s : State (Option (Pair T)) View) (law : Locked s) where
   -- all views change at once
   shared_out : (views : List View) → ((name : ℕ) → total (weight name) views ≡ total (weight name) s.views) → total holders views ≡ total holders s.views
       → ((by : ℕ) (u : View) → get_elem? views by ≡ some u → Fits law.log law.names u) → Locked (record { words = s.words; homes = s.homes; views = views })
@@ -24,7 +24,7 @@ module _ {T : Type 0} (s : State (Option (Home T)) View) (law : Locked s) where
     fits = fits;
     once = λ name. omega (arith, same name, law.once name);
     below = λ name above. same name ∙ law.below name above;
-    strangers = law.strangers;
+    not_given = law.not_given;
   }
 
   module _ (id : ℕ) (v : View) (at : get_elem? s.views id ≡ some v) where

@@ -4,7 +4,7 @@ use Rattle.atomic_table.specs.Table.{Splits, Joins}
 use Rattle.rb_queue.specs.declared.event.Event.{Event}
 use Rattle.rb_kept.specs.Log.{Log}
 use Rattle.rb_lock.specs.Records.{times_in, names_of, AreRecords}
-use Rattle.rb_lock.specs.Passes.{Seen, gathered}
+use Rattle.rb_lock.specs.Passes.{Seen, all_records}
 use Rattle.rb_lock.specs.Views.{idle, rested, cut_off, folding, nobody}
 use Rattle.rb_lock.specs.Rule.{Fits, Locked}
 use Rattle.rb_lock.specs.declared.record.Record.{Record}
@@ -51,9 +51,9 @@ folds id other one two s law at apart there =
     made_one s law id (idle one) at other (idle two) (folding (idle one) (idle two)) nobody apart there
     (λ n. omega (
       arith,
-      times_in-append n (names_of (one.folded ++ gathered two)) [],
-      ap (times_in n) (names_of-append one.folded (gathered two)),
-      times_in-append n (names_of one.folded) (names_of (gathered two)),
+      times_in-append n (names_of (one.folded ++ all_records two)) [],
+      ap (times_in n) (names_of-append one.folded (all_records two)),
+      times_in-append n (names_of one.folded) (names_of (all_records two)),
       times_in-append n (names_of one.folded) [],
       times_in-append n (names_of two.folded) [],
     )) refl
@@ -61,6 +61,6 @@ folds id other one two s law at apart there =
       capacity = first.capacity;
       opening = first.opening;
       begins = first.begins;
-      records = (first.records.0, AreRecords-append law.log.history one.folded (gathered two) first.records.1 second.records);
+      records = (first.records.0, AreRecords-append law.log.history one.folded (all_records two) first.records.1 second.records);
       stage = tt;
     }) (spent_fits law.log law.names)

@@ -4,24 +4,24 @@ use Rattle.std.specs.Prelude.{Option, Some, None}
 use Rattle.atomic_table.specs.Table.{Splits}
 use Rattle.rb_lock.specs.Passes.{Seen}
 use Rattle.rb_lock.specs.Views.{idle, holder_of, settled, rested, cut_off}
-use Rattle.rb_lock.specs.Rule.{home_of, Locked}
-use Rattle.rb_lock.specs.LockSteps.{Sat, Found, Got, MayGive, MayDraw, NamesIn, in_hand}
-use Rattle.rb_lock.specs.declared.home.Home.{Home}
-use Rattle.rb_lock.specs.declared.home.TheConstants.{MOST_NAMES}
+use Rattle.rb_lock.specs.Rule.{pair_of, Locked}
+use Rattle.rb_lock.specs.LockSteps.{LockSeat, Noted, TakesLock, MayGive, MayDraw, NamesIn, in_hand}
+use Rattle.rb_lock.specs.declared.pair.Pair.{Pair}
+use Rattle.rb_lock.specs.declared.pair.TheConstants.{MOST_NAMES}
 use Rattle.rb_lock.specs.declared.stage.Stage.TheVariants.{Drew}
 use Rattle.rb_lock.proofs.LongerHistories.{grown_none}
 use Rattle.rb_lock.proofs.Sharings.{drawing, cuts}
 use Rattle.rb_lock.proofs.RestingPasses.{learned, found_pair}
 
-module _ {T : Type 0} (pass : Seen) (seat0 seat1 seat2 : Sat T) (rest : seat0 ≡ (idle pass, [])) (got : Got seat0 seat1) where
-  found_idle : Found got.log got.names (idle pass)
-  found_idle = subst (λ (m : Sat T). Found got.log got.names m.0) rest got.found
+module _ {T : Type 0} (pass : Seen) (seat0 seat1 seat2 : LockSeat T) (rest : seat0 ≡ (idle pass, [])) (got : TakesLock seat0 seat1) where
+  found_idle : Noted got.log got.names (idle pass)
+  found_idle = subst (λ (m : LockSeat T). Noted got.log got.names m.0) rest got.found
 
   view_is : seat1.0 ≡ holder_of (idle pass) got.log.history got.names
-  view_is = got.view ∙ ap (λ (m : Sat T). holder_of m.0 got.log.history got.names) rest
+  view_is = got.view ∙ ap (λ (m : LockSeat T). holder_of m.0 got.log.history got.names) rest
 
   module _ (given : Option ℕ) (naming : NamesIn given seat1 seat2) where
-    before_is : naming.names.before ≡ home_of got.log got.names
+    before_is : naming.names.before ≡ pair_of got.log got.names
     before_is = found_pair pass seat0 seat1 naming.slot naming.names.before rest got naming.was naming.names.was
 
     seat2_is : seat2 ≡ (holder_of (idle pass) got.log.history got.names, (0, Some naming.names.after) ∷ [])
@@ -29,10 +29,10 @@ module _ {T : Type 0} (pass : Seen) (seat0 seat1 seat2 : Sat T) (rest : seat0 �
 
   -- all names are given
   module _ (naming : NamesIn None seat1 seat2) where
-    none_is : seat2 ≡ (holder_of (idle pass) got.log.history got.names, (0, Some (home_of got.log got.names)) ∷ [])
+    none_is : seat2 ≡ (holder_of (idle pass) got.log.history got.names, (0, Some (pair_of got.log got.names)) ∷ [])
     none_is =
         seat2_is None naming
-        ∙ ap (λ (h : Home T). (holder_of (idle pass) got.log.history got.names, (0, Some h) ∷ [])) (naming.names.gives.1 ∙ before_is None naming)
+        ∙ ap (λ (h : Pair T). (holder_of (idle pass) got.log.history got.names, (0, Some h) ∷ [])) (naming.names.gives.1 ∙ before_is None naming)
 
     pub none_may_give : MayGive seat2
     none_may_give = record {
@@ -49,14 +49,14 @@ module _ {T : Type 0} (pass : Seen) (seat0 seat1 seat2 : Sat T) (rest : seat0 �
 
   -- the next name is given
   module _ (name : ℕ) (naming : NamesIn (Some name) seat1 seat2) where
-    same_before : naming.names.before ≡ home_of got.log got.names
+    same_before : naming.names.before ≡ pair_of got.log got.names
     same_before = before_is (Some name) naming
 
-    some_is : seat2 ≡ (holder_of (idle pass) got.log.history got.names, (0, Some (home_of got.log (got.names + 1))) ∷ [])
+    some_is : seat2 ≡ (holder_of (idle pass) got.log.history got.names, (0, Some (pair_of got.log (got.names + 1))) ∷ [])
     some_is =
         seat2_is (Some name) naming
-        ∙ ap (λ (h : Home T). (holder_of (idle pass) got.log.history got.names, (0, Some h) ∷ []))
-        (naming.names.gives.2 ∙ ap (λ (h : Home T). home_of h.kept (h.names + 1)) same_before)
+        ∙ ap (λ (h : Pair T). (holder_of (idle pass) got.log.history got.names, (0, Some h) ∷ []))
+        (naming.names.gives.2 ∙ ap (λ (h : Pair T). pair_of h.kept (h.names + 1)) same_before)
 
     pub may_draw : MayDraw seat2
     may_draw = record {
@@ -66,15 +66,15 @@ module _ {T : Type 0} (pass : Seen) (seat0 seat1 seat2 : Sat T) (rest : seat0 �
       is = some_is;
       capacity = sym (found_idle.fits.capacity tt);
       opening = sym (found_idle.fits.opening tt);
-      few = subst (λ (h : Home T). h.names < MOST_NAMES) same_before naming.names.gives.1;
+      few = subst (λ (h : Pair T). h.names < MOST_NAMES) same_before naming.names.gives.1;
     }
 
     -- the seat has drawn the name
-    module _ (seat3 : Sat T) (drew : seat3 ≡ (settled seat2.0 (in_hand seat2.1) (Drew seat2.0.noted), [])) where
+    module _ (seat3 : LockSeat T) (drew : seat3 ≡ (settled seat2.0 (in_hand seat2.1) (Drew seat2.0.noted), [])) where
       drawn_is : seat3 ≡ (drawing (learned pass got.names got.log.history) got.names, [])
-      drawn_is = drew ∙ ap (λ (m : Sat T). (settled m.0 (in_hand m.1) (Drew m.0.noted), [])) some_is
+      drawn_is = drew ∙ ap (λ (m : LockSeat T). (settled m.0 (in_hand m.1) (Drew m.0.noted), [])) some_is
 
       pub may_cut : (id : ℕ) → Splits (Locked {T = T}) id seat3.0 (rested seat3.0) (cut_off seat3.0)
       may_cut id =
-          subst (λ (m : Sat T). Splits (Locked {T = T}) id m.0 (rested m.0) (cut_off m.0)) (sym drawn_is)
+          subst (λ (m : LockSeat T). Splits (Locked {T = T}) id m.0 (rested m.0) (cut_off m.0)) (sym drawn_is)
           (cuts id (learned pass got.names got.log.history) got.names)

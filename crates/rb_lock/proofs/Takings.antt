@@ -10,26 +10,26 @@ use Rattle.atomic_table.proofs.Lists.{at_set, exchanged}
 use Rattle.atomic_table.specs.Seated.{TableId}
 use Rattle.rb_lock.specs.Passes.{Seen}
 use Rattle.rb_lock.specs.Views.{idle, pass_of, weight, holders, total, holder_of}
-use Rattle.rb_lock.specs.Rule.{Fits, Locked, IsFree, IsHeld, home_of}
-use Rattle.rb_lock.specs.LockSteps.{Sat, AtRest, Found, taken}
-use Rattle.rb_lock.specs.declared.home.Home.{Home}
+use Rattle.rb_lock.specs.Rule.{Fits, Locked, IsFree, IsHeld, pair_of}
+use Rattle.rb_lock.specs.LockSteps.{LockSeat, AtRest, Noted, taken}
+use Rattle.rb_lock.specs.declared.pair.Pair.{Pair}
 use Rattle.rb_lock.specs.declared.view.View.{View}
 use Rattle.rb_lock.proofs.Sums.{total_set, total_at}
 
-module _ {T : Type 0} (s : State (Option (Home T)) View) (law : Locked s) (id : ℕ) (v : View) (at : get_elem? s.views id ≡ some v) where
+module _ {T : Type 0} (s : State (Option (Pair T)) View) (law : Locked s) (id : ℕ) (v : View) (at : get_elem? s.views id ≡ some v) where
   -- what the rule tells of the view
-  pub found_at : Found law.log law.names v
+  pub found_at : Noted law.log law.names v
   found_at = record {
     fits = law.fits id v at;
     few = law.few;
     once = λ name. omega (arith, total_at (weight name) s.views id v at, law.once name);
     below = λ name above. omega (arith, total_at (weight name) s.views id v at, law.below name above);
-    strangers = law.strangers;
+    not_given = law.not_given;
   }
 
   -- a view changes in which each name stands as often as before, and the log and the names stay
-  pub unmoved : (words : List ℕ) (homes : List (maybe.Option (Option (Home T)))) (w : View) → ((name : ℕ) → weight name w ≡ weight name v) → Fits law.log law.names w
-      → (let s' : State (Option (Home T)) View = record { words = words; homes = homes; views = set s.views id w } in IsFree law.log law.names s' ⊎ IsHeld s')
+  pub unmoved : (words : List ℕ) (homes : List (maybe.Option (Option (Pair T)))) (w : View) → ((name : ℕ) → weight name w ≡ weight name v) → Fits law.log law.names w
+      → (let s' : State (Option (Pair T)) View = record { words = words; homes = homes; views = set s.views id w } in IsFree law.log law.names s' ⊎ IsHeld s')
       → Locked (record { words = words; homes = homes; views = set s.views id w })
   unmoved words homes w same own place = record {
     log = law.log;
@@ -40,12 +40,12 @@ module _ {T : Type 0} (s : State (Option (Home T)) View) (law : Locked s) (id : 
         (λ (else : (by ≢ id) × (get_elem? s.views by ≡ some u)). law.fits by u else.1) (at_set s.views id by w u there);
     once = λ name. omega (arith, total_set (weight name) s.views id v w at, law.once name, same name);
     below = λ name above. omega (arith, total_set (weight name) s.views id v w at, law.below name above, same name);
-    strangers = law.strangers;
+    not_given = law.not_given;
   }
 
-module _ {T : Type 0} (s : State (Option (Home T)) View) (law : Locked s) (id : ℕ) (pass : Seen) (at : get_elem? s.views id ≡ some (idle pass)) (f : ℕ → ℕ) (busy : (n : ℕ) → 0 < f n) where
+module _ {T : Type 0} (s : State (Option (Pair T)) View) (law : Locked s) (id : ℕ) (pass : Seen) (at : get_elem? s.views id ≡ some (idle pass)) (f : ℕ → ℕ) (busy : (n : ℕ) → 0 < f n) where
   abbrev Goes : Type 0
-  Goes = (w : View) × (a : Act (Option (Home T))) × Valid s.homes [] a × Locked (stepped s 0 (f (slice_index s.words 0)) id [] w a)
+  Goes = (w : View) × (a : Act (Option (Pair T))) × Valid s.homes [] a × Locked (stepped s 0 (f (slice_index s.words 0)) id [] w a)
       × taken (step 0 0 0 0 none) (idle pass, []) (slice_index s.words 0) (w, carried_after [] a)
 
   -- the lock was free: the seat holds it
@@ -53,20 +53,20 @@ module _ {T : Type 0} (s : State (Option (Home T)) View) (law : Locked s) (id : 
   wins free =
       let n : ℕ = slice_index s.words 0 in
       let w : View = holder_of (idle pass) law.log.history law.names in
-      let home : Option (Home T) = Some (home_of law.log law.names) in
+      let pair : Option (Pair T) = Some (pair_of law.log law.names) in
       let fits = law.fits id (idle pass) at in
       let zero_found : n ≡ 0 = ap (λ ws. slice_index ws 0) free.words in
       let moved : total holders (set s.views id w) + 0 ≡ total holders s.views + 1 = total_set holders s.views id (idle pass) w at in (
         w,
-        takes 0 home,
-        ap (λ (hs : List (maybe.Option (Option (Home T)))). get_elem? hs 0) free.homes,
+        takes 0 pair,
+        ap (λ (hs : List (maybe.Option (Option (Pair T)))). get_elem? hs 0) free.homes,
         unmoved s law id (idle pass) at (slice_set s.words 0 (f n)) (slice_set s.homes 0 none) w (λ name. refl)
             (record { capacity = fits.capacity; opening = fits.opening; begins = fits.begins; records = fits.records; stage = (refl, refl) })
             (inr (record {
               word = f n;
               words = ap (λ ws. slice_set ws 0 (f n)) free.words;
               taken = busy n;
-              homes = ap (λ (hs : List (maybe.Option (Option (Home T)))). slice_set hs 0 none) free.homes;
+              homes = ap (λ (hs : List (maybe.Option (Option (Pair T)))). slice_set hs 0 none) free.homes;
               one = omega (arith, moved, free.nobody);
             })),
         (
@@ -101,17 +101,17 @@ pub takes_lock : {T : Type 0} (slots id : ℕ) (pass : Seen) (f : ℕ → ℕ) �
 takes_lock slots id pass f busy s law many at small = ⊎_elim (wins s law id pass at f busy) (waits s law id pass at f busy) law.place
 
 -- the same at the seat of a pass
-pub takes_at : {T : Type 0} (slots id : ℕ) (table : TableId) (seat : Sat T) → AtRest table seat → (f : ℕ → ℕ) → ((n : ℕ) → 0 < f n)
+pub takes_at : {T : Type 0} (slots id : ℕ) (table : TableId) (seat : LockSeat T) → AtRest table seat → (f : ℕ → ℕ) → ((n : ℕ) → 0 < f n)
     → Allows (Locked {T = T}) slots id seat 0 f (taken {T = T} (step 0 0 0 0 none) seat)
 takes_at {T} slots id table seat rest f busy =
-    subst (λ (m : Sat T). Allows (Locked {T = T}) slots id m 0 f (taken {T = T} (step 0 0 0 0 none) m)) (sym rest) (takes_lock slots id (pass_of table seat.0) f busy)
+    subst (λ (m : LockSeat T). Allows (Locked {T = T}) slots id m 0 f (taken {T = T} (step 0 0 0 0 none) m)) (sym rest) (takes_lock slots id (pass_of table seat.0) f busy)
 
 -- a word that was 0 and becomes 1, or stays, is not 0
 pub one_or_more : (n : ℕ) → 0 < either (n == 0) 1 n
 one_or_more n = exchanged n 0 1 (λ (k : ℕ). 0 < k) (λ hit. omega arith) (λ miss. omega arith)
 
 -- the same at a seat that a lost try left as it was
-pub takes_again : {T : Type 0} (slots id : ℕ) (table : TableId) (seat now : Sat T) → now ≡ seat → AtRest table seat → (f : ℕ → ℕ) → ((n : ℕ) → 0 < f n)
+pub takes_again : {T : Type 0} (slots id : ℕ) (table : TableId) (seat now : LockSeat T) → now ≡ seat → AtRest table seat → (f : ℕ → ℕ) → ((n : ℕ) → 0 < f n)
     → Allows (Locked {T = T}) slots id now 0 f (taken {T = T} (step 0 0 0 0 none) now)
 takes_again {T} slots id table seat now same rest f busy =
-    takes_at {T = T} slots id table now (subst (λ (m : Sat T). AtRest table m) (sym same) rest) f busy
+    takes_at {T = T} slots id table now (subst (λ (m : LockSeat T). AtRest table m) (sym same) rest) f busy

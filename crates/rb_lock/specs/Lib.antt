@@ -7,4 +7,4 @@ pub mod Views
 pub mod Rule
 pub mod LockSteps
 pub mod SharedCalls
-pub mod Gatherings
+pub mod ClosedQueues

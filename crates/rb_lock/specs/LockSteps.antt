@@ -16,20 +16,20 @@ use Rattle.rb_kept.specs.declared.outcome.Outcome.{Outcome}
 use Rattle.rb_kept.specs.declared.fault.CallFault.{CallFault}
 use Rattle.rb_lock.specs.Passes.{Seen, IsSoundPass, tally_of}
 use Rattle.rb_lock.specs.Views.{weight, idle, pass_of, holder_of, settled, rested, longer}
-use Rattle.rb_lock.specs.Rule.{Fits, home_of}
-use Rattle.rb_lock.specs.declared.home.Home.{Home}
-use Rattle.rb_lock.specs.declared.home.TheConstants.{MOST_NAMES}
+use Rattle.rb_lock.specs.Rule.{Fits, pair_of}
+use Rattle.rb_lock.specs.declared.pair.Pair.{Pair}
+use Rattle.rb_lock.specs.declared.pair.TheConstants.{MOST_NAMES}
 use Rattle.rb_lock.specs.declared.stage.Stage.{Stage}
 use Rattle.rb_lock.specs.declared.stage.Stage.TheVariants.{Idle, Holds, Drew, Meets, Gone}
 use Rattle.rb_lock.specs.declared.view.View.{View}
 
 -- what the rule tells of one view
-pub record Found (log : Log) (names : ℕ) (v : View) : Type 0 where
+pub record Noted (log : Log) (names : ℕ) (v : View) : Type 0 where
   pub fits : Fits log names v
   pub few : names ≤ MOST_NAMES
   pub once : (name : ℕ) → weight name v ≤ 1
   pub below : (name : ℕ) → names ≤ name → weight name v ≡ 0
-  pub strangers : (name : ℕ) → names ≤ name → events_of log.history name ≡ []
+  pub not_given : (name : ℕ) → names ≤ name → events_of log.history name ≡ []
 
 -- the history has grown by events of this name alone
 pub record Grown (name : ℕ) (found new : List Event) : Type 0 where
@@ -62,81 +62,81 @@ pub record HasOneWord (table : TableId) : Type 0 where
   pub slots : table.slots ≡ 1
 
 -- a seat's view, and the slots that are out with it
-abbrev pub Sat : Type 0 → Type 0
-Sat T = Me (Option (Home T)) View
+abbrev pub LockSeat : Type 0 → Type 0
+LockSeat T = Me (Option (Pair T)) View
 
 module _ {T : Type 0} where
   -- the history of the pair in hand
-  abbrev pub in_hand : List (ℕ × Option (Home T)) → List Event
+  abbrev pub in_hand : List (ℕ × Option (Pair T)) → List Event
   in_hand [] = []
   in_hand ((slot, None) ∷ slots) = []
-  in_hand ((slot, Some home) ∷ slots) = home.kept.history
+  in_hand ((slot, Some pair) ∷ slots) = pair.kept.history
 
   -- the lock was taken: the pair is in hand, and the seat has noted what it found
-  pub record Got (before after : Sat T) : Type 0 where
+  pub record TakesLock (before after : LockSeat T) : Type 0 where
     pub log : Log
     pub names : ℕ
     pub view : after.0 ≡ holder_of before.0 log.history names
-    pub hand : after.1 ≡ (0, Some (home_of log names)) ∷ before.1
-    pub found : Found log names before.0
+    pub hand : after.1 ≡ (0, Some (pair_of log names)) ∷ before.1
+    pub found : Noted log names before.0
 
   -- a try of the lock, which found 0 where it took it, and else changed nothing
-  abbrev pub taken : Step (Option (Home T)) → Sat T → ℕ → Sat T → Type 0
-  taken step before found after = (found ≡ 0 → Got before after) × (found ≢ 0 → after ≡ before)
+  abbrev pub taken : Step (Option (Pair T)) → LockSeat T → ℕ → LockSeat T → Type 0
+  taken step before found after = (found ≡ 0 → TakesLock before after) × (found ≢ 0 → after ≡ before)
 
   -- the pair went home, and the seat has seen its history
-  abbrev pub gave : Step (Option (Home T)) → Sat T → ℕ → Sat T → Type 0
+  abbrev pub gave : Step (Option (Pair T)) → LockSeat T → ℕ → LockSeat T → Type 0
   gave step before found after = after ≡ (settled before.0 (in_hand before.1) Idle, rest before.1)
 
   -- the same, and the seat has drawn the name that it noted
-  abbrev pub drew : Step (Option (Home T)) → Sat T → ℕ → Sat T → Type 0
+  abbrev pub drew : Step (Option (Pair T)) → LockSeat T → ℕ → LockSeat T → Type 0
   drew step before found after = after ≡ (settled before.0 (in_hand before.1) (Drew before.0.noted), rest before.1)
 
   -- the word was read, and the seat has learned how the two lists compare
-  abbrev pub learned : Step (Option (Home T)) → Sat T → ℕ → Sat T → Type 0
+  abbrev pub learned : Step (Option (Pair T)) → LockSeat T → ℕ → LockSeat T → Type 0
   learned step before found after = (after ≡ (rested before.0, before.1)) × Compared (rested before.0) before.0.stage
 
   -- the seat is that of a pass which is in no step
-  abbrev pub AtRest : TableId → Sat T → Type 0
+  abbrev pub AtRest : TableId → LockSeat T → Type 0
   AtRest table seat = seat ≡ (idle (pass_of table seat.0), [])
 
   -- the seat is at rest, and the pass's own number and share are those of its view
-  pub record IsPass (table : TableId) (seat : Sat T) (name : ℕ) (tally : Totals) : Type 0 where
+  pub record IsPass (table : TableId) (seat : LockSeat T) (name : ℕ) (tally : Totals) : Type 0 where
     pub rest : AtRest table seat
     pub name_is : name ≡ seat.0.name
     pub counted : tally ≡ tally_of (pass_of table seat.0)
     pub sound : IsSoundPass (pass_of table seat.0)
 
   -- the seat holds the lock, and has in hand the pair that it found, or one that has grown by its events
-  pub record MayGive (seat : Sat T) : Type 0 where
+  pub record MayGive (seat : LockSeat T) : Type 0 where
     pub pass : Seen
     pub found : Log
     pub new : Log
     pub names : ℕ
-    pub is : seat ≡ (holder_of (idle pass) found.history names, (0, Some (home_of new names)) ∷ [])
+    pub is : seat ≡ (holder_of (idle pass) found.history names, (0, Some (pair_of new names)) ∷ [])
     pub capacity : new.capacity ≡ pass.capacity
     pub opening : new.opening ≡ pass.opening
     pub grown : Grown pass.name found.history new.history
     pub few : names ≤ MOST_NAMES
 
   -- the seat holds the lock, and has in hand the pair that it found, with one name more given
-  pub record MayDraw (seat : Sat T) : Type 0 where
+  pub record MayDraw (seat : LockSeat T) : Type 0 where
     pub pass : Seen
     pub found : Log
     pub names : ℕ
-    pub is : seat ≡ (holder_of (idle pass) found.history names, (0, Some (home_of found (names + 1))) ∷ [])
+    pub is : seat ≡ (holder_of (idle pass) found.history names, (0, Some (pair_of found (names + 1))) ∷ [])
     pub capacity : found.capacity ≡ pass.capacity
     pub opening : found.opening ≡ pass.opening
     pub few : names < MOST_NAMES
 
   -- the next name of the pair in a slot was given, or all are
-  abbrev pub GivesName : Home T → Option ℕ → Home T → Type 0
+  abbrev pub GivesName : Pair T → Option ℕ → Pair T → Type 0
   GivesName before None after = (MOST_NAMES ≤ before.names) × (after ≡ before)
-  GivesName before (Some name) after = (name ≡ before.names) × (before.names < MOST_NAMES) × (after ≡ home_of before.kept (before.names + 1))
+  GivesName before (Some name) after = (name ≡ before.names) × (before.names < MOST_NAMES) × (after ≡ pair_of before.kept (before.names + 1))
 
-  pub record NamesOn (given : Option ℕ) (old new : Option (Home T)) : Type 0 where
-    pub before : Home T
-    pub after : Home T
+  pub record NamesOn (given : Option ℕ) (old new : Option (Pair T)) : Type 0 where
+    pub before : Pair T
+    pub after : Pair T
     pub was : old ≡ Some before
     pub is : new ≡ Some after
     pub legal : IsLegal before.kept.opening before.kept.history
@@ -144,22 +144,22 @@ module _ {T : Type 0} where
     pub gives : GivesName before given after
 
   -- the same in the slot that a seat has in hand
-  pub record NamesIn (given : Option ℕ) (old new : Sat T) : Type 0 where
-    pub slot : Option (Home T)
-    pub slot' : Option (Home T)
+  pub record NamesIn (given : Option ℕ) (old new : LockSeat T) : Type 0 where
+    pub slot : Option (Pair T)
+    pub slot' : Option (Pair T)
     pub was : old.1 ≡ (0, slot) ∷ []
     pub is : new ≡ (old.0, (0, slot') ∷ [])
     pub names : NamesOn given slot slot'
 
   -- a seat at rest has seen what another has, beside what it had
-  pub record HasLearned (one other : View) (seat : Sat T) : Type 0 where
+  pub record HasLearned (one other : View) (seat : LockSeat T) : Type 0 where
     pub rest : seat ≡ (record one { seen = longer one.seen other.seen }, [])
     pub compared : HasCompared one.seen other.seen other.capacity other.opening (record one { seen = longer one.seen other.seen })
 
   -- the kept queue of the pair in a slot was called
-  pub record ActsOn (try : Try) (step : Result Outcome CallFault) (share share' : Totals) (old new : Option (Home T)) : Type 0 where
-    pub before : Home T
-    pub after : Home T
+  pub record ActsOn (try : Try) (step : Result Outcome CallFault) (share share' : Totals) (old new : Option (Pair T)) : Type 0 where
+    pub before : Pair T
+    pub after : Pair T
     pub was : old ≡ Some before
     pub is : new ≡ Some after
     pub names : after.names ≡ before.names
@@ -168,9 +168,9 @@ module _ {T : Type 0} where
     pub grows : Grows before.kept after.kept share share'
 
   -- the same in the slot that a seat has in hand
-  pub record ActsIn (try : Try) (step : Result Outcome CallFault) (share share' : Totals) (old new : Sat T) : Type 0 where
-    pub slot : Option (Home T)
-    pub slot' : Option (Home T)
+  pub record ActsIn (try : Try) (step : Result Outcome CallFault) (share share' : Totals) (old new : LockSeat T) : Type 0 where
+    pub slot : Option (Pair T)
+    pub slot' : Option (Pair T)
     pub was : old.1 ≡ (0, slot) ∷ []
     pub is : new ≡ (old.0, (0, slot') ∷ [])
     pub acts : ActsOn try step share share' slot slot'

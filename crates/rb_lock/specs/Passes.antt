@@ -66,8 +66,8 @@ abbrev pub record_of : Seen → Record
 record_of pass = record { name = pass.name; seen = pass.seen; mine = pass.mine }
 
 -- its own record, and those of all that were folded into it
-abbrev pub gathered : Seen → List Record
-gathered pass = record_of pass ∷ pass.folded
+abbrev pub all_records : Seen → List Record
+all_records pass = record_of pass ∷ pass.folded
 
 -- each total, or the greatest count where that is less
 abbrev pub capped : Totals → Totals
@@ -79,7 +79,7 @@ capped totals = record {
 
 -- what the calls of the pass and of all that were folded into it come to
 abbrev pub tally_of : Seen → Totals
-tally_of pass = capped (totals_of (calls_of (gathered pass)))
+tally_of pass = capped (totals_of (calls_of (all_records pass)))
 
 -- What every pass keeps true: it has seen a legal history with room for it, in which its events are exactly
 -- its calls.
@@ -119,4 +119,4 @@ split_from pass = record pass { name = pass.noted; mine = []; folded = [] }
 
 -- a pass with another folded into it: the other's record and those folded into that follow its own
 abbrev pub folded_with : Seen → Seen → Seen
-folded_with pass other = record pass { folded = pass.folded ++ gathered other }
+folded_with pass other = record pass { folded = pass.folded ++ all_records other }

@@ -8,8 +8,8 @@ use Rattle.rb_queue.specs.Counts.{events_of}
 use Rattle.rb_kept.specs.Log.{Log}
 use Rattle.rb_lock.specs.Records.{AreRecords}
 use Rattle.rb_lock.specs.Views.{records_of, weight, holders, total}
-use Rattle.rb_lock.specs.declared.home.Home.{Home}
-use Rattle.rb_lock.specs.declared.home.TheConstants.{MOST_NAMES}
+use Rattle.rb_lock.specs.declared.pair.Pair.{Pair}
+use Rattle.rb_lock.specs.declared.pair.TheConstants.{MOST_NAMES}
 use Rattle.rb_lock.specs.declared.stage.Stage.{Stage}
 use Rattle.rb_lock.specs.declared.stage.Stage.TheVariants.{Idle, Holds, Drew, Meets, Gone}
 use Rattle.rb_lock.specs.declared.view.View.{View}
@@ -41,17 +41,17 @@ pub record Fits (log : Log) (names : ℕ) (v : View) : Type 0 where
   pub stage : AtStage log names v.noted v.stage
 
 module _ {T : Type 0} where
-  abbrev pub home_of : Log → ℕ → Home T
-  home_of log names = record { kept = log; names = names }
+  abbrev pub pair_of : Log → ℕ → Pair T
+  pair_of log names = record { kept = log; names = names }
 
   -- the lock is free: the pair is at home, and no seat holds
-  pub record IsFree (log : Log) (names : ℕ) (s : State (Option (Home T)) View) : Type 0 where
+  pub record IsFree (log : Log) (names : ℕ) (s : State (Option (Pair T)) View) : Type 0 where
     pub words : s.words ≡ 0 ∷ []
-    pub homes : s.homes ≡ some (Some (home_of log names)) ∷ []
+    pub homes : s.homes ≡ some (Some (pair_of log names)) ∷ []
     pub nobody : total holders s.views ≡ 0
 
   -- the lock is held: the slot is out, with one seat
-  pub record IsHeld (s : State (Option (Home T)) View) : Type 0 where
+  pub record IsHeld (s : State (Option (Pair T)) View) : Type 0 where
     pub word : ℕ
     pub words : s.words ≡ word ∷ []
     pub taken : 0 < word
@@ -61,7 +61,7 @@ module _ {T : Type 0} where
   -- The current log and the number of names are those of the pair at home or, while a seat holds, what that
   -- seat noted. Each view fits them. No name stands twice among all records and drawn names; each of these
   -- is below the number, and so is each event's seat.
-  pub record Locked (s : State (Option (Home T)) View) : Type 0 where
+  pub record Locked (s : State (Option (Pair T)) View) : Type 0 where
     pub log : Log
     pub names : ℕ
     pub few : names ≤ MOST_NAMES
@@ -69,4 +69,4 @@ module _ {T : Type 0} where
     pub fits : (by : ℕ) (v : View) → get_elem? s.views by ≡ some v → Fits log names v
     pub once : (name : ℕ) → total (weight name) s.views ≤ 1
     pub below : (name : ℕ) → names ≤ name → total (weight name) s.views ≡ 0
-    pub strangers : (name : ℕ) → names ≤ name → events_of log.history name ≡ []
+    pub not_given : (name : ℕ) → names ≤ name → events_of log.history name ≡ []

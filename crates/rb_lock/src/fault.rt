@@ -21,10 +21,10 @@ pub enum SplitFault {
 #[derive(Clone, Copy, Debug, PartialEq, Eq, Error)]
 pub enum CloseFault {
     /// The pass, with all that were folded into it, has fewer calls than the books.
-    #[error("a pass with calls is not gathered")]
+    #[error("a pass with calls is not folded in")]
     NotAll {
         /// What the pass and those folded into it come to.
-        gathered: Totals,
+        counted: Totals,
         /// What the whole history comes to.
         booked: Totals,
     },

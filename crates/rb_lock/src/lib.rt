@@ -5,17 +5,17 @@
 #![tactic(auto)]
 
 mod fault;
-mod home;
-mod law;
 mod lock;
+mod pair;
 mod pass;
-mod plays;
 mod record;
+mod rule;
 mod shared;
 mod stage;
+mod steps;
 mod view;
 
 pub use fault::{CloseFault, OpenFault, SplitFault};
-pub use home::MOST_NAMES;
+pub use pair::MOST_NAMES;
 pub use pass::Pass;
 pub use shared::Shared;

@@ -1,7 +1,7 @@
 ghost use Rattle.std.specs.Prelude.{◌≡◌};
 ghost use Rattle.rb_lock.specs.Passes.{IsSoundPass, tally_of};
 
-use crate::law::PassSeat;
+use crate::rule::PassSeat;
 use rb_ledger::Tally;
 use rb_timer::Timer;
 use std::marker::Model;

@@ -1,17 +1,17 @@
 ghost use Rattle.std.specs.Prelude.{◌≡◌, [], ◌∷◌, ℕ, Some, IfOk, IfErr, OnErr};
 ghost use Rattle.rb_ledger.specs.Totals.{nothing};
 ghost use Rattle.rb_queue.specs.Counts.{events_of, audit_of};
-ghost use Rattle.rb_lock.specs.Passes.{first_pass, split_from, folded_with, gathered, tally_of, Learns};
+ghost use Rattle.rb_lock.specs.Passes.{first_pass, split_from, folded_with, all_records, tally_of, Learns};
 ghost use Rattle.rb_kept.specs.Shares.{totals_of};
 ghost use Rattle.rb_lock.specs.SharedCalls.{Answered};
-ghost use Rattle.rb_lock.specs.Gatherings.{IsGathered, IsRefused, AreCounts};
+ghost use Rattle.rb_lock.specs.ClosedQueues.{HasCallsOf, IsRefused, AreCounts};
 
 use crate::fault::{CloseFault, OpenFault, SplitFault};
-use crate::home::{Home, MOST_NAMES};
-use crate::law::Law;
 use crate::lock::{FREE, act, give, give_and_draw, learn, next_name, put_back, take, take_out};
+use crate::pair::{MOST_NAMES, Pair};
 use crate::pass::Pass;
-use crate::plays::{Cut, Fold};
+use crate::rule::LockRule;
+use crate::steps::{Cut, Fold};
 use crate::view::View;
 use atomic_table::{Refused, Table};
 use rb_kept::{CallFault, Kept, Outcome};
@@ -29,7 +29,7 @@ use std::sync::Wait;
 /// taken and given back by single exchanges of the word; only who took it touches the slot.
 #[derive(Drop)]
 pub struct Shared<T: Timer> {
-    table: Table<Option<Home<T>>, View, Snapshot<Kept<T>>, Law, Global>,
+    table: Table<Option<Pair<T>>, View, Snapshot<Kept<T>>, LockRule, Global>,
 }
 
 impl<T: Timer> Model for Shared<T> {
@@ -67,7 +67,7 @@ impl<T: Timer> Shared<T> {
         let Ok(mut slots) = Vec::with_capacity(alloc, 1) else {
             return Err((kept, tally, OpenFault::Memory));
         };
-        slots.push_reserved(Some(Home { kept, names: 1 }));
+        slots.push_reserved(Some(Pair { kept, names: 1 }));
         match Table::new(alloc, &[FREE], slots, &start) {
             Ok((table, seat)) => {
                 let pass = Pass {
@@ -94,14 +94,14 @@ impl<T: Timer> Shared<T> {
         ensures unheard { IfOk result (λ child. events_of child.seen child.name ≡ []) }
         ensures names { OnErr result (pass.new.noted ≡ MOST_NAMES) }
     {
-        let words = &self.table.shared;
-        take(words, rt, &mut pass.seat);
-        let Some(name) = next_name(words, &mut pass.seat) else {
-            give(words, &mut pass.seat);
+        let table = &self.table.shared;
+        take(table, rt, &mut pass.seat);
+        let Some(name) = next_name(table, &mut pass.seat) else {
+            give(table, &mut pass.seat);
             return Err(SplitFault::Names);
         };
-        give_and_draw(words, &mut pass.seat);
-        let seat = words.split_seat::<Cut>(&mut pass.seat);
+        give_and_draw(table, &mut pass.seat);
+        let seat = table.split_seat::<Cut>(&mut pass.seat);
         let tally = pass.tally.split();
         Ok(Pass { seat, name, tally })
     }
@@ -134,9 +134,9 @@ impl<T: Timer> Shared<T> {
         ensures second { Learns second.old second.new }
         ensures second_mine { second.new.mine ≡ second.old.mine }
     {
-        let words = &self.table.shared;
-        learn(words, &mut first.seat, &mut second.seat);
-        learn(words, &mut second.seat, &mut first.seat);
+        let table = &self.table.shared;
+        learn(table, &mut first.seat, &mut second.seat);
+        learn(table, &mut second.seat, &mut first.seat);
     }
 
     /// Makes one call, as `Kept::act`, with the pass's name as seat. It waits while another pass calls.
@@ -156,21 +156,21 @@ impl<T: Timer> Shared<T> {
         ensures learns { Learns pass.old pass.new }
         ensures answered { Answered pass.old pass.new (record { seat = pass.old.name; asked = asked; ask = ask }) result }
     {
-        let words = &self.table.shared;
-        take(words, rt, &mut pass.seat);
+        let table = &self.table.shared;
+        take(table, rt, &mut pass.seat);
         let outcome = act(
-            words,
+            table,
             &mut pass.seat,
             &mut pass.tally,
             pass.name,
             asked,
             ask,
         );
-        give(words, &mut pass.seat);
+        give(table, &mut pass.seat);
         outcome
     }
 
-    /// Ends the sharing, where all passes with calls are gathered in this one: itself, or folded into it. It
+    /// Ends the sharing, where every pass with calls is this one, or folded into it. It
     /// waits while another pass calls, and takes no memory.
     ///
     /// The history that comes back has the calls of these passes and no other. `NotAll` is answered exactly
@@ -183,7 +183,7 @@ impl<T: Timer> Shared<T> {
         requires pass { pass.table ≡ self }
         ensures capacity { IfOk result (λ closed. closed.0.capacity ≡ pass.capacity) }
         ensures opening { IfOk result (λ closed. closed.0.opening ≡ pass.opening) }
-        ensures gathered { IfOk result (λ closed. IsGathered closed.0 (gathered pass)) }
+        ensures holds { IfOk result (λ closed. HasCallsOf closed.0 (all_records pass)) }
         ensures tally { IfOk result (λ closed. closed.1 ≡ tally_of pass) }
         ensures totals { IfOk result (λ closed. closed.1 ≡ totals_of closed.0.history) }
         ensures audit { IfOk result (λ closed. closed.2 ≡ audit_of closed.0.opening closed.0.history) }
@@ -197,19 +197,19 @@ impl<T: Timer> Shared<T> {
             name,
             tally,
         } = pass;
-        let words = &self.table.shared;
-        take(words, rt, &mut seat);
-        let home = take_out(words, &mut seat);
-        let audit = home.kept.audit();
+        let table = &self.table.shared;
+        take(table, rt, &mut seat);
+        let pair = take_out(table, &mut seat);
+        let audit = pair.kept.audit();
         let booked = totals_in(audit);
-        let gathered = tally.totals();
-        if gathered == booked {
-            return Ok((home.kept, tally, audit));
+        let counted = tally.totals();
+        if counted == booked {
+            return Ok((pair.kept, tally, audit));
         }
-        put_back(words, &mut seat, home);
-        give(words, &mut seat);
+        put_back(table, &mut seat, pair);
+        give(table, &mut seat);
         let pass = Pass { seat, name, tally };
-        Err((self, pass, CloseFault::NotAll { gathered, booked }))
+        Err((self, pass, CloseFault::NotAll { counted, booked }))
     }
 }
 
@@ -226,8 +226,8 @@ fn totals_in(audit: Audit) -> Totals
 }
 
 // The kept queue of the one pair among these slots.
-fn only_kept<T: Timer>(mut slots: Vec<Option<Home<T>>>) -> Kept<T>
-    requires { (home : Home T) × (slots.items ≡ Some home ∷ []) }
+fn only_kept<T: Timer>(mut slots: Vec<Option<Pair<T>>>) -> Kept<T>
+    requires { (pair : Pair T) × (slots.items ≡ Some pair ∷ []) }
     ensures { (names : ℕ) × (slots.items ≡ Some (record { kept = result; names = names }) ∷ []) }
 {
     slots.pop().unwrap().unwrap().kept

@@ -16,9 +16,6 @@ module _ (old new : List Node) (slot : ℕ) (long : length new ≡ length old) (
       → previous_of old other ≡ Some another → before ≡ another
   one_previous other before another is also = cc
 
-  not_itself : (other : ℕ) → previous_of old other ≢ Some other
-  not_itself other is = let below = forest.rises other other is in absurd (omega arith)
-
   -- a link to a child is to the slot, and then leads past it, or is as it was
   child_cases : (P : Type 0) (other : ℕ)
       → (child_of old other ≡ Some slot → child_of new other ≡ next_of old slot → P)

@@ -63,10 +63,6 @@ module _ (old new : List Node) (slot by : ℕ) (long : length new ≡ length old
   no_round : (other : ℕ) → next_of old other ≡ Some slot → other ≢ by
   no_round other is same = let none = ap (next_of old) same ∙ only in cc
 
-  -- the slot is behind or under no slot that is itself
-  above_off : (other : ℕ) → previous_of old slot ≡ Some other → other ≢ slot
-  above_off other is same = let low = forest.rises slot other is in absurd (omega (arith, ap rank same))
-
   -- what was linked to the slot is linked to the one under it
   child_cases : (P : Type 0) (other : ℕ) → (other ≡ slot → child_of new other ≡ None → P)
       → (child_of old other ≡ Some slot → child_of new other ≡ Some by → P)

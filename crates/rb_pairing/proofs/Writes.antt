@@ -111,9 +111,6 @@ module _ (nodes : List Node) (slot : ℕ) (within : slot < length nodes) where
     one : (other : ℕ) → at ≡ Some other → other ≡ slot
     one other same = cc
 
-    off_slot : (other : ℕ) → other ≢ slot → at ≢ Some other
-    off_slot other off same = off (one other same)
-
     -- the first of the row under it was the one to be replaced
     pub sets_link_child : child_of nodes slot ≡ Some from
         → SetsLink nodes (set nodes slot (record old { child = to })) at from to

@@ -40,13 +40,6 @@ module _ (s : Slab Element) (content : Content) (directory : Directory) (sound :
   element_at : (slot expiry : ℕ) → map.get content slot ≡ Some expiry → (element : Element) × (get s slot ≡ Some element) × (element.expiry ≡ expiry)
   element_at slot expiry found = mapped_some (λ (e : Element). e.expiry) (get s slot) expiry (sym (sound.timed slot) ∙ found)
 
-  -- a slot that the timer has an entry of has an element
-  pub filled_slot : (slot expiry : ℕ) → map.get content slot ≡ Some expiry → is_some (get s slot) ≡ true
-  filled_slot slot expiry found = of_element (element_at slot expiry found)
-    where
-      of_element : (element : Element) × (get s slot ≡ Some element) × (element.expiry ≡ expiry) → is_some (get s slot) ≡ true
-      of_element (element, here, same) = ap is_some here
-
   pub expiry_at : (slot : ℕ) (element : Element) → get s slot ≡ Some element → map.get content slot ≡ Some (element.expiry)
   expiry_at slot element found = sound.timed slot ∙ ap (option_map (λ (e : Element). e.expiry)) found
 

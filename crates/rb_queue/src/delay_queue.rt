@@ -90,7 +90,7 @@ impl<T: Timer> DelayQueue<T> {
         ensures polls { Acts self.old now (acts.Poll (id_of result)) self.new }
         ensures element { IfSome result (λ element. map.get self.old.bag element.id ≡ Some element) }
     {
-        self.store.take_due(now)
+        self.store.remove_due(now)
     }
 
     /// An element of least expiry, expired or not; it stays. `None` exactly where the queue is empty.
@@ -108,7 +108,7 @@ impl<T: Timer> DelayQueue<T> {
     pub fn remove(&mut self, id: u64) -> bool
         ensures { (now : ℕ) → Acts self.old now (acts.Remove id result) self.new }
     {
-        self.store.take(id).is_some()
+        self.store.remove(id).is_some()
     }
 
     /// Takes heads one after the other, at most `max`, while one is expired at `now`, as

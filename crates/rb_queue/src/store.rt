@@ -69,7 +69,7 @@ impl<T: Timer> Store<T> {
 
     /// Takes out an element of least expiry that is expired at `now`. `None` exactly where none is
     /// expired.
-    pub(crate) fn take_due(&mut self, now: u64) -> Option<Element>
+    pub(crate) fn remove_due(&mut self, now: u64) -> Option<Element>
         ensures none { IfNone result (NoneExpired self.old now) }
         ensures head { IfSome result (IsHead self.old now) }
         ensures removed { IfSome result (λ element. self.new ≡ map.remove self.old element.id) }
@@ -83,7 +83,7 @@ impl<T: Timer> Store<T> {
     }
 
     /// Takes out the element of the id, if there is one.
-    pub(crate) fn take(&mut self, id: u64) -> Option<Element>
+    pub(crate) fn remove(&mut self, id: u64) -> Option<Element>
         ensures element { result ≡ map.get self.old id }
         ensures removed { self.new ≡ map.remove self.old id }
     {

@@ -52,15 +52,6 @@ tells_numbers version text line behind told cut is small opens = record {
   last = small;
   opens = opens;
 }
-
--- behind the numbers, the lines that keep the elements
-pub tells_opening : (version : Version) (text behind rest : List ℕ) (told : OpenLine) (opening : Opening) → version ≢ One → TellsNumbers version text told behind
-    → KeepsAll version told.next_id told.count behind opening.elements rest → opening.next_id ≡ told.next_id → opening.last_at ≡ told.last_at
-    → TellsOpening version text opening rest
-tells_opening version text behind rest told opening none tells keeps next last = record {
-  split = split version none tells.split keeps.split;
-  begins = begins version none tells.opens;
-  right = record { last_at = subst IsWord (sym last) tells.last; elements = keeps.right };
 }
   where
     numbers : numbers_words told.next_id told.last_at told.count ≡ open_words opening
@@ -82,12 +73,6 @@ tells_opening version text behind rest told opening none tells keeps next last =
     begins One told_one opens = absurd (told_one refl)
     begins Two told_one opens = λ empty. opens (sym next ∙ empty.0, sym last ∙ empty.1, sym keeps.counted ∙ empty.2)
     begins Three told_one opens = tt
-
--- a fault of the first line, and of one behind it
-pub fault_of_open : (version : Version) (text : List ℕ) (line : ℕ) (reason : TextReason) → version ≢ One → OpenFault version text line reason → FaultOfOpening version text line reason
-fault_of_open One text line reason told_one fault = absurd (told_one refl)
-fault_of_open Two text line reason told_one fault = inl fault
-fault_of_open Three text line reason told_one fault = inl fault
 
 pub fault_of_keep : (version : Version) (text behind : List ℕ) (told : OpenLine) (line : ℕ) (reason : TextReason) → version ≢ One → TellsNumbers version text told behind
     → StopsKeeping version told.next_id told.count behind line reason → FaultOfOpening version text line reason
@@ -117,26 +102,7 @@ fault_of_keep version text behind told line reason none tells stops = by_version
     by_version One told_one keep = absurd (told_one refl)
     by_version Two told_one keep = inr keep
     by_version Three told_one keep = inr keep
-
--- behind the opening, the lines of the events
-pub tells_run : (version : Version) (text rest : List ℕ) (history : History) → TellsOpening version text history.opening rest
-    → (length history.events ≤ MOST_EVENTS) × AreRightEvents history.events
-    × (rest ≡ lines_text (map (event_words version) history.events ++ (end_words (length history.events) ∷ [])))
-    → TellsRun version text history
-tells_run version text rest history tells reads = record {
-  split = tells.split ∙ ap (λ t. lines_text (opening_lines version history.opening) ++ t) reads.2;
-  begins = tells.begins;
-  few = reads.0;
-  right = (tells.right, reads.1);
 }
-
--- a fault of the opening, and of what stands behind it
-pub body_of_opening : (version : Version) (text : List ℕ) (line : ℕ) (reason : TextReason) → FaultOfOpening version text line reason → BodyFault version text line reason
-body_of_opening One text line reason fault = absurd fault
-body_of_opening Two text line reason (inl fault) = inl fault
-body_of_opening Two text line reason (inr fault) = inr (inl fault)
-body_of_opening Three text line reason (inl fault) = inl fault
-body_of_opening Three text line reason (inr fault) = inr (inl fault)
 
 pub body_of_events : (version : Version) (text rest : List ℕ) (opening : Opening) (line : ℕ) (reason : TextReason) → TellsOpening version text opening rest
     → EventsFault version rest (line_behind version opening) line reason → BodyFault version text line reason

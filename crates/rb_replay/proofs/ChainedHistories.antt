@@ -22,17 +22,17 @@ use Rattle.rb_queue.specs.declared.event.Event.{Event}
 use Rattle.rb_queue.specs.declared.opening.Opening.{Opening}
 use Rattle.rb_retry.specs.declared.policy.Policy.{Policy}
 use Rattle.rb_replay.specs.Offers.{offers_in}
-use Rattle.rb_replay.specs.Gifts.{gifts_from}
+use Rattle.rb_replay.specs.GivenElements.{elements_given_from}
 use Rattle.rb_replay.specs.Tests.{Test, NoTest}
 use Rattle.rb_replay.specs.Links.{Past, is_attempt, parent_in, CameBefore, Begins, Follows, GoesOn, IsLinked}
 use Rattle.rb_replay.specs.LinkTests.{FollowTests, ParentTests, BeginTests, GoOnTests, LinkTests}
 use Rattle.rb_replay.specs.Chaining.{past_of, IsChained, Unchains}
-use Rattle.rb_replay.specs.Registering.{attempt_of, next_id_of, Recalls, IsNext, Keeps, past_after, EventIsLinked, ChainTests}
+use Rattle.rb_replay.specs.AttemptIndex.{attempt_of, next_id_of, Recalls, IsNext, Keeps, past_after, EventIsLinked, ChainTests}
 use Rattle.rb_replay.specs.declared.attempt.Attempt.{Attempt}
 use Rattle.rb_replay.specs.declared.chain_reason.ChainReason.{ChainReason}
 use Rattle.rb_replay.specs.declared.chain_reason.ChainReason.TheVariants.{NoParent, Twice}
-use Rattle.rb_replay.specs.declared.register.Register.{Register}
-use Rattle.rb_replay.proofs.Registers.{of_attempt}
+use Rattle.rb_replay.specs.declared.attempt_index.AttemptIndex.{AttemptIndex}
+use Rattle.rb_replay.proofs.AttemptIndexes.{of_attempt}
 
 -- what came before, with one event more
 offered_from-append : (came : Bag) (events : List Event) (event : Event)
@@ -46,21 +46,21 @@ offers_in-append (first ∷ events) event =
     ap (λ l. inserted (effect_of first.act) ++ l) (offers_in-append events event)
     ∙ sym (append_assoc (inserted (effect_of first.act)) (offers_in events) (inserted (effect_of event.act)))
 
-gifts_from-append : (came : Bag) (events : List Event) (event : Event)
-    → gifts_from came (events ++ event ∷ []) ≡ gifts_from came events ++ filter_map (map.get (offered_from came events)) (given (effect_of event.act))
-gifts_from-append came [] event = append-nil (filter_map (map.get came) (given (effect_of event.act)))
-gifts_from-append came (first ∷ events) event =
+elements_given_from-append : (came : Bag) (events : List Event) (event : Event)
+    → elements_given_from came (events ++ event ∷ []) ≡ elements_given_from came events ++ filter_map (map.get (offered_from came events)) (given (effect_of event.act))
+elements_given_from-append came [] event = append-nil (filter_map (map.get came) (given (effect_of event.act)))
+elements_given_from-append came (first ∷ events) event =
     let after = with_inserted came (effect_of first.act) in
     let gave = filter_map (map.get came) (given (effect_of first.act)) in
-    ap (λ l. gave ++ l) (gifts_from-append after events event)
-    ∙ sym (append_assoc gave (gifts_from after events) (filter_map (map.get (offered_from after events)) (given (effect_of event.act))))
+    ap (λ l. gave ++ l) (elements_given_from-append after events event)
+    ∙ sym (append_assoc gave (elements_given_from after events) (filter_map (map.get (offered_from after events)) (given (effect_of event.act))))
 
 past_more : (opening : Opening) (events : List Event) (event : Event)
     → past_of opening (events ++ event ∷ []) ≡ past_after (offered opening events) (past_of opening events) event.act
 past_more opening events event =
     let offers : opening.elements ++ offers_in (events ++ event ∷ []) ≡ opening.elements ++ offers_in events ++ inserted (effect_of event.act) =
     ap (λ l. opening.elements ++ l) (offers_in-append events event) ∙ sym (append_assoc opening.elements (offers_in events) (inserted (effect_of event.act))) in
-    λ i. record { offers = offers i; gifts = gifts_from-append (bag_from opening.elements) events event i }
+    λ i. record { offers = offers i; given = elements_given_from-append (bag_from opening.elements) events event i }
 
 -- where a list with one more is split, it is split before that one or at it
 abbrev rest_of : {A : Type 0} → List A → List A
@@ -105,18 +105,18 @@ chained_more policy opening events event chained linked = record {
         (linked element (sym (ap (λ (e : Event). e.act) last) ∙ offers)))
     at_place front other element offers (inr (rest, split)) = chained.linked front rest other element split offers
 
--- the events so far are chained, and the register has what they tell, and knows the next id
-pub record Looked (policy : Policy) (opening : Opening) (events : List Event) (register : Register) : Type 0 where
+-- the events so far are chained, and the index has what they tell, and knows the next id
+pub record Looked (policy : Policy) (opening : Opening) (events : List Event) (attempts : AttemptIndex) : Type 0 where
   pub chained : IsChained policy opening events
-  pub recalls : Recalls (offered opening events) (past_of opening events) register
-  pub next_id : next_id_of register ≡ (state_of opening events).queue.next_id
+  pub recalls : Recalls (offered opening events) (past_of opening events) attempts
+  pub next_id : next_id_of attempts ≡ (state_of opening events).queue.next_id
 
-pub looked_none : (policy : Policy) (opening : Opening) (register : Register)
-    → Recalls (bag_from opening.elements) (record { offers = opening.elements; gifts = [] }) register
-    → next_id_of register ≡ opening.next_id → Looked policy opening [] register
-looked_none policy opening register recalls next_id = record {
+pub looked_none : (policy : Policy) (opening : Opening) (attempts : AttemptIndex)
+    → Recalls (bag_from opening.elements) (record { offers = opening.elements; given = [] }) attempts
+    → next_id_of attempts ≡ opening.next_id → Looked policy opening [] attempts
+looked_none policy opening attempts recalls next_id = record {
   chained = chained_none policy opening;
-  recalls = subst (λ l. Recalls (bag_from opening.elements) (record { offers = l; gifts = [] }) register) (sym (append-nil opening.elements)) recalls;
+  recalls = subst (λ l. Recalls (bag_from opening.elements) (record { offers = l; given = [] }) attempts) (sym (append-nil opening.elements)) recalls;
   next_id = next_id;
 }
 
@@ -129,10 +129,10 @@ allowed_at from (first ∷ events) (suc i) event allows within is =
     allowed_at (state_after from first) events i event allows.1 (omega (arith, within)) is
 
 -- so an offer gives its element the next id
-pub offers_next_id : (policy : Policy) (opening : Opening) (events : List Event) (i : ℕ) (event : Event) (register : Register)
-    → IsLegal opening events → i < length events → event ≡ get_or events i event → Looked policy opening (take i events) register
-    → IsNext event.act register
-offers_next_id policy opening events i event register legal within is so_far element offers =
+pub offers_next_id : (policy : Policy) (opening : Opening) (events : List Event) (i : ℕ) (event : Event) (attempts : AttemptIndex)
+    → IsLegal opening events → i < length events → event ≡ get_or events i event → Looked policy opening (take i events) attempts
+    → IsNext event.act attempts
+offers_next_id policy opening events i event attempts legal within is so_far element offers =
     let allowed = allowed_at (start_of opening) events i event legal within is in
     let next : element.id ≡ (state_of opening (take i events)).queue.next_id =
     subst (Permits (state_of opening (take i events)).queue event.at) offers allowed.act in
@@ -145,7 +145,7 @@ next_id_after queue (gives ids) = omega arith
 next_id_after queue (discards ids) = omega arith
 next_id_after queue empties = omega arith
 
-pub looked_more : (policy : Policy) (opening : Opening) (events : List Event) (i : ℕ) (event : Event) (old new : Register)
+pub looked_more : (policy : Policy) (opening : Opening) (events : List Event) (i : ℕ) (event : Event) (old new : AttemptIndex)
     → i < length events → event ≡ get_or events i event → Looked policy opening (take i events) old
     → EventIsLinked policy (past_of opening (take i events)) event → Keeps event.act old new → Looked policy opening (take (i + 1) events) new
 looked_more policy opening events i event old new within is so_far linked keeps =
@@ -189,10 +189,10 @@ not_linked policy past asked element reason (inr (later, inr (on, tests))) linke
     parent_not policy asked element (parent_in past element) _ reason tests (once_right (¬ CameBefore past element) reason goes_on.once) goes_on.parent
 
 -- an event offers an element that is not linked
-pub unchained_at : (policy : Policy) (opening : Opening) (events : List Event) (i : ℕ) (event : Event) (register : Register) (reason : ChainReason)
-    → i < length events → event ≡ get_or events i event → Looked policy opening (take i events) register
+pub unchained_at : (policy : Policy) (opening : Opening) (events : List Event) (i : ℕ) (event : Event) (attempts : AttemptIndex) (reason : ChainReason)
+    → i < length events → event ≡ get_or events i event → Looked policy opening (take i events) attempts
     → ChainTests policy (past_of opening (take i events)) event reason → Unchains policy opening events i reason
-unchained_at policy opening events i event register reason within is so_far (element, offers, tests) = record {
+unchained_at policy opening events i event attempts reason within is so_far (element, offers, tests) = record {
   front = take i events;
   event = event;
   element = element;
@@ -215,32 +215,19 @@ same_Offer : (one other : Element) → Offer one ≡ Offer other → one ≡ oth
 unfolding offered_or
 same_Offer one other same = ap (offered_or one) same
 
--- a first attempt, and a later one
-pub linked_first : {X : Type 0} (policy : Policy) (past : Past) (asked : ℕ) (element : Element) (r : Result X ChainReason) → element.attempt ≡ 1
-    → MatchResult r (λ _. Begins element) (BeginTests element)
-    → MatchResult r (λ _. IsLinked policy past asked element) (LinkTests policy past asked element)
-linked_first policy past asked element (Ok x) one begins = record { begins = λ _. begins; goes_on = λ later. absurd (omega (arith, one, later)) }
-linked_first policy past asked element (Err reason) one tests = inl (one, tests)
-
-pub linked_later : {X : Type 0} (policy : Policy) (past : Past) (asked : ℕ) (element : Element) (r : Result X ChainReason) → element.attempt ≢ 1
-    → MatchResult r (λ _. GoesOn policy past asked element) (GoOnTests policy past asked element)
-    → MatchResult r (λ _. IsLinked policy past asked element) (LinkTests policy past asked element)
-linked_later policy past asked element (Ok x) more goes_on = record { begins = λ one. absurd (more one); goes_on = λ _. goes_on }
-linked_later policy past asked element (Err reason) more tests = let from_one = element.attempt_from_one in inr (omega (arith, more, from_one), tests)
-
 -- a parent has the number before
-found_so : (p : Element → Bool) (gifts : List Element) (parent : Element) → find p gifts ≡ Some parent → p parent ≡ true
+found_so : (p : Element → Bool) (elements : List Element) (parent : Element) → find p elements ≡ Some parent → p parent ≡ true
 found_so p [] parent is = absurd (cc)
-found_so p (gift ∷ gifts) parent is = by_test (found_so p gifts parent) (p gift) refl is
+found_so p (element ∷ elements) parent is = by_test (found_so p elements parent) (p element) refl is
   where
-    by_test : (find p gifts ≡ Some parent → p parent ≡ true) → (b : Bool) → p gift ≡ b
-        → cond b (Some gift) (find p gifts) ≡ Some parent → p parent ≡ true
-    by_test later true holds found = subst (λ (e : Element). p e ≡ true) (same_Some gift parent found) holds
+    by_test : (find p elements ≡ Some parent → p parent ≡ true) → (b : Bool) → p element ≡ b
+        → cond b (Some element) (find p elements) ≡ Some parent → p parent ≡ true
+    by_test later true holds found = subst (λ (e : Element). p e ≡ true) (same_Some element parent found) holds
     by_test later false holds found = later found
 
 pub parent_before : (past : Past) (element parent : Element) → parent_in past element ≡ Some parent → parent.attempt + 1 ≡ element.attempt
 parent_before past element parent is =
-    let own = found_so (is_attempt element.origin (element.attempt - 1)) past.gifts parent is in
+    let own = found_so (is_attempt element.origin (element.attempt - 1)) past.given parent is in
     let from_one = element.attempt_from_one in
     omega (arith, (of_attempt element.origin (element.attempt - 1) parent own).1, from_one)
 
@@ -251,11 +238,6 @@ later_tests policy asked element parent others reason (inl h) = inl h
 later_tests policy asked element parent others reason (inr (on, inl h)) = inr (on, inl h)
 later_tests policy asked element parent others reason (inr (on, inr (same, inl h))) = inr (on, inr (same, inl h))
 later_tests policy asked element parent others reason (inr (on, inr (same, inr (due, none)))) = absurd none
-
-pub no_parent : (policy : Policy) (past : Past) (asked : ℕ) (element : Element) → element.attempt ≤ policy.attempts
-    → parent_in past element ≡ None → GoOnTests policy past asked element NoParent
-no_parent policy past asked element few none =
-    inr (few, subst (λ parent. ParentTests policy asked element parent (Test (¬ CameBefore past element) Twice NoTest) NoParent) (sym none) refl)
 
 pub wrong_retry : (policy : Policy) (past : Past) (asked : ℕ) (element parent : Element) (reason : ChainReason) → element.attempt ≤ policy.attempts
     → parent_in past element ≡ Some parent → FollowTests policy asked element parent NoTest reason → GoOnTests policy past asked element reason
@@ -296,7 +278,7 @@ pub parent_below : (policy : Policy) (past : Past) (element parent : Element) �
     → parent.attempt < policy.attempts
 parent_below policy past element parent few is = omega (arith, parent_before past element parent is, few)
 
--- what the register told of the element's own attempt
+-- what the index told of the element's own attempt
 pub own_attempt : (past : Past) (element : Element) (attempt : Attempt) (told found : Bool) → attempt ≡ attempt_of element
     → told ≡ list_any (is_attempt attempt.origin attempt.number) past.offers → told ≡ found
     → list_any (is_attempt element.origin element.attempt) past.offers ≡ found

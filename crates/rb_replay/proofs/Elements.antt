@@ -24,7 +24,7 @@ use Rattle.rb_queue.specs.Calls.{Acts}
 use Rattle.rb_queue.specs.declared.act.Act.TheVariants as acts
 use Rattle.rb_queue.proofs.Options.{same_or_not}
 use Rattle.rb_queue.proofs.Bags.{get_inserted, get_removed, get_inserted_same, get_inserted_other, get_removed_same, get_removed_other, remove_absent}
-use Rattle.rb_replay.specs.Standing.{AreFiled, HasElements}
+use Rattle.rb_replay.specs.ReplayedQueue.{AreFiled, HasElements}
 
 -- the order of the two ids that are compared has no meaning
 pub flipped : (k q : ℕ) → eq_by_cmp nat_cmp k q ≡ eq_by_cmp nat_cmp q k

@@ -8,7 +8,7 @@ use Rattle.rb_queue.specs.declared.event.Event.{Event}
 use Rattle.rb_queue.specs.declared.opening.Opening.{Opening}
 use Rattle.rb_queue.specs.declared.opening.TheConstants.{GREATEST_OPENING_ID, MOST_OPENING_ELEMENTS}
 use Rattle.rb_replay.specs.EventText.{event_words, header_words, open_words, keep_words, end_words}
-use Rattle.rb_replay.specs.Feeds.{LacksFeed}
+use Rattle.rb_replay.specs.Feeds.{HasNoLineFeed}
 use Rattle.rb_replay.specs.HistoryText.{line_text, lines_text, opening_lines}
 use Rattle.rb_replay.specs.OpeningReading.{numbers_words, MayOpen}
 use Rattle.rb_replay.specs.Ranges.{IsWord, IsRightElement, IsRightEvent, IsRightOpening, AreRightElements, AreRightEvents}
@@ -26,8 +26,8 @@ use Rattle.rb_replay.proofs.OneTexts.{event_texts, events_are_lines, open_are_li
 use Rattle.rb_replay.proofs.WordTexts.{AreLines, lines_behind, lines-append, same_first_line, words_of_first, line_first, feed_in}
 
 -- a text with a line has a line feed
-pub line_has_feed : (words : List (List ℕ)) (behind : List ℕ) → LacksFeed (line_text words ++ behind) → ⊥
-line_has_feed words behind lacks = feed_in _ behind (subst LacksFeed (line_first words behind) lacks)
+pub line_has_feed : (words : List (List ℕ)) (behind : List ℕ) → HasNoLineFeed (line_text words ++ behind) → ⊥
+line_has_feed words behind lacks = feed_in _ behind (subst HasNoLineFeed (line_first words behind) lacks)
 
 -- The next event's line stands behind the first of the events.
 record IsAtEvent (version : Version) (events front : List Event) (behind : List (List (List ℕ))) : Type 0 where
@@ -75,7 +75,7 @@ no_fault_at_event version event behind rest count here line reason right few is 
         event_no_end version event number right (same_first_line _ _ _ _ (event_line version event right) (end_line number small) (sym is ∙ ends)).0
 
     by : (reason : TextReason) → NextFault version count here rest line reason → ⊥
-    by End fault = line_has_feed (event_words version event) behind (subst LacksFeed is fault.1)
+    by End fault = line_has_feed (event_words version event) behind (subst HasNoLineFeed is fault.1)
     by Line fault =
         fault.1.no_event event right (words_of_first _ _ _ _ (event_line version event right) fault.1.whole (sym is ∙ fault.1.split))
     by Many fault = omega (arith, fault.1, few)
@@ -97,7 +97,7 @@ no_fault_at_end version events front behind rest here line reason few end is fau
     first = is ∙ ap lines_text end.split
 
     by : (reason : TextReason) → NextFault version (length front) here rest line reason → ⊥
-    by End fault = line_has_feed (end_words (length events)) [] (subst LacksFeed first fault.1)
+    by End fault = line_has_feed (end_words (length events)) [] (subst HasNoLineFeed first fault.1)
     by Line fault =
         fault.1.no_end (length events) small (words_of_first _ _ _ _ (end_line (length events) small) fault.1.whole (sym first ∙ fault.1.split))
     by Many fault =
@@ -204,7 +204,7 @@ pub no_fault_at_numbers : (version : Version) (next_id last_at count : ℕ) (tex
     → next_id ≤ GREATEST_OPENING_ID → IsWord last_at → count ≤ MOST_OPENING_ELEMENTS → MayOpen version next_id last_at count
     → text ≡ line_text (numbers_words next_id last_at count) ++ behind → OpenFault version text line reason → ⊥
 no_fault_at_numbers version next_id last_at count text behind line reason next last few opens is (here, inl (end, lacks)) =
-    line_has_feed (numbers_words next_id last_at count) behind (subst LacksFeed is lacks)
+    line_has_feed (numbers_words next_id last_at count) behind (subst HasNoLineFeed is lacks)
 no_fault_at_numbers version next_id last_at count text behind line reason next last few opens is (here, inr (other, wrong)) =
     let line_is = numbers_line next_id last_at count (omega (arith, next)) last (omega (arith, few)) in
     wrong.no_open next_id last_at count last
@@ -225,9 +225,9 @@ open_faultless version opening events line reason right opens fault =
 -- where the next element's line stands there is none
 pub no_fault_at_keep : (version : Version) (next_id : ℕ) (kept : List Element) (element : Element) (rest behind : List ℕ) (reason : TextReason)
     → IsRightElement element → AreInOrder (kept ++ element ∷ []) next_id → rest ≡ line_text (keep_words version element) ++ behind
-    → ((reason ≡ End) × LacksFeed rest) ⊎ ((reason ≡ reasons.Opening) × HasOtherKeep version next_id kept rest) → ⊥
+    → ((reason ≡ End) × HasNoLineFeed rest) ⊎ ((reason ≡ reasons.Opening) × HasOtherKeep version next_id kept rest) → ⊥
 no_fault_at_keep version next_id kept element rest behind reason right order is (inl (end, lacks)) =
-    line_has_feed (keep_words version element) behind (subst LacksFeed is lacks)
+    line_has_feed (keep_words version element) behind (subst HasNoLineFeed is lacks)
 no_fault_at_keep version next_id kept element rest behind reason right order is (inr (other, wrong)) =
     wrong.no_keep element right
     (words_of_first (keep_words version element) behind wrong.line wrong.behind (keep_line version element right) wrong.whole (sym is ∙ wrong.split)) order

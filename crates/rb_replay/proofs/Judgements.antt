@@ -35,19 +35,6 @@ found_least bag id element (Some expiry) least is named (first, leads, same) las
       omega (arith, first_least, same, last, up));
 }
 
--- and one that expires later is not
-pub not_least : (bag : Bag) (id : ℕ) (element : Element) (next : Option ℕ) (least : ℕ) → Some element ≡ map.get bag id
-    → IsNextExpiry bag next → least ≡ unwrap_or next element.expiry → least < element.expiry → LeastTests bag id NoTest NotLeast
-not_least bag id element None least is empty last late = absurd (omega (arith, last, late))
-not_least bag id element (Some expiry) least is (first, leads, same) last late =
-    inr (ap is_some (sym is), inl (λ h. wrong (value_and (map.get bag id) (IsLeast bag) h), refl))
-  where
-    wrong : (e : Element) × (map.get bag id ≡ Some e) × IsLeast bag e → ⊥
-    wrong (e, there, is_least) =
-        let one : e ≡ element = cc in
-        let low : e.expiry ≤ first.expiry = at_value (map.get bag first.id) (λ o. e.expiry ≤ o.expiry) first leads.present (is_least.least first.id) in
-        omega (arith, low, same, last, late, ap (λ (x : Element). x.expiry) one)
-
 -- nothing is expired in an empty bag
 pub none_in_empty : (bag : Bag) (now : ℕ) → bag ≡ map.empty → NoneExpired bag now
 none_in_empty bag now empty = λ id.

@@ -11,7 +11,7 @@ use Rattle.rb_queue.specs.Opening.{ids_of, AreInOrder}
 use Rattle.rb_queue.proofs.Orders.{InOrderSoFar, so_far_none, so_far_more, out_of_order, in_order}
 use Rattle.rb_replay.specs.BodyReading.{KeepsNext, KeepsNone, KeepsAll, StopsKeeping}
 use Rattle.rb_replay.specs.EventText.{whole_element_words, keep_words}
-use Rattle.rb_replay.specs.Feeds.{LacksFeed}
+use Rattle.rb_replay.specs.Feeds.{HasNoLineFeed}
 use Rattle.rb_replay.specs.HistoryText.{line_text, lines_text}
 use Rattle.rb_replay.specs.Ranges.{IsRightElement, AreRightElements}
 use Rattle.rb_replay.specs.declared.text_fault.TextReason.TheVariants.{Opening, End}
@@ -67,13 +67,6 @@ pub record KeptSoFar (version : Version) (end : ℕ) (text : List ℕ) (kept : L
   pub order : InOrderSoFar kept end (length kept) least
   pub right : AreRightElements kept
   pub counted : length kept ≡ place
-
-pub kept_none : (version : Version) (end : ℕ) (text : List ℕ) (kept : List Element) → kept ≡ [] → KeptSoFar version end text kept text 0 0
-kept_none version end text kept none = subst (λ kept. KeptSoFar version end text kept text 0 0) (sym none) (record {
-  split = refl;
-  order = so_far_none [] end;
-  right = λ k d within. absurd (omega (arith, within));
-  counted = refl;
 })
 
 -- one line more
@@ -105,24 +98,11 @@ kept_all version end count text kept rest least place so_far all = record {
   right = so_far.right;
   counted = so_far.counted ∙ all;
 }
-
--- no line is left
-pub keeping_ends : (version : Version) (end count : ℕ) (text : List ℕ) (kept : List Element) (rest : List ℕ) (least place : ℕ) → KeptSoFar version end text kept rest least place
-    → place < count → LacksFeed rest → StopsKeeping version end count text (3 + place) End
-keeping_ends version end count text kept rest least place so_far fewer lacks = record {
-  kept = kept;
-  rest = rest;
-  split = so_far.split;
-  order = in_order kept end (length kept) least so_far.order (omega arith);
-  right = so_far.right;
-  fewer = omega (arith, so_far.counted, fewer);
-  place = ap (λ n. 3 + n) (sym so_far.counted);
-  fault = inl (refl, lacks);
 }
 
 -- a line keeps no element that may come next
 pub keeping_stops : (version : Version) (end count : ℕ) (text : List ℕ) (kept : List Element) (rest : List ℕ) (least place : ℕ) (line behind : List ℕ)
-    → KeptSoFar version end text kept rest least place → place < count → rest ≡ line ++ (LINE_FEED ∷ behind) → LacksFeed line
+    → KeptSoFar version end text kept rest least place → place < count → rest ≡ line ++ (LINE_FEED ∷ behind) → HasNoLineFeed line
     → KeepsNone version least end (words_of line) → StopsKeeping version end count text (3 + place) Opening
 keeping_stops version end count text kept rest least place line behind so_far fewer cut whole none = record {
   kept = kept;

@@ -19,11 +19,6 @@ tails_same one other words behind is = cc
 abbrev pub mark : List ℕ → ℕ
 mark word = length word * 65536 + get_or word 0 0 * 256 + get_or word 1 0
 
-pub only_offer : (version : Version) (behind : List (List ℕ)) → ((element : Element) → IsRightElement element → behind ≢ whole_element_words version element) → (act : Act) → IsRightAct act
-    → codes "offer" ∷ behind ≢ act_words version act
-only_offer version behind none (Offer element) right is = none element right (tails_same _ _ _ _ is)
-only_offer version behind none act right is = absurd (omega (arith, ap mark (heads _ _ _ _ is)))
-
 pub only_pollfor : (version : Version) (behind : List (List ℕ)) → ((start timeout : ℕ) (given : Option ℕ) → IsWord start → IsWord timeout → IsRightGiven given → behind ≢ decimal start ∷ decimal timeout ∷ given_words given) → (act : Act) → IsRightAct act
     → codes "pollfor" ∷ behind ≢ act_words version act
 only_pollfor version behind none (PollFor start timeout given) right is = none start timeout given right.0 right.1 right.2 (tails_same _ _ _ _ is)
@@ -33,11 +28,6 @@ pub only_remove : (version : Version) (behind : List (List ℕ)) → ((id : ℕ)
     → codes "remove" ∷ behind ≢ act_words version act
 only_remove version behind none (Remove id found) right is = none id found right (tails_same _ _ _ _ is)
 only_remove version behind none act right is = absurd (omega (arith, ap mark (heads _ _ _ _ is)))
-
-pub only_drain : (version : Version) (behind : List (List ℕ)) → ((max : ℕ) (ids : List ℕ) → IsWord max → AreWords ids → behind ≢ decimal max ∷ map decimal ids) → (act : Act) → IsRightAct act
-    → codes "drain" ∷ behind ≢ act_words version act
-only_drain version behind none (Drain max ids) right is = none max ids right.0 right.1 (tails_same _ _ _ _ is)
-only_drain version behind none act right is = absurd (omega (arith, ap mark (heads _ _ _ _ is)))
 
 pub only_clear : (version : Version) (behind : List (List ℕ)) → (behind ≢ []) → (act : Act) → IsRightAct act
     → codes "clear" ∷ behind ≢ act_words version act

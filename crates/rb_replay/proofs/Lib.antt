@@ -19,6 +19,6 @@ pub mod OneTexts
 pub mod FaultlessTexts
 pub mod EachReadings
 pub mod WholeTexts
-pub mod Registers
+pub mod AttemptIndexes
 pub mod ChainedHistories
 pub mod OneFaults

@@ -9,7 +9,7 @@ use Rattle.rb_queue.specs.declared.event.Event.{Event}
 use Rattle.rb_queue.specs.declared.opening.Opening.{Opening}
 use Rattle.rb_queue.specs.declared.opening.TheConstants.{GREATEST_OPENING_ID, MOST_OPENING_ELEMENTS}
 use Rattle.rb_replay.specs.EventText.{event_words, header_words, open_words, keep_words, end_words}
-use Rattle.rb_replay.specs.Feeds.{LacksFeed}
+use Rattle.rb_replay.specs.Feeds.{HasNoLineFeed}
 use Rattle.rb_replay.specs.HistoryText.{line_text, lines_text, opening_lines}
 use Rattle.rb_replay.specs.OpeningReading.{numbers_words}
 use Rattle.rb_replay.specs.Ranges.{IsWord, IsRightEvent, AreRightElements, AreRightEvents}
@@ -26,11 +26,11 @@ use Rattle.rb_replay.proofs.Parts.{head_of, tail_of}
 use Rattle.rb_replay.proofs.WordTexts.{lines_before, same_first_line, words_of_first, feed_in}
 
 -- the next line is of one kind
-stops_or_other : (version : Version) (text : List ℕ) → LacksFeed text → HasOtherLine version text → ⊥
-stops_or_other version text lacks other = feed_in other.line other.behind (subst LacksFeed other.split lacks)
+stops_or_other : (version : Version) (text : List ℕ) → HasNoLineFeed text → HasOtherLine version text → ⊥
+stops_or_other version text lacks other = feed_in other.line other.behind (subst HasNoLineFeed other.split lacks)
 
-stops_or_words : (words : List (List ℕ)) (text after : List ℕ) → LacksFeed text → text ≡ line_text words ++ after → ⊥
-stops_or_words words text after lacks is = line_has_feed words after (subst LacksFeed is lacks)
+stops_or_words : (words : List (List ℕ)) (text after : List ℕ) → HasNoLineFeed text → text ≡ line_text words ++ after → ⊥
+stops_or_words words text after lacks is = line_has_feed words after (subst HasNoLineFeed is lacks)
 
 other_or_event : (version : Version) (event : Event) (text after : List ℕ) → HasOtherLine version text → IsRightEvent event
     → text ≡ line_text (event_words version event) ++ after → ⊥
@@ -220,7 +220,7 @@ same_start version text next_id last_at count other_id other_at other_count kept
 kept_before : (version : Version) (next_id : ℕ) (kept held : List Element) (rest after : List ℕ) (reason : TextReason) → AreRightElements kept
     → AreRightElements held → AreInOrder held next_id → length kept < length held
     → lines_text (map (keep_words version) kept) ++ rest ≡ lines_text (map (keep_words version) held) ++ after
-    → ((reason ≡ End) × LacksFeed rest) ⊎ ((reason ≡ reasons.Opening) × HasOtherKeep version next_id kept rest) → ⊥
+    → ((reason ≡ End) × HasNoLineFeed rest) ⊎ ((reason ≡ reasons.Opening) × HasOtherKeep version next_id kept rest) → ⊥
 kept_before version next_id kept held rest after reason right fits order fewer is fault =
     let counts = length-map kept (keep_words version) in
     let numbers = length-map held (keep_words version) in
@@ -246,19 +246,19 @@ kept_same version kept held rest after right fits same is =
     at (words ∷ behind) none tail = absurd (omega (arith, none))
 
 -- a text stops or has another line
-one_stop : (text : List ℕ) (X Y : Type 0) (reason cause : TextReason) → (LacksFeed text → X → ⊥) → (LacksFeed text → Y → ⊥)
-    → ((reason ≡ End) × LacksFeed text) ⊎ ((reason ≡ reasons.Opening) × X) → ((cause ≡ End) × LacksFeed text) ⊎ ((cause ≡ reasons.Opening) × Y)
+one_stop : (text : List ℕ) (X Y : Type 0) (reason cause : TextReason) → (HasNoLineFeed text → X → ⊥) → (HasNoLineFeed text → Y → ⊥)
+    → ((reason ≡ End) × HasNoLineFeed text) ⊎ ((reason ≡ reasons.Opening) × X) → ((cause ≡ End) × HasNoLineFeed text) ⊎ ((cause ≡ reasons.Opening) × Y)
     → reason ≡ cause
 one_stop text X Y reason cause never none (inl f) (inl g) = f.0 ∙ sym g.0
 one_stop text X Y reason cause never none (inl f) (inr g) = absurd (none f.1 g.1)
 one_stop text X Y reason cause never none (inr f) (inl g) = absurd (never g.1 f.1)
 one_stop text X Y reason cause never none (inr f) (inr g) = f.0 ∙ sym g.0
 
-keep_or_stops : (version : Version) (next_id : ℕ) (kept : List Element) (text : List ℕ) → LacksFeed text → HasOtherKeep version next_id kept text → ⊥
-keep_or_stops version next_id kept text lacks other = feed_in other.line other.behind (subst LacksFeed other.split lacks)
+keep_or_stops : (version : Version) (next_id : ℕ) (kept : List Element) (text : List ℕ) → HasNoLineFeed text → HasOtherKeep version next_id kept text → ⊥
+keep_or_stops version next_id kept text lacks other = feed_in other.line other.behind (subst HasNoLineFeed other.split lacks)
 
-open_or_stops : (version : Version) (text : List ℕ) → LacksFeed text → HasOtherOpen version text → ⊥
-open_or_stops version text lacks other = feed_in other.line other.behind (subst LacksFeed other.split lacks)
+open_or_stops : (version : Version) (text : List ℕ) → HasNoLineFeed text → HasOtherOpen version text → ⊥
+open_or_stops version text lacks other = feed_in other.line other.behind (subst HasNoLineFeed other.split lacks)
 
 -- what the faults of an opening, and behind one, begin with
 kept_at : (version : Version) (text : List ℕ) (line : ℕ) (reason : TextReason) (f : KeepFault version text line reason)
@@ -325,8 +325,8 @@ keep_keep version text line other reason cause f g =
     same : length f.kept ≡ length g.kept → (line ≡ other) × (reason ≡ cause)
     same long =
         let rest : f.rest ≡ g.rest = kept_same version f.kept g.kept f.rest g.rest f.right g.right long start.behind in
-        let moved : ((cause ≡ End) × LacksFeed f.rest) ⊎ ((cause ≡ reasons.Opening) × HasOtherKeep version g.next_id g.kept f.rest) =
-        subst (λ t. ((cause ≡ End) × LacksFeed t) ⊎ ((cause ≡ reasons.Opening) × HasOtherKeep version g.next_id g.kept t)) (sym rest) g.fault in (
+        let moved : ((cause ≡ End) × HasNoLineFeed f.rest) ⊎ ((cause ≡ reasons.Opening) × HasOtherKeep version g.next_id g.kept f.rest) =
+        subst (λ t. ((cause ≡ End) × HasNoLineFeed t) ⊎ ((cause ≡ reasons.Opening) × HasOtherKeep version g.next_id g.kept t)) (sym rest) g.fault in (
           omega (arith, f.place, g.place, long),
           one_stop f.rest (HasOtherKeep version f.next_id f.kept f.rest) (HasOtherKeep version g.next_id g.kept f.rest) reason cause
               (keep_or_stops version f.next_id f.kept f.rest) (keep_or_stops version g.next_id g.kept f.rest) f.fault moved,

@@ -21,7 +21,7 @@ use Rattle.rb_queue.specs.History.{State}
 use Rattle.rb_queue.specs.declared.opening.TheConstants.{MOST_OPENING_ELEMENTS, GREATEST_OPENING_ID}
 use Rattle.rb_replay.specs.Opens.{IsTooLarge}
 use Rattle.rb_queue.proofs.Bags.{same_bag}
-use Rattle.rb_replay.specs.Standing.{AreFiled, HasElements}
+use Rattle.rb_replay.specs.ReplayedQueue.{AreFiled, HasElements}
 
 -- each entry is that of its element's id
 entries_back : (end : ℕ) (entries : List (ℕ × Element)) → AreFiled end entries → each (λ (e : Element). (e.id, e)) (values_of entries) ≡ entries

@@ -23,7 +23,7 @@ use Rattle.rb_replay.specs.declared.reason.Reason.{Reason}
 use Rattle.rb_replay.specs.declared.judge.JudgeFault.{JudgeFault}
 use Rattle.rb_replay.specs.declared.judge.JudgeFault.TheVariants.{Refused, Memory}
 use Rattle.rb_replay.specs.Refusal.{Test, NoTest, HeadTests, LeastTests, DrainTests, ActTests, EventTests}
-use Rattle.rb_replay.specs.Replaying.{fault_at, Redoes, Replays}
+use Rattle.rb_replay.specs.Replaying.{fault_at, ReplaysEvent, Replays}
 
 -- a single test that fails does not hold
 one_fails : (holds : Type 0) (named reason : Reason) → Test holds named NoTest reason → ¬ holds
@@ -87,7 +87,7 @@ redone_more opening events i event old new within is so_far allowed after =
 -- an event is refused
 pub redone_refuses : (opening : Opening) (events : List Event) (i : ℕ) (event : Event) (old new : State) (fault : JudgeFault)
     → i < length events → event ≡ get_or events i event
-    → Redone opening (take i events) old → Redoes {X = Unit {0}} old event (Err fault) new → Replays opening events (Err (fault_at i fault))
+    → Redone opening (take i events) old → ReplaysEvent {X = Unit {0}} old event (Err fault) new → Replays opening events (Err (fault_at i fault))
 redone_refuses opening events i event old new Memory within is so_far fails = tt
 redone_refuses opening events i event old new (Refused reason) within is so_far fails =
     let here : EventTests (state_of opening (take i events)) event reason = subst (λ s. EventTests s event reason) so_far.state_is fails in

@@ -83,11 +83,6 @@ is_text version text behind told history cut tells settled =
       firsts = settled.firsts;
     }
 
--- a fault behind the header is the text's
-pub text_fails : (version : Version) (text behind : List ℕ) (fault : TextFault) → text ≡ line_text (header_words version) ++ behind → RunFails version behind fault → Reads text (Err fault)
-text_fails version text behind (At line reason) cut fails = inr (record { version = version; behind = behind; split = cut; fault = fails })
-text_fails version text behind Memory cut fails = tt
-
 -- the elements, and then the events, have the expiries of the earliest
 pub has_firsts : (told history : History) (known after : Firsts) → IsRightHistory told → SettlesElements told.opening.elements known history.opening.elements
     → SettlesEvents known told.events after history.events → history.opening.next_id ≡ told.opening.next_id → history.opening.last_at ≡ told.opening.last_at

@@ -13,7 +13,7 @@ use Rattle.rb_protocol.proofs.Cuts.{at_end}
 use Rattle.rb_protocol.proofs.Numbers.{number_digits}
 use Rattle.rb_protocol.specs.Line.{spaced, words_of}
 use Rattle.rb_protocol.specs.declared.format.TheConstants.{SPACE, LINE_FEED}
-use Rattle.rb_replay.specs.Feeds.{LacksFeed}
+use Rattle.rb_replay.specs.Feeds.{HasNoLineFeed}
 use Rattle.rb_replay.specs.HistoryText.{line_text, lines_text}
 use Rattle.rb_replay.proofs.Parts.{head_of, tail_of}
 
@@ -66,7 +66,7 @@ no_feed byte above = grind (arith, nat_tests)
 spaceless : (word : List ℕ) → IsPlain word → All (λ byte. (byte == SPACE) ≡ false) word
 spaceless word plain = λ k d below. no_space _ (plain k d below)
 
-feedless : (word : List ℕ) → IsPlain word → LacksFeed word
+feedless : (word : List ℕ) → IsPlain word → HasNoLineFeed word
 feedless word plain = λ k d below. no_feed _ (plain k d below)
 
 -- so they are taken apart again
@@ -76,7 +76,7 @@ words_of-spaced word (next ∷ words) plain others =
     slice_split_at _ word SPACE (spaced (next ∷ words)) (spaceless word plain) refl
     ∙ ap (λ behind. word ∷ behind) (words_of-spaced next words others.0 others.1)
 
-feedless-spaced : (word : List ℕ) (words : List (List ℕ)) → IsPlain word → ArePlain words → LacksFeed (spaced (word ∷ words))
+feedless-spaced : (word : List ℕ) (words : List (List ℕ)) → IsPlain word → ArePlain words → HasNoLineFeed (spaced (word ∷ words))
 feedless-spaced word [] plain others = feedless word plain
 feedless-spaced word (next ∷ words) plain others =
     All-append (λ byte. (byte == LINE_FEED) ≡ false) word (SPACE ∷ spaced (next ∷ words)) (feedless word plain)
@@ -86,18 +86,18 @@ pub words_again : (words : List (List ℕ)) → IsLine words → words_of (space
 words_again [] line = absurd line
 words_again (word ∷ words) line = words_of-spaced word words line.0 line.1
 
-pub line_whole : (words : List (List ℕ)) → IsLine words → LacksFeed (spaced words)
+pub line_whole : (words : List (List ℕ)) → IsLine words → HasNoLineFeed (spaced words)
 line_whole [] line = absurd line
 line_whole (word ∷ words) line = feedless-spaced word words line.0 line.1
 
 -- a text has one first line
-no_feed_first : (byte : ℕ) (text : List ℕ) → LacksFeed (byte ∷ text) → LINE_FEED ≡ byte → ⊥
+no_feed_first : (byte : ℕ) (text : List ℕ) → HasNoLineFeed (byte ∷ text) → LINE_FEED ≡ byte → ⊥
 no_feed_first byte text lacks is =
     let none : (byte == LINE_FEED) ≡ false = All-head (λ b. (b == LINE_FEED) ≡ false) byte text lacks in
     let feed : (LINE_FEED == LINE_FEED) ≡ false = subst (λ b. (b == LINE_FEED) ≡ false) (sym is) none in
     absurd (cc)
 
-pub cut_once : (line other behind rest : List ℕ) → LacksFeed line → LacksFeed other
+pub cut_once : (line other behind rest : List ℕ) → HasNoLineFeed line → HasNoLineFeed other
     → line ++ (LINE_FEED ∷ behind) ≡ other ++ (LINE_FEED ∷ rest) → (line ≡ other) × (behind ≡ rest)
 cut_once [] [] behind rest whole lacks is = (refl, tail_of _ _ _ _ is)
 cut_once [] (byte ∷ other) behind rest whole lacks is = absurd (no_feed_first byte other lacks (head_of _ _ _ _ is))
@@ -109,7 +109,7 @@ cut_once (byte ∷ line) (next ∷ other) behind rest whole lacks is =
     let lines : line ≡ other = more.0 in
     (cc, more.1)
 
-pub feed_in : (front behind : List ℕ) → LacksFeed (front ++ (LINE_FEED ∷ behind)) → ⊥
+pub feed_in : (front behind : List ℕ) → HasNoLineFeed (front ++ (LINE_FEED ∷ behind)) → ⊥
 feed_in [] behind lacks = no_feed_first LINE_FEED behind lacks refl
 feed_in (byte ∷ front) behind lacks = feed_in front behind (All-tail (λ b. (b == LINE_FEED) ≡ false) byte (front ++ (LINE_FEED ∷ behind)) lacks)
 
@@ -117,7 +117,7 @@ pub line_first : (words : List (List ℕ)) (behind : List ℕ) → line_text wor
 line_first words behind = append_assoc (spaced words) (LINE_FEED ∷ []) behind
 
 -- which has one list of words
-pub words_of_first : (words : List (List ℕ)) (behind line rest : List ℕ) → IsLine words → LacksFeed line
+pub words_of_first : (words : List (List ℕ)) (behind line rest : List ℕ) → IsLine words → HasNoLineFeed line
     → line_text words ++ behind ≡ line ++ (LINE_FEED ∷ rest) → words_of line ≡ words
 words_of_first words behind line rest is_line whole is =
     let cut = cut_once (spaced words) line behind rest (line_whole words is_line) whole (sym (line_first words behind) ∙ is) in

@@ -6,7 +6,7 @@ use Rattle.rb_queue.specs.declared.opening.Opening.{Opening}
 use Rattle.rb_queue.specs.declared.opening.TheConstants.{GREATEST_OPENING_ID, MOST_OPENING_ELEMENTS}
 use Rattle.rb_replay.specs.EventText.{event_words, keep_words, end_words}
 use Rattle.rb_replay.specs.HistoryText.{line_text, lines_text, opening_lines}
-use Rattle.rb_replay.specs.Feeds.{LacksFeed}
+use Rattle.rb_replay.specs.Feeds.{HasNoLineFeed}
 use Rattle.rb_replay.specs.OpeningReading.{MayOpen, numbers_words}
 use Rattle.rb_replay.specs.Ranges.{IsWord, IsRightElement, IsRightOpening, AreRightElements, AreRightEvents}
 use Rattle.rb_replay.specs.Readings.{MayBegin}
@@ -49,7 +49,7 @@ pub record StopsKeeping (version : Version) (end count : ℕ) (text : List ℕ) 
   pub right : AreRightElements kept
   pub fewer : length kept < count
   pub place : line ≡ 3 + length kept
-  pub fault : ((reason ≡ reasons.End) × LacksFeed rest) ⊎ ((reason ≡ reasons.Opening) × HasOtherKeep version end kept rest)
+  pub fault : ((reason ≡ reasons.End) × HasNoLineFeed rest) ⊎ ((reason ≡ reasons.Opening) × HasOtherKeep version end kept rest)
 
 abbrev pub KeepsFail : Version → ℕ → ℕ → List ℕ → TextFault → Type 0
 KeepsFail version end count text (At line reason) = StopsKeeping version end count text line reason

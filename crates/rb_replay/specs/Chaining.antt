@@ -6,7 +6,7 @@ use Rattle.rb_queue.specs.declared.event.Event.{Event}
 use Rattle.rb_queue.specs.declared.opening.Opening.{Opening}
 use Rattle.rb_retry.specs.declared.policy.Policy.{Policy}
 use Rattle.rb_replay.specs.Offers.{offers_in}
-use Rattle.rb_replay.specs.Gifts.{gifts_of}
+use Rattle.rb_replay.specs.GivenElements.{elements_given}
 use Rattle.rb_replay.specs.Links.{Past, IsLinked}
 use Rattle.rb_replay.specs.LinkTests.{LinkTests}
 use Rattle.rb_replay.specs.declared.chain_fault.ChainFault.{ChainFault}
@@ -17,7 +17,7 @@ use Rattle.rb_replay.specs.declared.chain_reason.ChainReason.{ChainReason}
 abbrev pub past_of : Opening → List Event → Past
 past_of opening events = record {
   offers = opening.elements ++ offers_in events;
-  gifts = gifts_of opening events;
+  given = elements_given opening events;
 }
 
 -- A history is chained where each offered element is linked to the events before it.

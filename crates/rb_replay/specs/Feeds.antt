@@ -7,5 +7,5 @@ abbrev pub first_feed : List ℕ → Option ℕ
 first_feed text = position (λ byte. byte == LINE_FEED) text
 
 -- no byte is a line feed
-abbrev pub LacksFeed : List ℕ → Type 0
-LacksFeed text = All (λ byte. (byte == LINE_FEED) ≡ false) text
+abbrev pub HasNoLineFeed : List ℕ → Type 0
+HasNoLineFeed text = All (λ byte. (byte == LINE_FEED) ≡ false) text

@@ -5,7 +5,7 @@ pub mod Tails
 pub mod ReasonText
 pub mod Tests
 pub mod Refusal
-pub mod Standing
+pub mod ReplayedQueue
 pub mod Judging
 pub mod Checking
 pub mod Replaying
@@ -20,9 +20,9 @@ pub mod Firsts
 pub mod Readings
 pub mod BodyReading
 pub mod Settling
-pub mod Gifts
+pub mod GivenElements
 pub mod Links
 pub mod LinkTests
 pub mod Chaining
 pub mod ChainReasonText
-pub mod Registering
+pub mod AttemptIndex

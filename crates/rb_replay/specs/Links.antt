@@ -11,7 +11,7 @@ pub record Past : Type 0 where
   -- the elements that stood at the start, and those that were offered
   pub offers : List Element
   -- the elements that were given out, in order
-  pub gifts : List Element
+  pub given : List Element
 
 -- whether the element is this attempt of the job that began with this id
 abbrev pub is_attempt : ℕ → ℕ → Element → Bool
@@ -19,7 +19,7 @@ is_attempt origin attempt element = element.origin == origin && element.attempt 
 
 -- the first element given of those that are the attempt before of the same job
 abbrev pub parent_in : Past → Element → Option Element
-parent_in past element = find (is_attempt element.origin (element.attempt - 1)) past.gifts
+parent_in past element = find (is_attempt element.origin (element.attempt - 1)) past.given
 
 -- the same attempt of the same job came in before
 abbrev pub CameBefore : Past → Element → Type 0

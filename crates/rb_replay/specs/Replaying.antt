@@ -12,13 +12,13 @@ use Rattle.rb_replay.specs.declared.replay_fault.ReplayFault.TheVariants.{At, Me
 
 -- what stands, and the moment
 abbrev pub end_state : End → State
-end_state end = record { queue = end.standing; moment = end.moment }
+end_state end = record { queue = end.queue; moment = end.moment }
 
 -- the event was allowed and is done, or it has this as the reason of the first test that fails
-abbrev pub Redoes : {X : Type 0} → State → Event → Result X JudgeFault → State → Type 0
-Redoes old event (Ok x) new = Allows old event × (new ≡ state_after old event)
-Redoes old event (Err (faults.Refused reason)) new = EventTests old event reason
-Redoes old event (Err faults.Memory) new = Unit {0}
+abbrev pub ReplaysEvent : {X : Type 0} → State → Event → Result X JudgeFault → State → Type 0
+ReplaysEvent old event (Ok x) new = Allows old event × (new ≡ state_after old event)
+ReplaysEvent old event (Err (faults.Refused reason)) new = EventTests old event reason
+ReplaysEvent old event (Err faults.Memory) new = Unit {0}
 
 -- all events were allowed and are done, or one is refused
 abbrev pub Replays : Opening → List Event → Result End ReplayFault → Type 0

@@ -10,7 +10,7 @@ use Rattle.rb_queue.specs.declared.opening.TheConstants.{GREATEST_OPENING_ID, MO
 use Rattle.rb_replay.specs.OpeningReading.{IsOpenLine, HasNoHeader, MayOpen, numbers_words}
 use Rattle.rb_replay.specs.EventText.{event_words, header_words, keep_words, end_words}
 use Rattle.rb_replay.specs.HistoryText.{line_text, lines_text, opening_lines}
-use Rattle.rb_replay.specs.Feeds.{LacksFeed}
+use Rattle.rb_replay.specs.Feeds.{HasNoLineFeed}
 use Rattle.rb_replay.specs.Ranges.{IsWord, IsRightElement, IsRightEvent, IsRightOpening, AreRightElements, AreRightEvents}
 use Rattle.rb_replay.specs.declared.version.Version.{Version}
 use Rattle.rb_replay.specs.declared.version.Version.TheVariants.{One}
@@ -26,13 +26,13 @@ pub record HasOtherLine (version : Version) (text : List ℕ) : Type 0 where
   pub line : List ℕ
   pub behind : List ℕ
   pub split : text ≡ line ++ (LINE_FEED ∷ behind)
-  pub whole : LacksFeed line
+  pub whole : HasNoLineFeed line
   pub no_event : (event : Event) → IsRightEvent event → words_of line ≢ event_words version event
   pub no_end : (count : ℕ) → IsWord count → words_of line ≢ end_words count
 
 -- the next line, of this number, has this fault, where so many events were read
 abbrev pub NextFault : Version → ℕ → ℕ → List ℕ → ℕ → TextReason → Type 0
-NextFault version count here text line End = (line ≡ here) × LacksFeed text
+NextFault version count here text line End = (line ≡ here) × HasNoLineFeed text
 NextFault version count here text line Line = (line ≡ here) × HasOtherLine version text
 NextFault version count here text line Many =
     (line ≡ here) × (count ≡ MOST_EVENTS) × ((event : Event) × (behind : List ℕ) × IsRightEvent event × (text ≡ line_text (event_words version event) ++ behind))
@@ -71,7 +71,7 @@ pub record HasOtherOpen (version : Version) (text : List ℕ) : Type 0 where
   pub line : List ℕ
   pub behind : List ℕ
   pub split : text ≡ line ++ (LINE_FEED ∷ behind)
-  pub whole : LacksFeed line
+  pub whole : HasNoLineFeed line
   pub no_open : (next_id last_at count : ℕ) → IsWord last_at → IsOpenLine (words_of line) next_id last_at count
       → MayOpen version next_id last_at count → ⊥
 
@@ -80,14 +80,14 @@ pub record HasOtherKeep (version : Version) (next_id : ℕ) (kept : List Element
   pub line : List ℕ
   pub behind : List ℕ
   pub split : text ≡ line ++ (LINE_FEED ∷ behind)
-  pub whole : LacksFeed line
+  pub whole : HasNoLineFeed line
   pub no_keep : (element : Element) → IsRightElement element → words_of line ≡ keep_words version element
       → AreInOrder (kept ++ element ∷ []) next_id → ⊥
 
 -- The line that tells the numbers of an opening has this fault.
 abbrev pub OpenFault : Version → List ℕ → ℕ → TextReason → Type 0
 OpenFault version text line reason =
-    (line ≡ 2) × (((reason ≡ End) × LacksFeed text) ⊎ ((reason ≡ reasons.Opening) × HasOtherOpen version text))
+    (line ≡ 2) × (((reason ≡ End) × HasNoLineFeed text) ⊎ ((reason ≡ reasons.Opening) × HasOtherOpen version text))
 
 -- Behind the numbers of an opening and these of its elements, the next element's line has this fault.
 pub record KeepFault (version : Version) (text : List ℕ) (line : ℕ) (reason : TextReason) : Type 0 where
@@ -105,7 +105,7 @@ pub record KeepFault (version : Version) (text : List ℕ) (line : ℕ) (reason 
   pub order : AreInOrder kept next_id
   pub fewer : length kept < count
   pub place : line ≡ 3 + length kept
-  pub fault : ((reason ≡ End) × LacksFeed rest) ⊎ ((reason ≡ reasons.Opening) × HasOtherKeep version next_id kept rest)
+  pub fault : ((reason ≡ End) × HasNoLineFeed rest) ⊎ ((reason ≡ reasons.Opening) × HasOtherKeep version next_id kept rest)
 
 -- Behind a whole opening, the lines of events have this fault.
 pub record FaultBehind (version : Version) (text : List ℕ) (line : ℕ) (reason : TextReason) : Type 0 where

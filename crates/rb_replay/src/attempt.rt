@@ -1,5 +1,5 @@
 ghost use Rattle.std.specs.Prelude.{◌≡◌};
-ghost use Rattle.rb_replay.specs.Registering.{attempt_of};
+ghost use Rattle.rb_replay.specs.AttemptIndex.{attempt_of};
 
 use rb_delayed::Element;
 

@@ -7,7 +7,7 @@ ghost use Rattle.rb_replay.specs.Refusal.{Test, LeastTests, HeadTests, NoTest};
 ghost use Rattle.rb_replay.specs.Judging.{Passes, Judges, Gave};
 
 use crate::reason::Reason;
-use crate::standing::Standing;
+use crate::replayed_queue::ReplayedQueue;
 use rb_delayed::{Element, add_capped};
 use rb_queue::Act;
 
@@ -21,119 +21,119 @@ pub(crate) enum JudgeFault {
 }
 
 /// Lets the queue do an act again, at this moment.
-pub(crate) fn judge(standing: &mut Standing, now: u64, act: &Act) -> Result<(), JudgeFault>
-    requires { standing.old.next_id < u64.MAX }
-    ensures { Judges standing.old now act.now result standing.new }
+pub(crate) fn judge(queue: &mut ReplayedQueue, now: u64, act: &Act) -> Result<(), JudgeFault>
+    requires { queue.old.next_id < u64.MAX }
+    ensures { Judges queue.old now act.now result queue.new }
 {
     match act {
-        Act::Offer(element) => offer(standing, element),
-        Act::Poll(Some(id)) => give(standing, now, *id),
-        Act::Poll(None) => give_nothing(standing, now),
-        Act::Take(id) => give(standing, now, *id),
-        Act::PollFor { got: Some(id), .. } => give(standing, now, *id),
+        Act::Offer(element) => offer(queue, element),
+        Act::Poll(Some(id)) => give(queue, now, *id),
+        Act::Poll(None) => give_nothing(queue, now),
+        Act::Take(id) => give(queue, now, *id),
+        Act::PollFor { got: Some(id), .. } => give(queue, now, *id),
         Act::PollFor {
             start,
             timeout,
             got: None,
-        } => give_up(standing, now, *start, *timeout),
-        Act::Peek(shown) => peek(standing, *shown),
-        Act::Remove { id, found } => remove(standing, *id, *found),
-        Act::Drain { max, ids } => drain(standing, now, *max, ids.as_slice()),
+        } => give_up(queue, now, *start, *timeout),
+        Act::Peek(shown) => peek(queue, *shown),
+        Act::Remove { id, found } => remove(queue, *id, *found),
+        Act::Drain { max, ids } => drain(queue, now, *max, ids.as_slice()),
         Act::Clear => {
-            standing.clear();
+            queue.clear();
             Ok(())
         }
-        Act::Size(count) => ensure(*count == standing.size(), Reason::WrongSize),
+        Act::Size(count) => ensure(*count == queue.size(), Reason::WrongSize),
     }
 }
 
 // An element comes in.
-fn offer(standing: &mut Standing, element: &Element) -> Result<(), JudgeFault>
-    requires { standing.old.next_id < u64.MAX }
-    ensures { (now : ℕ) → Judges standing.old now (acts.Offer element.now) result standing.new }
+fn offer(queue: &mut ReplayedQueue, element: &Element) -> Result<(), JudgeFault>
+    requires { queue.old.next_id < u64.MAX }
+    ensures { (now : ℕ) → Judges queue.old now (acts.Offer element.now) result queue.new }
 {
-    ensure(element.id == standing.next_id(), Reason::BadId)?;
-    let Ok(()) = standing.insert(element) else {
+    ensure(element.id == queue.next_id(), Reason::BadId)?;
+    let Ok(()) = queue.insert(element) else {
         return Err(JudgeFault::Memory);
     };
     Ok(())
 }
 
 // The element of the id is given.
-fn give(standing: &mut Standing, now: u64, id: u64) -> Result<(), JudgeFault>
-    ensures { Passes (λ _. Gave standing.old now id standing.new)
-        (HeadTests standing.old.bag now id NoTest) result }
+fn give(queue: &mut ReplayedQueue, now: u64, id: u64) -> Result<(), JudgeFault>
+    ensures { Passes (λ _. Gave queue.old now id queue.new)
+        (HeadTests queue.old.bag now id NoTest) result }
 {
-    let element = find_least(standing, id)?;
+    let element = find_least(queue, id)?;
     ensure(element.expiry <= now, Reason::NotExpired)?;
-    standing.remove(id);
+    queue.remove(id);
     Ok(())
 }
 
 // Nothing is given.
-fn give_nothing(standing: &Standing, now: u64) -> Result<(), JudgeFault>
-    ensures { Passes (λ _. NoneExpired standing.now.bag now)
-        (Test (NoneExpired standing.now.bag now) Reason.NotNone NoTest) result }
+fn give_nothing(queue: &ReplayedQueue, now: u64) -> Result<(), JudgeFault>
+    ensures { Passes (λ _. NoneExpired queue.now.bag now)
+        (Test (NoneExpired queue.now.bag now) Reason.NotNone NoTest) result }
 {
-    ensure(none_expired(standing, now), Reason::NotNone)
+    ensure(none_expired(queue, now), Reason::NotNone)
 }
 
 // A timed poll gives nothing.
-fn give_up(standing: &Standing, now: u64, start: u64, timeout: u64) -> Result<(), JudgeFault>
-    ensures { Judges standing.now now (acts.PollFor start timeout None) result standing.now }
+fn give_up(queue: &ReplayedQueue, now: u64, start: u64, timeout: u64) -> Result<(), JudgeFault>
+    ensures { Judges queue.now now (acts.PollFor start timeout None) result queue.now }
 {
-    give_nothing(standing, now)?;
+    give_nothing(queue, now)?;
     ensure(add_capped(start, timeout) <= now, Reason::TooEarly)
 }
 
 // An element is shown, or nothing.
-fn peek(standing: &Standing, shown: Option<u64>) -> Result<(), JudgeFault>
-    ensures { (now : ℕ) → Judges standing.now now (acts.Peek shown) result standing.now }
+fn peek(queue: &ReplayedQueue, shown: Option<u64>) -> Result<(), JudgeFault>
+    ensures { (now : ℕ) → Judges queue.now now (acts.Peek shown) result queue.now }
 {
     match shown {
         Some(id) => {
-            find_least(standing, id)?;
+            find_least(queue, id)?;
             Ok(())
         }
-        None => ensure(standing.size() == 0, Reason::NotNone),
+        None => ensure(queue.size() == 0, Reason::NotNone),
     }
 }
 
 // An element is taken out by name, or there is none.
-fn remove(standing: &mut Standing, id: u64, found: bool) -> Result<(), JudgeFault>
-    ensures { (now : ℕ) → Judges standing.old now (acts.Remove id found) result standing.new }
+fn remove(queue: &mut ReplayedQueue, id: u64, found: bool) -> Result<(), JudgeFault>
+    ensures { (now : ℕ) → Judges queue.old now (acts.Remove id found) result queue.new }
 {
-    ensure(found == standing.get(id).is_some(), Reason::WrongFound)?;
+    ensure(found == queue.get(id).is_some(), Reason::WrongFound)?;
     if found {
-        standing.remove(id);
+        queue.remove(id);
     }
     Ok(())
 }
 
 // Elements are given one after the other.
-fn drain(standing: &mut Standing, now: u64, max: u64, ids: &[u64]) -> Result<(), JudgeFault>
-    ensures { Judges standing.old now (acts.Drain max ids.now) result standing.new }
+fn drain(queue: &mut ReplayedQueue, now: u64, max: u64, ids: &[u64]) -> Result<(), JudgeFault>
+    ensures { Judges queue.old now (acts.Drain max ids.now) result queue.new }
 {
     let count = ids.len() as u64;
     ensure(count <= max, Reason::TooMany)?;
     for id in ids {
-        give(standing, now, *id)?;
+        give(queue, now, *id)?;
     }
     if count == max {
         return Ok(());
     }
-    ensure(none_expired(standing, now), Reason::NotAll)
+    ensure(none_expired(queue, now), Reason::NotAll)
 }
 
 // The element of the id, where it is least.
-fn find_least(standing: &Standing, id: u64) -> Result<Element, JudgeFault>
-    ensures { Passes (λ element. (map.get standing.now.bag id ≡ Some element) × IsLeast standing.now.bag element)
-        (LeastTests standing.now.bag id NoTest) result }
+fn find_least(queue: &ReplayedQueue, id: u64) -> Result<Element, JudgeFault>
+    ensures { Passes (λ element. (map.get queue.now.bag id ≡ Some element) × IsLeast queue.now.bag element)
+        (LeastTests queue.now.bag id NoTest) result }
 {
-    let Some(element) = standing.get(id) else {
+    let Some(element) = queue.get(id) else {
         return Err(JudgeFault::Refused(Reason::NotInQueue));
     };
-    let least = standing.next_expiry().unwrap_or(element.expiry);
+    let least = queue.next_expiry().unwrap_or(element.expiry);
     if least < element.expiry {
         return Err(JudgeFault::Refused(Reason::NotLeast));
     }
@@ -141,10 +141,10 @@ fn find_least(standing: &Standing, id: u64) -> Result<Element, JudgeFault>
 }
 
 // Whether no element is expired.
-fn none_expired(standing: &Standing, now: u64) -> bool
-    ensures { IsTrue result ↔ NoneExpired standing.now.bag now }
+fn none_expired(queue: &ReplayedQueue, now: u64) -> bool
+    ensures { IsTrue result ↔ NoneExpired queue.now.bag now }
 {
-    match standing.next_expiry() {
+    match queue.next_expiry() {
         Some(least) => now < least,
         None => true,
     }

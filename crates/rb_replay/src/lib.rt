@@ -5,8 +5,9 @@
 //! offer begins a job or goes on with one as a policy says. Moments and delays are nanoseconds.
 #![tactic(auto)]
 
-mod arrival;
 mod attempt;
+mod attempt_index;
+mod calls;
 mod chain_fault;
 mod chain_reason;
 mod firsts;
@@ -15,10 +16,8 @@ mod history_fault;
 mod history_text;
 mod judge;
 mod laws;
-mod legality;
-mod linkage;
 mod next_line;
-mod next_opening;
+mod offered_element;
 mod opening_fault;
 mod read;
 mod read_act;
@@ -28,25 +27,24 @@ mod read_keeps;
 mod read_opening;
 mod read_run;
 mod reason;
-mod register;
 mod replay;
 mod replay_fault;
+mod replayed_queue;
 mod send;
-mod standing;
 mod text;
 mod text_fault;
 mod version;
 mod words;
 mod write;
 
+pub use calls::chains::chains;
+pub use calls::check::check;
+pub use calls::opening_of::opening_of;
 pub use chain_fault::ChainFault;
 pub use chain_reason::ChainReason;
 pub use history::History;
 pub use history_fault::HistoryFault;
 pub use laws::{no_fault_of_text, no_text_of_two, one_fault, one_text_each};
-pub use legality::check;
-pub use linkage::chains;
-pub use next_opening::opening_of;
 pub use opening_fault::OpeningFault;
 pub use read::read_history;
 pub use reason::Reason;

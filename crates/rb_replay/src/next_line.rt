@@ -1,5 +1,5 @@
 ghost use Rattle.std.specs.Prelude.{◌≡◌, ◌<◌, ◌∷◌, ◌++◌, length, IfSome, IfNone};
-ghost use Rattle.rb_replay.specs.Feeds.{first_feed, LacksFeed};
+ghost use Rattle.rb_replay.specs.Feeds.{first_feed, HasNoLineFeed};
 
 use rb_protocol::LINE_FEED;
 
@@ -7,9 +7,9 @@ use rb_protocol::LINE_FEED;
 /// complete.
 pub(crate) fn cut_line(text: &[u8]) -> Option<(&[u8], &[u8])>
     ensures text { IfSome result (λ cut. text.now ≡ cut.0.now ++ (LINE_FEED ∷ cut.1.now)) }
-    ensures line { IfSome result (λ cut. LacksFeed cut.0.now) }
+    ensures line { IfSome result (λ cut. HasNoLineFeed cut.0.now) }
     ensures shorter { IfSome result (λ cut. length cut.1.now < length text.now) }
-    ensures none { IfNone result (LacksFeed text.now) }
+    ensures none { IfNone result (HasNoLineFeed text.now) }
 {
     let place = first_feed(text)?;
     Some((&text[..place], &text[place + 1..]))

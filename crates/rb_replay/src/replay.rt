@@ -1,10 +1,10 @@
 ghost use Rattle.std.specs.Prelude.{◌≡◌, ◌<◌, ◌≤◌, length};
-ghost use Rattle.rb_replay.specs.Replaying.{end_state, fault_at, Redoes, Replays};
+ghost use Rattle.rb_replay.specs.Replaying.{end_state, fault_at, ReplaysEvent, Replays};
 
 use crate::judge::{JudgeFault, judge};
 use crate::reason::Reason;
 use crate::replay_fault::ReplayFault;
-use crate::standing::Standing;
+use crate::replayed_queue::ReplayedQueue;
 use crate::write::MOST_EVENTS;
 use rb_queue::{Event, Opening};
 use std::alloc::Global;
@@ -13,7 +13,7 @@ use std::alloc::Global;
 #[derive(Drop)]
 pub(crate) struct End {
     /// What stands in the queue.
-    pub(crate) standing: Standing,
+    pub(crate) queue: ReplayedQueue,
     /// The moment of the last event.
     pub(crate) moment: u64,
 }
@@ -23,15 +23,15 @@ pub(crate) fn replay(alloc: Global, opening: &Opening, events: &[Event]) -> Resu
     requires { length events.now ≤ MOST_EVENTS }
     ensures { Replays opening.now events.now result }
 {
-    let Ok(standing) = Standing::new_from(alloc, opening) else {
+    let Ok(queue) = ReplayedQueue::new_from(alloc, opening) else {
         return Err(ReplayFault::Memory);
     };
     let mut end = End {
-        standing,
+        queue,
         moment: opening.last_at,
     };
     for (index, event) in events.iter().enumerate() {
-        if let Err(fault) = redo(&mut end, event) {
+        if let Err(fault) = replay_event(&mut end, event) {
             return Err(replay_fault(index as u64, fault));
         }
     }
@@ -39,14 +39,14 @@ pub(crate) fn replay(alloc: Global, opening: &Opening, events: &[Event]) -> Resu
 }
 
 // Lets the queue do one event again.
-fn redo(end: &mut End, event: &Event) -> Result<(), JudgeFault>
-    requires { end.old.standing.next_id < u64.MAX }
-    ensures { Redoes (end_state end.old) event.now result (end_state end.new) }
+fn replay_event(end: &mut End, event: &Event) -> Result<(), JudgeFault>
+    requires { end.old.queue.next_id < u64.MAX }
+    ensures { ReplaysEvent (end_state end.old) event.now result (end_state end.new) }
 {
     if event.at != event.asked.max(end.moment) {
         return Err(JudgeFault::Refused(Reason::BadMoment));
     }
-    judge(&mut end.standing, event.at, &event.act)?;
+    judge(&mut end.queue, event.at, &event.act)?;
     end.moment = event.at;
     Ok(())
 }

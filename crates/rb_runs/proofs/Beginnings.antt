@@ -7,7 +7,7 @@ use Rattle.rb_replay.specs.declared.opening_fault.OpeningFault.{OpeningFault}
 use Rattle.rb_replay.specs.declared.opening_fault.OpeningFault.TheVariants.{At, TooLarge}
 use Rattle.rb_replay.specs.declared.reason.Reason.{Reason}
 use Rattle.rb_runs.specs.Beginning.{Continues, HasNoNext}
-use Rattle.rb_runs.specs.declared.broker_fault.BrokerFault.{BrokerFault}
+use Rattle.rb_ending.specs.declared.broker_fault.BrokerFault.{BrokerFault}
 
 -- what goes on behind a history goes on so behind the same one
 pub goes_on_same : {one other : Opening} {events others : List Event} (result : Result Opening BrokerFault)

@@ -1,4 +1,2 @@
-pub mod Gatherings
 pub mod Beginnings
 pub mod Verdicts
-pub mod FileTexts

@@ -9,8 +9,8 @@ use Rattle.rb_replay.specs.Refusal.{Refuses}
 use Rattle.rb_replay.specs.TextFaults.{HasFault}
 use Rattle.rb_replay.specs.declared.reason.Reason.{Reason}
 use Rattle.rb_replay.specs.declared.text_fault.TextReason.{TextReason}
-use Rattle.rb_runs.specs.declared.broker_fault.BrokerFault.{BrokerFault}
-use Rattle.rb_runs.specs.declared.broker_fault.BrokerFault.TheVariants.{BadOpening, Memory}
+use Rattle.rb_ending.specs.declared.broker_fault.BrokerFault.{BrokerFault}
+use Rattle.rb_ending.specs.declared.broker_fault.BrokerFault.TheVariants.{BadOpening, Memory}
 
 -- the history is refused for an event that is not allowed, or leads past a limit of openings
 abbrev pub HasNoNext : Opening → List Event → Type 0

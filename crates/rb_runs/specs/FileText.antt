@@ -1,8 +1,8 @@
 -- What is read of a file, and printed.
 use Rattle.std.specs.Prelude.{◌≡◌, ℕ, List, [], ◌++◌, Option, Some, Result, Ok, Err, Vec}
 use Rattle.std.specs.declared.alloc.Global.{Global}
-use Rattle.rb_runs.specs.declared.broker_fault.BrokerFault.{BrokerFault}
-use Rattle.rb_runs.specs.declared.broker_fault.BrokerFault.TheVariants as Broker
+use Rattle.rb_ending.specs.declared.broker_fault.BrokerFault.{BrokerFault}
+use Rattle.rb_ending.specs.declared.broker_fault.BrokerFault.TheVariants as Broker
 
 -- the faults of reading a file
 abbrev pub IsReadFault : BrokerFault → Type 0

@@ -3,17 +3,16 @@ use Rattle.std.specs.Prelude.{◌≡◌, ◌≢◌, ℕ, List, [], Option, None,
 use Rattle.rb_ledger.specs.Totals.{nothing}
 use Rattle.rb_queue.specs.declared.opening.Opening.{Opening}
 use Rattle.rb_kept.specs.Log.{Log}
-use Rattle.rb_replay.specs.HistoryText.{history_text}
-use Rattle.rb_replay.specs.Written.{Writes}
 use Rattle.rb_replay.specs.declared.history_fault.HistoryFault.{HistoryFault}
 use Rattle.rb_retry.specs.KeptSteps.{KeptState, KeptSteps, SetsKept}
 use Rattle.rb_retry.specs.declared.policy.Policy.{Policy}
 use Rattle.rb_session.specs.declared.ended.Ended.{Ended}
 use Rattle.rb_session.specs.declared.session_fault.SessionFault.{SessionFault}
 use Rattle.rb_session.specs.declared.session_fault.SessionFault.TheVariants.{Memory}
-use Rattle.rb_runs.specs.BrokerFault.{fault_of_session, fault_of_history}
-use Rattle.rb_runs.specs.Gathered.{RanGathered}
-use Rattle.rb_runs.specs.declared.broker_fault.BrokerFault.{BrokerFault}
+use Rattle.rb_ending.specs.BrokerFault.{fault_of_session, fault_of_history}
+use Rattle.rb_ending.specs.Recording.{RecordsRun}
+use Rattle.rb_session.specs.Gathered.{RanGathered}
+use Rattle.rb_ending.specs.declared.broker_fault.BrokerFault.{BrokerFault}
 
 -- a log that begins with this opening, with no call yet and room for so many
 pub record IsFresh (log : Log) (opening : Opening) (calls : ℕ) : Type 0 where
@@ -27,18 +26,6 @@ pub record IsNew (desk : KeptState) (opening : Opening) (calls : ℕ) : Type 0 w
   pub share : desk.share ≡ nothing
   pub moment : desk.moment ≡ opening.last_at
   pub before : desk.before ≡ 0
-
--- what there was, if anything, has become something that stands so to it
-abbrev pub Becomes : {H : Type 0} → (H → H → Type 0) → Option H → Option H → Type 0
-Becomes stands None None = Unit {0}
-Becomes stands (Some old) (Some new) = stands old new
-Becomes stands _ _ = ⊥
-
--- A device that there was has got the text of the log's history, or a first part of it, or nothing, as
--- the result of writing it says.
-abbrev pub RecordsRun : {H : Type 0} → (H → Option (List ℕ)) → Log → Result (Unit {0}) HistoryFault → Option H → Option H → Type 0
-RecordsRun contents log wrote device left = (device ≡ None → wrote ≡ Ok tt) × Becomes (λ old new. (held : List ℕ)
-    → contents old ≡ Some held → Writes wrote held (history_text log.opening log.history) (contents new)) device left
 
 -- the run ends as the writing of its history does, where its session came to its end
 abbrev pub ends_as : Ended → Result (Unit {0}) HistoryFault → Result Ended BrokerFault

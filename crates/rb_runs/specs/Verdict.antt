@@ -14,7 +14,7 @@ use Rattle.rb_replay.specs.declared.chain_fault.ChainFault.{ChainFault}
 use Rattle.rb_replay.specs.declared.chain_fault.ChainFault.TheVariants as chain
 use Rattle.rb_replay.specs.declared.chain_reason.ChainReason.{ChainReason}
 use Rattle.rb_replay.specs.declared.replay_fault.ReplayFault.TheVariants as check
-use Rattle.rb_runs.specs.AuditText.{audit_text}
+use Rattle.rb_ending.specs.AuditText.{audit_text}
 use Rattle.rb_runs.specs.declared.verdict.Verdict.{Verdict}
 use Rattle.rb_runs.specs.declared.verdict.Verdict.TheVariants.{Unreadable, Refused, Unchained, Accepted}
 

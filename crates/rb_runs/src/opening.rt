@@ -4,7 +4,7 @@ ghost use Rattle.rb_replay.specs.Ranges.{IsRightOpening, AreRightEvents};
 ghost use Rattle.rb_replay.specs.Readings.{IsTextOf};
 ghost use Rattle.rb_runs.specs.Beginning.{BeginsIn, Continues};
 
-use crate::broker_fault::BrokerFault;
+use rb_ending::BrokerFault;
 use rb_queue::Opening;
 use rb_replay::{OpeningFault, TextFault, opening_of, read_history};
 use std::alloc::Global;

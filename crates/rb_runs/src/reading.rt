@@ -1,7 +1,7 @@
 ghost use Rattle.std.specs.Prelude.{◌≡◌, ℕ, ◌<◌, List, Some, IfOk, vec_len};
 ghost use Rattle.rb_runs.specs.FileText.{ReadsAll};
 
-use crate::broker_fault::BrokerFault;
+use rb_ending::BrokerFault;
 use std::alloc::{AllocError, Global};
 use std::io::{ErrorKind, Read};
 

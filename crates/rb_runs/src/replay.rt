@@ -7,10 +7,10 @@ ghost use Rattle.rb_replay.specs.Readings.{IsTextOf};
 ghost use Rattle.rb_runs.specs.Verdict.{IsVerdictOf, IsVerdictOn, Tells};
 ghost use Rattle.rb_runs.specs.declared.verdict.Verdict.{Verdict};
 
-use crate::broker_fault::BrokerFault;
 use crate::verdict::Verdict;
+use rb_arguments::ReplayOptions;
+use rb_ending::BrokerFault;
 use rb_replay::{ChainFault, History, ReplayFault, TextFault, chains, check, read_history};
-use rb_words::ReplayOptions;
 use std::alloc::Global;
 
 /// The line that `replay` prints of a text, and the exit status: 0 with the audit of a history that is

@@ -1,20 +1,15 @@
 ghost use Rattle.std.specs.Prelude.{◌≡◌, ◌≤◌, ℕ, List, Some};
 ghost use Rattle.rb_kept.specs.declared.kept.TheConstants.{MOST_CALLS};
-ghost use Rattle.rb_runs.specs.Script.{Finishes, RanScript, RecordsRun, RecordsBroken};
+ghost use Rattle.rb_runs.specs.Script.{Finishes, RanScript, RecordsBroken};
 
-use crate::broker_fault::BrokerFault;
-use crate::gathered::run_gathered;
-use crate::hands_on::HandsOn;
-use rb_binary::BinaryTimer;
+use crate::over_timer;
+use rb_arguments::ScriptOptions;
+use rb_ending::{BrokerFault, record};
 use rb_kept::Kept;
-use rb_pairing::PairingTimer;
 use rb_queue::Opening;
-use rb_replay::{HistoryFault, write_history};
 use rb_retry::{KeptDesk, Policy};
-use rb_session::{Ended, SessionFault};
-use rb_timer::{ListTimer, Timer};
-use rb_wheel::WheelTimer;
-use rb_words::{ScriptOptions, TimerKind};
+use rb_session::{Ended, HandsOn, SessionFault, run_gathered};
+use rb_timer::Timer;
 use std::alloc::Global;
 use std::io::{Read, Write};
 
@@ -37,20 +32,10 @@ pub fn run_script<R: Read, W: Write, H: Write>(
 {
     let calls = options.calls;
     let policy = &options.policy;
-    match options.timer {
-        TimerKind::List => {
-            run_on::<ListTimer, R, W, H>(alloc, calls, policy, opening, reader, writer, history)
-        }
-        TimerKind::Heap => {
-            run_on::<BinaryTimer, R, W, H>(alloc, calls, policy, opening, reader, writer, history)
-        }
-        TimerKind::Pairing => {
-            run_on::<PairingTimer, R, W, H>(alloc, calls, policy, opening, reader, writer, history)
-        }
-        TimerKind::Wheel => {
-            run_on::<WheelTimer, R, W, H>(alloc, calls, policy, opening, reader, writer, history)
-        }
-    }
+    over_timer!(
+        options.timer,
+        run_on::<_, R, W, H>(alloc, calls, policy, opening, reader, writer, history)
+    )
 }
 
 fn run_on<T: Timer, R: Read, W: Write, H: Write>(
@@ -118,20 +103,4 @@ fn record_broken<T: Timer, H: Write>(
     }
     // The session's fault is the one that is answered.
     let _ = record(alloc, kept, history);
-}
-
-/// Writes the history of the kept queue, where something is to have it.
-pub fn record<T: Timer, H: Write>(
-    alloc: Global,
-    kept: &Kept<T>,
-    history: &mut Option<H>,
-) -> Result<(), HistoryFault>
-    ensures { RecordsRun H.contents kept.now result history.old history.new }
-{
-    // The proof reads here how long the history may get.
-    let _ = kept.capacity();
-    match history {
-        Some(device) => write_history(alloc, kept.opening(), kept.history(), device),
-        None => Ok(()),
-    }
 }

@@ -1,7 +1,6 @@
 ghost use Rattle.std.specs.Prelude.{◌≡◌, IfOk, IfErr, string_bytes};
 
-use crate::audit::audit_line;
-use crate::broker_fault::BrokerFault;
+use rb_ending::{BrokerFault, audit_line};
 use rb_queue::Audit;
 use rb_replay::{ChainReason, Reason, TextReason};
 use std::alloc::Global;

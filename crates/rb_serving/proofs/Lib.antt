@@ -1,1 +1,1 @@
-pub mod GatheredWorkers
+pub mod FoldedWorkers

@@ -1,10 +1,10 @@
-pub use Rattle.rb_lock.specs.Gatherings
+pub use Rattle.rb_lock.specs.ClosedQueues
 pub use Rattle.rb_session.specs.Ran
 pub use Rattle.rb_replay.specs.Written
-pub use Rattle.rb_runs.specs.BrokerFault
-pub use Rattle.rb_runs.specs.Gathered
-pub use Rattle.rb_runs.specs.AuditText
-pub use Rattle.rb_runs.specs.Script
+pub use Rattle.rb_ending.specs.BrokerFault
+pub use Rattle.rb_session.specs.Gathered
+pub use Rattle.rb_ending.specs.AuditText
+pub use Rattle.rb_ending.specs.Recording
 pub mod ServeText
 pub mod VisitCounts
 pub mod Serving

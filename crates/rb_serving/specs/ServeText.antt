@@ -3,11 +3,11 @@ use Rattle.std.specs.Prelude.{◌≡◌, ℕ, List, ◌++◌, take, Option, Some
 use Rattle.rb_queue.specs.declared.audit.Audit.{Audit}
 use Rattle.rb_kept.specs.Log.{Log}
 use Rattle.rb_replay.specs.declared.history_fault.HistoryFault.{HistoryFault}
-use Rattle.rb_runs.specs.AuditText.{audit_text}
-use Rattle.rb_runs.specs.BrokerFault.{fault_of_history}
-use Rattle.rb_runs.specs.Script.{RecordsRun}
-use Rattle.rb_runs.specs.declared.broker_fault.BrokerFault.{BrokerFault}
-use Rattle.rb_runs.specs.declared.broker_fault.BrokerFault.TheVariants.{Memory, Write}
+use Rattle.rb_ending.specs.AuditText.{audit_text}
+use Rattle.rb_ending.specs.BrokerFault.{fault_of_history}
+use Rattle.rb_ending.specs.Recording.{RecordsRun}
+use Rattle.rb_ending.specs.declared.broker_fault.BrokerFault.{BrokerFault}
+use Rattle.rb_ending.specs.declared.broker_fault.BrokerFault.TheVariants.{Memory, Write}
 
 -- the line that says where clients are served
 abbrev pub listening_text : ℕ → List ℕ

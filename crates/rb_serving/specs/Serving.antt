@@ -5,15 +5,15 @@ use Rattle.rb_queue.specs.declared.audit.Audit.{Audit}
 use Rattle.rb_queue.specs.declared.opening.Opening.{Opening}
 use Rattle.rb_kept.specs.Log.{Log}
 use Rattle.rb_lock.specs.Passes.{Seen}
-use Rattle.rb_lock.specs.Gatherings.{IsGathered}
+use Rattle.rb_lock.specs.ClosedQueues.{HasCallsOf}
 use Rattle.rb_lock.specs.declared.record.Record.{Record}
 use Rattle.rb_shared_desk.specs.SharedSteps.{SharedState, SharedSteps, SetsShared}
 use Rattle.rb_retry.specs.declared.policy.Policy.{Policy}
 use Rattle.rb_session.specs.declared.ended.Ended.{Ended}
 use Rattle.rb_session.specs.declared.session_fault.SessionFault.{SessionFault}
-use Rattle.rb_runs.specs.Gathered.{RanGathered}
-use Rattle.rb_runs.specs.declared.broker_fault.BrokerFault.{BrokerFault}
-use Rattle.rb_runs.specs.declared.broker_fault.BrokerFault.TheVariants as Broker
+use Rattle.rb_session.specs.Gathered.{RanGathered}
+use Rattle.rb_ending.specs.declared.broker_fault.BrokerFault.{BrokerFault}
+use Rattle.rb_ending.specs.declared.broker_fault.BrokerFault.TheVariants as Broker
 
 -- The pass called for visitors: it is of the same queue, has the same name, and nothing was folded into it.
 pub record IsWorked (old new : Seen) : Type 0 where
@@ -40,7 +40,7 @@ pub record RanVisit {C G : Type 0} (gives : C → ℕ → Type 0) (stops : G →
   pub seen : to.pass ≡ new
 
 -- The passes of so many workers were folded into the pass, which made no call itself.
-pub record Gathers (workers : ℕ) (old new : Seen) : Type 0 where
+pub record FoldsWorkers (workers : ℕ) (old new : Seen) : Type 0 where
   pub records : List Record
   pub many : length records ≡ workers
   pub folded : new.folded ≡ old.folded ++ records
@@ -59,7 +59,7 @@ pub record IsServersRun (begun : Opening) (calls workers : ℕ) (kept : Log) (au
   pub idle : first.mine ≡ []
   pub records : List Record
   pub many : length records ≡ workers
-  pub gathered : IsGathered kept (first ∷ records)
+  pub holds : HasCallsOf kept (first ∷ records)
 
 -- the faults that may end a server
 abbrev pub EndsServing : BrokerFault → Type 0

@@ -3,7 +3,7 @@ ghost use Rattle.rb_serving.specs.ServeText.{EndsServer, report_text};
 
 use crate::serve_report::ServeReport;
 use crate::serve_text::print_report;
-use rb_runs::{BrokerFault, record};
+use rb_ending::{BrokerFault, record};
 use rb_timer::Timer;
 use std::alloc::Global;
 use std::io::Write;

@@ -2,7 +2,8 @@ ghost use Rattle.std.specs.Prelude.{◌≡◌, ℕ, List, Some, IfOk, IfErr, str
 ghost use Rattle.rb_serving.specs.ServeText.{Prints, listening_text, report_text, visits_text};
 
 use crate::serve_report::ServeReport;
-use rb_runs::{BrokerFault, audit_line, send_at_once};
+use rb_ending::{BrokerFault, audit_line};
+use rb_session::send_at_once;
 use rb_timer::Timer;
 use std::alloc::{AllocError, Global};
 use std::io::Write;

@@ -1,19 +1,19 @@
 ghost use Rattle.std.specs.Prelude.{◌≡◌, [], length, IfOk, IfErr};
 ghost use Rattle.rb_serving.specs.Serving.{EndsServing, IsServersRun};
-ghost use Rattle.rb_runs.specs.declared.broker_fault.BrokerFault.TheVariants.{NotGathered};
+ghost use Rattle.rb_ending.specs.declared.broker_fault.BrokerFault.TheVariants.{NotGathered};
 
 use crate::door::Door;
 use crate::serve_report::ServeReport;
 use crate::service::Service;
 use crate::visit_counts::VisitCounts;
 use crate::workers::serve_all;
+use rb_arguments::RunOptions;
 use rb_blocking::{Bell, Clock};
+use rb_ending::BrokerFault;
 use rb_kept::Kept;
 use rb_lock::{Pass, Shared};
 use rb_queue::Opening;
-use rb_runs::BrokerFault;
 use rb_timer::Timer;
-use rb_words::ServeOptions;
 use std::alloc::Global;
 use std::sync::Wait;
 use std::thread::Threads;
@@ -35,7 +35,7 @@ pub fn serve_door<
     alloc: Global,
     door: &D,
     clock: &C,
-    options: &ServeOptions,
+    options: &RunOptions,
     opening: Opening,
 ) -> Result<ServeReport<T>, BrokerFault>
     ensures served { IfOk result (λ report. IsServersRun opening options.now.calls options.now.workers report.kept report.audit) }

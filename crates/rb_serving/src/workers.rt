@@ -1,14 +1,14 @@
 ghost use Rattle.std.specs.Prelude.{◌≡◌, [], IfOk, IfErr};
-ghost use Rattle.rb_serving.specs.Serving.{Gathers};
-ghost use Rattle.rb_runs.specs.declared.broker_fault.BrokerFault.TheVariants.{Worker};
+ghost use Rattle.rb_serving.specs.Serving.{FoldsWorkers};
+ghost use Rattle.rb_ending.specs.declared.broker_fault.BrokerFault.TheVariants.{Worker};
 
 use crate::door::Door;
 use crate::service::Service;
 use crate::visit_counts::VisitCounts;
 use crate::worker::work;
 use rb_blocking::Clock;
+use rb_ending::BrokerFault;
 use rb_lock::{Pass, Shared};
-use rb_runs::BrokerFault;
 use rb_timer::Timer;
 use std::sync::Wait;
 use std::thread::{Promise, PromisedHandle, Scope, Threads};
@@ -38,7 +38,7 @@ pub(crate) fn serve_all<
     count: u64,
 ) -> Result<(Pass<T>, VisitCounts), BrokerFault>
     requires pass { pass.table ≡ service.now.shared.now }
-    ensures gathers { IfOk result (λ served. Gathers count pass served.0) }
+    ensures folds { IfOk result (λ served. FoldsWorkers count pass served.0) }
     ensures fault { IfErr result (λ fault. fault ≡ Worker) }
 {
     thread::scope(
@@ -46,13 +46,13 @@ pub(crate) fn serve_all<
         rt,
         move |scope| -> Result<(Pass<T>, VisitCounts), BrokerFault>
             requires { pass.table ≡ service.now.shared.now }
-            ensures { IfOk result (λ served. Gathers count pass served.0) × IfErr result (λ fault. fault ≡ Worker) }
+            ensures { IfOk result (λ served. FoldsWorkers count pass served.0) × IfErr result (λ fault. fault ≡ Worker) }
         { start_all(rt, scope, service, pass, count) },
     )
 }
 
 // Starts so many workers, one after the other, waits for each, and folds its pass into this one.
-#[tactic(auto, using(crate::proofs::GatheredWorkers::gathers_none, crate::proofs::GatheredWorkers::gathers_more))]
+#[tactic(auto, using(crate::proofs::FoldedWorkers::folds_none, crate::proofs::FoldedWorkers::folds_one_more))]
 fn start_all<
     's,
     E,
@@ -68,7 +68,7 @@ fn start_all<
     count: u64,
 ) -> Result<(Pass<T>, VisitCounts), BrokerFault>
     requires pass { pass.table ≡ service.now.shared.now }
-    ensures gathers { IfOk result (λ served. Gathers count pass served.0) }
+    ensures folds { IfOk result (λ served. FoldsWorkers count pass served.0) }
     ensures fault { IfErr result (λ fault. fault ≡ Worker) }
 {
     if count == 0 {

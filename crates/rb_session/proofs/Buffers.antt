@@ -5,10 +5,10 @@ use Rattle.std.proofs.lemmas.Bool.Decides.{nat_tests}
 use Rattle.std.proofs.Math.Seq.{drop-cons, take-append-add}
 use Rattle.std.specs.Prelude.{slice_range, MatchBool, Ok, Err}
 use Rattle.std.specs.Io.KnownBytes.{ReadConsumes}
-use Rattle.rb_session.specs.Lines.{HasNoFeed, line_of}
+use Rattle.rb_session.specs.Lines.{HasNoLineFeed, line_of}
 
 -- two parts with no line feed have none together
-pub no_feed-append : (front back : List ℕ) → HasNoFeed front → HasNoFeed back → HasNoFeed (front ++ back)
+pub no_feed-append : (front back : List ℕ) → HasNoLineFeed front → HasNoLineFeed back → HasNoLineFeed (front ++ back)
 no_feed-append [] back h k = k
 no_feed-append (byte ∷ front) back h k = (h.0, no_feed-append front back h.1 k)
 
@@ -84,22 +84,22 @@ read_err stream buf (Some rest) error keeps = ap Some keeps
 
 -- what is to be served grows with what is held
 pub unserved_more : (is_long : Bool) (most : ℕ) (held more held' bytes : List ℕ) → held' ≡ held ++ more
-    → MatchBool is_long ((dropped : List ℕ) × HasNoFeed dropped × (most < length dropped) × (bytes ≡ dropped ++ held)) (bytes ≡ held)
-    → MatchBool is_long ((dropped : List ℕ) × HasNoFeed dropped × (most < length dropped) × (bytes ++ more ≡ dropped ++ held')) (bytes ++ more ≡ held')
+    → MatchBool is_long ((dropped : List ℕ) × HasNoLineFeed dropped × (most < length dropped) × (bytes ≡ dropped ++ held)) (bytes ≡ held)
+    → MatchBool is_long ((dropped : List ℕ) × HasNoLineFeed dropped × (most < length dropped) × (bytes ++ more ≡ dropped ++ held')) (bytes ++ more ≡ held')
 unserved_more true most held more held' bytes grows (dropped, none, many, is) =
     (dropped, none, many, ap (λ b. b ++ more) is ∙ append_assoc dropped held more ∙ ap (λ b. dropped ++ b) (sym grows))
 unserved_more false most held more held' bytes grows is = ap (λ b. b ++ more) is ∙ sym grows
 
 pub unserved_same : (is_long : Bool) (most : ℕ) (held held' bytes : List ℕ) → held' ≡ held
-    → MatchBool is_long ((dropped : List ℕ) × HasNoFeed dropped × (most < length dropped) × (bytes ≡ dropped ++ held)) (bytes ≡ held)
-    → MatchBool is_long ((dropped : List ℕ) × HasNoFeed dropped × (most < length dropped) × (bytes ≡ dropped ++ held')) (bytes ≡ held')
+    → MatchBool is_long ((dropped : List ℕ) × HasNoLineFeed dropped × (most < length dropped) × (bytes ≡ dropped ++ held)) (bytes ≡ held)
+    → MatchBool is_long ((dropped : List ℕ) × HasNoLineFeed dropped × (most < length dropped) × (bytes ≡ dropped ++ held')) (bytes ≡ held')
 unserved_same true most held held' bytes same (dropped, none, many, is) = (dropped, none, many, is ∙ ap (λ b. dropped ++ b) (sym same))
 unserved_same false most held held' bytes same is = is ∙ sym same
 
 -- the first line of what a buffer has to serve, from the first line feed of what it holds
-pub first_line : (is_long : Bool) (most : ℕ) (held bytes : List ℕ) (len : ℕ) → len < length held → HasNoFeed (take len held) → get_or held len 0 ≡ 10
-    → MatchBool is_long ((dropped : List ℕ) × HasNoFeed dropped × (most < length dropped) × (bytes ≡ dropped ++ held)) (bytes ≡ held)
-    → (raw : List ℕ) × (bytes ≡ raw ++ 10 ∷ drop (len + 1) held) × HasNoFeed raw × MatchBool is_long (most < length raw) (raw ≡ take len held)
+pub first_line : (is_long : Bool) (most : ℕ) (held bytes : List ℕ) (len : ℕ) → len < length held → HasNoLineFeed (take len held) → get_or held len 0 ≡ 10
+    → MatchBool is_long ((dropped : List ℕ) × HasNoLineFeed dropped × (most < length dropped) × (bytes ≡ dropped ++ held)) (bytes ≡ held)
+    → (raw : List ℕ) × (bytes ≡ raw ++ 10 ∷ drop (len + 1) held) × HasNoLineFeed raw × MatchBool is_long (most < length raw) (raw ≡ take len held)
 first_line true most held bytes len within none feed (dropped, none_before, many, is) = (
   dropped ++ take len held,
   is ∙ ap (λ b. dropped ++ b) (cut_at held len within feed) ∙ sym (append_assoc dropped (take len held) (10 ∷ drop (len + 1) held)),

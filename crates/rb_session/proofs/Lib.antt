@@ -7,3 +7,4 @@ pub mod ReplyTexts
 pub mod Turns
 pub mod StreamRuns
 pub mod Outlets
+pub mod Gatherings

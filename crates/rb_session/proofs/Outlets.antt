@@ -28,14 +28,6 @@ pub went : {T E : Type 0} (r : Result T E) (P : Type 0) → is_err r ≡ false �
 went (Ok x) P is holds = holds
 went (Err e) P is holds = absurd (cc)
 
--- what was handed on is clear, however the session stopped
-pub clear_at : (clear : Type 0) (stop : Stop) → clear → IsClearAt clear stop
-clear_at clear stops.Quit is = is
-clear_at clear stops.EndOfInput is = is
-clear_at clear stops.Read is = is
-clear_at clear stops.Write is = tt
-clear_at clear stops.ReadTurns is = is
-
 -- and so it is in the session's answer
 pub handed_on : (clear : Type 0) (stop : Stop) (lost : ℕ) → IsClearAt clear stop → HandedOn clear (end_of stop lost)
 handed_on clear stops.Quit lost is = is
@@ -79,18 +71,6 @@ module _ {S : Type 0} (gives : S → ℕ → Type 0) (Sets : S → ℕ → Optio
     pub whole_kept : (Session : List ℕ → Point S → Type 0) (before : List ℕ) (to : Point S) → IsWhole gives Sets Steps policy Session before to sent
         → IsWhole gives Sets Steps policy Session before to sent'
     whole_kept Session before to whole = record { text = whole.text; session = whole.session; wrote = kept _ whole.wrote }
-
-    breaks_kept : (from to : Point S) (stream before : List ℕ) (left : Option (List ℕ)) → BreaksOff gives Sets Steps policy from stream before to left sent
-        → BreaksOff gives Sets Steps policy from stream before to left sent'
-    breaks_kept from to stream before left breaks = record {
-      turns = breaks.turns;
-      unserved = breaks.unserved;
-      rest = breaks.rest;
-      split = breaks.split;
-      no_line = breaks.no_line;
-      left_is = breaks.left_is;
-      serves = breaks.serves;
-      wrote = kept _ breaks.wrote;
     }
 
     fails_kept : (from to : Point S) (stream before : List ℕ) → FailsToWrite gives Sets Steps policy from stream before to sent
@@ -115,15 +95,6 @@ module _ {S : Type 0} (gives : S → ℕ → Type 0) (Sets : S → ℕ → Optio
         → FailsToSend gives Sets Steps policy HoldsBack from stream before to sent'
     late_kept HoldsBack from to stream before (inl fails) = inl (fails_kept from to stream before fails)
     late_kept HoldsBack from to stream before (inr (late, whole)) = inr (late, whole_kept _ before to whole)
-
-    -- a session stays stopped as it was
-    pub stops_kept : (HoldsBack : Type 0) (stop : Stop) (from to : Point S) (stream before : List ℕ) (left : Option (List ℕ))
-        → Stops gives Sets Steps policy HoldsBack from stream before stop to left sent → Stops gives Sets Steps policy HoldsBack from stream before stop to left sent'
-    stops_kept HoldsBack stops.Quit from to stream before left stopped = whole_kept _ before to stopped
-    stops_kept HoldsBack stops.EndOfInput from to stream before left stopped = whole_kept _ before to stopped
-    stops_kept HoldsBack stops.Read from to stream before left stopped = breaks_kept from to stream before left stopped
-    stops_kept HoldsBack stops.ReadTurns from to stream before left stopped = breaks_kept from to stream before left stopped
-    stops_kept HoldsBack stops.Write from to stream before left stopped = late_kept HoldsBack from to stream before stopped
 
     first_lines : (from to : Point S) (stream before : List ℕ) (left : Option (List ℕ)) → BreaksOff gives Sets Steps policy from stream before to left sent
         → IsWhole gives Sets Steps policy (ServesSome gives Sets Steps policy from stream) before to sent'

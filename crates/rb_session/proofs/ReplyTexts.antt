@@ -9,14 +9,6 @@ use Rattle.rb_session.specs.Session.{texts_of}
 use Rattle.rb_session.specs.declared.send.WriteFault.{WriteFault}
 use Rattle.rb_session.specs.Progress.{Sends}
 
--- bytes that are kept stay known
-pub kept_known : (old new : Option (List ℕ)) (bytes : List ℕ) → Keeps old new → old ≡ Some bytes → new ≡ Some bytes
-kept_known old new bytes keeps known = of_known new (subst (λ o. Keeps o new) known keeps)
-  where
-    of_known : (o : Option (List ℕ)) → Keeps (Some bytes) o → o ≡ Some bytes
-    of_known None keeps = absurd keeps
-    of_known (Some found) same = ap Some same
-
 -- a text behind another
 pub sends_then : {T : Type 0} (result : Result T WriteFault) (before one two : List ℕ) (written : Option (List ℕ)) → Sends result (before ++ one) two written → Sends result before (one ++ two) written
 sends_then (Ok done) before one two written wrote = wrote ∙ ap Some (append_assoc before one two)

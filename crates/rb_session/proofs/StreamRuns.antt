@@ -10,7 +10,7 @@ use Rattle.rb_protocol.specs.declared.format.TheConstants.{LINE_FEED}
 use Rattle.rb_protocol.specs.declared.line_fault.LineFault.TheVariants.{Line}
 use Rattle.rb_protocol.specs.declared.line_reply.LineReply.TheVariants as lines
 use Rattle.rb_protocol.specs.declared.error_word.ErrorWord.TheVariants as words
-use Rattle.rb_session.specs.Lines.{HasNoFeed}
+use Rattle.rb_session.specs.Lines.{HasNoLineFeed}
 use Rattle.rb_session.specs.Turn.{Point}
 use Rattle.rb_session.specs.Session.{Turn, ServesToQuit, bytes_of, answers_of, rest_text}
 use Rattle.rb_session.specs.Ran.{IsWhole, BreaksOff, FailsToWrite}
@@ -21,15 +21,11 @@ use Rattle.rb_session.specs.declared.stop.Stop.TheVariants as stops
 use Rattle.rb_session.proofs.Turns.{bytes_of-append, answers_of-append, serves_on}
 use Rattle.rb_session.proofs.Outlets.{stands_late}
 
--- three parts of a text, the last two as one
-assoc_more : (before one two : List ℕ) → (before ++ one) ++ two ≡ before ++ (one ++ two)
-assoc_more before one two = append_assoc before one two
-
 module _ {S : Type 0} (gives : S → ℕ → Type 0) (Sets : S → ℕ → Option ℕ → S → Type 0)
     (Steps : S → ℕ → Ask → Result Reply DeskFault → S → Type 0) (policy : Policy)
     (from here : Point S) (stream bytes before left : List ℕ) (written : Option (List ℕ)) (stands : Stands gives Sets Steps policy from bytes before here written) (split : stream ≡ bytes ++ left) where
   -- the input breaks off
-  pub breaks_off : (remaining : Option (List ℕ)) → remaining ≡ Some left → HasNoFeed stands.rest → BreaksOff gives Sets Steps policy from stream before here remaining written
+  pub breaks_off : (remaining : Option (List ℕ)) → remaining ≡ Some left → HasNoLineFeed stands.rest → BreaksOff gives Sets Steps policy from stream before here remaining written
   breaks_off remaining known no_feed = record {
     turns = stands.turns;
     unserved = stands.rest;
@@ -42,7 +38,7 @@ module _ {S : Type 0} (gives : S → ℕ → Type 0) (Sets : S → ℕ → Optio
   }
 
   -- the input ends
-  pub ran_end : (HoldsBack : Type 0) → HasNoFeed stands.rest → left ≡ [] → (stop : Stop) (remaining written' : Option (List ℕ)) → AnswersEnd stop (before ++ answers_of stands.turns) stands.rest written'
+  pub ran_end : (HoldsBack : Type 0) → HasNoLineFeed stands.rest → left ≡ [] → (stop : Stop) (remaining written' : Option (List ℕ)) → AnswersEnd stop (before ++ answers_of stands.turns) stands.rest written'
       → Stops gives Sets Steps policy HoldsBack from stream before stop here remaining written'
   ran_end HoldsBack no_feed none stop remaining written' ends = of_stop stop ends
     where

@@ -1,7 +1,7 @@
 -- Which bytes a buffer still has to serve, and what taking a line and reading more do to them.
 use Rattle.std.specs.Prelude.{◌≡◌, ℕ, ◌<◌, List, [], ◌∷◌, ◌++◌, length, slice_range, Option, Some, None, Result, Ok, Err, MatchBool}
 use Rattle.std.specs.declared.io.Error.{Error}
-use Rattle.rb_session.specs.Lines.{HasNoFeed, line_of}
+use Rattle.rb_session.specs.Lines.{HasNoLineFeed, line_of}
 use Rattle.rb_protocol.specs.Reading.{IsReading}
 use Rattle.rb_protocol.specs.declared.request.Request.{Request}
 use Rattle.rb_protocol.specs.declared.line_fault.LineFault.{LineFault}
@@ -16,14 +16,14 @@ held_by buffer = slice_range buffer.bytes.items buffer.start buffer.end
 -- were dropped because no request is so long.
 abbrev pub IsUnserved : LineBuffer → List ℕ → Type 0
 IsUnserved buffer bytes = MatchBool buffer.is_long
-    ((dropped : List ℕ) × HasNoFeed dropped × (MOST_RAW_BYTES < length dropped) × (bytes ≡ dropped ++ held_by buffer))
+    ((dropped : List ℕ) × HasNoLineFeed dropped × (MOST_RAW_BYTES < length dropped) × (bytes ≡ dropped ++ held_by buffer))
     (bytes ≡ held_by buffer)
 
 -- the first line of the bytes is taken and read, or there is none
 abbrev pub TakesLine : List ℕ → Option (Result Request LineFault) → LineBuffer → Type 0
-TakesLine bytes None new = HasNoFeed bytes × IsUnserved new bytes
+TakesLine bytes None new = HasNoLineFeed bytes × IsUnserved new bytes
 TakesLine bytes (Some reading) new = (raw rest : List ℕ)
-    × (bytes ≡ raw ++ 10 ∷ rest) × HasNoFeed raw × IsReading (line_of raw) reading × IsUnserved new rest
+    × (bytes ≡ raw ++ 10 ∷ rest) × HasNoLineFeed raw × IsReading (line_of raw) reading × IsUnserved new rest
 
 -- so many of the first bytes of the stream come behind those that are not served, none of them only at
 -- its end

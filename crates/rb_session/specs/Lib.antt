@@ -13,3 +13,5 @@ pub mod Ran
 pub mod Outlet
 pub mod Buffer
 pub mod Progress
+pub mod Growth
+pub mod Gathered

@@ -3,8 +3,8 @@ use Rattle.std.specs.Prelude.{◌≢◌, ◌==◌, ℕ, List, [], ◌∷◌, if�
 use Rattle.std.specs.List.{AllByRecursion}
 
 -- no line feed is among the bytes
-abbrev pub HasNoFeed : List ℕ → Type 0
-HasNoFeed bytes = AllByRecursion (λ byte. byte ≢ 10) bytes
+abbrev pub HasNoLineFeed : List ℕ → Type 0
+HasNoLineFeed bytes = AllByRecursion (λ byte. byte ≢ 10) bytes
 
 -- the line that these bytes are before a line feed: one carriage return directly before it belongs to
 -- the line's end

@@ -8,7 +8,7 @@ use Rattle.rb_retry.specs.declared.desk_fault.DeskFault.{DeskFault}
 use Rattle.rb_retry.specs.declared.policy.Policy.{Policy}
 use Rattle.rb_protocol.specs.declared.line_reply.LineReply.{LineReply}
 use Rattle.rb_protocol.specs.declared.line_reply.LineReply.TheVariants as lines
-use Rattle.rb_session.specs.Lines.{HasNoFeed}
+use Rattle.rb_session.specs.Lines.{HasNoLineFeed}
 use Rattle.rb_session.specs.Buffer.{IsUnserved}
 use Rattle.rb_protocol.specs.declared.format.TheConstants.{LINE_FEED}
 use Rattle.rb_protocol.specs.declared.request.Request.{Request}
@@ -25,14 +25,6 @@ use Rattle.rb_session.specs.declared.session_fault.SessionFault.TheVariants as f
 use Rattle.rb_session.specs.declared.send.WriteFault.{WriteFault}
 use Rattle.rb_session.specs.declared.stop.Stop.{Stop}
 use Rattle.rb_session.specs.declared.stop.Stop.TheVariants.{Quit, EndOfInput, Read, Write, ReadTurns}
-
--- an ask that fetches nothing
-abbrev pub IsPlain : Ask → Type 0
-IsPlain asks.Poll = ⊥
-IsPlain asks.Take = ⊥
-IsPlain (asks.PollFor start timeout) = ⊥
-IsPlain (asks.Drain most) = ⊥
-IsPlain _ = Unit {0}
 
 -- the first line for an answer
 abbrev pub answer_line : Result Reply DeskFault → LineReply
@@ -111,7 +103,7 @@ module _ {S : Type 0} (gives : S → ℕ → Type 0) (Sets : S → ℕ → Optio
   -- or what answers the lines so far could not be handed on before a request that may wait.
   abbrev pub ServesLines : Type 0 → Point S → List ℕ → List ℕ → Option Stop → LineBuffer → Point S → Option (List ℕ) → Type 0
   ServesLines HoldsBack from bytes before None buffer to written =
-      (stands : Stands from bytes before to written) × HasNoFeed stands.rest × IsUnserved buffer stands.rest
+      (stands : Stands from bytes before to written) × HasNoLineFeed stands.rest × IsUnserved buffer stands.rest
   ServesLines HoldsBack from bytes before (Some Quit) buffer to written =
       IsWhole gives Sets Steps policy (ServesToQuit gives Sets Steps policy from bytes) before to written
   ServesLines HoldsBack from bytes before (Some Write) buffer to written =

@@ -9,7 +9,7 @@ use Rattle.rb_protocol.specs.declared.request.Request.{Request}
 use Rattle.rb_protocol.specs.declared.line_fault.LineFault.{LineFault}
 use Rattle.rb_protocol.specs.declared.line_fault.LineFault.TheVariants.{Line}
 use Rattle.rb_protocol.specs.declared.line_reply.LineReply.{LineReply}
-use Rattle.rb_session.specs.Lines.{HasNoFeed}
+use Rattle.rb_session.specs.Lines.{HasNoLineFeed}
 use Rattle.rb_session.specs.Turn.{Point, point, IsTurn}
 use Rattle.rb_session.specs.Session.{Turn, IsLine, Serves, ServesToEnd, ServesToQuit, bytes_of, answers_of, texts_of}
 use Rattle.rb_session.specs.Closing.{Closes}
@@ -22,7 +22,7 @@ use Rattle.rb_session.specs.declared.session_fault.SessionFault.TheVariants.{Mem
 abbrev pub BeginsWith : List ℕ → Result Request LineFault → Type 0
 BeginsWith bytes reading =
     ((raw : List ℕ) × (rest : List ℕ) × (bytes ≡ raw ++ LINE_FEED ∷ rest) × IsLine raw reading)
-    ⊎ ((0 < length bytes) × HasNoFeed bytes × (reading ≡ Err Line))
+    ⊎ ((0 < length bytes) × HasNoLineFeed bytes × (reading ≡ Err Line))
 
 module _ {S : Type 0} (gives : S → ℕ → Type 0) (Sets : S → ℕ → Option ℕ → S → Type 0)
     (Steps : S → ℕ → Ask → Result Reply DeskFault → S → Type 0) (policy : Policy) where
@@ -39,7 +39,7 @@ module _ {S : Type 0} (gives : S → ℕ → Type 0) (Sets : S → ℕ → Optio
     pub unserved : List ℕ
     pub rest : List ℕ
     pub split : stream ≡ bytes_of turns ++ (unserved ++ rest)
-    pub no_line : HasNoFeed unserved
+    pub no_line : HasNoLineFeed unserved
     pub left_is : left ≡ Some rest
     pub serves : Serves gives Sets Steps policy from turns to
     pub wrote : written ≡ Some (before ++ answers_of turns)

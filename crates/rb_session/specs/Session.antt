@@ -13,7 +13,7 @@ use Rattle.rb_protocol.specs.declared.line_fault.LineFault.{LineFault}
 use Rattle.rb_protocol.specs.declared.line_reply.LineReply.{LineReply}
 use Rattle.rb_protocol.specs.declared.line_reply.LineReply.TheVariants as lines
 use Rattle.rb_protocol.specs.declared.error_word.ErrorWord.TheVariants as words
-use Rattle.rb_session.specs.Lines.{HasNoFeed, line_of}
+use Rattle.rb_session.specs.Lines.{HasNoLineFeed, line_of}
 use Rattle.rb_session.specs.Turn.{Point, IsTurn}
 
 -- A line that was served: its bytes before the line feed, what they were read as, and its replies.
@@ -39,7 +39,7 @@ answers_of (turn ∷ turns) = texts_of turn.replies ++ answers_of turns
 
 -- the bytes before a line feed are a line that is read so
 abbrev pub IsLine : List ℕ → Result Request LineFault → Type 0
-IsLine raw reading = HasNoFeed raw × IsReading (line_of raw) reading
+IsLine raw reading = HasNoLineFeed raw × IsReading (line_of raw) reading
 
 -- what the bytes behind the last line feed get: one line, where there are any
 abbrev pub rest_text : List ℕ → List ℕ
@@ -60,7 +60,7 @@ module _ {S : Type 0} (gives : S → ℕ → Type 0) (Sets : S → ℕ → Optio
     pub turns : List Turn
     pub rest : List ℕ
     pub split : stream ≡ bytes_of turns ++ rest
-    pub no_line : HasNoFeed rest
+    pub no_line : HasNoLineFeed rest
     pub serves : Serves from turns to
     pub answers : text ≡ answers_of turns ++ rest_text rest
 

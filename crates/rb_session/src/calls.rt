@@ -7,7 +7,7 @@ ghost use Rattle.rb_retry.specs.declared.desk_fault.DeskFault.{DeskFault};
 ghost use Rattle.rb_protocol.specs.declared.line_reply.LineReply.TheVariants as lines;
 ghost use Rattle.rb_protocol.specs.declared.error_word.ErrorWord.TheVariants as words;
 ghost use Rattle.rb_session.specs.Turn.{IsFirstDraft, fault_line, reply_line};
-ghost use Rattle.rb_session.specs.Progress.{IsPlain, answer_line};
+ghost use Rattle.rb_session.specs.Progress.{answer_line};
 
 use rb_delayed::{Payload, add_delay};
 use rb_protocol::{ErrorWord, LineReply};

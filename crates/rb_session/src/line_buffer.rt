@@ -1,5 +1,5 @@
 ghost use Rattle.std.specs.Prelude.{◌≡◌, ℕ, ◌+◌, ◌<◌, ◌≤◌, List, [], ◌∷◌, ◌++◌, ◌↔◌, length, take, slice_index, ◌-◌, Some, IfOk, IfSome, IsTrue, MatchOption, vec_len};
-ghost use Rattle.rb_session.specs.Lines.{HasNoFeed, line_of};
+ghost use Rattle.rb_session.specs.Lines.{HasNoLineFeed, line_of};
 ghost use Rattle.rb_protocol.specs.Reading.{IsReading};
 ghost use Rattle.rb_session.specs.declared.line_buffer.TheConstants.{MOST_RAW_BYTES};
 
@@ -65,7 +65,7 @@ impl LineBuffer {
 
     /// Reads once, after the bytes that are held. The number of bytes is 0 at the end of the input.
     pub fn read_from<R: Read>(&mut self, reader: &mut R) -> io::Result<usize>
-        ensures { (bytes stream : List ℕ) → IsUnserved self.old bytes → HasNoFeed bytes → R.remaining reader.old ≡ Some stream
+        ensures { (bytes stream : List ℕ) → IsUnserved self.old bytes → HasNoLineFeed bytes → R.remaining reader.old ≡ Some stream
             → TakesMore bytes stream result self.new (R.remaining reader.new) }
     {
         self.make_room();
@@ -88,7 +88,7 @@ impl LineBuffer {
 
     // Puts the bytes that are held to the front, or drops them where they are too long already.
     fn make_room(&mut self)
-        ensures kept { (bytes : List ℕ) → IsUnserved self.old bytes → HasNoFeed bytes → IsUnserved self.new bytes }
+        ensures kept { (bytes : List ℕ) → IsUnserved self.old bytes → HasNoLineFeed bytes → IsUnserved self.new bytes }
         ensures room { self.new.end < vec_len self.new.bytes }
     {
         let held = self.end - self.start;
@@ -107,8 +107,8 @@ impl LineBuffer {
 // How many bytes stand before the first line feed.
 #[tactic(auto, using(crate::proofs::LineFeeds::first_feed))]
 fn find_feed(held: &[u8]) -> Option<usize>
-    ensures { MatchOption result (HasNoFeed held.now) (λ len.
-        (len < length held.now) × HasNoFeed (take len held.now) × (slice_index held.now len ≡ 10)) }
+    ensures { MatchOption result (HasNoLineFeed held.now) (λ len.
+        (len < length held.now) × HasNoLineFeed (take len held.now) × (slice_index held.now len ≡ 10)) }
 {
     memchr(LINE_FEED, held)
 }

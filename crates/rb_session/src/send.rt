@@ -22,6 +22,16 @@ pub fn send_line<W: Write>(writer: &mut W, line: &[u8]) -> Result<(), WriteFault
     Ok(())
 }
 
+/// Writes a line and flushes. After an `Err` the writer has got the first bytes of it, perhaps none or all.
+pub fn send_at_once<W: Write>(writer: &mut W, line: &[u8]) -> Result<(), WriteFault>
+    ensures { (before : List ℕ) → W.contents writer.old ≡ Some before → MatchResult result
+        (λ _. W.contents writer.new ≡ Some (before ++ line.now))
+        (λ _. (taken : ℕ) × (W.contents writer.new ≡ Some (before ++ take taken line.now))) }
+{
+    send_line(writer, line)?;
+    flush(writer)
+}
+
 /// Writes bytes, by one write where that takes all of them, and else again for what was not taken. A
 /// write that was interrupted is made again.
 ///

@@ -1,7 +1,7 @@
 ghost use Rattle.std.specs.Prelude.{◌≡◌, ◌≤◌, ◌↔◌, ℕ, List, [], Some, None, Option, Ok, OnOk, OnErr, IsTrue, vec_capacity};
 ghost use Rattle.rb_protocol.specs.declared.request.Request.TheVariants.{Quit};
 ghost use Rattle.rb_session.specs.Buffer.{IsUnserved, TakesMore};
-ghost use Rattle.rb_session.specs.Lines.{HasNoFeed};
+ghost use Rattle.rb_session.specs.Lines.{HasNoLineFeed};
 ghost use Rattle.rb_session.specs.Turn.{point, AsksToWait};
 ghost use Rattle.rb_session.specs.Ran.{Ran};
 ghost use Rattle.rb_session.specs.Outlet.{RanThrough, HandedOn};
@@ -160,7 +160,7 @@ fn read_more<R: Read, O: Outlet>(
     buffer: &mut LineBuffer,
 ) -> io::Result<usize>
     requires { O.IsClear _outlet.now }
-    ensures { (bytes stream : List ℕ) → IsUnserved buffer.old bytes → HasNoFeed bytes → R.remaining reader.old ≡ Some stream
+    ensures { (bytes stream : List ℕ) → IsUnserved buffer.old bytes → HasNoLineFeed bytes → R.remaining reader.old ≡ Some stream
         → TakesMore bytes stream result buffer.new (R.remaining reader.new) }
 {
     buffer.read_from(reader)

@@ -65,11 +65,6 @@ module _ (words : List ℕ) (level : ℕ) (low : (k : ℕ) → k < level → get
   no_mark_below cell below =
       ap (λ w. bit_at w (cell % 64)) (low (cell / 64) below) ∙ bit_at-zero (cell % 64)
 
-  pub no_mark : length words ≤ level → (cell : ℕ) → mark words cell ≡ 0
-  no_mark all cell = ⊎_elim (no_mark_below cell)
-      (λ past. ap (λ w. bit_at w (cell % 64)) (get_or_past words (cell / 64) 0 (omega arith)) ∙ bit_at-zero (cell % 64))
-      (cases_lt (cell / 64) level)
-
   module _ (word : ℕ) (is : word ≡ get_or words level 0) (some : 0 < word) (fits : word < 2 ^ 64) where
     abbrev pub first_digit : ℕ
     first_digit = trailing_zeros w64 word

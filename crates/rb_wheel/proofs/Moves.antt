@@ -48,13 +48,6 @@ lies_in base (Some expiry) (Some cell) e at is lies after in_cell =
 module _ (base : ℕ) (expiries cells : List (Option ℕ)) (right : LieRight base expiries cells) where
   entry : (slot at : ℕ) → cell_at cells slot ≡ Some at → IsEntryAt base (slot_expiry expiries slot) at
   entry slot at lies = entry_at base (slot_expiry expiries slot) (cell_at cells slot) at lies (right.each slot)
-
-  -- a later base, where no entry lies in a cell
-  pub right_none : (next : ℕ) → base ≤ next → ((at : ℕ) → IsVacant cells at) → LieRight next expiries cells
-  right_none next up vacant = record {
-    each = λ slot. cases_option (LiesRight next (slot_expiry expiries slot) (cell_at cells slot)) (cell_at cells slot)
-        (λ none. lies_later base next (slot_expiry expiries slot) (cell_at cells slot) up none (right.each slot))
-        (λ at lies. absurd (vacant at slot lies));
   }
 
   module _ (cell : ℕ) (first : IsFirstCell cells cell) where

@@ -28,9 +28,6 @@ same_units_up level higher a b up same =
     ∙ ap (λ n. n / 2 ^ (6 * (higher - (level + 1)))) (sym (above_is_units level a) ∙ same ∙ above_is_units level b)
     ∙ shifted b
 
-same_of_parts : (x y : ℕ) → x / 64 ≡ y / 64 → x % 64 ≡ y % 64 → x ≡ y
-same_of_parts x y = omega arith
-
 module _ (base : ℕ) where
   -- an entry of a cell above the lowest level has more units there than the base
   more_units : (expiry cell : ℕ) → base ≤ expiry → IsCellOf base expiry cell → 0 < level_of cell

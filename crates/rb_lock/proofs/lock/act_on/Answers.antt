@@ -3,8 +3,8 @@ use Rattle.rb_lock.proofs.lock.act_on.Goals as goal
 
 pub returns : goal.returns
 returns g c = record {
-  before = c.in-Some.home;
-  after = record { kept = c.act.new.self; names = c.in-Some.home.names };
+  before = c.in-Some.pair;
+  after = record { kept = c.act.new.self; names = c.in-Some.pair.names };
   was = search rules;
   is = refl;
   names = refl;

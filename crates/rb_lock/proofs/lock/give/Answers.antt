@@ -5,4 +5,4 @@ use Rattle.rb_lock.proofs.lock.give.Goals as goal
 pub swap-found-requires : goal.swap-found-requires
 swap-found-requires g c =
     let seat = c.args.seat.now in
-    (c.requires.table, omega (arith, c.requires.lock.words), gives_at {T = g.row.T.Denot} c.args.words.now.table_id.slots seat.id seat.me c.requires.holds)
+    (c.requires.table, omega (arith, c.requires.lock.words), gives_at {T = g.row.T.Denot} c.args.table.now.table_id.slots seat.id seat.me c.requires.holds)

@@ -1,5 +1,5 @@
 use Rattle.std.proofs.Common.{arith, ap, ◌∙◌}
-use Rattle.rb_lock.specs.LockSteps.{Sat}
+use Rattle.rb_lock.specs.LockSteps.{LockSeat}
 use Rattle.rb_lock.proofs.Meetings.{notes_at, meets_at, compares_at}
 use Rattle.rb_lock.proofs.lock.learn.Goals as goal
 
@@ -20,7 +20,7 @@ join_seat-requires g c =
     let noted = c.split_seat-note.ensures in (
       c.requires.table,
       noted.3 ∙ c.requires.other_table,
-      ap (λ (m : Sat g.row.T.Denot). m.1) noted.4,
+      ap (λ (m : LockSeat g.row.T.Denot). m.1) noted.4,
       omega (arith, c.requires.lock.words),
       meets_at {T = g.row.T.Denot} seat.table_id other.table_id seat.me other.me c.requires.rest c.requires.other_rest note.me noted.4 seat.id note.id,
     )
@@ -33,5 +33,5 @@ load-requires g c =
       c.join_seat.ensures.0 ∙ c.requires.table,
       omega (arith, c.requires.lock.words),
       compares_at {T = g.row.T.Denot} seat.table_id other.table_id seat.me other.me c.requires.rest c.requires.other_rest c.split_seat-note.result.me c.split_seat-note.ensures.4
-          c.args.words.now.table_id.slots met.id met.me c.join_seat.ensures.2,
+          c.args.table.now.table_id.slots met.id met.me c.join_seat.ensures.2,
     )

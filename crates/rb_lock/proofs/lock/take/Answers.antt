@@ -9,6 +9,6 @@ swap-requires g c =
     let again = c.has_taken-2.ensures in (
       c.loop.invariant.0 ∙ (again.table ∙ (first.table ∙ c.requires.table)),
       omega (arith, c.requires.lock.words),
-      takes_again {T = g.row.T.Denot} c.args.words.now.table_id.slots c.loop.seat.id seat.table_id seat.me c.loop.seat.me
+      takes_again {T = g.row.T.Denot} c.args.table.now.table_id.slots c.loop.seat.id seat.table_id seat.me c.loop.seat.me
           (c.loop.invariant.1 ∙ (again.lost c.if-has_taken-2.false ∙ first.lost c.if-has_taken.false)) c.requires.rest (λ n. 2) (λ n. omega arith),
     )

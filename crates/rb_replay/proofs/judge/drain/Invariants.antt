@@ -4,4 +4,4 @@ use Rattle.rb_replay.proofs.judge.drain.Given as goal
 
 -- the ids so far were heads', and have left
 abbrev pub invariant-loop-id : goal.invariant-loop-id
-invariant-loop-id l = Drained l.fn.standing l.standing l.now (take l.id-index l.ids)
+invariant-loop-id l = Drained l.fn.queue l.queue l.now (take l.id-index l.ids)

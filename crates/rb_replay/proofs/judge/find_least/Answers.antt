@@ -5,6 +5,6 @@ use Rattle.rb_replay.proofs.judge.find_least.Goals as goal
 pub returns : goal.returns
 returns c = (
   sym c.in-Some.ensures.element,
-  found_least c.args.standing.now.bag c.args.id c.in-Some.element _ _ c.in-Some.ensures.element c.in-Some.ensures.named c.next_expiry.ensures
+  found_least c.args.queue.now.bag c.args.id c.in-Some.element _ _ c.in-Some.ensures.element c.in-Some.ensures.named c.next_expiry.ensures
       c.unwrap_or-least.ensures c.if-least-element.false,
 )

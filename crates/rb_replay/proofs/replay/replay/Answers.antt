@@ -1,8 +1,8 @@
 use Rattle.rb_replay.proofs.Replays.{redone_more, redone_refuses, ids_left}
 use Rattle.rb_replay.proofs.replay.replay.Goals as goal
 
-pub redo-requires : goal.redo-requires
-redo-requires c = ids_left c.args.opening.now c.args.events.now c.loop-index.index _ c.requires c.loop-index.invariant
+pub replay_event-requires : goal.replay_event-requires
+replay_event-requires c = ids_left c.args.opening.now c.args.events.now c.loop-index.index _ c.requires c.loop-index.invariant
 
 pub returns-in-Err : goal.returns-in-Err
 returns-in-Err c =
@@ -13,4 +13,4 @@ returns-in-Err c =
 pub loop-index-preserved : goal.loop-index-preserved
 loop-index-preserved c =
     redone_more c.args.opening.now c.args.events.now c.loop-index.index c.index-events-index.result _ _ c.loop-index-test.true c.index-events-index.is
-    c.loop-index.invariant c.in_default-redo.ensures.0 c.in_default-redo.ensures.1
+    c.loop-index.invariant c.in_default-replay_event.ensures.0 c.in_default-replay_event.ensures.1

@@ -1,6 +1,6 @@
 use Rattle.std.proofs.Common.{Err, Ok, inr, subst}
 use Rattle.rb_replay.specs.Readings.{IsReadAs}
-use Rattle.rb_runs.specs.declared.broker_fault.BrokerFault.TheVariants.{BadOpening}
+use Rattle.rb_ending.specs.declared.broker_fault.BrokerFault.TheVariants.{BadOpening}
 use Rattle.rb_runs.proofs.Beginnings.{goes_on_same, refused, too_large}
 use Rattle.rb_runs.proofs.opening.opening_in.Goals as goal
 

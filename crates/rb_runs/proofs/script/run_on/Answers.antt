@@ -9,8 +9,8 @@ use Rattle.rb_retry.specs.declared.policy.Policy.{Policy}
 use Rattle.rb_session.specs.declared.ended.Ended.{Ended}
 use Rattle.rb_session.specs.declared.session_fault.SessionFault.{SessionFault}
 use Rattle.rb_session.specs.declared.session_fault.SessionFault.TheVariants.{Memory}
-use Rattle.rb_runs.specs.declared.broker_fault.BrokerFault.{BrokerFault}
-use Rattle.rb_runs.specs.Gathered.{RanGathered}
+use Rattle.rb_ending.specs.declared.broker_fault.BrokerFault.{BrokerFault}
+use Rattle.rb_session.specs.Gathered.{RanGathered}
 use Rattle.rb_runs.specs.Script.{Finishes, IsFresh, IsNew, RanScript}
 use Rattle.rb_runs.proofs.script.run_on.Goals as goal
 

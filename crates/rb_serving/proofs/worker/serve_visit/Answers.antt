@@ -4,7 +4,7 @@ use Rattle.rb_shared_desk.specs.SharedSteps.{SharedState, SharedSteps, SetsShare
 use Rattle.rb_retry.specs.declared.policy.Policy.{Policy}
 use Rattle.rb_session.specs.declared.ended.Ended.{Ended}
 use Rattle.rb_session.specs.declared.session_fault.SessionFault.{SessionFault}
-use Rattle.rb_runs.specs.Gathered.{RanGathered}
+use Rattle.rb_session.specs.Gathered.{RanGathered}
 use Rattle.rb_serving.specs.Serving.{RanVisit}
 use Rattle.rb_serving.proofs.worker.serve_visit.Goals as goal
 

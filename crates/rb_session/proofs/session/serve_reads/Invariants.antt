@@ -2,7 +2,7 @@ use Rattle.std.proofs.Common.{◌≡◌, ℕ, ◌≤◌, List, ◌++◌, Some}
 use Rattle.std.specs.Prelude.{vec_capacity}
 use Rattle.rb_protocol.specs.declared.line_reply.TheConstants.{REPLY_ROOM}
 use Rattle.rb_session.specs.Buffer.{IsUnserved}
-use Rattle.rb_session.specs.Lines.{HasNoFeed}
+use Rattle.rb_session.specs.Lines.{HasNoLineFeed}
 use Rattle.rb_session.specs.Turn.{point}
 use Rattle.rb_session.specs.Progress.{Stands}
 use Rattle.rb_session.proofs.session.serve_reads.Given as goal
@@ -13,7 +13,7 @@ invariant-loop g l = record {
   stands : (stream before : List ℕ) → g.R.Read.remaining l.fn.reader ≡ Some stream → g.O.Outlet.contents l.fn.outlet ≡ Some before
       → (left : List ℕ) × (bytes : List ℕ) × (g.R.Read.remaining l.reader ≡ Some left) × (stream ≡ bytes ++ left)
       × (stands : Stands g.D.Desk.gives g.D.Desk.Sets g.D.Desk.Steps l.policy (point (g.D.Desk.state l.fn.desk) l.fn.held) bytes before (point (g.D.Desk.state l.desk) l.held) (g.O.Outlet.contents l.outlet))
-      × HasNoFeed stands.rest × IsUnserved l.buffer stands.rest;
+      × HasNoLineFeed stands.rest × IsUnserved l.buffer stands.rest;
   room : REPLY_ROOM ≤ vec_capacity l.text;
   becomes : g.O.Outlet.Becomes l.fn.outlet l.outlet;
   name : g.D.Desk.name (g.D.Desk.state l.desk) ≡ g.D.Desk.name (g.D.Desk.state l.fn.desk);

@@ -2,23 +2,23 @@ use Rattle.std.proofs.Common.{◌≡◌, List, [], ◌∷◌, ◌++◌, sym, ap,
 use Rattle.std.specs.Prelude.{Option, Some}
 use Rattle.atomic_table.specs.Table.{opening}
 use Rattle.rb_kept.specs.Log.{Log}
-use Rattle.rb_lock.specs.Rule.{Locked, home_of}
+use Rattle.rb_lock.specs.Rule.{Locked, pair_of}
 use Rattle.rb_lock.specs.Views.{newcomer}
-use Rattle.rb_lock.specs.declared.home.Home.{Home}
+use Rattle.rb_lock.specs.declared.pair.Pair.{Pair}
 use Rattle.rb_lock.proofs.Openings.{opens}
 use Rattle.rb_lock.proofs.shared.Shared.open.Goals as goal
 
 pub new-requires : goal.new-requires
 new-requires g c =
     let slots = c.push_reserved.new.self.items in
-    let one : slots ≡ Some (home_of c.args.kept 1) ∷ [] =
-    c.push_reserved.ensures.items ∙ ap (λ (l : List (Option (Home g.row.T.Denot))). l ++ Some (home_of c.args.kept 1) ∷ []) c.in-Ok.ensures.items in
+    let one : slots ≡ Some (pair_of c.args.kept 1) ∷ [] =
+    c.push_reserved.ensures.items ∙ ap (λ (l : List (Option (Pair g.row.T.Denot))). l ++ Some (pair_of c.args.kept 1) ∷ []) c.in-Ok.ensures.items in
     subst (λ (start : Log). Locked (opening (0 ∷ []) slots (newcomer start))) (sym c.of-start.ensures)
-    (subst (λ (l : List (Option (Home g.row.T.Denot))). Locked (opening (0 ∷ []) l (newcomer c.args.kept))) (sym one) (opens c.args.kept c.requires.history))
+    (subst (λ (l : List (Option (Pair g.row.T.Denot))). Locked (opening (0 ∷ []) l (newcomer c.args.kept))) (sym one) (opens c.args.kept c.requires.history))
 
 pub only_kept-requires : goal.only_kept-requires
 only_kept-requires g c = (
-  home_of c.args.kept 1,
+  pair_of c.args.kept 1,
   c.in-Err.ensures.err
-      ∙ (c.push_reserved.ensures.items ∙ ap (λ (l : List (Option (Home g.row.T.Denot))). l ++ Some (home_of c.args.kept 1) ∷ []) c.in-Ok.ensures.items),
+      ∙ (c.push_reserved.ensures.items ∙ ap (λ (l : List (Option (Pair g.row.T.Denot))). l ++ Some (pair_of c.args.kept 1) ∷ []) c.in-Ok.ensures.items),
 )

@@ -1,28 +1,28 @@
 use Rattle.std.proofs.Common.{arith, sym, ap, ◌∙◌, ◌∷◌}
 use Rattle.std.specs.Prelude.{Some}
-use Rattle.rb_lock.specs.LockSteps.{Sat}
+use Rattle.rb_lock.specs.LockSteps.{LockSeat}
 use Rattle.rb_lock.specs.Passes.{Seen}
 use Rattle.rb_lock.specs.Views.{pass_of}
-use Rattle.rb_lock.specs.Rule.{home_of}
+use Rattle.rb_lock.specs.Rule.{pair_of}
 use Rattle.rb_lock.proofs.SplitPasses.{none_may_give, may_draw, may_cut}
 use Rattle.rb_lock.proofs.shared.Shared.split.Goals as goal
 
 pub next_name-requires-clause-hand : goal.next_name-requires-clause-hand
 next_name-requires-clause-hand g c =
-    let got = c.take.ensures.got in (
-      home_of {T = g.row.T.Denot} got.log got.names,
-      got.hand ∙ ap (λ (m : Sat g.row.T.Denot). (0, Some (home_of {T = g.row.T.Denot} got.log got.names)) ∷ m.1) c.pass.invariant.rest,
+    let got = c.take.ensures.taken in (
+      pair_of {T = g.row.T.Denot} got.log got.names,
+      got.hand ∙ ap (λ (m : LockSeat g.row.T.Denot). (0, Some (pair_of {T = g.row.T.Denot} got.log got.names)) ∷ m.1) c.pass.invariant.rest,
     )
 
 pub give-requires-clause-holds : goal.give-requires-clause-holds
 give-requires-clause-holds g c =
     none_may_give {T = g.row.T.Denot} (pass_of c.pass.inside.seat.table_id c.pass.inside.seat.me.0) c.pass.inside.seat.me c.take.new.seat.me c.next_name.new.seat.me
-    c.pass.invariant.rest c.take.ensures.got c.in_default.ensures.names
+    c.pass.invariant.rest c.take.ensures.taken c.in_default.ensures.names
 
 pub give_and_draw-requires-clause-holds : goal.give_and_draw-requires-clause-holds
 give_and_draw-requires-clause-holds g c =
     may_draw {T = g.row.T.Denot} (pass_of c.pass.inside.seat.table_id c.pass.inside.seat.me.0) c.pass.inside.seat.me c.take.new.seat.me c.next_name.new.seat.me
-    c.pass.invariant.rest c.take.ensures.got c.in-Some.name c.in-Some.ensures.names
+    c.pass.invariant.rest c.take.ensures.taken c.in-Some.name c.in-Some.ensures.names
 
 pub split_seat-seat-requires : goal.split_seat-seat-requires
 split_seat-seat-requires g c = (
@@ -30,5 +30,5 @@ split_seat-seat-requires g c = (
       ∙ (c.in-Some.ensures.table ∙ (c.take.ensures.table ∙ (ap (λ (p : Seen). p.table) c.pass.view_is ∙ (c.requires.pass ∙ sym c.self.view_is)))),
   omega (arith, c.self.invariant.words),
   may_cut {T = g.row.T.Denot} (pass_of c.pass.inside.seat.table_id c.pass.inside.seat.me.0) c.pass.inside.seat.me c.take.new.seat.me c.next_name.new.seat.me
-      c.pass.invariant.rest c.take.ensures.got c.in-Some.name c.in-Some.ensures.names c.give_and_draw.new.seat.me c.give_and_draw.ensures.drawn c.give_and_draw.new.seat.id,
+      c.pass.invariant.rest c.take.ensures.taken c.in-Some.name c.in-Some.ensures.names c.give_and_draw.new.seat.me c.give_and_draw.ensures.drawn c.give_and_draw.new.seat.id,
 )

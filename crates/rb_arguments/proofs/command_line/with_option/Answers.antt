@@ -1,0 +1,5 @@
+use Rattle.std.proofs.lemmas.Result.{IfOk-weaker}
+use Rattle.rb_arguments.proofs.command_line.with_option.Goals as goal
+
+pub returns-clause-app : goal.returns-clause-app
+returns-clause-app c = IfOk-weaker c.arg.result _ _ (λ wider adds. adds.shape c.requires.local) c.arg.ensures

@@ -1,0 +1,173 @@
+ghost use Rattle.std.specs.Prelude.{◌≡◌, ℕ, List, IfOk, false};
+ghost use Rattle.std.specs.Borrow.{Bor};
+ghost use Rattle.clap.specs.Words.{rule_of};
+ghost use Rattle.rb_arguments.specs.Arguments.{AreTimerNames, attempts_option, calls_option, chains_flag, delay_option, file_argument, from_option, history_option, port_option, rate_option, sessions_option, timer_option, turns_option, workers_option};
+
+use crate::run_options::MOST_WORKERS;
+use crate::serve_options::{MOST_SESSIONS, MOST_TURNS};
+use crate::timer_kind::TimerKind;
+use clap::builder::ValueParser;
+use clap::{Arg, ArgAction};
+use rb_delayed::GREATEST_ATTEMPT;
+use rb_kept::MOST_CALLS;
+use std::alloc::{AllocError, Global};
+
+/// `--calls N`
+pub fn calls_option<'a>(alloc: Global) -> Arg<'a>
+    ensures rule { rule_of result ≡ calls_option }
+    ensures local { result.global ≡ false }
+{
+    Arg::new(alloc, "calls")
+        .long("calls")
+        .value_name("N")
+        .help("how many calls the run has room for")
+        .value_parser(ValueParser::Unsigned(1, MOST_CALLS))
+        .default_value("10000")
+}
+
+/// `--timer T`
+pub fn timer_option<'a>(alloc: Global) -> Arg<'a>
+    ensures rule { (names : Bor (List (Bor (List ℕ)))) × AreTimerNames names × (rule_of result ≡ timer_option names) }
+    ensures local { result.global ≡ false }
+{
+    Arg::new(alloc, "timer")
+        .long("timer")
+        .value_name("T")
+        .help("which timer the queue uses")
+        .value_parser(TimerKind::NAMES.as_slice())
+        .default_value(TimerKind::DEFAULT_NAME)
+}
+
+/// `--delay N`
+pub fn delay_option<'a>(alloc: Global) -> Arg<'a>
+    ensures rule { rule_of result ≡ delay_option }
+    ensures local { result.global ≡ false }
+{
+    Arg::new(alloc, "delay")
+        .long("delay")
+        .value_name("N")
+        .help("how many nanoseconds after its failure a job is offered again")
+        .value_parser(ValueParser::Unsigned(0, u64::MAX))
+        .default_value("1000")
+}
+
+/// `--rate N`
+pub fn rate_option<'a>(alloc: Global) -> Result<Arg<'a>, AllocError>
+    ensures rule { IfOk result (λ arg. rule_of arg ≡ rate_option) }
+    ensures local { IfOk result (λ arg. arg.global ≡ false) }
+{
+    Arg::new(alloc, "rate")
+        .long("rate")
+        .value_name("N")
+        .help("how many nanoseconds lie between two attempts of a job, in the place of a delay")
+        .value_parser(ValueParser::Unsigned(0, u64::MAX))
+        .conflicts_with("delay")
+}
+
+/// `--attempts N`
+pub fn attempts_option<'a>(alloc: Global) -> Arg<'a>
+    ensures rule { rule_of result ≡ attempts_option }
+    ensures local { result.global ≡ false }
+{
+    Arg::new(alloc, "attempts")
+        .long("attempts")
+        .value_name("N")
+        .help("how many attempts a job has")
+        .value_parser(ValueParser::Unsigned(1, u64::from(GREATEST_ATTEMPT)))
+        .default_value("3")
+}
+
+/// `--history FILE`
+pub fn history_option<'a>(alloc: Global) -> Arg<'a>
+    ensures rule { rule_of result ≡ history_option }
+    ensures local { result.global ≡ false }
+{
+    Arg::new(alloc, "history")
+        .long("history")
+        .value_name("FILE")
+        .help("the file that the history of the run is written to")
+}
+
+/// `--from FILE`
+pub fn from_option<'a>(alloc: Global) -> Arg<'a>
+    ensures rule { rule_of result ≡ from_option }
+    ensures local { result.global ≡ false }
+{
+    Arg::new(alloc, "from").long("from").value_name("FILE").help(
+        "the file with the history of the run behind which this one goes on",
+    )
+}
+
+/// `--port P`
+pub fn port_option<'a>(alloc: Global) -> Arg<'a>
+    ensures rule { rule_of result ≡ port_option }
+    ensures local { result.global ≡ false }
+{
+    Arg::new(alloc, "port")
+        .long("port")
+        .value_name("P")
+        .help("the TCP port on 127.0.0.1 at which clients are served")
+        .required(true)
+        .value_parser(ValueParser::Unsigned(1, u64::from(u16::MAX)))
+}
+
+/// `--workers N`
+pub fn workers_option<'a>(alloc: Global) -> Arg<'a>
+    ensures rule { rule_of result ≡ workers_option }
+    ensures local { result.global ≡ false }
+{
+    Arg::new(alloc, "workers")
+        .long("workers")
+        .value_name("N")
+        .help("how many sessions are served at once")
+        .value_parser(ValueParser::Unsigned(1, MOST_WORKERS))
+        .default_value("4")
+}
+
+/// `--sessions N`
+pub fn sessions_option<'a>(alloc: Global) -> Arg<'a>
+    ensures rule { rule_of result ≡ sessions_option }
+    ensures local { result.global ≡ false }
+{
+    Arg::new(alloc, "sessions")
+        .long("sessions")
+        .value_name("N")
+        .help("after how many sessions the server ends")
+        .value_parser(ValueParser::Unsigned(1, MOST_SESSIONS))
+        .default_value("1")
+}
+
+/// `--turns N`
+pub fn turns_option<'a>(alloc: Global) -> Arg<'a>
+    ensures rule { rule_of result ≡ turns_option }
+    ensures local { result.global ≡ false }
+{
+    Arg::new(alloc, "turns")
+        .long("turns")
+        .value_name("N")
+        .help("after how many turns a wait of a session is given up")
+        .value_parser(ValueParser::Unsigned(0, MOST_TURNS))
+        .default_value("10000")
+}
+
+/// `--chains`
+pub fn chains_flag<'a>(alloc: Global) -> Arg<'a>
+    ensures rule { rule_of result ≡ chains_flag }
+    ensures local { result.global ≡ false }
+{
+    Arg::new(alloc, "chains")
+        .long("chains")
+        .help("checks the retries too")
+        .action(ArgAction::SetTrue)
+}
+
+/// `FILE`
+pub fn file_argument<'a>(alloc: Global) -> Arg<'a>
+    ensures rule { rule_of result ≡ file_argument }
+    ensures local { result.global ≡ false }
+{
+    Arg::new(alloc, "file")
+        .value_name("FILE")
+        .help("the file with the history")
+        .required(true)
+}

@@ -1,0 +1,24 @@
+//! The words of the command line: which command they name, and what its options and files are.
+//!
+//! `clap` reads the words and writes the texts for those who use the command. What the options are, and
+//! what is used where one is left out, is said here.
+#![tactic(auto)]
+
+mod arguments;
+mod command_line;
+mod given_server;
+mod given_words;
+mod replay_options;
+mod run_options;
+mod script_options;
+mod serve_options;
+mod timer_kind;
+mod words;
+
+pub use command_line::read_words;
+pub use replay_options::ReplayOptions;
+pub use run_options::{MOST_WORKERS, RunOptions};
+pub use script_options::ScriptOptions;
+pub use serve_options::{MOST_SESSIONS, MOST_TURNS, ServeOptions};
+pub use timer_kind::TimerKind;
+pub use words::Words;

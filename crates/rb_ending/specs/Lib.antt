@@ -1,0 +1,5 @@
+pub use Rattle.rb_replay.specs.Written
+pub use Rattle.rb_session.specs.Ran
+pub mod BrokerFault
+pub mod Recording
+pub mod AuditText

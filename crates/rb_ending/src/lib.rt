@@ -1,0 +1,12 @@
+//! How a run of the program ends: its fault with its exit status, its history, and its audit line.
+//!
+//! A script and a server end in the same ways, so both stand on this.
+#![tactic(auto)]
+
+mod audit;
+mod broker_fault;
+mod recording;
+
+pub use audit::audit_line;
+pub use broker_fault::BrokerFault;
+pub use recording::record;

@@ -1,0 +1,85 @@
+//! What each step of the lock tells, and how seats are cut and joined. These types are for the proofs alone.
+use crate::pair::Pair;
+use crate::view::View;
+use atomic_table::{Join, Play, Split};
+use rb_timer::Timer;
+
+/// The lock is taken, or found taken.
+pub(crate) struct Take;
+
+impl<T: Timer> Play<Option<Pair<T>>, View> for Take {
+    ghost use Rattle.rb_lock.specs.LockSteps.{taken};
+
+    ghost then = { taken };
+}
+
+/// The lock is given back.
+pub(crate) struct Give;
+
+impl<T: Timer> Play<Option<Pair<T>>, View> for Give {
+    ghost use Rattle.rb_lock.specs.LockSteps.{gave};
+
+    ghost then = { gave };
+}
+
+/// The lock is given back, and a name is drawn in the same step.
+pub(crate) struct Draw;
+
+impl<T: Timer> Play<Option<Pair<T>>, View> for Draw {
+    ghost use Rattle.rb_lock.specs.LockSteps.{drew};
+
+    ghost then = { drew };
+}
+
+/// A drawn name is given to a new seat.
+pub(crate) struct Cut;
+
+impl Split<View> for Cut {
+    ghost use Rattle.rb_lock.specs.Views.{rested, cut_off};
+
+    ghost left = { rested };
+
+    ghost right = { cut_off };
+}
+
+/// The records of one seat follow those of another.
+pub(crate) struct Fold;
+
+impl Join<View> for Fold {
+    ghost use Rattle.rb_lock.specs.Views.{folding, nobody};
+
+    ghost both = { folding };
+
+    ghost spent = { nobody };
+}
+
+/// A note is made of what a seat has seen.
+pub(crate) struct Note;
+
+impl Split<View> for Note {
+    ghost use Rattle.rb_lock.specs.Views.{note_of};
+
+    ghost left = { λ v. v };
+
+    ghost right = { note_of };
+}
+
+/// A note is held beside what another seat has seen.
+pub(crate) struct Compare;
+
+impl Join<View> for Compare {
+    ghost use Rattle.rb_lock.specs.Views.{meeting, nobody};
+
+    ghost both = { meeting };
+
+    ghost spent = { nobody };
+}
+
+/// The word is read: of the two lists one begins the other, as both begin the history.
+pub(crate) struct Learn;
+
+impl<T: Timer> Play<Option<Pair<T>>, View> for Learn {
+    ghost use Rattle.rb_lock.specs.LockSteps.{learned};
+
+    ghost then = { learned };
+}

@@ -1,8 +1,0 @@
-use Rattle.std.proofs.Common.{sym, ◌∙◌}
-use Rattle.rb_replay.proofs.Registers.{begun_at}
-use Rattle.rb_replay.proofs.register.Register.first_begun.Goals as goal
-
-pub returns : goal.returns
-returns c =
-    c.then_some.ensures
-    ∙ sym (begun_at c.args.self.now c.args.attempt c.in_ok-place_of.field-0 c.index-arrival.result.now c.if-attempt-ne1.false c.in_ok-place_of.ensures.some c.index-arrival.ensures)

@@ -1,7 +1,0 @@
-use Rattle.std.proofs.Common.{take}
-use Rattle.rb_replay.proofs.Registers.{HasOpened}
-use Rattle.rb_replay.proofs.register.Register.new_from.Given as goal
-
--- the elements so far came in, and none was offered
-abbrev pub invariant-loop-element : goal.invariant-loop-element
-invariant-loop-element l = HasOpened (take l.element-index l.element-items) l.fn.opening.next_id l.register

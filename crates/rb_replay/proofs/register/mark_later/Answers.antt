@@ -1,9 +1,0 @@
-use Rattle.std.proofs.Common.{arith}
-use Rattle.rb_replay.proofs.Registers.{marked, first_unmarked}
-use Rattle.rb_replay.proofs.register.mark_later.Goals as goal
-
-pub returns-in_ok-insert : goal.returns-in_ok-insert
-returns-in_ok-insert c = marked c.args.attempt _ _ c.in_ok-insert.ensures.updates.0
-
-pub returns-else-attempt-ge2 : goal.returns-else-attempt-ge2
-returns-else-attempt-ge2 c = first_unmarked c.args.attempt _ (omega (arith, c.if-attempt-ge2.false))

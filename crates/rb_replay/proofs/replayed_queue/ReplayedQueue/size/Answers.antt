@@ -1,0 +1,4 @@
+use Rattle.rb_replay.proofs.replayed_queue.ReplayedQueue.size.Goals as goal
+
+pub returns : goal.returns
+returns c = rw (← c.self.view_is) (c.size.ensures 0).permitted

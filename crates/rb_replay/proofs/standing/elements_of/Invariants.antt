@@ -1,8 +1,0 @@
-use Rattle.std.proofs.Common.{take}
-use Rattle.rb_queue.specs.Bag.{bag_from}
-use Rattle.rb_replay.specs.Standing.{HasElements}
-use Rattle.rb_replay.proofs.standing.elements_of.Given as goal
-
--- the elements so far are filed
-abbrev pub invariant-loop-element : goal.invariant-loop-element
-invariant-loop-element l = HasElements (bag_from (take l.element-index l.elements)) l.end l.map

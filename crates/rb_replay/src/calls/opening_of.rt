@@ -1,0 +1,42 @@
+ghost use Rattle.std.specs.Prelude.{◌≡◌, ◌≤◌, length};
+ghost use Rattle.rb_replay.specs.Opens.{Opens, opening_fault};
+
+use crate::history::History;
+use crate::opening_fault::OpeningFault;
+use crate::replay::replay;
+use crate::replay_fault::ReplayFault;
+use crate::write::MOST_EVENTS;
+use rb_queue::Opening;
+use std::alloc::Global;
+
+/// The opening of a run that begins where this one ended: what stands after its last event, at most
+/// 1,000,000 events, the next id, and the last moment.
+///
+/// `At` is answered as `check` does, and `TooLarge` exactly where a legal history leads past a limit of
+/// openings.
+pub fn opening_of(alloc: Global, history: &History) -> Result<Opening, OpeningFault>
+    requires { length history.now.events ≤ MOST_EVENTS }
+    ensures { Opens history.now.opening history.now.events result }
+{
+    let end = match replay(alloc, history.opening(), history.events()) {
+        Ok(end) => end,
+        Err(fault) => return Err(opening_fault(fault)),
+    };
+    let Ok(elements) = end.queue.elements() else {
+        return Err(OpeningFault::Memory);
+    };
+    match Opening::new(elements, end.queue.next_id(), end.moment) {
+        Some(opening) => Ok(opening),
+        None => Err(OpeningFault::TooLarge),
+    }
+}
+
+// The same fault of an opening.
+fn opening_fault(fault: ReplayFault) -> OpeningFault
+    ensures { result ≡ opening_fault fault }
+{
+    match fault {
+        ReplayFault::At { index, reason } => OpeningFault::At { index, reason },
+        ReplayFault::Memory => OpeningFault::Memory,
+    }
+}

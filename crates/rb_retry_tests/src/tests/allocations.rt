@@ -1,0 +1,319 @@
+// Calls that take no memory, at desks and through passes. `tools/count_allocations` counts what the two
+// tests of this file allocate: they make the same things, and only the second makes the calls, so they have
+// to allocate as often.
+
+ghost use Rattle.std.specs.Prelude.{◌≡◌};
+
+use crate::tests::devices::{FixedClock, ListPass, ListShared, expect_number};
+use crate::tests::fixtures::{kept, offer, opened};
+use rb_blocking::{Bell, Clock, MachineClock, TurnGate, WaitFault};
+use rb_lock::CloseFault;
+use rb_queue::Ask;
+use rb_retry::{Desk, DeskFault, Job, KeptDesk, Policy, Verdict, done, fail, poll, poll_for, take};
+use rb_shared_desk::SharedDesk;
+use rb_timer::ListTimer;
+use std::alloc::Global;
+use std::process::Abort;
+use std::sync::Wait;
+use std::time;
+
+// How often each call is made.
+const ROUNDS: u64 = 20;
+
+// How many elements the calls of a desk take out, and those of a pass.
+const ELEMENTS: u64 = 160;
+
+// A moment at which all of them have expired.
+const LATE: u64 = 1_000;
+
+#[test]
+fn none_of_the_calls(rt: HostRuntime) {
+    expect_answers(&rt, rt.alloc(), 0);
+}
+
+#[test]
+fn each_of_the_calls(rt: HostRuntime) {
+    expect_answers(&rt, rt.alloc(), ROUNDS);
+}
+
+// Each round of each group counts how many of its calls answered as they have to.
+fn expect_answers<R: Wait + Abort + time::Clock>(rt: &R, alloc: Global, rounds: u64) {
+    expect_number(rt, policies(rounds), rounds.saturating_mul(3));
+    expect_number(rt, kept_desks(rt, alloc, rounds), rounds.saturating_mul(11));
+    expect_number(
+        rt,
+        shared_desks(rt, alloc, rounds),
+        rounds.saturating_mul(11),
+    );
+    expect_number(rt, passes(rt, alloc, rounds), rounds.saturating_mul(10));
+    expect_number(rt, waits(rt, alloc, rounds), rounds.saturating_mul(4));
+    expect_number(rt, stops(rt, alloc, rounds), rounds);
+    expect_number(rt, closings(rt, alloc, rounds), rounds.min(1));
+}
+
+fn count(answers: &[bool]) -> u64 {
+    answers.iter().filter(|&&answer| answer).count() as u64
+}
+
+fn policies(rounds: u64) -> u64 {
+    let mut right = 0_u64;
+    for _ in 0..rounds {
+        right = right.saturating_add(policy_round());
+    }
+    right
+}
+
+fn policy_round() -> u64 {
+    count(&[
+        Policy::fixed(5, 1).is_some(),
+        Policy::fixed_rate(5, 1_000).is_some(),
+        Policy::fixed(5, 0).is_none(),
+    ])
+}
+
+fn offer_all<D: Desk>(rt: &impl Abort, desk: &mut D)
+    ensures name { D.name (D.state desk.new) ≡ D.name (D.state desk.old) }
+{
+    for expiry in 0..ELEMENTS {
+        offer(rt, desk, 0, expiry);
+    }
+}
+
+// A desk over a kept queue, made anew in each round.
+fn kept_desks(rt: &impl Abort, alloc: Global, rounds: u64) -> u64 {
+    let (mut kept, mut tally) = kept::<ListTimer>(rt, alloc, 10_000);
+    offer_all(rt, &mut KeptDesk::new(&mut kept, &mut tally));
+    let mut right = 0_u64;
+    for round in 0..rounds {
+        let mut desk = KeptDesk::new(&mut kept, &mut tally);
+        desk.set(LATE);
+        right = right.saturating_add(desk_round(rt, &mut desk, round));
+    }
+    right
+}
+
+// A desk over a shared queue, made anew in each round.
+fn shared_desks<R: Wait + Abort + time::Clock>(rt: &R, alloc: Global, rounds: u64) -> u64 {
+    let (shared, mut pass) = opened(rt, alloc, 10_000);
+    offer_through(rt, &shared, &mut pass);
+    shared_rounds(rt, &shared, &mut pass, rounds)
+}
+
+fn shared_rounds<R: Wait + Abort + time::Clock>(
+    rt: &R,
+    shared: &ListShared,
+    pass: &mut ListPass,
+    rounds: u64,
+) -> u64
+    requires { pass.old.table ≡ shared.now }
+{
+    let mut right = 0_u64;
+    for round in 0..rounds {
+        right = right.saturating_add(shared_round(rt, shared, pass, round));
+    }
+    right
+}
+
+fn offer_through<R: Wait + Abort + time::Clock>(rt: &R, shared: &ListShared, pass: &mut ListPass)
+    requires { pass.old.table ≡ shared.now }
+    ensures { pass.new.table ≡ pass.old.table }
+{
+    let (clock, mut gate, bell) = (FixedClock(LATE), TurnGate { limit: 0 }, Bell::new());
+    let mut desk = SharedDesk::new(rt, shared, pass, &clock, &mut gate, &bell);
+    offer_all(rt, &mut desk);
+}
+
+fn shared_round<R: Wait + Abort + time::Clock>(
+    rt: &R,
+    shared: &ListShared,
+    pass: &mut ListPass,
+    round: u64,
+) -> u64
+    requires { pass.old.table ≡ shared.now }
+    ensures { pass.new.table ≡ pass.old.table }
+{
+    let (clock, mut gate, bell) = (FixedClock(LATE), TurnGate { limit: 0 }, Bell::new());
+    let mut desk = SharedDesk::new(rt, shared, pass, &clock, &mut gate, &bell);
+    desk_round(rt, &mut desk, round)
+}
+
+// Seven elements leave by fetches and calls, and one is removed.
+fn desk_round<D: Desk>(rt: &impl Abort, desk: &mut D, round: u64) -> u64
+    ensures name { D.name (D.state desk.new) ≡ D.name (D.state desk.old) }
+{
+    let (start, timeout) = (0, 5);
+    let policy = Policy::fixed(5, 1).expect(rt, "a policy");
+    let last = ELEMENTS.saturating_sub(1).saturating_sub(round);
+    let answers = [
+        desk.now() == LATE,
+        ends(poll(desk, LATE)),
+        ends(take(desk).map(Some)),
+        ends(poll_for(desk, start, timeout)),
+        dies(desk, &policy),
+        desk.call(LATE, Ask::Poll).is_ok(),
+        desk.call(LATE, Ask::Take).is_ok(),
+        desk.call(LATE, Ask::PollFor { start, timeout }).is_ok(),
+        desk.call(LATE, Ask::Peek).is_ok(),
+        desk.call(LATE, Ask::Remove(last)).is_ok(),
+        desk.call(LATE, Ask::Size).is_ok(),
+    ];
+    count(&answers)
+}
+
+// Whether a job was fetched, which is done then.
+fn ends(fetched: Result<Option<Job>, DeskFault>) -> bool {
+    match fetched {
+        Ok(Some(job)) => {
+            let expiry = job.element().expiry;
+            done(job).expiry == expiry
+        }
+        _ => false,
+    }
+}
+
+// Whether a job was fetched that fails at its last attempt.
+fn dies<D: Desk>(desk: &mut D, policy: &Policy) -> bool
+    ensures name { D.name (D.state desk.new) ≡ D.name (D.state desk.old) }
+{
+    match poll(desk, LATE) {
+        Ok(Some(job)) => is_dead(&fail(desk, policy, job, LATE)),
+        _ => false,
+    }
+}
+
+fn is_dead(failed: &Result<Verdict, (Job, rb_kept::CallFault)>) -> bool {
+    matches!(failed, Ok(Verdict::Dead(_)))
+}
+
+// Calls of a pass that is cut in two and folded together again in each round.
+fn passes<R: Wait + Abort + time::Clock>(rt: &R, alloc: Global, rounds: u64) -> u64 {
+    let (shared, mut pass) = opened(rt, alloc, 10_000);
+    offer_through(rt, &shared, &mut pass);
+    pass_rounds(rt, &shared, &mut pass, rounds)
+}
+
+fn pass_rounds<R: Wait + Abort>(
+    rt: &R,
+    shared: &ListShared,
+    pass: &mut ListPass,
+    rounds: u64,
+) -> u64
+    requires { pass.old.table ≡ shared.now }
+{
+    let mut right = 0_u64;
+    for round in 0..rounds {
+        right = right.saturating_add(pass_round(rt, shared, pass, round));
+    }
+    right
+}
+
+fn pass_round<R: Wait + Abort>(rt: &R, shared: &ListShared, pass: &mut ListPass, round: u64) -> u64
+    requires { pass.old.table ≡ shared.now }
+    ensures { pass.new.table ≡ pass.old.table }
+{
+    let Ok(mut other) = shared.split(rt, pass) else {
+        return 0;
+    };
+    let (start, timeout) = (0, 5);
+    let last = ELEMENTS.saturating_sub(1).saturating_sub(round);
+    let calls = pass.calls();
+    let answers = [
+        shared.call(rt, &mut other, LATE, Ask::Poll).is_ok(),
+        shared.call(rt, pass, LATE, Ask::Take).is_ok(),
+        shared
+            .call(rt, pass, LATE, Ask::PollFor { start, timeout })
+            .is_ok(),
+        shared.call(rt, pass, LATE, Ask::Peek).is_ok(),
+        shared.call(rt, pass, LATE, Ask::Remove(last)).is_ok(),
+        shared.call(rt, pass, LATE, Ask::Size).is_ok(),
+        pass.name() == 0 && other.name() > 0,
+        other.calls() == 1,
+        pass.calls() == calls.saturating_add(5),
+    ];
+    shared.meet(pass, &mut other);
+    shared.fold(pass, other);
+    count(&[pass.calls() == calls.saturating_add(6)]).saturating_add(count(&answers))
+}
+
+// Waits that are answered at once.
+fn waits<R: Wait + Abort + time::Clock>(rt: &R, alloc: Global, rounds: u64) -> u64 {
+    let (shared, mut pass) = opened(rt, alloc, 10_000);
+    offer_through(rt, &shared, &mut pass);
+    wait_rounds(rt, &shared, &mut pass, rounds)
+}
+
+fn wait_rounds<R: Wait + Abort + time::Clock>(
+    rt: &R,
+    shared: &ListShared,
+    pass: &mut ListPass,
+    rounds: u64,
+) -> u64
+    requires { pass.old.table ≡ shared.now }
+{
+    let mut right = 0_u64;
+    for _ in 0..rounds {
+        right = right.saturating_add(wait_round(rt, shared, pass));
+    }
+    right
+}
+
+fn wait_round<R: Wait + Abort + time::Clock>(
+    rt: &R,
+    shared: &ListShared,
+    pass: &mut ListPass,
+) -> u64
+    requires { pass.old.table ≡ shared.now }
+    ensures { pass.new.table ≡ pass.old.table }
+{
+    let (clock, mut gate, bell) = (FixedClock(LATE), TurnGate { limit: 0 }, Bell::new());
+    let machine = MachineClock::new(rt);
+    let before = machine.now();
+    bell.ring(rt);
+    let answers = [
+        rb_blocking::take(rt, shared, pass, &clock, &mut gate, &bell).is_ok(),
+        rb_blocking::poll_for(rt, shared, pass, &clock, &mut gate, &bell, 0, 5).is_ok(),
+        bell.count(rt) == 1 && bell.rest(rt, 0) == 1,
+        machine.now() >= before,
+    ];
+    count(&answers)
+}
+
+// Waits that are stopped.
+fn stops<R: Wait + Abort + time::Clock>(rt: &R, alloc: Global, rounds: u64) -> u64 {
+    let (shared, mut pass) = opened(rt, alloc, 10);
+    let mut right = 0_u64;
+    for _ in 0..rounds {
+        right = right.saturating_add(stop_round(rt, &shared, &mut pass));
+    }
+    right
+}
+
+fn stop_round<R: Wait + Abort + time::Clock>(
+    rt: &R,
+    shared: &ListShared,
+    pass: &mut ListPass,
+) -> u64
+    requires { pass.old.table ≡ shared.now }
+    ensures { pass.new.table ≡ pass.old.table }
+{
+    let (clock, mut gate, bell) = (FixedClock(LATE), TurnGate { limit: 0 }, Bell::new());
+    let stopped = rb_blocking::take(rt, shared, pass, &clock, &mut gate, &bell);
+    count(&[stopped == Err(WaitFault::Stopped)])
+}
+
+// A closing that is refused, since a pass with a call is not folded in, and one that is not.
+fn closings<R: Wait + Abort>(rt: &R, alloc: Global, rounds: u64) -> u64 {
+    let (shared, mut pass) = opened(rt, alloc, 10);
+    if rounds == 0 {
+        return 0;
+    }
+    let Ok(mut other) = shared.split(rt, &mut pass) else {
+        return 0;
+    };
+    let answered = shared.call(rt, &mut other, 0, Ask::Size).is_ok();
+    let Err((shared, mut pass, CloseFault::NotAll { .. })) = shared.close(rt, pass) else {
+        return 0;
+    };
+    shared.fold(&mut pass, other);
+    count(&[answered && shared.close(rt, pass).is_ok()])
+}

@@ -1,0 +1,23 @@
+/// Calls a function over the timer of this kind. Its first type parameter, written `_`, is the timer's.
+///
+/// This is the one place that knows which type each kind of timer is. Who calls it depends on the crates of
+/// all timers.
+#[macro_export]
+macro_rules! over_timer {
+    ($kind:expr, $function:ident::<_ $(, $type:ty)*>($($argument:expr),* $(,)?) $(,)?) => {
+        match $kind {
+            rb_arguments::TimerKind::List => {
+                $function::<rb_timer::ListTimer $(, $type)*>($($argument),*)
+            }
+            rb_arguments::TimerKind::Heap => {
+                $function::<rb_binary::BinaryTimer $(, $type)*>($($argument),*)
+            }
+            rb_arguments::TimerKind::Pairing => {
+                $function::<rb_pairing::PairingTimer $(, $type)*>($($argument),*)
+            }
+            rb_arguments::TimerKind::Wheel => {
+                $function::<rb_wheel::WheelTimer $(, $type)*>($($argument),*)
+            }
+        }
+    };
+}

@@ -1,0 +1,370 @@
+ghost use Rattle.std.specs.Prelude.{◌≤◌, length, IfOk};
+
+use rb_arguments::{ScriptOptions, TimerKind};
+use rb_ending::BrokerFault;
+use rb_queue::Opening;
+use rb_retry::Policy;
+use rb_runs::run_script;
+use rb_session::Ended;
+use std::alloc::Global;
+use std::cell::Cell;
+use std::io::{self, ErrorKind, Read, Write};
+use std::process::Abort;
+
+/// Each kind of timer.
+pub const KINDS: [TimerKind; 4] = [
+    TimerKind::List,
+    TimerKind::Heap,
+    TimerKind::Pairing,
+    TimerKind::Wheel,
+];
+
+/// The ends of a session that lost no job.
+pub const AT_END: Result<Ended, BrokerFault> = Ok(Ended::EndOfInput { lost: 0 });
+
+pub const AT_QUIT: Result<Ended, BrokerFault> = Ok(Ended::Quit { lost: 0 });
+
+/// What one call of a reader or a writer does in place of its work.
+#[derive(Clone, Copy, PartialEq, Eq)]
+pub enum Fault {
+    Fails,
+    TakesNothing,
+    IsInterrupted,
+}
+
+/// The fault of the call with this number, the first of which is 0.
+#[derive(Clone, Copy)]
+pub struct FaultAt {
+    pub call: usize,
+    pub fault: Fault,
+}
+
+/// What comes behind the last byte of a reader.
+#[derive(Clone, Copy, PartialEq, Eq)]
+pub enum End {
+    Comes,
+    Fails,
+    /// A byte that ends no line at every 16th read. The others are interrupted.
+    NeverComes,
+}
+
+/// A client that sends the next request when it has the replies to all before it.
+#[derive(Clone, Copy)]
+pub struct Client<'a> {
+    pub received: &'a Cell<usize>,
+    pub replies: &'a [u8],
+}
+
+/// Gives its bytes in pieces of `most` bytes.
+#[derive(Drop)]
+pub struct Source<'a> {
+    pub rest: &'a [u8],
+    pub calls: usize,
+    most: usize,
+    fault: Option<FaultAt>,
+    end: End,
+    client: Option<Client<'a>>,
+    asked: usize,
+}
+
+impl<'a> Source<'a> {
+    pub fn of(rest: &'a [u8], most: usize) -> Source<'a> {
+        Source {
+            rest,
+            calls: 0,
+            most,
+            fault: None,
+            end: End::Comes,
+            client: None,
+            asked: 0,
+        }
+    }
+
+    /// Has a fault at the call with this number.
+    pub fn faulty(rest: &'a [u8], most: usize, call: usize, fault: Fault) -> Source<'a> {
+        let mut source = Source::of(rest, most);
+        source.fault = Some(FaultAt { call, fault });
+        source
+    }
+
+    /// Ends in another way than by an end.
+    pub fn ending(rest: &'a [u8], end: End) -> Source<'a> {
+        let mut source = Source::of(rest, usize::MAX);
+        source.end = end;
+        source
+    }
+
+    /// Gives a request when the replies to those before have come, and else fails.
+    pub fn asking(rest: &'a [u8], most: usize, client: Client<'a>) -> Source<'a> {
+        let mut source = Source::of(rest, most);
+        source.client = Some(client);
+        source
+    }
+
+    // What comes at the end.
+    fn give_end(&self, buf: &mut [u8]) -> io::Result<usize>
+        ensures { IfOk result (λ count. count ≤ length buf.old) }
+    {
+        match self.end {
+            End::Comes => Ok(0),
+            End::Fails => Err(ErrorKind::ConnectionReset.into()),
+            End::NeverComes => give_on(self.calls, buf),
+        }
+    }
+
+    fn give(&mut self, buf: &mut [u8], most: usize) -> usize
+        ensures { result ≤ length buf.old }
+    {
+        let count = most.min(buf.len()).min(self.rest.len());
+        buf[..count].copy_from_slice(&self.rest[..count]);
+        self.asked = self.asked.saturating_add(feeds_of(&self.rest[..count]));
+        self.rest = &self.rest[count..];
+        count
+    }
+
+    // How many bytes the next read may give, if the client may ask.
+    fn next_most(&self) -> Option<usize> {
+        let Some(client) = self.client else {
+            return Some(self.most);
+        };
+        if client.received.get() != first_lines(client.replies, self.asked).len() {
+            return None;
+        }
+        Some(self.most.min(first_lines(self.rest, 1).len()))
+    }
+}
+
+fn give_on(calls: usize, buf: &mut [u8]) -> io::Result<usize>
+    ensures { IfOk result (λ count. count ≤ length buf.old) }
+{
+    if calls % 16 != 0 {
+        return Err(ErrorKind::Interrupted.into());
+    }
+    match buf.first_mut() {
+        Some(byte) => {
+            *byte = b'x';
+            Ok(1)
+        }
+        None => Ok(0),
+    }
+}
+
+impl Read for Source<'_> {
+    fn read(&mut self, buf: &mut [u8]) -> io::Result<usize> {
+        let call = self.calls;
+        self.calls = call.saturating_add(1);
+        match fault_of(self.fault, call) {
+            Some(Fault::IsInterrupted) => return Err(ErrorKind::Interrupted.into()),
+            Some(_) => return Err(ErrorKind::ConnectionReset.into()),
+            None => {}
+        }
+        match self.next_most() {
+            None => Err(ErrorKind::TimedOut.into()),
+            Some(_) if self.rest.is_empty() => self.give_end(buf),
+            Some(most) => Ok(self.give(buf, most)),
+        }
+    }
+}
+
+/// Holds what is written, up to its room. Where it is full a write takes nothing, or fails. Writes and
+/// flushes are counted together.
+#[derive(Drop)]
+pub struct Sink<'a> {
+    pub bytes: Vec<u8>,
+    pub calls: usize,
+    pub writes: usize,
+    fault: Option<FaultAt>,
+    room: usize,
+    is_closed: bool,
+    received: Option<&'a Cell<usize>>,
+}
+
+impl<'a> Sink<'a> {
+    /// In these bytes.
+    pub fn of(bytes: Vec<u8>) -> Sink<'a> {
+        Sink {
+            bytes,
+            calls: 0,
+            writes: 0,
+            fault: None,
+            room: usize::MAX,
+            is_closed: false,
+            received: None,
+        }
+    }
+
+    pub fn new(alloc: Global) -> Sink<'a> {
+        Sink::of(Vec::new(alloc))
+    }
+
+    /// Has a fault at the call with this number.
+    pub fn faulty(alloc: Global, call: usize, fault: Fault) -> Sink<'a> {
+        let mut sink = Sink::new(alloc);
+        sink.fault = Some(FaultAt { call, fault });
+        sink
+    }
+
+    /// Has room for so many bytes. Behind them a write fails where it is closed, and else takes nothing.
+    pub fn bounded(alloc: Global, room: usize, is_closed: bool) -> Sink<'a> {
+        let mut sink = Sink::new(alloc);
+        sink.room = room;
+        sink.is_closed = is_closed;
+        sink
+    }
+
+    /// Counts the bytes that came to a client.
+    pub fn received(alloc: Global, received: &'a Cell<usize>) -> Sink<'a> {
+        let mut sink = Sink::new(alloc);
+        sink.received = Some(received);
+        sink
+    }
+
+    fn next_fault(&mut self) -> Option<Fault> {
+        let call = self.calls;
+        self.calls = call.saturating_add(1);
+        fault_of(self.fault, call)
+    }
+
+    fn take(&mut self, buf: &[u8]) -> io::Result<usize>
+        ensures { IfOk result (λ count. count ≤ length buf.now) }
+    {
+        let free = self.room.saturating_sub(self.bytes.len());
+        if free == 0 && self.is_closed {
+            return Err(ErrorKind::BrokenPipe.into());
+        }
+        let count = free.min(buf.len());
+        self.bytes.extend_from_slice(&buf[..count])?;
+        if let Some(received) = self.received {
+            received.set(self.bytes.len());
+        }
+        Ok(count)
+    }
+}
+
+impl Write for Sink<'_> {
+    fn write(&mut self, buf: &[u8]) -> io::Result<usize> {
+        self.writes = self.writes.saturating_add(1);
+        match self.next_fault() {
+            Some(Fault::IsInterrupted) => Err(ErrorKind::Interrupted.into()),
+            Some(Fault::Fails) => Err(ErrorKind::BrokenPipe.into()),
+            Some(Fault::TakesNothing) => Ok(0),
+            None => self.take(buf),
+        }
+    }
+
+    fn flush(&mut self) -> io::Result<()> {
+        match self.next_fault() {
+            Some(Fault::Fails) => Err(ErrorKind::BrokenPipe.into()),
+            _ => Ok(()),
+        }
+    }
+}
+
+fn fault_of(fault: Option<FaultAt>, call: usize) -> Option<Fault> {
+    match fault {
+        Some(due) if due.call == call => Some(due.fault),
+        _ => None,
+    }
+}
+
+/// How many line feeds the text has.
+pub fn feeds_of(text: &[u8]) -> usize {
+    text.iter().filter(|&&byte| byte == b'\n').count()
+}
+
+/// The first lines of the text.
+pub fn first_lines(text: &[u8], count: usize) -> &[u8] {
+    let mut len = 0;
+    let mut lines = 0;
+    for (at, &byte) in text.iter().enumerate() {
+        if byte == b'\n' && lines < count {
+            lines += 1;
+            len = at.saturating_add(1);
+        }
+    }
+    text.get(..len).unwrap_or(text)
+}
+
+/// The options of a run with three attempts a job, each 1,000 nanoseconds after the failure.
+pub fn options(rt: &impl Abort, timer: TimerKind, calls: u64) -> ScriptOptions {
+    assert!(rt; calls >= 1);
+    assert!(rt; calls <= 1_000_000);
+    let policy = Policy::fixed(1_000, 3).expect(rt, "a policy");
+    ScriptOptions {
+        timer,
+        calls,
+        policy,
+    }
+}
+
+/// How a run came out.
+#[derive(Drop)]
+pub struct Outcome {
+    pub ended: Result<Ended, BrokerFault>,
+    pub reads: usize,
+    pub unread: usize,
+    pub bytes: Vec<u8>,
+    /// Writes and flushes.
+    pub calls: usize,
+    pub writes: usize,
+}
+
+/// Runs a script from the start, and keeps no history.
+pub fn ran(
+    rt: &impl Abort,
+    alloc: Global,
+    timer: TimerKind,
+    calls: u64,
+    source: Source<'_>,
+    sink: Sink<'_>,
+) -> Outcome {
+    let mut nothing: Option<Sink<'static>> = None;
+    recorded(rt, alloc, timer, calls, source, sink, &mut nothing)
+}
+
+/// Runs a script from the start, and writes its history, where something is to have it.
+pub fn recorded(
+    rt: &impl Abort,
+    alloc: Global,
+    timer: TimerKind,
+    calls: u64,
+    source: Source<'_>,
+    sink: Sink<'_>,
+    history: &mut Option<Sink<'static>>,
+) -> Outcome {
+    let (mut source, mut sink) = (source, sink);
+    let options = options(rt, timer, calls);
+    let opening = Opening::empty(alloc);
+    let ended = run_script(alloc, &options, opening, &mut source, &mut sink, history);
+    Outcome {
+        ended,
+        reads: source.calls,
+        unread: source.rest.len(),
+        bytes: sink.bytes,
+        calls: sink.calls,
+        writes: sink.writes,
+    }
+}
+
+// Each comparison is a function of its own with no clause, so that a test that makes it has nothing to prove.
+
+pub fn expect_end(
+    rt: &impl Abort,
+    ended: Result<Ended, BrokerFault>,
+    wanted: Result<Ended, BrokerFault>,
+    at: usize,
+) {
+    assert_eq!(rt; ended, wanted, "{at}");
+}
+
+pub fn expect_bytes(rt: &impl Abort, bytes: &[u8], wanted: &[u8], at: usize) {
+    assert!(rt; bytes == wanted, "{at}");
+}
+
+pub fn expect_count(rt: &impl Abort, count: usize, wanted: usize, at: usize) {
+    assert_eq!(rt; count, wanted, "{at}");
+}
+
+pub fn expect(rt: &impl Abort, holds: bool) {
+    assert!(rt; holds);
+}

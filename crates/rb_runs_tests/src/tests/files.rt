@@ -1,0 +1,61 @@
+use crate::tests::devices::{End, Fault, Source, expect_bytes, expect_count};
+use rb_ending::BrokerFault;
+use rb_runs::read_all;
+use std::alloc::{AllocError, Global};
+use std::process::Abort;
+use std::test::Fail;
+
+// More than two pieces of 64 KiB.
+fn long_text(alloc: Global) -> Result<Vec<u8>, AllocError> {
+    let mut text = Vec::new(alloc);
+    for byte in 0..200_000_u32 {
+        text.extend_from_slice(&[(byte % 251) as u8])?;
+    }
+    Ok(text)
+}
+
+// What is read has these bytes.
+fn expect_text(rt: &impl Abort, alloc: Global, source: Source<'_>, wanted: &[u8], at: usize) {
+    let mut source = source;
+    match read_all(alloc, &mut source) {
+        Ok(text) => expect_bytes(rt, &text, wanted, at),
+        Err(fault) => assert!(rt; false, "{fault:?}: {at}"),
+    }
+}
+
+fn expect_fault(rt: &impl Abort, alloc: Global, source: Source<'_>, wanted: BrokerFault) -> usize {
+    let mut source = source;
+    let fault = read_all(alloc, &mut source).err();
+    assert_eq!(rt; fault, Some(wanted));
+    source.calls
+}
+
+#[test]
+fn a_file_is_read_in_pieces_of_any_size(rt: HostRuntime) -> Result<(), Fail> {
+    let alloc = rt.alloc();
+    let long = long_text(alloc)?;
+    for most in [1_000, 65_536, usize::MAX] {
+        expect_text(&rt, alloc, Source::of(&long, most), &long, most);
+    }
+    for call in 0..3 {
+        let source = Source::faulty(&long, usize::MAX, call, Fault::Fails);
+        expect_fault(&rt, alloc, source, BrokerFault::ReadHistory);
+    }
+    Ok(())
+}
+
+// A read that is interrupted counts as one that gives a byte.
+#[test]
+fn a_file_without_an_end_is_given_up(rt: HostRuntime) {
+    let source = Source::ending(b"", End::NeverComes);
+    let reads = expect_fault(&rt, rt.alloc(), source, BrokerFault::ReadTurns);
+    expect_count(&rt, reads, 10_000_000, 0);
+}
+
+#[test]
+fn an_interrupted_read_of_a_file_is_made_again(rt: HostRuntime) {
+    for call in 0..3 {
+        let source = Source::faulty(b"ab", 1, call, Fault::IsInterrupted);
+        expect_text(&rt, rt.alloc(), source, b"ab", call);
+    }
+}

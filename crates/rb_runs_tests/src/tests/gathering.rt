@@ -1,0 +1,171 @@
+use crate::tests::devices::{
+    AT_END, Client, End, Outcome, Sink, Source, expect, expect_bytes, expect_count, expect_end, ran,
+};
+use rb_arguments::TimerKind;
+use rb_binary::BinaryTimer;
+use rb_ending::BrokerFault;
+use rb_kept::Kept;
+use rb_retry::{KeptDesk, Policy};
+use rb_session::{Ended, HandsOn, SessionFault, run_gathered};
+use std::alloc::{AllocError, Global};
+use std::cell::Cell;
+use std::process::Abort;
+use std::test::Fail;
+
+// A conversation of one reply to each request.
+const REQUESTS: &[u8] = b"AT 100\nOFFER 50 a\nSIZE\npoll\nAT 150\nPOLL\nDONE 0\nQUIT\n";
+
+const REPLIES: &[u8] =
+    b"NOW 100\nOFFERED 0 150\nSIZE 1\nERR 1 syntax\nNOW 150\nITEM 0 150 1 a\nDONE 0\nBYE\n";
+
+// A client that asks when it has the replies to all before, at most `most` bytes at a time.
+fn expect_answered(rt: &impl Abort, alloc: Global, most: usize) {
+    let cell = Cell::new(0);
+    let received = &cell;
+    let replies = REPLIES;
+    let source = Source::asking(REQUESTS, most, Client { received, replies });
+    let sink = Sink::received(alloc, received);
+    let outcome = ran(rt, alloc, TimerKind::Heap, 100, source, sink);
+    expect(rt, outcome.ended.is_ok());
+    expect_count(rt, received.get(), REPLIES.len(), most);
+}
+
+#[test]
+fn a_client_that_waits_gets_its_reply(rt: HostRuntime) {
+    for most in [usize::MAX, 1, 3] {
+        expect_answered(&rt, rt.alloc(), most);
+    }
+}
+
+fn many(alloc: Global, line: &[u8], count: usize) -> Result<Vec<u8>, AllocError> {
+    let mut text = Vec::new(alloc);
+    for _ in 0..count {
+        text.extend_from_slice(line)?;
+    }
+    Ok(text)
+}
+
+// Runs a script that is read at once, over a writer that takes all.
+fn batch(rt: &impl Abort, alloc: Global, calls: u64, script: &[u8]) -> Outcome {
+    let source = Source::of(script, usize::MAX);
+    ran(rt, alloc, TimerKind::Heap, calls, source, Sink::new(alloc))
+}
+
+// 70,000 bytes of replies to 50,000 bytes of requests: the room is full once.
+#[test]
+fn ten_thousand_requests_are_a_few_writes(rt: HostRuntime) -> Result<(), Fail> {
+    let alloc = rt.alloc();
+    let script = many(alloc, b"SIZE\n", 10_000)?;
+    let replies = many(alloc, b"SIZE 0\n", 10_000)?;
+    let outcome = batch(&rt, alloc, 10_000, &script);
+    expect_end(&rt, outcome.ended, AT_END, 0);
+    expect_bytes(&rt, &outcome.bytes, &replies, 0);
+    expect_count(&rt, outcome.writes, 2, 0);
+    expect_count(&rt, outcome.reads, 2, 0);
+    Ok(())
+}
+
+// No take waits in a script, so none costs a write.
+#[test]
+fn a_hundred_takes_of_a_script_are_one_write(rt: HostRuntime) -> Result<(), Fail> {
+    let alloc = rt.alloc();
+    let script = many(alloc, b"TAKE\n", 100)?;
+    let replies = many(alloc, b"STOPPED\n", 100)?;
+    let outcome = batch(&rt, alloc, 100, &script);
+    expect_end(&rt, outcome.ended, AT_END, 0);
+    expect_bytes(&rt, &outcome.bytes, &replies, 0);
+    expect_count(&rt, outcome.writes, 1, 0);
+    Ok(())
+}
+
+// Runs the conversation over a writer with room for so many bytes.
+fn expect_first_bytes(rt: &impl Abort, alloc: Global, room: usize, is_closed: bool) {
+    let source = Source::of(REQUESTS, usize::MAX);
+    let sink = Sink::bounded(alloc, room, is_closed);
+    let outcome = ran(rt, alloc, TimerKind::Heap, 100, source, sink);
+    let first = REPLIES.get(..room).unwrap_or(REPLIES);
+    expect_bytes(rt, &outcome.bytes, first, room);
+    let wanted = if room < REPLIES.len() {
+        Err(BrokerFault::Write)
+    } else {
+        Ok(Ended::Quit { lost: 0 })
+    };
+    expect_end(rt, outcome.ended, wanted, room);
+}
+
+#[test]
+fn an_output_may_be_full_or_closed_at_any_byte(rt: HostRuntime) {
+    for room in 0..=REPLIES.len() {
+        expect_first_bytes(&rt, rt.alloc(), room, true);
+        expect_first_bytes(&rt, rt.alloc(), room, false);
+    }
+}
+
+// Runs a request whose second read fails, over a writer with room for so many bytes.
+fn broken_off(rt: &impl Abort, alloc: Global, room: usize) -> Outcome {
+    let source = Source::ending(b"SIZE\n", End::Fails);
+    let sink = Sink::bounded(alloc, room, true);
+    ran(rt, alloc, TimerKind::Heap, 100, source, sink)
+}
+
+// What is held back is handed on before the read, so its fault is the first.
+#[test]
+fn a_late_write_fault_is_no_read_fault(rt: HostRuntime) {
+    let outcome = broken_off(&rt, rt.alloc(), 3);
+    expect_end(&rt, outcome.ended, Err(BrokerFault::Write), 3);
+    expect_count(&rt, outcome.reads, 1, 3);
+
+    let outcome = broken_off(&rt, rt.alloc(), usize::MAX);
+    expect_end(&rt, outcome.ended, Err(BrokerFault::Read), 0);
+    expect_bytes(&rt, &outcome.bytes, b"SIZE 0\n", 0);
+}
+
+// What a session came to whose writer has room for five bytes.
+#[derive(Drop)]
+struct Cut {
+    ended: Result<Ended, SessionFault>,
+    bytes: Vec<u8>,
+    events: usize,
+    left: u64,
+}
+
+fn cut_off(rt: &impl Abort, alloc: Global, script: &[u8], hands_on: HandsOn) -> Result<Cut, Fail> {
+    let policy = Policy::fixed(1_000, 3).expect(rt, "a policy");
+    let (mut kept, mut tally) = Kept::<BinaryTimer>::new(alloc, 100)?;
+    let mut desk = KeptDesk::new(&mut kept, &mut tally);
+    let mut source = Source::of(script, usize::MAX);
+    let mut sink = Sink::bounded(alloc, 5, true);
+    let ended = run_gathered(alloc, &mut source, &mut sink, &mut desk, &policy, hands_on);
+    Ok(Cut {
+        ended,
+        bytes: sink.bytes,
+        events: kept.history().len(),
+        left: kept.audit().left,
+    })
+}
+
+fn expect_cut(rt: &impl Abort, cut: &Cut) {
+    assert_eq!(rt; cut.ended, Err(SessionFault::Write { lost: 0 }));
+}
+
+// Two jobs are held when the reply to the second is lost. Both come back, and all lines were served.
+#[test]
+fn held_jobs_fail_after_a_late_write_fault(rt: HostRuntime) -> Result<(), Fail> {
+    let script = b"OFFER 0 a\nOFFER 0 b\nPOLL\nPOLL\n";
+    let cut = cut_off(&rt, rt.alloc(), script, HandsOn::BeforeReads)?;
+    expect_cut(&rt, &cut);
+    expect_count(&rt, cut.events, 6, 0);
+    Ok(())
+}
+
+// What a take would fetch stays in the queue where the replies before it can't be handed on.
+#[test]
+fn a_take_behind_a_write_fault_is_not_served(rt: HostRuntime) -> Result<(), Fail> {
+    let script = b"OFFER 0 a\nTAKE\n";
+    let cut = cut_off(&rt, rt.alloc(), script, HandsOn::BeforeReadsAndWaits)?;
+    expect_cut(&rt, &cut);
+    expect_bytes(&rt, &cut.bytes, b"OFFER", 0);
+    expect_count(&rt, cut.events, 1, 0);
+    expect(&rt, cut.left == 1);
+    Ok(())
+}

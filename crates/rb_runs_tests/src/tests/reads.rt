@@ -1,0 +1,114 @@
+use crate::tests::devices::{
+    AT_END, End, Fault, KINDS, Sink, Source, expect_bytes, expect_count, expect_end, feeds_of,
+    first_lines, ran,
+};
+use rb_arguments::TimerKind;
+use rb_ending::BrokerFault;
+use std::alloc::{AllocError, Global};
+use std::process::Abort;
+use std::test::Fail;
+
+// Requests, each of one reply.
+const SCRIPT: &[u8] = b"AT 100\nOFFER 50 a\nSIZE\nPOLL\nPEEK\n";
+
+const REPLIES: &[u8] = b"NOW 100\nOFFERED 0 150\nSIZE 1\nNONE\nHEAD 0 150 1 a\n";
+
+// A reader that gives one byte at each call and fails at this one.
+fn expect_read_fault(rt: &impl Abort, alloc: Global, timer: TimerKind, call: usize) {
+    let source = Source::faulty(SCRIPT, 1, call, Fault::Fails);
+    let outcome = ran(rt, alloc, timer, 10, source, Sink::new(alloc));
+    expect_end(rt, outcome.ended, Err(BrokerFault::Read), call);
+    let lines = feeds_of(SCRIPT.get(..call).unwrap_or(SCRIPT));
+    expect_bytes(rt, &outcome.bytes, first_lines(REPLIES, lines), call);
+    expect_count(rt, outcome.reads, call.saturating_add(1), call);
+}
+
+#[test]
+fn a_reader_that_fails_ends_at_the_last_whole_line(rt: HostRuntime) {
+    for timer in KINDS {
+        for call in 0..=SCRIPT.len() {
+            expect_read_fault(&rt, rt.alloc(), timer, call);
+        }
+    }
+}
+
+fn expect_read_again(rt: &impl Abort, alloc: Global, call: usize) {
+    let source = Source::faulty(SCRIPT, 1, call, Fault::IsInterrupted);
+    let outcome = ran(rt, alloc, TimerKind::Heap, 10, source, Sink::new(alloc));
+    expect_end(rt, outcome.ended, AT_END, call);
+    expect_bytes(rt, &outcome.bytes, REPLIES, call);
+}
+
+#[test]
+fn an_interrupted_read_is_made_again(rt: HostRuntime) {
+    for call in 0..=SCRIPT.len() {
+        expect_read_again(&rt, rt.alloc(), call);
+    }
+}
+
+fn many(alloc: Global, line: &[u8], count: usize) -> Result<Vec<u8>, AllocError> {
+    let mut text = Vec::new(alloc);
+    for _ in 0..count {
+        text.extend_from_slice(line)?;
+    }
+    Ok(text)
+}
+
+// Lines of eight bytes, so that each read of 65,536 bytes ends with a whole line.
+#[test]
+fn a_read_takes_64_kib(rt: HostRuntime) -> Result<(), Fail> {
+    let alloc = rt.alloc();
+    let script = many(alloc, b"AT 1234\n", 16_384)?;
+    let replies = many(alloc, b"NOW 1234\n", 16_384)?;
+    let source = Source::of(&script, usize::MAX);
+    let outcome = ran(&rt, alloc, TimerKind::Heap, 1, source, Sink::new(alloc));
+    expect_end(&rt, outcome.ended, AT_END, 0);
+    expect_bytes(&rt, &outcome.bytes, &replies, 0);
+    expect_count(&rt, outcome.reads, 3, 0);
+    Ok(())
+}
+
+// A read that is interrupted counts as one that gives a byte.
+#[test]
+fn an_input_without_an_end_is_given_up(rt: HostRuntime) {
+    let source = Source::ending(b"", End::NeverComes);
+    let alloc = rt.alloc();
+    let outcome = ran(&rt, alloc, TimerKind::Heap, 1, source, Sink::new(alloc));
+    expect_end(&rt, outcome.ended, Err(BrokerFault::ReadTurns), 0);
+    expect_count(&rt, outcome.reads, 10_000_000, 0);
+    expect_count(&rt, outcome.calls, 0, 0);
+}
+
+// A job with three attempts, whose third failure is its last.
+const JOB: &[u8] =
+    b"AT 100\nOFFER 0 j\nPOLL\nAT 200\nFAIL 0\nAT 1200\nPOLL\nFAIL 1\nAT 2200\nPOLL\nFAIL 2\nFAIL 2\n";
+
+const JOB_REPLIES: &[u8] =
+    b"NOW 100\nOFFERED 0 100\nITEM 0 100 1 j\nNOW 200\nAGAIN 1 1200\nNOW 1200\nITEM 1 1200 2 j\nAGAIN 2 2200\nNOW 2200\nITEM 2 2200 3 j\nDEAD 2\nERR 5 not-held\n";
+
+// The replies to the whole lines of a part of the job, and one line more where a part of a line is left.
+fn replies_to(alloc: Global, part: &[u8]) -> Result<Vec<u8>, AllocError> {
+    let mut replies = Vec::from_slice(alloc, first_lines(JOB_REPLIES, feeds_of(part)))?;
+    if part.last().is_some_and(|&byte| byte != b'\n') {
+        replies.extend_from_slice(b"ERR 8 line\n")?;
+    }
+    Ok(replies)
+}
+
+fn expect_part(rt: &impl Abort, alloc: Global, len: usize) -> Result<(), AllocError> {
+    let part = JOB.get(..len).unwrap_or(JOB);
+    let replies = replies_to(alloc, part)?;
+    let source = Source::of(part, usize::MAX);
+    let outcome = ran(rt, alloc, TimerKind::Heap, 100, source, Sink::new(alloc));
+    expect_end(rt, outcome.ended, AT_END, len);
+    expect_bytes(rt, &outcome.bytes, &replies, len);
+    Ok(())
+}
+
+#[test]
+fn each_part_of_a_script_gets_its_part_of_the_replies(rt: HostRuntime) -> Result<(), Fail> {
+    for len in 0..JOB.len() {
+        expect_part(&rt, rt.alloc(), len)?;
+    }
+    Ok(())
+}

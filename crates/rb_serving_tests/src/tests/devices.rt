@@ -1,0 +1,313 @@
+// A server's visits that lie in memory, and a clock that always reads 7.
+
+ghost use Rattle.std.specs.Prelude.{◌≡◌, ◌≤◌};
+
+use rb_arguments::RunOptions;
+use rb_blocking::{Clock, Gate};
+use rb_ending::BrokerFault;
+use rb_queue::{Audit, Opening};
+use rb_retry::Policy;
+use rb_serving::{Door, DoorFault, ServeReport, Visit, serve_door};
+use rb_timer::ListTimer;
+use std::alloc::Global;
+use std::io::{Read, Write};
+use std::process::Abort;
+use std::sync::atomic::{AtomicU64, Ordering};
+use std::sync::{Mutex, Wait};
+use std::thread::Threads;
+use std::time::Duration;
+use std::{io, thread, time};
+
+// How often a reader looks whether it may begin, a millisecond apart.
+const MOST_LOOKS: u64 = 10_000;
+
+// After how many turns a wait ends.
+const MOST_TURNS: u64 = 200;
+
+/// A clock that always reads 7.
+pub struct SevenClock;
+
+impl Clock for SevenClock {
+    ghost gives = { λ clock moment. moment ≡ 7 };
+
+    fn now(&self) -> u64 {
+        7
+    }
+}
+
+/// A gate that ends a wait after so many turns, and counts them where a reader sees it.
+#[derive(Drop)]
+pub struct NotedGate<'a> {
+    turns: &'a AtomicU64,
+}
+
+impl<'a> Gate for NotedGate<'a> {
+    ghost use Rattle.rb_serving_tests.specs.declared.tests.devices.TheConstants.{MOST_TURNS};
+
+    ghost stops = { λ gate turns. MOST_TURNS ≤ turns };
+
+    fn turn(&mut self, turns: u64) -> bool {
+        let _ = self.turns.fetch_add(1, Ordering::SeqCst);
+        turns < MOST_TURNS
+    }
+}
+
+/// What a visitor does: it sends these lines at once, or after both counts have risen, or when another
+/// was sent this text, or its first read fails.
+#[derive(Clone, Copy)]
+pub enum Sends<'a> {
+    AtOnce(&'a [u8]),
+    After(&'a [u8], &'a AtomicU64, &'a AtomicU64),
+    OnceSent(&'a [u8], &'a Mutex<Received>, &'a [u8]),
+    Nothing,
+}
+
+/// What a visitor was sent, and by how many writes.
+#[derive(Drop)]
+pub struct Received {
+    pub text: Vec<u8>,
+    pub writes: u64,
+}
+
+impl Received {
+    /// Nothing yet. The text comes to lie in this empty vector.
+    pub fn into(text: Vec<u8>) -> Mutex<Received> {
+        Mutex::new(Received { text, writes: 0 })
+    }
+
+    pub fn none(alloc: Global) -> Mutex<Received> {
+        Received::into(Vec::new(alloc))
+    }
+}
+
+/// Reads what a visitor sends.
+#[derive(Drop)]
+pub struct Sender<'a, R> {
+    rt: &'a R,
+    sends: Sends<'a>,
+}
+
+impl<'a, R: Wait + time::Clock> Sender<'a, R> {
+    // Waits until both counts have risen, and says whether they have.
+    fn sees_both(&self, first: &AtomicU64, second: &AtomicU64) -> bool {
+        for _ in 0..MOST_LOOKS {
+            if first.load(Ordering::SeqCst) > 0 && second.load(Ordering::SeqCst) > 0 {
+                return true;
+            }
+            thread::sleep(self.rt, Duration::from_millis(1));
+        }
+        false
+    }
+
+    // Waits until the other was sent this text, and says whether it was.
+    fn sees_text(&self, other: &Mutex<Received>, text: &[u8]) -> bool {
+        for _ in 0..MOST_LOOKS {
+            if other.lock(self.rt).text.as_slice() == text {
+                return true;
+            }
+            thread::sleep(self.rt, Duration::from_millis(1));
+        }
+        false
+    }
+}
+
+impl<'a, R: Wait + time::Clock> Read for Sender<'a, R> {
+    fn read(&mut self, buf: &mut [u8]) -> io::Result<usize> {
+        let lines = match self.sends {
+            Sends::AtOnce(lines) => lines,
+            Sends::After(lines, first, second) if self.sees_both(first, second) => lines,
+            Sends::OnceSent(lines, other, text) if self.sees_text(other, text) => lines,
+            Sends::After(..) | Sends::OnceSent(..) => &[],
+            Sends::Nothing => return Err(io::Error::from(io::ErrorKind::ConnectionReset)),
+        };
+        let (given, rest) = lines.split_at(lines.len().min(buf.len()));
+        buf[..given.len()].copy_from_slice(given);
+        self.sends = Sends::AtOnce(rest);
+        Ok(given.len())
+    }
+}
+
+/// Keeps what a visitor is sent, where the test reads it.
+#[derive(Drop)]
+pub struct Receiver<'a, R> {
+    rt: &'a R,
+    received: &'a Mutex<Received>,
+}
+
+impl<'a, R: Wait> Write for Receiver<'a, R> {
+    fn write(&mut self, buf: &[u8]) -> io::Result<usize> {
+        let mut received = self.received.lock(self.rt);
+        received.writes = received.writes.saturating_add(1);
+        received.text.extend_from_slice(buf)?;
+        Ok(buf.len())
+    }
+
+    fn flush(&mut self) -> io::Result<()> {
+        Ok(())
+    }
+}
+
+/// One visit, what it is sent, and how many turns its waits made; or one that is refused.
+#[derive(Drop)]
+pub struct Plan<'a> {
+    sends: Option<Sends<'a>>,
+    received: &'a Mutex<Received>,
+    turns: &'a AtomicU64,
+}
+
+pub fn planned<'a>(
+    sends: Option<Sends<'a>>,
+    received: &'a Mutex<Received>,
+    turns: &'a AtomicU64,
+) -> Plan<'a> {
+    Plan {
+        sends,
+        received,
+        turns,
+    }
+}
+
+pub fn at_once<'a>(lines: &'a [u8]) -> Option<Sends<'a>> {
+    Some(Sends::AtOnce(lines))
+}
+
+pub fn after<'a>(
+    lines: &'a [u8],
+    first: &'a AtomicU64,
+    second: &'a AtomicU64,
+) -> Option<Sends<'a>> {
+    Some(Sends::After(lines, first, second))
+}
+
+/// Gives one visit after the other.
+#[derive(Drop)]
+pub struct PlannedDoor<'a, R> {
+    rt: &'a R,
+    plans: &'a [Plan<'a>],
+    taken: AtomicU64,
+}
+
+impl<'a, R: Wait + time::Clock + Sync> Door for PlannedDoor<'a, R> {
+    type Reader = Sender<'a, R>;
+
+    type Writer = Receiver<'a, R>;
+
+    type Gate = NotedGate<'a>;
+
+    fn next<H: Wait>(
+        &self,
+        _rt: &H,
+    ) -> Option<Result<Visit<Sender<'a, R>, Receiver<'a, R>, NotedGate<'a>>, DoorFault>> {
+        let taken = self.taken.fetch_add(1, Ordering::SeqCst);
+        let plan = self.plans.get(usize::try_from(taken).ok()?)?;
+        let Some(sends) = plan.sends else {
+            return Some(Err(DoorFault));
+        };
+        Some(Ok(Visit {
+            reader: Sender { rt: self.rt, sends },
+            writer: Receiver {
+                rt: self.rt,
+                received: plan.received,
+            },
+            gate: NotedGate { turns: plan.turns },
+        }))
+    }
+}
+
+/// Room for 100 calls, and three attempts a job.
+pub fn hundred_calls(rt: &impl Abort, workers: u64) -> RunOptions
+    requires some { 1 ≤ workers }
+    requires few { workers ≤ 16 }
+{
+    RunOptions {
+        workers,
+        calls: 100,
+        policy: Policy::fixed(1_000, 3).expect(rt, "a policy"),
+    }
+}
+
+/// Serves these visits over the plain timer with these options.
+pub fn served_so<R: Threads + Wait + time::Clock + Sync>(
+    rt: &R,
+    alloc: Global,
+    plans: &[Plan<'_>],
+    options: &RunOptions,
+) -> Result<ServeReport<ListTimer>, BrokerFault> {
+    let door = PlannedDoor {
+        rt,
+        plans,
+        taken: AtomicU64::new(0),
+    };
+    serve_door(
+        rt,
+        alloc,
+        &door,
+        &SevenClock,
+        options,
+        Opening::empty(alloc),
+    )
+}
+
+/// What a server counted, and the audit of its history.
+#[derive(Clone, Copy)]
+pub struct Counts {
+    pub sessions: u64,
+    pub faults: u64,
+    pub lost: u64,
+    pub audit: Audit,
+}
+
+/// What a server came to that served these visits with these options.
+pub fn counted<R: Threads + Wait + time::Clock + Abort + Sync>(
+    rt: &R,
+    alloc: Global,
+    plans: &[Plan<'_>],
+    options: &RunOptions,
+) -> Counts {
+    let served = served_so(rt, alloc, plans, options);
+    counts_of(&served.ok().expect(rt, "a report"))
+}
+
+pub fn counts_of(report: &ServeReport<ListTimer>) -> Counts {
+    Counts {
+        sessions: report.sessions,
+        faults: report.faults,
+        lost: report.lost,
+        audit: report.audit,
+    }
+}
+
+// Each comparison is a function of its own with no clause, so that a test that makes it has nothing to prove.
+
+/// Compares what a visitor was sent.
+pub fn expect_text<R: Wait + Abort>(rt: &R, received: &Mutex<Received>, wanted: &[u8]) {
+    expect_bytes(rt, received.lock(rt).text.as_slice(), wanted);
+}
+
+/// Compares by how many writes.
+pub fn expect_writes<R: Wait + Abort>(rt: &R, received: &Mutex<Received>, wanted: u64) {
+    expect_number(rt, received.lock(rt).writes, wanted);
+}
+
+pub fn expect_bytes(rt: &impl Abort, bytes: &[u8], wanted: &[u8]) {
+    assert_eq!(rt; bytes, wanted);
+}
+
+pub fn expect_number(rt: &impl Abort, number: u64, wanted: u64) {
+    assert_eq!(rt; number, wanted);
+}
+
+pub fn expect_counts(rt: &impl Abort, counts: Counts, sessions: u64, faults: u64, lost: u64) {
+    assert_eq!(rt;
+        (counts.sessions, counts.faults, counts.lost),
+        (sessions, faults, lost)
+    );
+}
+
+pub fn expect_audit(rt: &impl Abort, audit: Audit, wanted: Audit) {
+    assert_eq!(rt; audit, wanted);
+}
+
+pub fn expect(rt: &impl Abort, holds: bool) {
+    assert!(rt; holds);
+}

@@ -1,0 +1,267 @@
+// Each allocation of a server, and of what is printed and written at its end, refused in turn.
+
+ghost use Rattle.std.specs.Prelude.{◌≤◌};
+
+use crate::tests::devices::{
+    Counts, Received, at_once, counts_of, expect, expect_bytes, expect_counts, expect_number,
+    hundred_calls, planned, served_so,
+};
+use rb_ending::BrokerFault;
+use rb_serving::{ServeReport, end_server};
+use rb_timer::ListTimer;
+use std::alloc::{AllocError, Global};
+use std::process::Abort;
+use std::sync::Wait;
+use std::sync::atomic::AtomicU64;
+use std::test::Fail;
+use std::thread::Threads;
+use std::time;
+
+// How many refusals the test meets. `tools/refuse_allocations` sets 1, and refuses each allocation
+// of the test in turn.
+const REFUSALS: u32 = 0;
+
+// Past the text of each run.
+const PAGE_BYTES: usize = 1024;
+
+// Room for a text, asked for once more where it was refused.
+fn page(alloc: Global) -> Result<Vec<u8>, AllocError> {
+    match Vec::with_capacity(alloc, PAGE_BYTES) {
+        Ok(page) => Ok(page),
+        Err(_) => Vec::with_capacity(alloc, PAGE_BYTES),
+    }
+}
+
+// What each of a server's visitors sends.
+const LINES: &[u8] = b"OFFER 0 a\nQUIT\n";
+
+// What the visitors were sent: how many an id, 0 or 1, how many a refusal, and how many nothing.
+#[derive(Clone, Copy)]
+struct Sent {
+    first: u64,
+    second: u64,
+    refused: u64,
+    nothing: u64,
+}
+
+const NOBODY: Sent = Sent {
+    first: 0,
+    second: 0,
+    refused: 0,
+    nothing: 0,
+};
+
+impl Sent {
+    fn note(&mut self, text: &[u8]) {
+        match text {
+            b"OFFERED 0 7\nBYE\n" => self.first = self.first.saturating_add(1),
+            b"OFFERED 1 7\nBYE\n" => self.second = self.second.saturating_add(1),
+            b"ERR 7 memory\nBYE\n" => self.refused = self.refused.saturating_add(1),
+            b"" => self.nothing = self.nothing.saturating_add(1),
+            _ => {}
+        }
+    }
+
+    fn offered(self) -> u64 {
+        self.first.saturating_add(self.second)
+    }
+
+    // Each of so many visitors was sent an id of its own.
+    fn is_whole(self, visitors: u64) -> bool {
+        self.first == 1 && self.second == visitors.saturating_sub(1) && self.offered() == visitors
+    }
+}
+
+// How a server ended, and what its visitors were sent.
+#[derive(Drop)]
+struct Served {
+    outcome: Result<ServeReport<ListTimer>, BrokerFault>,
+    sent: Sent,
+}
+
+// Serves as many visitors as there are workers, 1 or 2.
+fn served_lines<R: Threads + Wait + time::Clock + Abort + Sync>(
+    rt: &R,
+    alloc: Global,
+    workers: u64,
+) -> Result<Served, Fail>
+    requires some { 1 ≤ workers }
+    requires few { workers ≤ 2 }
+{
+    let first = page(alloc)?;
+    let second = page(alloc)?;
+    Ok(served_into(rt, alloc, workers, first, second))
+}
+
+fn served_into<R: Threads + Wait + time::Clock + Abort + Sync>(
+    rt: &R,
+    alloc: Global,
+    workers: u64,
+    first: Vec<u8>,
+    second: Vec<u8>,
+) -> Served
+    requires some { 1 ≤ workers }
+    requires few { workers ≤ 2 }
+{
+    let turns = AtomicU64::new(0);
+    let (first, second) = (Received::into(first), Received::into(second));
+    let plans = [
+        planned(at_once(LINES), &first, &turns),
+        planned(at_once(LINES), &second, &turns),
+    ];
+    let visitors = if workers == 1 { 1 } else { 2 };
+    let outcome = served_so(rt, alloc, &plans[..visitors], &hundred_calls(rt, workers));
+    let mut sent = NOBODY;
+    sent.note(first.lock(rt).text.as_slice());
+    if workers == 2 {
+        sent.note(second.lock(rt).text.as_slice());
+    }
+    Served { outcome, sent }
+}
+
+// A server that ends well has served each visitor, but for those who were sent nothing, and has the calls
+// of those who were sent an id.
+fn expect_report(rt: &impl Abort, counts: Counts, events: usize, sent: Sent, visitors: u64) {
+    expect_counts(rt, counts, visitors, sent.nothing, 0);
+    let (audit, offered) = (counts.audit, sent.offered());
+    let served = offered.saturating_add(sent.refused);
+    expect_number(rt, served.saturating_add(sent.nothing), visitors);
+    expect(rt, sent.first <= 1 && sent.second <= sent.first);
+    expect_number(rt, audit.calls, offered);
+    expect_number(rt, audit.offered, offered);
+    expect_number(rt, audit.left, offered);
+    expect(rt, u64::try_from(events) == Ok(offered));
+}
+
+// Who was started before a worker that could not be has served all.
+fn expect_fault(rt: &impl Abort, fault: BrokerFault, sent: Sent, workers: u64) {
+    if fault == BrokerFault::Memory {
+        expect_number(rt, sent.nothing, workers);
+    } else {
+        expect(rt, fault == BrokerFault::Worker);
+        expect(rt, sent.is_whole(workers) || sent.nothing == workers);
+    }
+}
+
+// The report of a server that was refused nothing.
+fn whole_report(rt: &impl Abort, served: Served, workers: u64) -> Option<ServeReport<ListTimer>> {
+    let Served { outcome, sent } = served;
+    match outcome {
+        Ok(report) => {
+            let events = report.kept.history().len();
+            expect_report(rt, counts_of(&report), events, sent, workers);
+            if sent.is_whole(workers) {
+                Some(report)
+            } else {
+                None
+            }
+        }
+        Err(fault) => {
+            expect_fault(rt, fault, sent, workers);
+            None
+        }
+    }
+}
+
+// That report, and how many refusals were met. The server is run once more where one was.
+fn report_at_last<R: Threads + Wait + time::Clock + Abort + Sync>(
+    rt: &R,
+    alloc: Global,
+    workers: u64,
+) -> Result<(ServeReport<ListTimer>, u32), Fail>
+    requires some { 1 ≤ workers }
+    requires few { workers ≤ 2 }
+{
+    if let Some(report) = whole_report(rt, served_lines(rt, alloc, workers)?, workers) {
+        return Ok((report, 0));
+    }
+    match whole_report(rt, served_lines(rt, alloc, workers)?, workers) {
+        Some(report) => Ok((report, 1)),
+        None => Err(Fail::from("it was refused twice")),
+    }
+}
+
+const PRINTED: &[u8] =
+    b"sessions 1 faults 0 lost 0\n{\"calls\":1,\"cleared\":0,\"given\":0,\"left\":1,\"offered\":1,\"opening\":0,\"removed\":0}\n";
+
+const SERVED_HISTORY: &[u8] = b"history 3\nopen 0 0 0\n1 7 7 offer 0 7 0 7 1 a\nend 1\n";
+
+// What the end of a server leaves.
+#[derive(Drop)]
+struct End {
+    outcome: Result<(), BrokerFault>,
+    printed: Vec<u8>,
+    history: Option<Vec<u8>>,
+}
+
+fn ended(alloc: Global, report: &ServeReport<ListTimer>) -> Result<End, AllocError> {
+    let printed = page(alloc)?;
+    let history = page(alloc)?;
+    Ok(ended_into(alloc, report, printed, Some(history)))
+}
+
+fn ended_into(
+    alloc: Global,
+    report: &ServeReport<ListTimer>,
+    mut printed: Vec<u8>,
+    mut history: Option<Vec<u8>>,
+) -> End {
+    let outcome = end_server(alloc, report, &mut printed, &mut history);
+    End {
+        outcome,
+        printed,
+        history,
+    }
+}
+
+// Whether the end met no refusal. One of both texts is missing where it met one.
+fn is_whole(rt: &impl Abort, end: &End) -> bool {
+    let printed = end.printed.as_slice();
+    let history = end.history.as_ref().expect(rt, "a history").as_slice();
+    if end.outcome.is_ok() {
+        expect_bytes(rt, printed, PRINTED);
+        expect_bytes(rt, history, SERVED_HISTORY);
+        return true;
+    }
+    expect(rt, end.outcome == Err(BrokerFault::Memory));
+    let unwritten = printed == PRINTED && history.is_empty();
+    expect(
+        rt,
+        unwritten || printed.is_empty() && history == SERVED_HISTORY,
+    );
+    false
+}
+
+// How many refusals the end of a server met. What is missing then is there the next time.
+fn refused_ends(
+    rt: &impl Abort,
+    alloc: Global,
+    report: &ServeReport<ListTimer>,
+) -> Result<u32, Fail> {
+    if is_whole(rt, &ended(alloc, report)?) {
+        return Ok(0);
+    }
+    expect(rt, is_whole(rt, &ended(alloc, report)?));
+    Ok(1)
+}
+
+// What a server of one worker meets, and its end.
+fn refused_server<R: Threads + Wait + time::Clock + Abort + Sync>(
+    rt: &R,
+    alloc: Global,
+) -> Result<u32, Fail> {
+    let (report, met) = report_at_last(rt, alloc, 1)?;
+    Ok(met.saturating_add(refused_ends(rt, alloc, &report)?))
+}
+
+fn expect_refusals(rt: &impl Abort, refusals: u32) {
+    assert_eq!(rt; refusals, REFUSALS);
+}
+
+#[test]
+fn a_refused_allocation_is_answered(rt: HostRuntime) -> Result<(), Fail> {
+    let one = refused_server(&rt, rt.alloc())?;
+    let (_, two) = report_at_last(&rt, rt.alloc(), 2)?;
+    expect_refusals(&rt, one.saturating_add(two));
+    Ok(())
+}

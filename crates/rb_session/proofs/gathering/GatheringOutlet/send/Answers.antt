@@ -1,0 +1,20 @@
+use Rattle.std.proofs.Common.{arith}
+use Rattle.rb_session.specs.Growth.{grows_on}
+use Rattle.rb_session.proofs.Gatherings.{kept_known, sends_past, sends_grow}
+use Rattle.rb_session.proofs.gathering.GatheringOutlet.send.Goals as goal
+use Rattle.rb_session.proofs.gathering.GatheringOutlet.send.Goals.{then-line-room+in_ok-empty+else-line-room-2, else-line-room}
+
+pub returns-then-line-room-2-clause-sent : goal.returns-then-line-room-2-clause-sent
+returns-then-line-room-2-clause-sent g c before known =
+    sends_past c.send_at_once.result (g.W.Write.contents c.empty.new.self.writer.now) _ c.empty.new.self.gathered.items before _ c.in_ok-empty.ensures.empty c.send_at_once.ensures (kept_known _ _ before c.empty.ensures.kept known)
+
+pub returns-then-line-room-2-clause-becomes : goal.returns-then-line-room-2-clause-becomes
+returns-then-line-room-2-clause-becomes g c =
+    (c.empty.ensures.same_reference, grows_on _ _ _ c.empty.ensures.grows (sends_grow c.send_at_once.result _ _ _ c.send_at_once.ensures), c.empty.ensures.hands_on)
+
+pub unwrap-requires : goal.unwrap-requires
+unwrap-requires g c =
+    c.extend_from_slice.ensures.succeeds (elim c.if-line-room.branch [
+      | then-line-room+in_ok-empty+else-line-room-2 w ↦ rw w.self-is (omega (arith, w.room-then-line-room.ensures, w.if-line-room-2.false))
+      | else-line-room w ↦ rw w.self-is (omega (arith, c.room.ensures, w.if-line-room.false))
+    ])

@@ -1,0 +1,5 @@
+use Rattle.rb_session.proofs.Gatherings.{sends_all}
+use Rattle.rb_session.proofs.send.send_at_once.Goals as goal
+
+pub returns : goal.returns
+returns g c before known = sends_all c.flush.result _ before _ (c.flush.ensures _ (c.in_ok-send_line.ensures before known))

@@ -1,5 +1,0 @@
-use Rattle.std.proofs.lemmas.Result.{IfOk-weaker}
-use Rattle.rb_words.proofs.command_line.with_option.Goals as goal
-
-pub returns-clause-app : goal.returns-clause-app
-returns-clause-app c = IfOk-weaker c.arg.result _ _ (λ wider adds. adds.shape c.requires.local) c.arg.ensures
