@@ -1,3 +1,4 @@
+-- The lemmas of this crate, by subject: the heap's order, and the places that agree with it.
 pub mod Contents
 pub mod Inserts
 pub mod Removals

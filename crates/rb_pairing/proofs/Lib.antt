@@ -1,3 +1,4 @@
+-- The lemmas of this crate, by subject: writes of nodes, the trees after them, and their content.
 pub mod Writes
 pub mod LinkTests
 pub mod Expiries

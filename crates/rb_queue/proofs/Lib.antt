@@ -1,3 +1,4 @@
+-- The lemmas of this crate, by subject, from bags and stores to the laws of whole histories.
 pub mod Bags
 pub mod Options
 pub mod BagsInSlots

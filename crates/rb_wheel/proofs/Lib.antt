@@ -1,3 +1,4 @@
+-- The lemmas of this crate, by subject: cells, their lists and marks, and the entries in them.
 pub mod Entries
 pub mod EntryWrites
 pub mod HeldCells

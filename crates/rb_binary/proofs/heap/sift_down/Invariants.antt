@@ -1,3 +1,4 @@
+-- With the entry put at the hole, only the order below the hole may be wrong; the hole moves down.
 use Rattle.std.proofs.Common.{◌-◌, length, set}
 use Rattle.rb_binary.specs.Layout.{MaySink, expiries, note}
 use Rattle.rb_binary.proofs.KeptPlaces.{Carries}

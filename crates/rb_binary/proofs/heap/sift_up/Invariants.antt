@@ -1,3 +1,4 @@
+-- With the entry put at the hole, only the order above the hole may be wrong; the hole moves up.
 use Rattle.std.proofs.Common.{set}
 use Rattle.rb_binary.specs.Layout.{MayRise, expiries, note}
 use Rattle.rb_binary.proofs.KeptPlaces.{Carries}

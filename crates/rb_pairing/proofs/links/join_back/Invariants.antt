@@ -1,3 +1,4 @@
+-- Each join leaves one rank more above the row's last entry, so the joins end within the room.
 use Rattle.std.proofs.Common.{◌≡◌, None}
 use Rattle.rb_pairing.specs.Nodes.{next_of}
 use Rattle.rb_pairing.specs.Changes.{Relinks}

@@ -1,3 +1,4 @@
+-- The entry that was reached has a rank for each round, so the row ends within the room.
 use Rattle.rb_pairing.specs.Changes.{Relinks}
 use Rattle.rb_pairing.proofs.Rows.{RankFrom}
 use Rattle.rb_pairing.proofs.links.join_pairs.Given as goal

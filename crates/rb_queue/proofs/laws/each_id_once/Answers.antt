@@ -1,3 +1,4 @@
+-- Both laws are lemmas of `Leavings`: no id is offered twice, and none leaves twice.
 use Rattle.rb_queue.proofs.Leavings.{is_offered_once, leaves_once}
 use Rattle.rb_queue.proofs.laws.each_id_once.Goals as goal
 

@@ -1,3 +1,4 @@
+-- Each id keeps the order of those before it; the first that does not shows that they have none.
 use Rattle.std.proofs.Common.{refl, inl, inr}
 use Rattle.rb_queue.proofs.Orders.{so_far_none, so_far_more, out_of_order, in_order}
 use Rattle.rb_queue.proofs.Queues.{named_at}

@@ -1,3 +1,4 @@
+-- The ids so far rise and are below `end`, and `least` is the one above them.
 use Rattle.rb_queue.proofs.Orders.{InOrderSoFar}
 use Rattle.rb_queue.proofs.opening.are_in_order.Given as goal
 

@@ -1,3 +1,4 @@
+-- A cell's number gives back its level and digit, which the highest different bit decides.
 use Rattle.std.proofs.Common.{◌≡◌, ℕ, ◌+◌, ◌*◌, ◌/◌, ◌%◌, ap, ◌∙◌, refl, ◌<◌, arith}
 use Rattle.rb_wheel.specs.Cells.{digit}
 use Rattle.rb_wheel.proofs.HighestBit.{IsCellOf-from_bit, IsCellOf-from_none}

@@ -1,3 +1,4 @@
+-- The start is below 2^64, so the shift loses no bit of it.
 use Rattle.std.proofs.Math.Nat.{mod-eq_of_lt}
 use Rattle.rb_wheel.proofs.cells.start_of.Goals as goal
 

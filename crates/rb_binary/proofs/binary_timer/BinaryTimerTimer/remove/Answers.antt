@@ -1,3 +1,4 @@
+-- The slot's noted place is where its entry lies; the last entry moves there, and is noted there.
 use Rattle.std.proofs.Common.{rules, None, is_some, ap, ◌∙◌, arith}
 use Rattle.std.proofs.lemmas.List.{get_or_read}
 use Rattle.rb_binary.specs.Room.{in_room_of_content}

@@ -1,3 +1,4 @@
+-- One head more fits the room, and the drain ends at `max` or where nothing is expired.
 use Rattle.std.proofs.Common.{◌+◌, ◌≤◌, length, ap, ◌∙◌, arith}
 use Rattle.rb_queue.proofs.Drains.{drained_none, drained_more, drained_as, drains, some_standing}
 use Rattle.rb_queue.proofs.delay_queue.DelayQueue.drain.Goals as goal

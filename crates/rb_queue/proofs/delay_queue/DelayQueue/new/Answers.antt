@@ -1,3 +1,4 @@
+-- In an empty bag all ids are below the next one, which is 0.
 use Rattle.rb_queue.proofs.Queues.{below_empty}
 use Rattle.rb_queue.proofs.delay_queue.DelayQueue.new.Goals as goal
 

@@ -1,3 +1,4 @@
+-- The opening's ids rise, so each insert meets a new id, and all end below the next one.
 use Rattle.std.proofs.Common.{sym, ap, ◌∙◌}
 use Rattle.std.proofs.Common.{arith}
 use Rattle.std.proofs.lemmas.List.{take_all}

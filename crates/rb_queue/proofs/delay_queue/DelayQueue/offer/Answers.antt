@@ -1,3 +1,4 @@
+-- The new element has the next id, which is raised, so all ids stay below it.
 use Rattle.rb_queue.proofs.Queues.{below_insert}
 use Rattle.rb_queue.proofs.delay_queue.DelayQueue.offer.Goals as goal
 

@@ -1,3 +1,4 @@
+-- A poll takes one element out or none, so the ids that are left stay below the next one.
 use Rattle.rb_queue.proofs.Queues.{below_polled}
 use Rattle.rb_queue.proofs.delay_queue.DelayQueue.poll.Goals as goal
 

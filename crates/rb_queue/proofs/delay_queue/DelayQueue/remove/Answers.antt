@@ -1,3 +1,4 @@
+-- A removal leaves the ids below the next one, and has found just what the bag had under the id.
 use Rattle.rb_queue.proofs.Queues.{below_remove, removes}
 use Rattle.rb_queue.proofs.delay_queue.DelayQueue.remove.Goals as goal
 

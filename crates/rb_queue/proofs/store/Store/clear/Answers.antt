@@ -1,3 +1,4 @@
+-- Slab, timer and directory are emptied alike, so they agree.
 use Rattle.std.proofs.Common.{ap}
 use Rattle.std.specs.Prelude.{nat_eq}
 use Rattle.std.specs.Map.{lookup}

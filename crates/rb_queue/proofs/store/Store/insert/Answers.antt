@@ -1,3 +1,4 @@
+-- More room changes nothing; then slab, timer and directory get the same element at a free slot.
 use Rattle.std.proofs.Common.{sym, ap, ◌∙◌}
 use Rattle.std.specs.FinMap as map
 use Rattle.rb_queue.proofs.Stores.{bag-insert, sound-insert, sound-capacity, updated_by, updated_after, bag-capacity}

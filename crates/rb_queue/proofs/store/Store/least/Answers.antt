@@ -1,3 +1,4 @@
+-- The timer's least slot has an element of least expiry in the slab; without one the bag is empty.
 use Rattle.rb_queue.proofs.Stores.{none_least, shown}
 use Rattle.rb_queue.proofs.store.Store.least.Goals as goal
 

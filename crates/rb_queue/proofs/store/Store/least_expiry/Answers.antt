@@ -1,3 +1,4 @@
+-- The timer's least expiry is that of the bag; without one the bag is empty.
 use Rattle.rb_queue.proofs.Stores.{none_least, least_expiry}
 use Rattle.rb_queue.proofs.store.Store.least_expiry.Goals as goal
 

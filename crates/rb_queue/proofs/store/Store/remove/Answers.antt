@@ -1,3 +1,4 @@
+-- The directory's slot for the id has the element of that id, so all three forget the same one.
 use Rattle.std.proofs.Common.{sym}
 use Rattle.rb_queue.proofs.Bags.{remove_absent}
 use Rattle.rb_queue.proofs.Stores.{lying, unfiled, filed_expiry, filed_id, updated_by, bag-remove, sound-remove}

@@ -1,3 +1,4 @@
+-- The timer's due slot has the head of the bag, and all three forget that one element.
 use Rattle.rb_queue.proofs.Stores.{none_due, is_head, bag-remove, sound-remove}
 use Rattle.rb_queue.proofs.store.Store.remove_due.Goals as goal
 

@@ -1,3 +1,4 @@
+-- A cell is marked exactly where it has a slot, so the first marked cell is the first with one.
 use Rattle.rb_wheel.proofs.HeldCells.{first_marked_cell}
 use Rattle.rb_wheel.proofs.lists.Lists.first_cell.Goals as goal
 

@@ -1,3 +1,4 @@
+-- The head of a cell's list is a slot of that cell; with no head the cell is vacant.
 use Rattle.std.proofs.Common.{◌∙◌, ap, sym}
 use Rattle.rb_wheel.specs.WheelLinks.{head_at}
 use Rattle.rb_wheel.proofs.HeldCells.{first_slot}

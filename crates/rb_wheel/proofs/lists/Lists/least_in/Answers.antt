@@ -1,3 +1,4 @@
+-- The walk over the cell meets each of its slots once, and keeps the least expiry that it has met.
 use Rattle.std.proofs.Common.{◌≡◌, ◌∙◌, ◌<◌, length, sym, ap}
 use Rattle.std.proofs.lemmas.List.{get_or_read}
 use Rattle.rb_wheel.specs.declared.node.Node.{Node}

@@ -1,3 +1,4 @@
+-- The lowest bit of the first word that is not 0 is a marked cell, and none before it is.
 use Rattle.std.proofs.Common.{◌<◌, ◌^◌, get_or, refl, arith}
 use Rattle.rb_wheel.proofs.MarkedCells.{first_marked, first_least}
 use Rattle.rb_wheel.proofs.marks.Marks.first.Goals as goal

@@ -1,3 +1,4 @@
+-- The words of the levels so far are 0, so no cell of theirs is marked.
 use Rattle.std.proofs.Common.{◌≡◌, ℕ, ◌<◌, get_or}
 use Rattle.rb_wheel.proofs.marks.Marks.first.Given as goal
 

@@ -1,3 +1,4 @@
+-- Setting one bit marks its cell and changes no other cell's mark.
 use Rattle.std.proofs.Common.{arith}
 use Rattle.rb_wheel.proofs.MarkedCells.{mark-insert_same, mark-insert_other}
 use Rattle.rb_wheel.proofs.marks.Marks.insert.Goals as goal

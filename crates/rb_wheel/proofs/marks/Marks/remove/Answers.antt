@@ -1,3 +1,4 @@
+-- Clearing one bit takes the mark off its cell and changes no other cell's.
 use Rattle.std.proofs.Common.{arith}
 use Rattle.rb_wheel.proofs.MarkedCells.{mark-remove_same, mark-remove_other}
 use Rattle.rb_wheel.proofs.marks.Marks.remove.Goals as goal
