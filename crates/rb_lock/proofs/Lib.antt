@@ -1,3 +1,4 @@
+-- The lemmas of this crate, by subject: steps that keep the lock's rule, and what passes learn.
 pub mod Sums
 pub mod Beginnings
 pub mod LongerHistories

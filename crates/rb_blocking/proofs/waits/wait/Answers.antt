@@ -1,3 +1,4 @@
+-- A try that ends with `Later` makes no event and learns, so what the wait keeps lasts to the next.
 use Rattle.std.proofs.Common.{Ok, Result, refl, ap, subst, ◌∙◌}
 use Rattle.rb_kept.specs.declared.outcome.Outcome.{Outcome}
 use Rattle.rb_kept.specs.declared.fault.CallFault.{CallFault}

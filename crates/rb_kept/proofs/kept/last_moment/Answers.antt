@@ -1,3 +1,4 @@
+-- The state after a history has the moment of its last event.
 use Rattle.std.proofs.Common.{sym}
 use Rattle.rb_queue.specs.History.{start_of}
 use Rattle.rb_kept.proofs.Logs.{moment_last}

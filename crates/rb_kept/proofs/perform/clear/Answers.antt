@@ -1,3 +1,4 @@
+-- Any clear is an act of the ask, and the queue's own clause says what it does.
 use Rattle.std.proofs.Common.{refl}
 use Rattle.rb_kept.proofs.perform.clear.Goals as goal
 

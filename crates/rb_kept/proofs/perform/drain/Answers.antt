@@ -1,3 +1,4 @@
+-- A drain gives no more elements than stand or were asked for, so the room for their ids is enough.
 use Rattle.std.proofs.Common.{arith}
 use Rattle.std.proofs.lemmas.List.{length-map}
 use Rattle.rb_delayed.specs.declared.element.Element.{Element}

@@ -1,3 +1,4 @@
+-- The element that the queue made is one of the draft that the ask has.
 use Rattle.std.proofs.Common.{refl}
 use Rattle.rb_kept.proofs.perform.offer.Goals as goal
 

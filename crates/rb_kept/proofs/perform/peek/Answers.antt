@@ -1,3 +1,4 @@
+-- The id in the act is the shown element's, so the reply is what the bag has under that id.
 use Rattle.std.proofs.Common.{refl, ap, ◌∙◌}
 use Rattle.std.specs.Prelude.{option_map}
 use Rattle.std.specs.FinMap as map

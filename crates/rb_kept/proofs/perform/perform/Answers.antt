@@ -1,3 +1,4 @@
+-- Each call is made for its own kind of ask, and what it ensures is asked for that kind.
 use Rattle.rb_kept.proofs.perform.perform.Goals as goal
 
 pub returns-in-Offer : goal.returns-in-Offer

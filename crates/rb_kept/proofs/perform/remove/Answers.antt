@@ -1,3 +1,4 @@
+-- The act names the id that was asked for, and the reply tells whether the queue found it.
 use Rattle.std.proofs.Common.{refl}
 use Rattle.rb_kept.proofs.perform.remove.Goals as goal
 

@@ -1,3 +1,4 @@
+-- The act and the reply have the same count, and the queue is as before.
 use Rattle.std.proofs.Common.{refl}
 use Rattle.rb_kept.proofs.perform.size.Goals as goal
 

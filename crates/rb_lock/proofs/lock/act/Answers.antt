@@ -1,3 +1,4 @@
+-- A seat with the pair in hand has one slot there, and what lies in that slot is the pair.
 use Rattle.std.proofs.Common.{Some}
 use Rattle.rb_lock.proofs.HeldPairs.{only_slot, same_slot}
 use Rattle.rb_lock.proofs.lock.act.Goals as goal

@@ -1,3 +1,4 @@
+-- The call changes the kept queue where it lies; the names of the pair stay as they are.
 use Rattle.std.proofs.Common.{refl, rules}
 use Rattle.rb_lock.proofs.lock.act_on.Goals as goal
 

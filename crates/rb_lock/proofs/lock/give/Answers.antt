@@ -1,3 +1,4 @@
+-- The exchange that gives the lock back keeps the rule, since this seat has the pair in hand.
 use Rattle.std.proofs.Common.{arith}
 use Rattle.rb_lock.proofs.Returns.{gives_at}
 use Rattle.rb_lock.proofs.lock.give.Goals as goal

@@ -1,3 +1,4 @@
+-- The exchange that gives the lock back keeps the rule, and draws the name that the pair had next.
 use Rattle.std.proofs.Common.{arith}
 use Rattle.rb_lock.proofs.Returns.{draws_at}
 use Rattle.rb_lock.proofs.lock.give_and_draw.Goals as goal

@@ -1,3 +1,4 @@
+-- A seat at rest may try: the exchange keeps the rule whether it takes the lock or finds it taken.
 use Rattle.std.proofs.Common.{arith}
 use Rattle.rb_lock.proofs.Takings.{takes_at, one_or_more}
 use Rattle.rb_lock.proofs.lock.has_taken.Goals as goal

@@ -1,3 +1,4 @@
+-- Each of the three steps keeps the rule: a note is cut off, joined to the seat, learned by a look.
 use Rattle.std.proofs.Common.{arith, ap, ◌∙◌}
 use Rattle.rb_lock.specs.LockSteps.{LockSeat}
 use Rattle.rb_lock.proofs.Meetings.{notes_at, meets_at, compares_at}

@@ -1,3 +1,4 @@
+-- A seat with the pair in hand has one slot there, so the name that is given is that pair's.
 use Rattle.std.proofs.Common.{Some}
 use Rattle.rb_lock.proofs.HeldPairs.{only_slot, same_slot}
 use Rattle.rb_lock.proofs.lock.next_name.Goals as goal

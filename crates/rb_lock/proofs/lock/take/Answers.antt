@@ -1,3 +1,4 @@
+-- Tries that were lost left the seat at rest, so it may try once more.
 use Rattle.std.proofs.Common.{arith, ◌∙◌}
 use Rattle.rb_lock.proofs.Takings.{takes_again}
 use Rattle.rb_lock.proofs.lock.take.Goals as goal

@@ -1,3 +1,4 @@
+-- Tries that were lost changed nothing at the seat: neither its table nor what it knows.
 use Rattle.std.proofs.Common.{◌≡◌}
 use Rattle.rb_lock.proofs.lock.take.Given as goal
 

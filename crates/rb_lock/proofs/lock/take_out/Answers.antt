@@ -1,3 +1,4 @@
+-- A seat with the pair in hand has one slot there, which it may empty.
 use Rattle.std.proofs.Common.{Some}
 use Rattle.rb_lock.proofs.HeldPairs.{only_slot}
 use Rattle.rb_lock.proofs.lock.take_out.Goals as goal

@@ -1,3 +1,4 @@
+-- There is one slot and it has a pair, so both `unwrap`s succeed and the kept queue comes back.
 use Rattle.std.proofs.Common.{arith, length, ap, ◌∙◌, ◌++◌}
 use Rattle.std.specs.Prelude.{Option, Some}
 use Rattle.std.specs.Option.{option_to_list}

@@ -1,3 +1,4 @@
+-- The pass stays at its table, so the offer and the take of the next round may go through it.
 use Rattle.std.proofs.Common.{◌≡◌}
 use Rattle.rb_blocking.proofs.tests.ample.expect_rounds.Given as goal
 

@@ -1,3 +1,4 @@
+-- A wait that the gate stops leaves the pass at its table, so the next limit can be tried.
 use Rattle.std.proofs.Common.{◌≡◌}
 use Rattle.rb_blocking.proofs.tests.gates.expect_stops.Given as goal
 

@@ -1,3 +1,4 @@
+-- The pass stays at its table after each wait, so it may wait for what expires further ahead.
 use Rattle.std.proofs.Common.{◌≡◌}
 use Rattle.rb_blocking.proofs.tests.machine.expect_all_on_time.Given as goal
 

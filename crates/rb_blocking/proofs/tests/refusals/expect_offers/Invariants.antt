@@ -1,3 +1,4 @@
+-- A refused offer leaves the pass at its table too, so the next element may be offered.
 use Rattle.std.proofs.Common.{◌≡◌}
 use Rattle.rb_blocking.proofs.tests.refusals.expect_offers.Given as goal
 

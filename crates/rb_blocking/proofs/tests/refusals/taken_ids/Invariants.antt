@@ -1,3 +1,4 @@
+-- Each take leaves the pass at its table, so the next element may be taken.
 use Rattle.std.proofs.Common.{◌≡◌}
 use Rattle.rb_blocking.proofs.tests.refusals.taken_ids.Given as goal
 

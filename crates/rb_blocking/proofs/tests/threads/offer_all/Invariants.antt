@@ -1,3 +1,4 @@
+-- The giver's pass stays at its table, so the offer of the next round may go through it.
 use Rattle.std.proofs.Common.{◌≡◌}
 use Rattle.rb_blocking.proofs.tests.threads.offer_all.Given as goal
 

@@ -1,3 +1,4 @@
+-- One event more: no sum overflows, the log stays legal, and the books count it.
 use Rattle.std.proofs.Common.{List, ◌+◌, length, refl, sym, ap, ◌∙◌, arith}
 use Rattle.rb_queue.specs.declared.event.Event.{Event}
 use Rattle.rb_queue.specs.Queue.{Queue}

@@ -1,3 +1,4 @@
+-- What is kept beside the history, its books, sums and the queue's size, is what counting it gives.
 use Rattle.std.proofs.Common.{◌≡◌, length, sym, ap, ◌∙◌, arith}
 use Rattle.std.specs.FinMap as map
 use Rattle.rb_ledger.specs.declared.totals.Totals.{Totals}

@@ -1,3 +1,4 @@
+-- Each try adds a step behind those before it, so the log after the last try is legal.
 use Rattle.std.proofs.Common.{◌+◌, ap, refl, ◌∙◌, arith}
 use Rattle.rb_queue.specs.History.{IsLegal}
 use Rattle.rb_kept.proofs.Logs.{StepsAlong-more, legal_along, grows_none, grows_on}

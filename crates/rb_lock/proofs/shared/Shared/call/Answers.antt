@@ -1,3 +1,4 @@
+-- What a taken lock, a call and a lock given back come to: the pass learns, and gets its reply.
 use Rattle.std.proofs.Common.{◌≡◌, ℕ, refl, ap, ◌∙◌, subst, [], ◌∷◌}
 use Rattle.std.specs.Prelude.{Some}
 use Rattle.rb_lock.specs.LockSteps.{LockSeat, ActsIn}

@@ -1,3 +1,4 @@
+-- Equal totals mean that all calls are this pass's; else the pair goes back and it is refused.
 use Rattle.std.proofs.Common.{◌≡◌, sym, ap, subst, ◌∙◌, [], ◌∷◌}
 use Rattle.std.specs.Prelude.{Some}
 use Rattle.rb_kept.specs.Shares.{totals_of}

@@ -1,3 +1,4 @@
+-- Both seats are at rest, so one may join the other, and the pass then counts the calls of both.
 use Rattle.std.proofs.Common.{arith, sym, ap, ◌∙◌}
 use Rattle.rb_lock.specs.Passes.{Seen}
 use Rattle.rb_lock.specs.LockSteps.{LockSeat}

@@ -1,3 +1,4 @@
+-- Each pass takes the longer of the two histories, so both have seen the same one at the end.
 use Rattle.std.proofs.Common.{sym, ap, ◌∙◌}
 use Rattle.rb_lock.specs.Views.{longer}
 use Rattle.rb_lock.specs.LockSteps.{LockSeat}

@@ -1,3 +1,4 @@
+-- With a name left it is drawn and the seat cut in two; with none the lock is just given back.
 use Rattle.std.proofs.Common.{arith, sym, ap, ◌∙◌, ◌∷◌}
 use Rattle.std.specs.Prelude.{Some}
 use Rattle.rb_lock.specs.LockSteps.{LockSeat}

@@ -1,3 +1,4 @@
+-- The first pass stays at its table while passes are split off and folded, so it may split again.
 use Rattle.std.proofs.Common.{◌≡◌}
 use Rattle.rb_lock_tests.proofs.tests.ample.expect_passes.Given as goal
 

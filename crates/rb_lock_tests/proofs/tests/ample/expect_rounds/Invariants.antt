@@ -1,3 +1,4 @@
+-- The pass stays at its table, so the calls of the next round may go through it.
 use Rattle.std.proofs.Common.{◌≡◌}
 use Rattle.rb_lock_tests.proofs.tests.ample.expect_rounds.Given as goal
 

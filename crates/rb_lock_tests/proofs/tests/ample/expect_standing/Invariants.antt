@@ -1,3 +1,4 @@
+-- The pass stays at its table, so one more element may be offered beside those that stand.
 use Rattle.std.proofs.Common.{◌≡◌}
 use Rattle.rb_lock_tests.proofs.tests.ample.expect_standing.Given as goal
 

@@ -1,3 +1,4 @@
+-- The giver's pass stays at its table through all offers, and so comes back with it.
 use Rattle.std.proofs.Common.{◌≡◌}
 use Rattle.rb_lock_tests.proofs.tests.crowds.offer_all.Given as goal
 

@@ -1,3 +1,4 @@
+-- The taker's pass stays at its table, whether a try took an element or found none.
 use Rattle.std.proofs.Common.{◌≡◌}
 use Rattle.rb_lock_tests.proofs.tests.crowds.take_all.Given as goal
 

@@ -1,3 +1,4 @@
+-- A refused offer leaves the pass at its table too, so the next call that may grow can be made.
 use Rattle.std.proofs.Common.{◌≡◌}
 use Rattle.rb_lock_tests.proofs.tests.refusals.expect_growths.Given as goal
 

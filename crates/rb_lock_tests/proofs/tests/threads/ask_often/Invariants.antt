@@ -1,3 +1,4 @@
+-- The pass stays at its table, so the next ask may go through it.
 use Rattle.std.proofs.Common.{◌≡◌}
 use Rattle.rb_lock_tests.proofs.tests.threads.ask_often.Given as goal
 
