@@ -1,3 +1,4 @@
+-- The program is put together step by step: its name, the need for a subcommand, then the three.
 use Rattle.std.proofs.Common.{◌≡◌, ◌∙◌, ap, ap₂, rules, refl, codes}
 use Rattle.std.proofs.lemmas.Result.{IfOk-weaker}
 use Rattle.clap.specs.Words.{App, app_of, new_app, with_subcommand}

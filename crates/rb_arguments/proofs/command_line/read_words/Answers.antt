@@ -1,3 +1,4 @@
+-- The parser ran the program of the spec, so the subcommand and rows that it found are the spec's.
 use Rattle.std.proofs.Common.{◌≡◌, ◌∙◌, IfSome, refl, sym, ap, subst, true, Some, map}
 use Rattle.clap.specs.Words.{is_simple, found_of, rows_of, subcommand_of, subcommand_rows_of}
 use Rattle.rb_arguments.specs.CommandLine.{IsAskedBy, program}

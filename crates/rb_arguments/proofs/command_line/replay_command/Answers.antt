@@ -1,3 +1,4 @@
+-- Each step adds one rule to the command before it: the file, the chains flag, then the policy's.
 use Rattle.std.proofs.Common.{◌≡◌, ◌∙◌, ap, ap₂, codes}
 use Rattle.std.proofs.lemmas.Result.{IfOk-weaker}
 use Rattle.clap.specs.Words.{app_of, new_app, with_rule}

@@ -1,3 +1,4 @@
+-- Each step adds one rule to the command before it, in the spec's order, the policy's at last.
 use Rattle.std.proofs.Common.{◌≡◌, ◌∙◌, ap, ap₂, codes}
 use Rattle.std.proofs.lemmas.Result.{IfOk-weaker}
 use Rattle.clap.specs.Words.{app_of, new_app, with_rule}

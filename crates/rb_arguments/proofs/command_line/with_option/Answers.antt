@@ -1,3 +1,4 @@
+-- An option that is not global adds its own rule and no other, so the parser's clause applies.
 use Rattle.std.proofs.lemmas.Result.{IfOk-weaker}
 use Rattle.rb_arguments.proofs.command_line.with_option.Goals as goal
 

@@ -1,3 +1,4 @@
+-- The policy's three rules are added one after the other: delay, rate and attempts.
 use Rattle.std.proofs.Common.{◌∙◌, ap₂, rules}
 use Rattle.std.proofs.lemmas.Result.{IfOk-weaker}
 use Rattle.clap.specs.Words.{with_rule}

@@ -1,3 +1,4 @@
+-- The code looks file and flag up in the rows, the spec in what was found: both get the same.
 use Rattle.std.proofs.Common.{◌∙◌, refl, sym, ap, codes, option_map, string_bytes}
 use Rattle.clap.specs.Words.{found_of}
 use Rattle.clap.proofs.WalkLemmas.{first_value-rows}

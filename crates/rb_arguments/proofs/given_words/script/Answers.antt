@@ -1,3 +1,4 @@
+-- The values of a script's options are the same in the rows and in what was found.
 use Rattle.std.proofs.Common.{◌∙◌, refl, sym, ap, ap₂, codes}
 use Rattle.clap.specs.Words.{found_of}
 use Rattle.clap.proofs.WalkLemmas.{first_value-rows, one_text-rows}

@@ -1,3 +1,4 @@
+-- Seven members were put in one after the other, so the object has them in the spec's order.
 use Rattle.std.proofs.Common.{◌≡◌, ◌∙◌, ap, codes, rules}
 use Rattle.serde_json.specs.Data.{Members, member, no_members, number, object, put, unsigned}
 use Rattle.serde_json.specs.View.{members_view}

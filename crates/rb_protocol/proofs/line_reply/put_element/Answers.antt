@@ -1,3 +1,4 @@
+-- An attempt has at most four digits and a payload 64 bytes, so the line has room for the numbers.
 use Rattle.std.proofs.Common.{◌≤◌, length, decimal, ap, arith}
 use Rattle.rb_protocol.proofs.Attempts.{attempt_digits}
 use Rattle.rb_protocol.proofs.line_reply.put_element.Goals as goal

@@ -1,3 +1,4 @@
+-- A cut at the first space takes off the first word; a text without a space is one word.
 use Rattle.std.proofs.Common.{rules, ◌≡◌, Some, None}
 use Rattle.std.proofs.lemmas.List.{take_rest}
 use Rattle.rb_protocol.specs.Words.{first_space}

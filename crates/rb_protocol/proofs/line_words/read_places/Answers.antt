@@ -1,3 +1,4 @@
+-- Words are refused for one of three reasons: the first or second is empty, or a third is there.
 use Rattle.std.proofs.Common.{rules, ◌≡◌, ◌∷◌, ◌<◌, length, arith}
 use Rattle.std.proofs.lemmas.Bool.Decides.{nat_tests}
 use Rattle.rb_protocol.proofs.Cuts.{first_filled, second_filled, words_behind_some}

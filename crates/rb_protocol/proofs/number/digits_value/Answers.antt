@@ -1,3 +1,4 @@
+-- One digit more, and why `None` is right: a byte is no digit, or the value passes 64 bits.
 use Rattle.std.proofs.Common.{get_or, arith}
 use Rattle.std.proofs.lemmas.Str.Parse.{digit_at}
 use Rattle.std.specs.Int.{IsInRange}

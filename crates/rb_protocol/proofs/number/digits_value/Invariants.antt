@@ -1,3 +1,4 @@
+-- The bytes so far are digits, and `value` is what they spell.
 use Rattle.std.proofs.Common.{◌≡◌, take}
 use Rattle.std.specs.Str.Parse.{AllDigits, digits_value}
 use Rattle.rb_protocol.proofs.number.digits_value.Given as goal

@@ -1,3 +1,4 @@
+-- A word is no number if it is empty, has a leading zero, or its digits have no value of 64 bits.
 use Rattle.std.proofs.Common.{◌≡◌, ◌<◌, length, true, false, rules, refl, arith}
 use Rattle.std.proofs.lemmas.Bool.Decides.{nat_tests}
 use Rattle.rb_protocol.proofs.Numbers.{number_filled, number_start, number_read, number_unread}

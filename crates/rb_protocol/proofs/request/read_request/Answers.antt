@@ -1,3 +1,4 @@
+-- A line whose words are too many or empty is no request at all, so `Syntax` is its first fault.
 use Rattle.std.proofs.Common.{rules, ◌≡◌, None, Err, arith}
 use Rattle.rb_protocol.specs.declared.line_fault.LineFault.TheVariants.{Syntax}
 use Rattle.rb_protocol.proofs.Faults.{takes_few}

@@ -1,3 +1,4 @@
+-- A fault is the first that holds: what is read before it, keyword or number, was right.
 use Rattle.std.proofs.Common.{rules, ◌≡◌, [], ◌∷◌, Some, None, Err}
 use Rattle.rb_protocol.specs.Words.{place_words}
 use Rattle.rb_protocol.specs.declared.line_fault.LineFault.TheVariants.{Number, Payload}

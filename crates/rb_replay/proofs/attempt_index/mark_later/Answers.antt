@@ -1,3 +1,4 @@
+-- A later attempt is in the set once it is inserted, and a first one needs no mark.
 use Rattle.std.proofs.Common.{arith}
 use Rattle.rb_replay.proofs.AttemptIndexes.{marked, first_unmarked}
 use Rattle.rb_replay.proofs.attempt_index.mark_later.Goals as goal

@@ -1,3 +1,4 @@
+-- The five parts were appended in turn, so together they are the lines of the history's text.
 use Rattle.std.proofs.Common.{map, length}
 use Rattle.rb_replay.specs.EventText.{keep_words, event_words, open_words, header_words, end_words}
 use Rattle.rb_replay.specs.declared.version.Version.TheVariants.{Three}

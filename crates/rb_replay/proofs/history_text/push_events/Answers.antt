@@ -1,3 +1,4 @@
+-- The line of one event more goes behind those before it.
 use Rattle.rb_replay.specs.EventText.{event_words}
 use Rattle.rb_replay.specs.declared.version.Version.TheVariants.{Three}
 use Rattle.rb_replay.proofs.Lines.{lines_more}

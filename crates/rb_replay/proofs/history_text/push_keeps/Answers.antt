@@ -1,3 +1,4 @@
+-- The line of one element more goes behind those before it.
 use Rattle.rb_replay.specs.EventText.{keep_words}
 use Rattle.rb_replay.specs.declared.version.Version.TheVariants.{Three}
 use Rattle.rb_replay.proofs.Lines.{lines_more}

@@ -1,10 +1,10 @@
+-- The elements so far are written.
 use Rattle.std.proofs.Common.{◌≡◌, ◌++◌, map, take}
 use Rattle.rb_replay.specs.EventText.{keep_words}
 use Rattle.rb_replay.specs.HistoryText.{lines_text}
 use Rattle.rb_replay.specs.declared.version.Version.TheVariants.{Three}
 use Rattle.rb_replay.proofs.history_text.push_keeps.Given as goal
 
--- the elements so far are written
 abbrev pub invariant-loop-element : goal.invariant-loop-element
 invariant-loop-element l =
     l.text.items ≡ l.fn.text.items ++ lines_text (map (keep_words Three) (take l.element-index l.elements))

@@ -1,3 +1,4 @@
+-- Each id is the head's when its turn comes; with fewer than `max` none may be expired at the end.
 use Rattle.std.proofs.Common.{◌≢◌, ◌≤◌, ◌<◌, length, get_or, refl, sym, arith}
 use Rattle.std.proofs.lemmas.Bool.Decides.{nat_tests}
 use Rattle.std.proofs.lemmas.Result.{err_from_is_err_and}

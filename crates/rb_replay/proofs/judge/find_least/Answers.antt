@@ -1,3 +1,4 @@
+-- The element's expiry is not above the queue's next one, so none in the bag expires before it.
 use Rattle.rb_replay.proofs.Judgements.{found_least}
 use Rattle.std.proofs.Common.{sym}
 use Rattle.rb_replay.proofs.judge.find_least.Goals as goal

@@ -1,3 +1,4 @@
+-- A peek may show nothing exactly where the size is 0.
 use Rattle.rb_replay.proofs.Judgements.{empties_by_size}
 use Rattle.rb_replay.proofs.judge.peek.Goals as goal
 

@@ -1,3 +1,4 @@
+-- The law is the lemma of `FaultlessTexts`: what is a history's text has no fault.
 use Rattle.rb_replay.proofs.FaultlessTexts.{no_fault_of_text}
 use Rattle.rb_replay.proofs.laws.no_fault_of_text.Goals as goal
 

@@ -1,3 +1,4 @@
+-- The law is the lemma of `OneTexts`: a history and a version settle the text.
 use Rattle.rb_replay.proofs.OneTexts.{one_text_each}
 use Rattle.rb_replay.proofs.laws.one_text_each.Goals as goal
 

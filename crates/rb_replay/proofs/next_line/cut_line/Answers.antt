@@ -1,3 +1,4 @@
+-- The cut is at the first line feed, so the line has none; without one no line is whole.
 use Rattle.std.proofs.Common.{sym}
 use Rattle.std.proofs.lemmas.List.{take_rest}
 use Rattle.rb_replay.proofs.FirstFeeds.{cut_at, front_lacks, whole_lacks}

@@ -1,3 +1,4 @@
+-- A right history's text has one reading, and no reading has more than 1,000,000 events.
 use Rattle.rb_replay.proofs.EachReadings.{reads_each}
 use Rattle.rb_replay.proofs.WholeTexts.{few_read}
 use Rattle.rb_replay.proofs.read.read_history.Goals as goal

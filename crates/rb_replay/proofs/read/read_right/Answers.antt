@@ -1,3 +1,4 @@
+-- The header, what was read behind it and the first expiries make it the text of that history.
 use Rattle.rb_replay.proofs.WholeTexts.{is_text}
 use Rattle.rb_replay.proofs.read.read_right.Goals as goal
 

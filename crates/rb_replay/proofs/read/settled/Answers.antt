@@ -1,3 +1,4 @@
+-- An older version does not tell first expiries, so those that follow from its lines are right.
 use Rattle.rb_replay.proofs.WholeTexts.{each_settled, untold}
 use Rattle.rb_replay.proofs.read.settled.Goals as goal
 

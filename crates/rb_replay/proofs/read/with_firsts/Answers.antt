@@ -1,3 +1,4 @@
+-- Elements are settled and then events, all with one map, and nothing but first expiries changes.
 use Rattle.std.proofs.Common.{◌≡◌, refl, sym, subst, ◌∙◌, arith}
 use Rattle.rb_replay.specs.Settling.{SettlesElements, SettlesEvents}
 use Rattle.rb_replay.proofs.WholeTexts.{has_firsts, whole_list}

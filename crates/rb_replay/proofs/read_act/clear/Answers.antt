@@ -1,3 +1,4 @@
+-- A clear has no words behind its keyword, so a line with more is none.
 use Rattle.std.proofs.Common.{length, sym, ap, ◌∙◌, arith}
 use Rattle.rb_protocol.proofs.Cuts.{words_behind_some}
 use Rattle.rb_replay.proofs.Keywords.{only_clear}

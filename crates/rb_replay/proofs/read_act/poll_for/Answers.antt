@@ -1,3 +1,4 @@
+-- A timed poll has a timeout as its second number, so a line without one is none.
 use Rattle.std.proofs.Common.{◌≡◌, ◌∷◌, decimal}
 use Rattle.rb_protocol.specs.Words.{words_behind}
 use Rattle.rb_replay.specs.EventText.{given_words}

@@ -1,3 +1,4 @@
+-- One word more is one id more; the first word that is no number shows that they are no ids.
 use Rattle.std.proofs.Common.{◌≡◌, ℕ, List, [], ◌∷◌, ◌++◌, decimal, map, sym, ap, ◌∙◌, append_assoc}
 use Rattle.std.proofs.lemmas.List.{map-append}
 use Rattle.rb_replay.specs.Ranges.{IsWord, AreWords}

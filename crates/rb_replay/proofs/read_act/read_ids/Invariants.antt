@@ -1,9 +1,9 @@
+-- The words so far are the ids, each of 64 bits, and each round leaves one word less.
 use Rattle.std.proofs.Common.{◌≡◌, ◌++◌, length, map, decimal}
 use Rattle.rb_protocol.specs.Words.{words_behind}
 use Rattle.rb_replay.specs.Ranges.{AreWords}
 use Rattle.rb_replay.proofs.read_act.read_ids.Given as goal
 
--- the words so far are the ids, each of 64 bits
 abbrev pub invariant-loop-word : goal.invariant-loop-word
 invariant-loop-word l = record {
   words : words_behind l.fn.words ≡ map decimal l.ids.items ++ words_behind l.rest;

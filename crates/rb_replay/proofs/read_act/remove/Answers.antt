@@ -1,3 +1,4 @@
+-- A removal has an id and one word more, so a line with further words is none.
 use Rattle.std.proofs.Common.{◌≡◌, [], ◌∷◌, codes, sym, ◌∙◌}
 use Rattle.std.specs.Prelude.{if◌then◌else◌}
 use Rattle.rb_protocol.specs.Words.{words_behind}

@@ -1,3 +1,4 @@
+-- An event's line has three numbers in front, so a line without the second or third is none.
 use Rattle.std.proofs.Common.{◌≡◌, ◌∷◌, decimal}
 use Rattle.rb_protocol.specs.Words.{words_behind}
 use Rattle.rb_replay.specs.EventText.{act_words}

@@ -1,3 +1,4 @@
+-- The lines are read up to the last one, and each fault is answered with the number of its line.
 use Rattle.std.proofs.Common.{◌≡◌, ◌+◌, ◌<◌, ◌≤◌, length, subst, ap, ◌∙◌, arith}
 use Rattle.std.proofs.lemmas.Result.{err_from_is_err_and}
 use Rattle.rb_protocol.specs.Line.{words_of}

@@ -1,8 +1,8 @@
+-- The lines so far are those of the events, and each round leaves less text.
 use Rattle.std.proofs.Common.{length}
 use Rattle.rb_replay.proofs.EventLines.{ReadSoFar}
 use Rattle.rb_replay.proofs.read_events.read_events.Given as goal
 
--- the lines so far are those of the events
 abbrev pub invariant-loop-line : goal.invariant-loop-line
 invariant-loop-line l = ReadSoFar l.version l.fn.text l.events.items l.rest
 

@@ -1,3 +1,4 @@
+-- An id below the least or not below the end is out of order, so the line keeps no element here.
 use Rattle.std.proofs.Common.{inl, inr}
 use Rattle.rb_replay.proofs.KeepLines.{keeps_none}
 use Rattle.rb_replay.proofs.read_keeps.next_keep.Goals as goal

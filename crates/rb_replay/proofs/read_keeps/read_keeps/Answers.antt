@@ -1,3 +1,4 @@
+-- One line more keeps one element more, and the first that keeps none is the opening's fault.
 use Rattle.std.proofs.Common.{arith}
 use Rattle.rb_replay.proofs.KeepLines.{kept_more, kept_all, keeping_stops}
 use Rattle.rb_replay.proofs.read_keeps.read_keeps.Goals as goal

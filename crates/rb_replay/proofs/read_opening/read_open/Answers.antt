@@ -1,3 +1,4 @@
+-- A line whose next id or count passes its limit, or that has no last moment, opens nothing.
 use Rattle.std.proofs.Common.{◌≡◌, [], ◌∷◌, decimal, arith}
 use Rattle.rb_protocol.specs.Words.{words_behind}
 use Rattle.rb_replay.proofs.Spelled.{same_number}

@@ -1,3 +1,4 @@
+-- The second line tells an opening's numbers, unless its version allows no such opening.
 use Rattle.std.proofs.Common.{◌≡◌, true, false, refl, inr}
 use Rattle.rb_replay.proofs.Bodies.{opens_other, tells_numbers}
 use Rattle.rb_replay.proofs.read_run.read_numbers.Goals as goal

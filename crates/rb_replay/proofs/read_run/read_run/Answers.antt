@@ -1,3 +1,4 @@
+-- A fault among the events is the text's, as the opening before them was right.
 use Rattle.std.proofs.lemmas.Result.{err_from_is_err_and}
 use Rattle.rb_replay.proofs.Bodies.{run_fails}
 use Rattle.rb_replay.proofs.read_run.read_run.Goals as goal

@@ -1,3 +1,4 @@
+-- A fault among the elements is the opening's, as the numbers before them were right.
 use Rattle.rb_replay.proofs.Bodies.{opening_fails}
 use Rattle.rb_replay.proofs.read_run.read_told.Goals as goal
 

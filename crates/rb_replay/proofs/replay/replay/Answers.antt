@@ -1,3 +1,4 @@
+-- The queue stands where the events so far led, so its refusal of the next one is the history's.
 use Rattle.rb_replay.proofs.Replays.{redone_more, redone_refuses, ids_left}
 use Rattle.rb_replay.proofs.replay.replay.Goals as goal
 

@@ -1,3 +1,4 @@
+-- The ids rise, so each is new to the map, which in the end has the whole bag.
 use Rattle.std.proofs.Common.{◌<◌, sym, subst, arith}
 use Rattle.std.proofs.lemmas.List.{take_all}
 use Rattle.rb_queue.specs.Bag.{bag_from}

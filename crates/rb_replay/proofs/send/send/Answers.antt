@@ -1,9 +1,9 @@
+-- The flush failed after all bytes were taken.
 use Rattle.std.proofs.Common.{◌++◌, Some, length, sym, ap, ◌∙◌, arith}
 use Rattle.std.proofs.lemmas.List.{take_all}
 use Rattle.rb_replay.proofs.Sending.{known-kept}
 use Rattle.rb_replay.proofs.send.send.Goals as goal
 
--- the flush failed after all bytes were taken
 pub returns-in_default : goal.returns-in_default
 returns-in_default g c = λ before is. (
   length c.args.text.now,

@@ -1,8 +1,8 @@
+-- A write took some bytes, or it was interrupted and took none.
 use Rattle.rb_replay.proofs.Sending.{HasSent-kept, HasSent-more}
 use Rattle.rb_replay.proofs.send.send_bytes.Goals as goal
 use Rattle.rb_replay.proofs.send.send_bytes.Goals.{in-Ok, in-Err}
 
--- a write took some bytes, or it was interrupted and took none
 pub loop-preserved : goal.loop-preserved
 loop-preserved g c =
     elim c.match-write.branch [

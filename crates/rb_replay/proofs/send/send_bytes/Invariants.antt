@@ -1,3 +1,4 @@
+-- The writer has got the bytes that stood before `rest`.
 use Rattle.rb_replay.proofs.Sending.{HasSent}
 use Rattle.rb_replay.proofs.send.send_bytes.Given as goal
 

@@ -1,3 +1,4 @@
+-- The word of one id more goes behind those before it.
 use Rattle.std.proofs.Common.{[], ◌∷◌, codes, decimal, get_or, sym}
 use Rattle.std.proofs.lemmas.Grind.{get_or_default_zero}
 use Rattle.rb_replay.proofs.Lines.{tails_more}

@@ -1,3 +1,4 @@
+-- The six words were appended in turn, so together they are the element's words in version 3.
 use Rattle.std.proofs.lemmas.Result.{on_ok_weaker}
 use Rattle.rb_replay.proofs.Lines.{six_words}
 use Rattle.rb_replay.proofs.text.push_element.Goals as goal

@@ -1,3 +1,4 @@
+-- Three numbers, the act's words and a line feed were appended in turn: the event's line.
 use Rattle.std.proofs.lemmas.Result.{on_ok_weaker}
 use Rattle.rb_replay.proofs.Lines.{event_line}
 use Rattle.rb_replay.proofs.text.push_event.Goals as goal

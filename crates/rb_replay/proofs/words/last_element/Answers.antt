@@ -1,3 +1,4 @@
+-- An element's words have its numbers in order, so words that lack the next one are no element's.
 use Rattle.std.proofs.Common.{◌≡◌, [], ◌∷◌, ◌++◌, decimal, sym, ◌∙◌}
 use Rattle.rb_protocol.specs.Words.{words_behind}
 use Rattle.rb_replay.specs.EventText.{first_words}

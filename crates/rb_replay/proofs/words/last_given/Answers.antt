@@ -1,3 +1,4 @@
+-- What was given is one word, so two words tell nothing given.
 use Rattle.std.proofs.Common.{sym, ◌∙◌}
 use Rattle.rb_replay.proofs.Spelled.{not_given}
 use Rattle.rb_replay.proofs.words.last_given.Goals as goal

@@ -1,3 +1,4 @@
+-- With a word behind it the number is not the only one.
 use Rattle.std.proofs.Common.{sym, ◌∙◌}
 use Rattle.rb_replay.proofs.Spelled.{not_alone}
 use Rattle.rb_replay.proofs.words.last_number.Goals as goal

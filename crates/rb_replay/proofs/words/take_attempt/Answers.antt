@@ -1,3 +1,4 @@
+-- An attempt's number is from 1 to the greatest one, and a word is no more than one number.
 use Rattle.std.proofs.Common.{arith}
 use Rattle.rb_replay.proofs.Spelled.{same_number}
 use Rattle.rb_replay.proofs.words.take_attempt.Goals as goal

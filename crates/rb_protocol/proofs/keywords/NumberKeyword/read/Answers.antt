@@ -1,3 +1,4 @@
+-- The bytes that were matched spell the keyword; the tactics do not see it for the two longest.
 use Rattle.std.proofs.Common.{rules, ◌≡◌, codes, arith}
 use Rattle.std.proofs.lemmas.Slice.Eq.{text_from_reads}
 use Rattle.rb_protocol.proofs.keywords.NumberKeyword.read.Goals as goal

@@ -1,3 +1,4 @@
+-- The bytes that were matched spell `OFFERAT`, which is too long for the tactics to see it.
 use Rattle.std.proofs.Common.{rules, ◌≡◌, codes, arith}
 use Rattle.std.proofs.lemmas.Slice.Eq.{text_from_reads}
 use Rattle.rb_protocol.proofs.keywords.OfferKeyword.read.Goals as goal

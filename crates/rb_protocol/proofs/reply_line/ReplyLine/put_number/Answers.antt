@@ -1,3 +1,4 @@
+-- A number of 64 bits has at most 20 digits, so it fits in front of what is written.
 use Rattle.std.proofs.Common.{◌≤◌, length, decimal, lit<, arith}
 use Rattle.std.proofs.lemmas.Fmt.{length-decimal-le}
 use Rattle.rb_protocol.proofs.reply_line.ReplyLine.put_number.Goals as goal

@@ -1,3 +1,4 @@
+-- An id with a place among the offers is that of the element offered there.
 use Rattle.std.proofs.Common.{sym}
 use Rattle.rb_replay.proofs.AttemptIndexes.{element_at}
 use Rattle.rb_replay.proofs.attempt_index.AttemptIndex.element.Goals as goal

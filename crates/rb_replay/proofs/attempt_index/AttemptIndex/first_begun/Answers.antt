@@ -1,3 +1,4 @@
+-- A first attempt has its origin as id, so the mark at that place tells whether it was given first.
 use Rattle.std.proofs.Common.{sym, ◌∙◌}
 use Rattle.rb_replay.proofs.AttemptIndexes.{begun_at}
 use Rattle.rb_replay.proofs.attempt_index.AttemptIndex.first_begun.Goals as goal

@@ -1,3 +1,4 @@
+-- The next id is kept behind those before it.
 use Rattle.std.proofs.Common.{get_or, sym}
 use Rattle.std.proofs.lemmas.Grind.{get_or_default_zero}
 use Rattle.rb_replay.proofs.AttemptIndexes.{given_next}

@@ -1,3 +1,4 @@
+-- An attempt is kept once: as before, as a mark at its own offer, or in the map of those given.
 use Rattle.std.proofs.Common.{refl, sym, ap, ◌∙◌}
 use Rattle.std.specs.Prelude.{is_some}
 use Rattle.rb_replay.specs.declared.attempt.Attempt.{Attempt}

@@ -1,3 +1,4 @@
+-- The element is pushed behind the other offers, and its attempt is marked unless it is a first.
 use Rattle.std.proofs.Common.{refl}
 use Rattle.std.proofs.lemmas.Result.{on_ok_weaker}
 use Rattle.rb_replay.proofs.AttemptIndexes.{keeps_offered}

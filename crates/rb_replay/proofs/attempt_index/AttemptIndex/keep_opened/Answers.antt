@@ -1,3 +1,4 @@
+-- The element goes under its id before any offer, and its attempt is marked unless it is a first.
 use Rattle.std.proofs.Common.{refl}
 use Rattle.std.proofs.lemmas.Result.{on_ok_weaker}
 use Rattle.rb_replay.proofs.AttemptIndexes.{keeps_opened}

@@ -1,3 +1,4 @@
+-- The index begins empty, and the opening's rising ids come in one behind the other.
 use Rattle.std.proofs.Common.{refl, sym, subst}
 use Rattle.rb_queue.specs.Opening.{AreInOrder}
 use Rattle.rb_replay.proofs.AttemptIndexes.{opened_none, opened_next}

@@ -1,3 +1,4 @@
+-- An id below the first offer's, or behind the last one's, is no offer's.
 use Rattle.std.proofs.Common.{arith}
 use Rattle.rb_replay.proofs.AttemptIndexes.{not_before, not_behind}
 use Rattle.rb_replay.proofs.attempt_index.AttemptIndex.place_of.Goals as goal

@@ -1,3 +1,4 @@
+-- The index has the events so far, so its test of the next one is the spec's test of the history.
 use Rattle.rb_replay.proofs.ChainedHistories.{looked_none, looked_more, offers_next_id, unchained_at}
 use Rattle.rb_replay.proofs.calls.chains.chains.Goals as goal
 

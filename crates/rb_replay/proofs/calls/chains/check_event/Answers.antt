@@ -1,3 +1,4 @@
+-- Only an offer can break a chain, so the test of the event is that of its element.
 use Rattle.rb_replay.proofs.ChainedHistories.{linked_event}
 use Rattle.rb_replay.proofs.calls.chains.check_event.Goals as goal
 

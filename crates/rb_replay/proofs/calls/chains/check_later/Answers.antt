@@ -1,3 +1,4 @@
+-- The attempt before is found in the index, and the tests are made in the order of their reasons.
 use Rattle.std.proofs.Common.{◌≡◌, false, true, sym, ◌∙◌}
 use Rattle.std.proofs.lemmas.Result.{err_from_is_err_and}
 use Rattle.rb_replay.proofs.ChainedHistories.{parent_below, own_attempt, wrong_retry, offered_twice, right_retry}

@@ -1,3 +1,4 @@
+-- The tests of a retry in their order: the payload first, then the first expiry, then the expiry.
 use Rattle.std.proofs.Common.{refl, sym, ◌∙◌, inl, inr}
 use Rattle.rb_replay.proofs.ChainedHistories.{same_payload}
 use Rattle.rb_replay.proofs.calls.chains.check_retry.Goals as goal

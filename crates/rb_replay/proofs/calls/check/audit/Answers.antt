@@ -1,3 +1,4 @@
+-- The sums of a legal history fit in 64 bits, and what was cleared is what they leave over.
 use Rattle.std.proofs.Common.{◌≡◌, length, ap, ◌∙◌, arith}
 use Rattle.std.proofs.lemmas.List.{take_all}
 use Rattle.rb_queue.specs.Counts.{offer_count, give_count, removed_count, cleared_count}

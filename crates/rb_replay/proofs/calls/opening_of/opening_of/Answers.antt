@@ -1,3 +1,4 @@
+-- The elements that stand are in order, so they are too many, or the next id is too great.
 use Rattle.std.proofs.Common.{sym, subst}
 use Rattle.rb_queue.specs.Opening.{AreInOrder, IsOpening}
 use Rattle.rb_replay.specs.Opens.{IsTooLarge}
@@ -5,7 +6,6 @@ use Rattle.rb_replay.specs.Replaying.{end_state}
 use Rattle.rb_replay.proofs.Ordered.{too_large}
 use Rattle.rb_replay.proofs.calls.opening_of.opening_of.Goals as goal
 
--- the elements that stand are in order, so they are too many, or the next id is too great
 pub returns : goal.returns
 returns c =
     let replayed = rw (c.opening.ensures, c.events.ensures) at c.in-Ok.ensures in

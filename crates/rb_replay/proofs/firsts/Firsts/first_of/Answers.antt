@@ -1,3 +1,4 @@
+-- A known origin keeps its expiry, and a new one gets that of this element, which is its first.
 use Rattle.std.proofs.Common.{◌≡◌, Some, None, arith}
 use Rattle.std.specs.Ordering.{nat_cmp}
 use Rattle.std.specs.BTreeMap as tree

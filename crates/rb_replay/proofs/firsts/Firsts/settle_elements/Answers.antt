@@ -1,3 +1,4 @@
+-- One element more gets its first expiry, and those behind it are as they were.
 use Rattle.std.proofs.Common.{◌<◌, length, get_or, refl, ap, arith}
 use Rattle.rb_replay.proofs.Settlings.{elements_more}
 use Rattle.rb_replay.proofs.firsts.Firsts.settle_elements.Goals as goal

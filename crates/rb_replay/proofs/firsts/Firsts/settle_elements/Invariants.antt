@@ -1,6 +1,6 @@
+-- The elements so far are settled.
 use Rattle.rb_replay.proofs.Settlings.{ElementsSettled}
 use Rattle.rb_replay.proofs.firsts.Firsts.settle_elements.Given as goal
 
--- the elements so far are settled
 abbrev pub invariant-loop-element : goal.invariant-loop-element
 invariant-loop-element l = ElementsSettled l.fn.elements l.self l.elements l.element-index

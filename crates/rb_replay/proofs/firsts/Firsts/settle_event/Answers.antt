@@ -1,3 +1,4 @@
+-- Only the first expiry of the offered element changes, and nothing else of the event.
 use Rattle.std.proofs.Common.{refl}
 use Rattle.rb_replay.proofs.Settlings.{event_settled}
 use Rattle.rb_replay.proofs.firsts.Firsts.settle_event.Goals as goal

@@ -1,3 +1,4 @@
+-- One event more is settled, and those behind it are as they were.
 use Rattle.std.proofs.Common.{◌<◌, length, get_or, ap, arith}
 use Rattle.rb_replay.proofs.Settlings.{events_more}
 use Rattle.rb_replay.proofs.firsts.Firsts.settle_events.Goals as goal

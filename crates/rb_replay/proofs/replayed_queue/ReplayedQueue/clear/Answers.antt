@@ -1,3 +1,4 @@
+-- Queue and map are emptied alike, so the map still has the queue's elements.
 use Rattle.std.proofs.Common.{sym, subst}
 use Rattle.rb_queue.specs.Queue.{Queue}
 use Rattle.rb_replay.specs.ReplayedQueue.{HasElements}

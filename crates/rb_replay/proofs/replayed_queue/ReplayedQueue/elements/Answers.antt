@@ -1,3 +1,4 @@
+-- The map's values are the queue's elements, in order of their ids and as many as stand.
 use Rattle.std.proofs.Common.{ap, ◌∙◌}
 use Rattle.rb_queue.specs.Queue.{Queue}
 use Rattle.rb_replay.proofs.Ordered.{bag_of_values, values_in_order, values_counted}

@@ -1,3 +1,4 @@
+-- The queue gives the draft this element's id, so queue and map agree; a refusal empties both.
 use Rattle.std.proofs.Common.{refl, sym, subst, ◌∙◌, arith}
 use Rattle.rb_queue.specs.Queue.{Queue}
 use Rattle.rb_replay.specs.ReplayedQueue.{HasElements}

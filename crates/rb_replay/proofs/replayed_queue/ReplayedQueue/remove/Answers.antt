@@ -1,3 +1,4 @@
+-- Queue and map lose the same id, whether it stood or not.
 use Rattle.std.proofs.Common.{sym, ap, subst}
 use Rattle.rb_queue.specs.Queue.{Queue}
 use Rattle.rb_replay.specs.ReplayedQueue.{HasElements}
