@@ -1,3 +1,4 @@
+-- The lemmas of this crate, by subject: how lines are read and served, and how replies are sent.
 pub mod Sending
 pub mod Buffers
 pub mod LineFeeds

@@ -1,8 +1,8 @@
+-- The jobs so far, and room for the others.
 use Rattle.std.proofs.Common.{◌≡◌, ◌+◌, ◌++◌, take, vec_len}
 use Rattle.std.specs.Prelude.{vec_capacity}
 use Rattle.rb_retry.proofs.fetches.append.Given as goal
 
--- the jobs so far, and room for the others
 abbrev pub invariant-loop-element : goal.invariant-loop-element
 invariant-loop-element l = record {
   so_far : l.jobs.items ≡ l.fn.jobs.items ++ take l.element-index l.elements;

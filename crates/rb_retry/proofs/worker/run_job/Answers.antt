@@ -1,3 +1,4 @@
+-- A job that failed ends as its failure says: offered again, dead, or lost.
 use Rattle.std.proofs.Common.{Bool, Ok, Err, Result, ap, refl, subst, ◌∙◌}
 use Rattle.rb_delayed.specs.declared.element.Element.{Element}
 use Rattle.rb_kept.specs.declared.fault.CallFault.{CallFault}

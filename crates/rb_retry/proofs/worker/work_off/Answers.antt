@@ -1,3 +1,4 @@
+-- One run more goes behind the others and makes an event, so the loop ends and no sum overflows.
 use Rattle.std.proofs.Common.{◌∷◌, ◌++◌, [], ◌∙◌, sym, ap, arith}
 use Rattle.rb_retry.specs.WorkRuns.{no_runs, counted}
 use Rattle.rb_retry.proofs.RunSteps.{report_after-append, one_more, along_more, took_more, ended_more}

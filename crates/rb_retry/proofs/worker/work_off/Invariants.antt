@@ -1,3 +1,4 @@
+-- What the report says of the runs so far, and why they come to an end.
 use Rattle.std.proofs.Common.{◌≡◌, ◌-◌, ◌≤◌, List, length}
 use Rattle.rb_kept.specs.declared.kept.TheConstants.{MOST_CALLS}
 use Rattle.rb_retry.specs.WorkRuns.{WorkRun, RunsAlong, IsSum, no_runs, report_after}

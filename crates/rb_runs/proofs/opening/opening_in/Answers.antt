@@ -1,3 +1,4 @@
+-- A history's text is read as that history, so what is said of its opening is said of the text's.
 use Rattle.std.proofs.Common.{Err, Ok, inr, subst}
 use Rattle.rb_replay.specs.Readings.{IsReadAs}
 use Rattle.rb_ending.specs.declared.broker_fault.BrokerFault.TheVariants.{BadOpening}

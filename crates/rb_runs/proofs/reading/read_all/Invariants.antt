@@ -1,3 +1,4 @@
+-- The text is what was read of the stream so far, and the piece has kept its length.
 use Rattle.std.proofs.Common.{◌≡◌, length}
 use Rattle.std.specs.Io.KnownBytes.{Consumes}
 use Rattle.rb_runs.proofs.reading.read_all.Given as goal

@@ -1,3 +1,4 @@
+-- The line and the status tell the verdict, which is that on the history of the text.
 use Rattle.rb_runs.proofs.replay.run_replay.Goals as goal
 
 pub returns-clause-each : goal.returns-clause-each

@@ -1,3 +1,4 @@
+-- A verdict on what was read is one on the text, and the text of a history can be read.
 use Rattle.std.proofs.Common.{Err, subst}
 use Rattle.std.proofs.lemmas.Result.{IfOk-weaker}
 use Rattle.rb_replay.specs.Readings.{IsReadAs}

@@ -1,3 +1,4 @@
+-- The session began at a new desk over the opening, and what it did there is what the script ran.
 use Rattle.std.proofs.Common.{◌≡◌, ℕ, List, [], Option, Err, refl, sym, subst, ap, length, ◌∙◌, rules}
 use Rattle.std.specs.Prelude.{Result}
 use Rattle.rb_ledger.specs.Totals.{nothing}

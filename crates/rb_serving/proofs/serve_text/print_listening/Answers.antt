@@ -1,3 +1,4 @@
+-- The bytes that are printed are those of the line.
 use Rattle.std.proofs.Common.{◌≡◌, ◌∙◌, subst}
 use Rattle.rb_serving.specs.ServeText.{Prints, listening_text}
 use Rattle.rb_serving.proofs.serve_text.print_listening.Goals as goal

@@ -1,3 +1,4 @@
+-- The session ran at a new desk over the worker's pass, which has seen what the desk did.
 use Rattle.std.proofs.Common.{rules, ◌≡◌, ◌∙◌, ap, ℕ, List, length, Option, Result}
 use Rattle.rb_lock.specs.Passes.{Seen}
 use Rattle.rb_shared_desk.specs.SharedSteps.{SharedState, SharedSteps, SetsShared, name_of}

@@ -1,5 +1,5 @@
+-- How many are still to be started.
 use Rattle.rb_serving.proofs.workers.+start_all.Given as goal
 
--- how many are still to be started
 abbrev pub decreases-start_all : goal.decreases-start_all
 decreases-start_all g l = l.count

@@ -1,3 +1,4 @@
+-- An offer is one call, which fetches nothing; one past the greatest moment makes no call.
 use Rattle.std.proofs.Common.{◌+◌, Bool, true, false, ap}
 use Rattle.std.specs.Prelude.{MatchBool, nat_le}
 use Rattle.rb_delayed.specs.declared.moment.TheConstants.{GREATEST_MOMENT}

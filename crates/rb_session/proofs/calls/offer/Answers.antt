@@ -1,3 +1,4 @@
+-- A sum that was made is within the greatest moment, and the offer's expiry is that sum.
 use Rattle.std.proofs.Common.{◌≡◌, ℕ, ◌+◌, ◌≤◌, sym, subst, arith, true}
 use Rattle.std.proofs.lemmas.Bool.Decides.{nat_tests}
 use Rattle.std.specs.Prelude.{MatchBool, nat_le, Result}

@@ -1,3 +1,4 @@
+-- One job more has failed behind those before it, and is counted as lost or not by its result.
 use Rattle.std.proofs.Common.{◌≡◌, ℕ, ◌+◌, [], ◌∷◌, ◌++◌, sym, subst, ◌∙◌, arith, length-append}
 use Rattle.rb_session.specs.Closing.{Closes, lost_by}
 use Rattle.rb_session.proofs.Closings.{closes_more, lost_one, lost_none}

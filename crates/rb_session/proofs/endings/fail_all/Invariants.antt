@@ -1,8 +1,8 @@
+-- The jobs that were taken out so far have failed, and the lost among them are counted.
 use Rattle.std.proofs.Common.{◌≡◌, ◌≤◌, length}
 use Rattle.rb_session.specs.Closing.{Closes}
 use Rattle.rb_session.proofs.endings.fail_all.Given as goal
 
--- those that were taken out so far have failed
 abbrev pub invariant-loop-job : goal.invariant-loop-job
 invariant-loop-job g l = record {
   can : (goal.iterator-loop-job g).can_next l.job-iterator;

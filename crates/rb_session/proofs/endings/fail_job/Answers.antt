@@ -1,3 +1,4 @@
+-- The job at the place of the id fails; its line tells the verdict, and a refused one is put back.
 use Rattle.std.proofs.Common.{◌≡◌, ℕ, List, [], ◌∷◌, Option, Some, Result, Ok, Err, sym, ap, subst, ◌∙◌, insert, remove}
 use Rattle.std.specs.Prelude.{MatchOption}
 use Rattle.rb_delayed.specs.declared.element.Element.{Element}

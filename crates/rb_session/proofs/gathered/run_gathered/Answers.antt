@@ -1,3 +1,4 @@
+-- What the writer has got and what is gathered are the session's replies, one behind the other.
 use Rattle.std.proofs.Common.{rules, sym, ap, subst, ◌∙◌, Option, List, ℕ}
 use Rattle.rb_session.specs.Growth.{KeepsFront}
 use Rattle.rb_session.specs.Gathered.{RanGathered}

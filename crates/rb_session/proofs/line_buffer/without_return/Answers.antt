@@ -1,3 +1,4 @@
+-- A line loses the carriage return at its end, if it has one there.
 use Rattle.std.proofs.Common.{arith}
 use Rattle.rb_session.proofs.Buffers.{line_of-return, line_of-other}
 use Rattle.rb_session.proofs.line_buffer.without_return.Goals as goal

@@ -1,3 +1,4 @@
+-- The text of the jobs is put together line by line, and a failed write cuts it at some byte.
 use Rattle.std.proofs.Common.{◌≡◌, ℕ, ◌+◌, ◌<◌, List, [], ◌∷◌, ◌++◌, Some, sym, ap, subst, ◌∙◌, map, take, drop, length, get_or, append_assoc}
 use Rattle.std.proofs.lemmas.List.{take_more, take-append-drop, map-append, append-nil}
 use Rattle.rb_delayed.specs.declared.element.Element.{Element}

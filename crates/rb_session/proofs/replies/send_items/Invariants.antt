@@ -1,3 +1,4 @@
+-- The lines of the jobs so far are written.
 use Rattle.std.proofs.Common.{◌≡◌, ◌≤◌, ℕ, List, ◌++◌, map, take, Some}
 use Rattle.std.specs.Prelude.{vec_capacity}
 use Rattle.rb_protocol.specs.declared.line_reply.LineReply.TheVariants as lines
@@ -5,7 +6,6 @@ use Rattle.rb_protocol.specs.declared.line_reply.TheConstants.{REPLY_ROOM}
 use Rattle.rb_session.specs.Session.{texts_of}
 use Rattle.rb_session.proofs.replies.send_items.Given as goal
 
--- the lines of the jobs so far are written
 abbrev pub invariant-loop-job : goal.invariant-loop-job
 invariant-loop-job g l = record {
   wrote : (before : List ℕ) → g.O.Outlet.contents l.fn.outlet ≡ Some before

@@ -1,3 +1,4 @@
+-- The reply's first line is sent, and only behind a drain's come others: the last jobs held.
 use Rattle.std.proofs.Common.{◌≡◌, ℕ, ◌-◌, List, [], ◌++◌, Some, refl, ap, subst, ◌∙◌, map, drop, length}
 use Rattle.rb_delayed.specs.declared.element.Element.{Element}
 use Rattle.rb_protocol.specs.ReplyText.{text_of}

@@ -1,3 +1,4 @@
+-- All lines were sent, and the flush keeps what was sent, whether it succeeds or not.
 use Rattle.rb_session.proofs.ReplyTexts.{sends_all}
 use Rattle.rb_session.proofs.replies.send_replies.Goals as goal
 

@@ -1,3 +1,4 @@
+-- The outlet is sent the bytes of the reply's line, and takes all of them or the first few.
 use Rattle.std.proofs.Common.{◌≡◌, ℕ, List, ◌++◌, Option, Some, Ok, Err, sym, ap, subst, ◌∙◌, take, drop}
 use Rattle.std.proofs.lemmas.List.{take-append-drop}
 use Rattle.std.specs.Prelude.{MatchResult, OnOk, Result}

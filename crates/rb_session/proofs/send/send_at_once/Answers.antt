@@ -1,3 +1,4 @@
+-- The whole line was written, and the flush keeps it, whether it succeeds or not.
 use Rattle.rb_session.proofs.Gatherings.{sends_all}
 use Rattle.rb_session.proofs.send.send_at_once.Goals as goal
 

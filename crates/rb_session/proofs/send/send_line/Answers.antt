@@ -1,3 +1,4 @@
+-- The writer has got the first bytes of the line; if these are not fewer, the whole line.
 use Rattle.std.proofs.Common.{ap, ◌∙◌, Some, ◌++◌}
 use Rattle.std.proofs.lemmas.List.{take_all}
 use Rattle.rb_session.proofs.Sending.{appended}

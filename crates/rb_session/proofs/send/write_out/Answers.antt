@@ -1,3 +1,4 @@
+-- What each write took goes behind what the writer had got of the bytes before.
 use Rattle.std.proofs.Common.{◌-◌, arith, length, length-take, length-drop, drop}
 use Rattle.std.proofs.KnownBytes.{Appends-nil, Appends-kept}
 use Rattle.rb_session.proofs.Sending.{appends_more}

@@ -1,3 +1,4 @@
+-- The writer has got just the first `taken` of the bytes, behind what it had.
 use Rattle.rb_session.proofs.Sending.{HasTaken}
 use Rattle.rb_session.proofs.send.write_out.Given as goal
 

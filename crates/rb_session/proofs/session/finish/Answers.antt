@@ -1,3 +1,4 @@
+-- Bytes behind the last line feed are answered by one fault line, sent whole or in part.
 use Rattle.std.proofs.Common.{◌≡◌, ℕ, ◌<◌, List, [], ◌∷◌, ◌++◌, Some, sym, ap, ◌∙◌, arith, length}
 use Rattle.std.proofs.lemmas.List.{append-nil}
 use Rattle.rb_protocol.specs.ReplyText.{text_of}

@@ -1,3 +1,4 @@
+-- Nothing is held back on the way to the writer, so a session through that outlet is a plain one.
 use Rattle.std.proofs.Common.{rules, sym}
 use Rattle.rb_session.proofs.Outlets.{ran_direct}
 use Rattle.rb_session.proofs.session.run_session.Goals as goal

@@ -1,3 +1,4 @@
+-- Wherever the lines stopped, what was held then failed: the two together are the session.
 use Rattle.std.proofs.Common.{ℕ, List, [], Option, Result, sym, subst}
 use Rattle.rb_delayed.specs.declared.element.Element.{Element}
 use Rattle.rb_queue.specs.declared.ask.Ask.{Ask}

@@ -1,3 +1,4 @@
+-- Each line served adds its turn to those before it; a failed write or a quit ends them there.
 use Rattle.std.proofs.Common.{◌≡◌, inl, inr, refl, sym, ◌∙◌, true, false}
 use Rattle.rb_session.specs.Turn.{point}
 use Rattle.rb_session.proofs.ReplyTexts.{sends_failed, sends_done}

@@ -1,3 +1,4 @@
+-- The lines that were taken out of the buffer are served, and each made what is left in it shorter.
 use Rattle.std.proofs.Common.{◌≡◌, ℕ, ◌-◌, ◌≤◌, List, Some}
 use Rattle.std.specs.Prelude.{vec_capacity}
 use Rattle.rb_protocol.specs.declared.line_reply.TheConstants.{REPLY_ROOM}
@@ -6,7 +7,6 @@ use Rattle.rb_session.specs.Turn.{point}
 use Rattle.rb_session.specs.Progress.{Stands}
 use Rattle.rb_session.proofs.session.serve_lines.Given as goal
 
--- the lines that were taken out of the buffer are served
 abbrev pub invariant-loop-reading : goal.invariant-loop-reading
 invariant-loop-reading g l = record {
   stands : (bytes before : List ℕ) → IsUnserved l.fn.buffer bytes → g.O.Outlet.contents l.fn.outlet ≡ Some before

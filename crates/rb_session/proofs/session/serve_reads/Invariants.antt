@@ -1,3 +1,4 @@
+-- Of what was read the whole lines are served, and the buffer has the rest.
 use Rattle.std.proofs.Common.{◌≡◌, ℕ, ◌≤◌, List, ◌++◌, Some}
 use Rattle.std.specs.Prelude.{vec_capacity}
 use Rattle.rb_protocol.specs.declared.line_reply.TheConstants.{REPLY_ROOM}
@@ -7,7 +8,6 @@ use Rattle.rb_session.specs.Turn.{point}
 use Rattle.rb_session.specs.Progress.{Stands}
 use Rattle.rb_session.proofs.session.serve_reads.Given as goal
 
--- of what was read the whole lines are served, and the buffer has the rest
 abbrev pub invariant-loop : goal.invariant-loop
 invariant-loop g l = record {
   stands : (stream before : List ℕ) → g.R.Read.remaining l.fn.reader ≡ Some stream → g.O.Outlet.contents l.fn.outlet ≡ Some before

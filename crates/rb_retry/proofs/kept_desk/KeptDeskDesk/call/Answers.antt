@@ -1,3 +1,4 @@
+-- A history stays within its capacity, so a desk has made no more events than that.
 use Rattle.std.proofs.Common.{◌≤◌, length, arith}
 use Rattle.rb_retry.proofs.MadeCounts.{within_room, made_few}
 use Rattle.rb_retry.proofs.kept_desk.KeptDeskDesk.call.Goals as goal

@@ -1,3 +1,4 @@
+-- The desk keeps its name, the reference that it holds, from offer to offer.
 use Rattle.std.proofs.Common.{◌≡◌}
 use Rattle.rb_retry_tests.proofs.tests.allocations.offer_all.Given as goal
 

@@ -1,3 +1,4 @@
+-- The pass stays at the queue's table, so the calls of the next round may go through it.
 use Rattle.std.proofs.Common.{◌≡◌}
 use Rattle.rb_retry_tests.proofs.tests.allocations.pass_rounds.Given as goal
 

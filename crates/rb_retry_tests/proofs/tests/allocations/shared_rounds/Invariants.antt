@@ -1,3 +1,4 @@
+-- The pass stays at the queue's table, so each round may make a desk over it.
 use Rattle.std.proofs.Common.{◌≡◌}
 use Rattle.rb_retry_tests.proofs.tests.allocations.shared_rounds.Given as goal
 

@@ -1,3 +1,4 @@
+-- A wait that is stopped leaves the pass at the queue's table, so the next can begin.
 use Rattle.std.proofs.Common.{◌≡◌}
 use Rattle.rb_retry_tests.proofs.tests.allocations.stops.Given as goal
 

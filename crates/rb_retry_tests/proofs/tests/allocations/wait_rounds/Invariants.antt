@@ -1,3 +1,4 @@
+-- A wait leaves the pass at the queue's table, so the next round can wait too.
 use Rattle.std.proofs.Common.{◌≡◌}
 use Rattle.rb_retry_tests.proofs.tests.allocations.wait_rounds.Given as goal
 

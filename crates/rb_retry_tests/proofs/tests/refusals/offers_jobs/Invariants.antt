@@ -1,3 +1,4 @@
+-- The desk keeps its name, the reference that it holds, while the jobs are offered.
 use Rattle.std.proofs.Common.{◌≡◌}
 use Rattle.rb_retry_tests.proofs.tests.refusals.offers_jobs.Given as goal
 

@@ -1,3 +1,4 @@
+-- A line that fits is gathered without new memory; a longer one goes out behind what was gathered.
 use Rattle.std.proofs.Common.{arith}
 use Rattle.rb_session.specs.Growth.{grows_on}
 use Rattle.rb_session.proofs.Gatherings.{kept_known, sends_past, sends_grow}

@@ -1,3 +1,4 @@
+-- The first line feed ends the first line, which is read as it stands or was too long already.
 use Rattle.std.proofs.Common.{◌≡◌, ◌+◌, ◌<◌, List, ℕ, Err, ◌-◌, length, length-take, take, drop, ap, refl, sym, subst, ◌∙◌, arith, Bool, true, false, Result}
 use Rattle.std.specs.Prelude.{slice_range, MatchBool}
 use Rattle.rb_session.specs.Buffer.{held_by}

@@ -1,3 +1,4 @@
+-- What is unserved grows at its end by the bytes that were read, and stays where the read failed.
 use Rattle.std.proofs.Common.{◌<◌, ◌≤◌, ◌-◌, ◌++◌, List, ℕ, Option, Ok, Err, ◌+◌, length, take, ap, subst, ◌∙◌, arith}
 use borrow.Rule.Slice.PartMut.{post_of}
 use Rattle.std.specs.Prelude.{slice_range}
