@@ -103,7 +103,6 @@ pub record Carries (heap : List Entry) (places : List (Option ℕ)) (hole : ℕ)
   pub in_heap : hole < length heap
   pub agrees : Agrees (set heap hole entry) (set places entry.slot (Some hole))
   pub same : expiries (set heap hole entry) (set places entry.slot (Some hole)) ≡ row
-}
 
 module _ (heap : List Entry) (places : List (Option ℕ)) (hole : ℕ) (entry : Entry) (row : List (Option ℕ))
     (carries : Carries heap places hole entry row) where

@@ -288,7 +288,6 @@ keeps_offered element old new offers first_id opened given next later = record {
 or_none : {A : Type 0} (o : Option A) → o ≡ option_or o None
 or_none None = refl
 or_none (Some x) = refl
-}
 
 -- an element was given of whose attempt one was given before
 or_first : {A : Type 0} (o last : Option A) → is_some o ≡ true → o ≡ option_or o last
@@ -460,7 +459,6 @@ keeps_at_place id place element offer old new known none at is first own offers 
         ∙ ap (λ m. option_or (cond (attempt.number == 1) (option_and_then first_given_in (cond (attempt.origin == id) (Some marked) (offer_of old attempt.origin))) None) (tree.get attempt_cmp m attempt)) given
         ∙ given_at attempt (attempt.origin == id) (attempt.number == 1) refl refl
         ∙ ap (λ b. cond b (Some element) (given_first old attempt)) (tests attempt)
-}
 
 given_more : (ids more : List ℕ) (old mid new : AttemptIndex) → KeepsGiven ids old mid → KeepsGiven more mid new → KeepsGiven (ids ++ more) old new
 given_more ids more old mid new first second = record {
@@ -505,15 +503,6 @@ opened_next elements end i element old new order within is so_far keeps =
       none_offered = ap (λ a. a.items) keeps.offers ∙ so_far.none_offered;
       first_id = keeps.first_id ∙ so_far.first_id;
     }
-}
-}
-}
-  where
-    same_bag : (came : Bag) (effect : Effect) → inserted effect ≡ [] → with_inserted came effect ≡ came
-    same_bag came (inserts element) none = absurd (cc)
-    same_bag came (gives ids) none = refl
-    same_bag came (discards ids) none = refl
-    same_bag came empties none = refl
 
 -- the first attempt of a job of its own
 pub begun_at : (attempts : AttemptIndex) (attempt : Attempt) (place : ℕ) (offer : OfferedElement) → attempt.number ≡ 1 → IsPlaceOf attempts attempt.origin place

@@ -52,27 +52,6 @@ tells_numbers version text line behind told cut is small opens = record {
   last = small;
   opens = opens;
 }
-}
-  where
-    numbers : numbers_words told.next_id told.last_at told.count ≡ open_words opening
-    numbers = (λ i. numbers_words (sym next i) (sym last i) (sym keeps.counted i))
-
-    whole : (version : Version) → text ≡ line_text (numbers_words told.next_id told.last_at told.count) ++ behind → behind ≡ lines_text (map (keep_words version) opening.elements) ++ rest
-        → text ≡ lines_text (open_words opening ∷ map (keep_words version) opening.elements) ++ rest
-    whole version first others =
-        first ∙ ap (λ words. line_text words ++ behind) numbers ∙ ap (λ t. line_text (open_words opening) ++ t) others
-        ∙ sym (append_assoc (line_text (open_words opening)) (lines_text (map (keep_words version) opening.elements)) rest)
-
-    split : (version : Version) → version ≢ One → text ≡ line_text (numbers_words told.next_id told.last_at told.count) ++ behind
-        → behind ≡ lines_text (map (keep_words version) opening.elements) ++ rest → text ≡ lines_text (opening_lines version opening) ++ rest
-    split One told_one first others = absurd (told_one refl)
-    split Two told_one first others = whole Two first others
-    split Three told_one first others = whole Three first others
-
-    begins : (version : Version) → version ≢ One → MayOpen version told.next_id told.last_at told.count → MayBegin version opening
-    begins One told_one opens = absurd (told_one refl)
-    begins Two told_one opens = λ empty. opens (sym next ∙ empty.0, sym last ∙ empty.1, sym keeps.counted ∙ empty.2)
-    begins Three told_one opens = tt
 
 pub fault_of_keep : (version : Version) (text behind : List ℕ) (told : OpenLine) (line : ℕ) (reason : TextReason) → version ≢ One → TellsNumbers version text told behind
     → StopsKeeping version told.next_id told.count behind line reason → FaultOfOpening version text line reason
@@ -102,7 +81,6 @@ fault_of_keep version text behind told line reason none tells stops = by_version
     by_version One told_one keep = absurd (told_one refl)
     by_version Two told_one keep = inr keep
     by_version Three told_one keep = inr keep
-}
 
 pub body_of_events : (version : Version) (text rest : List ℕ) (opening : Opening) (line : ℕ) (reason : TextReason) → TellsOpening version text opening rest
     → EventsFault version rest (line_behind version opening) line reason → BodyFault version text line reason

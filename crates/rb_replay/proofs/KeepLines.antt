@@ -98,7 +98,6 @@ kept_all version end count text kept rest least place so_far all = record {
   right = so_far.right;
   counted = so_far.counted ∙ all;
 }
-}
 
 -- a line keeps no element that may come next
 pub keeping_stops : (version : Version) (end count : ℕ) (text : List ℕ) (kept : List Element) (rest : List ℕ) (least place : ℕ) (line behind : List ℕ)

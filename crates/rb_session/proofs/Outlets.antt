@@ -71,7 +71,6 @@ module _ {S : Type 0} (gives : S → ℕ → Type 0) (Sets : S → ℕ → Optio
     pub whole_kept : (Session : List ℕ → Point S → Type 0) (before : List ℕ) (to : Point S) → IsWhole gives Sets Steps policy Session before to sent
         → IsWhole gives Sets Steps policy Session before to sent'
     whole_kept Session before to whole = record { text = whole.text; session = whole.session; wrote = kept _ whole.wrote }
-    }
 
     fails_kept : (from to : Point S) (stream before : List ℕ) → FailsToWrite gives Sets Steps policy from stream before to sent
         → FailsToWrite gives Sets Steps policy from stream before to sent'

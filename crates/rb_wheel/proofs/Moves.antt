@@ -48,7 +48,6 @@ lies_in base (Some expiry) (Some cell) e at is lies after in_cell =
 module _ (base : ℕ) (expiries cells : List (Option ℕ)) (right : LieRight base expiries cells) where
   entry : (slot at : ℕ) → cell_at cells slot ≡ Some at → IsEntryAt base (slot_expiry expiries slot) at
   entry slot at lies = entry_at base (slot_expiry expiries slot) (cell_at cells slot) at lies (right.each slot)
-  }
 
   module _ (cell : ℕ) (first : IsFirstCell cells cell) where
     pub held : IsEntryAt base (slot_expiry expiries first.held.0) cell
