@@ -11,12 +11,12 @@ PROGRAM = f"{TOP}/crates/rb_broker/out/rb_broker"
 
 
 class Server:
-    """The program as a server, at a port of our own choice."""
+    """The program as a server, at a port of our own choice. Another program may take its place."""
 
-    def __init__(self, options):
+    def __init__(self, options, program=PROGRAM):
         for _ in range(20):
             self.port = random.randrange(20_000, 32_000)  # below those that the system gives to clients
-            words = [PROGRAM, "serve", "--port", str(self.port), *options]
+            words = [program, "serve", "--port", str(self.port), *options]
             pipe = subprocess.PIPE
             self.process = subprocess.Popen(words, stdout=pipe, stderr=pipe, encoding="utf-8")
             if self.process.stdout.readline() == f"listening 127.0.0.1:{self.port}\n":

@@ -1,0 +1,1 @@
+"""What tools/conform is made of: the reading of case files, the runs of a program, and what differs from a case."""

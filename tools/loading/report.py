@@ -1,0 +1,34 @@
+"""What is printed of a run."""
+from __future__ import annotations
+
+from loading.counts import Counts
+
+COLUMNS = ("second", "offered", "taken", "failed", "median us", "99th us", "greatest us")
+WIDTHS = (6, 9, 9, 9, 11, 11, 13)
+
+
+def row(cells: tuple[object, ...]) -> str:
+    """A line of the table."""
+    return "".join(f"{cell!s:>{width}}" for cell, width in zip(cells, WIDTHS))
+
+
+def line_of(second: int, counts: Counts) -> str:
+    """The counts after so many seconds."""
+    late = counts.lateness()
+    times = (late.median, late.percentile, late.greatest) if late else ("-", "-", "-")
+    return row((second, counts.offered, counts.taken, counts.failed, *times))
+
+
+def summary(counts: Counts, seconds: float) -> list[str]:
+    """The lines at the end of a run that lasted so many seconds."""
+    late = counts.lateness()
+    told = f"median {late.median}, 99th percentile {late.percentile}, greatest {late.greatest}" if late else "none"
+    errors = ", ".join(f"{count} of {fault}" for fault, count in counts.errors.most_common())
+    return [
+        f"offered {counts.offered}, {counts.offered / seconds:.1f} a second",
+        f"taken {counts.taken}, {counts.taken / seconds:.1f} a second",
+        f"done {counts.done}, failed {counts.failed} (again {counts.again}, dead {counts.dead})",
+        f"lateness in microseconds: {told}",
+        f"calls {counts.calls}",
+        f"errors {sum(counts.errors.values())}" + (f": {errors}" if errors else ""),
+    ]

@@ -1,0 +1,45 @@
+"""One session with the server."""
+from __future__ import annotations
+
+import asyncio
+
+HOST = "127.0.0.1"
+CONNECTING = 5  # seconds in which a connection has to be made
+
+
+class Fault(Exception):
+    """Why a client does not go on."""
+
+
+class Session:
+    """A connection to the server, over which one request at a time is sent and answered."""
+
+    def __init__(self, reader: asyncio.StreamReader, writer: asyncio.StreamWriter):
+        self._reader, self._writer = reader, writer
+
+    @classmethod
+    async def open(cls, port: int) -> Session:
+        """Connects."""
+        try:
+            return cls(*await asyncio.wait_for(asyncio.open_connection(HOST, port), CONNECTING))
+        except ConnectionRefusedError:
+            raise Fault(f"nobody listens at {HOST}:{port}") from None
+        except (OSError, asyncio.TimeoutError):
+            raise Fault(f"no connection to {HOST}:{port} came about") from None
+
+    async def ask(self, request: str) -> list[str]:
+        """Sends a request, and gives the words of its reply."""
+        self._writer.write(f"{request}\n".encode())
+        try:
+            line = await self._reader.readline()
+        except ValueError:
+            raise Fault("a reply line has no end") from None
+        except OSError as fault:
+            raise Fault(fault.strerror or "the connection failed") from None
+        if not line.endswith(b"\n"):
+            raise Fault("the server closed the connection")
+        return line[:-1].decode("ascii", "replace").split(" ")
+
+    def close(self) -> None:
+        """Hangs up."""
+        self._writer.close()
