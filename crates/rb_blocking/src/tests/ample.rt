@@ -3,7 +3,7 @@
 
 ghost use Rattle.std.specs.Prelude.{◌≡◌};
 
-use super::{
+use crate::tests::fixtures::{
     FixedClock, ListPass, ListShared, draft, element, expect_number, expect_offered, expect_taken,
     opened, payload, split_off,
 };

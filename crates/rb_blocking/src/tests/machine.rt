@@ -2,7 +2,9 @@
 
 ghost use Rattle.std.specs.Prelude.{◌≡◌};
 
-use super::{ListPass, ListShared, draft, expect, expect_number, expect_polled, opened};
+use crate::tests::fixtures::{
+    ListPass, ListShared, draft, expect, expect_number, expect_polled, opened,
+};
 use crate::{Bell, Clock, MachineClock, TurnGate, offer_ring, poll_for, take};
 use rb_delayed::Element;
 use std::process::Abort;

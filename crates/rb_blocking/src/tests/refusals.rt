@@ -3,7 +3,7 @@
 ghost use Rattle.std.specs.Prelude.{◌≡◌, [], IfOk};
 ghost use Rattle.rb_ledger.specs.Totals.{nothing};
 
-use super::{
+use crate::tests::fixtures::{
     FixedClock, ListPass, ListShared, draft, element, expect_number, expect_offered, shared,
 };
 use crate::{Bell, TurnGate, offer_ring, take};

@@ -2,7 +2,7 @@
 
 ghost use Rattle.std.specs.Prelude.{◌≡◌};
 
-use super::{
+use crate::tests::fixtures::{
     CountingGate, FixedClock, ListPass, ListShared, draft, element, expect_number, expect_offered,
     expect_polled, expect_taken, opened,
 };

@@ -2,7 +2,7 @@
 
 ghost use Rattle.std.specs.Prelude.{◌≡◌};
 
-use super::{
+use crate::tests::fixtures::{
     FixedClock, ListPass, ListShared, await_more, draft, expect_number, opened, split_off,
 };
 use crate::{Bell, Gate, offer_ring, take};

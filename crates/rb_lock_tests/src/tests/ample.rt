@@ -3,8 +3,8 @@
 
 ghost use Rattle.std.specs.Prelude.{◌≡◌};
 
-use super::crowds::{HeapPass, HeapShared};
-use super::{
+use crate::tests::crowds::{HeapPass, HeapShared};
+use crate::tests::fixtures::{
     done, element, expect_call, expect_drained, expect_number, offer, offered, opened, payload,
     split_off,
 };

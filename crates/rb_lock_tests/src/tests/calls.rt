@@ -2,7 +2,7 @@
 
 ghost use Rattle.std.specs.Prelude.{◌≡◌};
 
-use super::{
+use crate::tests::fixtures::{
     ListPass, ListShared, done, element, expect_call, expect_number, later, offer, offered, opened,
 };
 use rb_kept::CallFault;

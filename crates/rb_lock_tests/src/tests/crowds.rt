@@ -3,7 +3,7 @@
 
 ghost use Rattle.std.specs.Prelude.{◌≡◌, IfSome};
 
-use super::{all_given, expect_audit, expect_number, offer, opened};
+use crate::tests::fixtures::{all_given, expect_audit, expect_number, offer, opened};
 use rb_binary::BinaryTimer;
 use rb_kept::Outcome;
 use rb_lock::{Pass, Shared};

@@ -3,7 +3,7 @@
 ghost use Rattle.std.specs.Prelude.{◌≡◌, [], IfOk};
 ghost use Rattle.rb_ledger.specs.Totals.{nothing};
 
-use super::{
+use crate::tests::fixtures::{
     ListPass, ListShared, expect_drained, expect_number, expect_outcome, expect_totals, offer,
     offered, shared, split_off, totals,
 };

@@ -2,7 +2,7 @@
 
 ghost use Rattle.std.specs.Prelude.{◌≡◌};
 
-use super::{
+use crate::tests::fixtures::{
     ListPass, ListShared, all_given, done, element, expect_audit, expect_call, expect_number,
     expect_totals, offer, offered, opened, split_off, totals,
 };

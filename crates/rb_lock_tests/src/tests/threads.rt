@@ -2,8 +2,8 @@
 
 ghost use Rattle.std.specs.Prelude.{◌≡◌};
 
-use super::crowds::{HeapPass, HeapShared, ROOM, offer_all, take_all};
-use super::{all_given, expect_number, opened, split_off};
+use crate::tests::crowds::{HeapPass, HeapShared, ROOM, offer_all, take_all};
+use crate::tests::fixtures::{all_given, expect_number, opened, split_off};
 use rb_queue::{Ask, Audit};
 use std::alloc::Global;
 use std::process::Abort;

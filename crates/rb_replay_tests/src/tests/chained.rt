@@ -1,8 +1,14 @@
-use super::*;
-use crate::tests::calls::{expect_linked, linked};
 use crate::tests::devices::expect_text;
+use crate::tests::fixtures::{
+    Deed, EMPTY, NEXT_ID, Row, Start, attempt, expect_linked, first, history, linked, one_retry,
+    second,
+};
+use rb_delayed::Element;
 use rb_replay::{ChainFault, ChainReason};
 use rb_retry::Policy;
+use std::alloc::Global;
+use std::process::Abort;
+use std::test::Fail;
 
 // The retry of a job that failed at the moment 5.
 const AGAIN: u64 = 1005;

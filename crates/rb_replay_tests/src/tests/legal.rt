@@ -1,8 +1,13 @@
-use super::*;
-use crate::tests::calls::{checked, expect_audit};
 use crate::tests::devices::{expect, expect_text};
+use crate::tests::fixtures::{
+    Deed, EMPTY, NEXT_ID, Row, Start, checked, expect_audit, first, history, next_run, second,
+    two_seats,
+};
 use rb_queue::Audit;
 use rb_replay::{Reason, ReplayFault};
+use std::alloc::Global;
+use std::process::Abort;
+use std::test::Fail;
 
 // That the run is checked with this answer.
 fn answered(

@@ -3,17 +3,23 @@
 //! A run has 1,000 rounds of 100 events. Each number of it is given by its round, from 0, and its place
 //! in the round, from 0 to 99, and has as many digits in each round, but for attempts and sizes.
 
-use super::*;
-use crate::tests::calls::{checked, expect_audit, expect_linked, is_read_as, linked, opened};
 use crate::tests::devices::{
     Device, NEVER, Restless, expect, expect_count, expect_unreadable, expect_written, write_to,
 };
-use rb_queue::Audit;
+use crate::tests::fixtures::{
+    Deed, EMPTY, Start, checked, expect_audit, expect_linked, is_read_as, linked, opened, opening,
+    opening_at, payload, push_row,
+};
+use rb_delayed::Element;
+use rb_queue::{Act, Audit, Event, Ids, Items, Opening, Sequence};
 use rb_replay::{
-    ChainFault, ChainReason, OpeningFault, Reason, ReplayFault, TextReason, read_history,
+    ChainFault, ChainReason, History, OpeningFault, Reason, ReplayFault, TextReason, read_history,
 };
 use rb_retry::Policy;
+use std::alloc::{AllocError, Global};
 use std::fmt::Write;
+use std::process::Abort;
+use std::test::Fail;
 
 const ROUNDS: u64 = 1_000;
 

@@ -1,6 +1,12 @@
-use super::*;
-use crate::tests::calls::expect_read;
-use rb_replay::read_history;
+use crate::tests::fixtures::{
+    Deed, EMPTY, NEXT_ID, Row, Start, expect_read, first, history, next_run, one_retry, second,
+    two_seats,
+};
+use rb_queue::{Act, Event};
+use rb_replay::{History, read_history};
+use std::alloc::Global;
+use std::process::Abort;
+use std::test::Fail;
 
 // That the text is read as this history.
 fn read_as(

@@ -1,6 +1,8 @@
-use super::*;
 use crate::tests::devices::{expect, expect_text, expect_unreadable};
 use rb_replay::{TextReason, read_history};
+use std::alloc::{AllocError, Global};
+use std::process::Abort;
+use std::test::Fail;
 
 const NEXT_RUN: &[u8] =
     b"history 3\nopen 2 0 1\nkeep 1 1000 0 0 2 a\n0 0 0 size 1\n0 1000 1000 poll 1\n0 1000 1000 offer 2 1000 2 1000 1 b\nend 3\n";

@@ -1,7 +1,11 @@
-use super::*;
-use crate::tests::calls::is_read_as;
 use crate::tests::devices::{Device, NEVER, expect, expect_bytes, expect_written, write_to};
-use rb_replay::{HistoryFault, no_fault_of_text, no_text_of_two, one_fault, one_text_each};
+use crate::tests::fixtures::{EMPTY, NEXT_ID, history, is_read_as, next_run, second, two_seats};
+use rb_replay::{
+    History, HistoryFault, no_fault_of_text, no_text_of_two, one_fault, one_text_each,
+};
+use std::alloc::Global;
+use std::process::Abort;
+use std::test::Fail;
 
 const EMPTY_RUN: &[u8] = b"history 3\nopen 0 0 0\nend 0\n";
 
