@@ -1,12 +1,13 @@
 //! Waits for an element: their clocks, bells, gates and threads.
 
-mod ample;
+mod ample_memory;
 mod bells;
-mod calls;
+mod far_moments;
 mod fixtures;
+mod full_run;
 mod gates;
-mod machine;
-mod refusals;
-mod rows;
+mod machine_clock;
+mod memory_refusals;
 mod takers;
-mod threads;
+mod takes_and_timed_polls;
+mod wakeups;

@@ -1,10 +1,10 @@
 //! Calls of a shared queue, by one thread and by many.
 
-mod ample;
-mod calls;
-mod crowds;
+mod ample_memory;
+mod closing;
 mod fixtures;
+mod full_run;
+mod many_threads;
+mod memory_refusals;
 mod names;
-mod refusals;
-mod rows;
-mod threads;
+mod two_threads;

@@ -1,12 +1,12 @@
 //! Histories: their texts, the check of a run, and the check of its retries.
 
-mod chained;
+mod chained_retries;
 mod devices;
 mod fixtures;
-mod legal;
-mod long;
+mod legal_runs;
+mod long_histories;
+mod memory_refusals;
 mod openings;
-mod reading;
-mod refusals;
-mod unreadable;
-mod written;
+mod readable_texts;
+mod unreadable_texts;
+mod written_texts;

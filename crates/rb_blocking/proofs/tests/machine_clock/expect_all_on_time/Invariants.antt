@@ -1,0 +1,5 @@
+use Rattle.std.proofs.Common.{◌≡◌}
+use Rattle.rb_blocking.proofs.tests.machine_clock.expect_all_on_time.Given as goal
+
+abbrev pub invariant-loop-ahead : goal.invariant-loop-ahead
+invariant-loop-ahead g l = l.pass.table ≡ l.initial.pass.table

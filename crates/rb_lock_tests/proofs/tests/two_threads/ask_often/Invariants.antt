@@ -1,0 +1,5 @@
+use Rattle.std.proofs.Common.{◌≡◌}
+use Rattle.rb_lock_tests.proofs.tests.two_threads.ask_often.Given as goal
+
+abbrev pub invariant-loop : goal.invariant-loop
+invariant-loop g l = (l.pass.table ≡ l.initial.pass.table)
