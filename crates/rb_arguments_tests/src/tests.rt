@@ -1,7 +1,7 @@
-mod beside;
-mod devices;
+mod fixtures;
 mod help;
-mod refusals;
+mod memory_refusals;
+mod option_combinations;
 mod refused_words;
 mod replays;
 mod scripts;

@@ -13,11 +13,9 @@ mod line_reply;
 mod line_words;
 mod number;
 mod reply_line;
-#[cfg(test)]
-mod reply_rows;
 mod request;
 #[cfg(test)]
-mod request_rows;
+mod tests;
 
 pub use error_word::ErrorWord;
 pub use format::{LINE_FEED, SPACE};

@@ -1,11 +1,11 @@
 mod acts;
-mod ample;
-mod calls;
-mod devices;
+mod ample_memory;
 mod drains;
-mod large;
+mod fixtures;
+mod many_elements;
+mod memory_refusals;
+mod offers_and_polls;
 mod openings;
-mod refusals;
 mod refusing_timer;
 mod removals;
 mod steps;

@@ -1,9 +1,9 @@
-mod audits;
+mod ample_memory;
+mod audit_line;
 mod devices;
-mod faults;
-mod files;
+mod fault_texts;
 mod gathering;
-mod large;
-mod reads;
-mod refusals;
-mod writes;
+mod history_files;
+mod memory_refusals;
+mod reading_devices;
+mod writing_devices;

@@ -1,8 +1,8 @@
 mod batches;
-mod clocks;
 pub mod devices;
 mod endings;
-mod jobs;
-mod refusals;
+mod machine_clock;
+mod memory_refusals;
+mod retries;
 mod tcp;
 mod visits;

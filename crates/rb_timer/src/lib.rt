@@ -8,8 +8,6 @@
 
 mod command;
 mod large_trials;
-#[cfg(test)]
-mod limited_timer;
 mod list_timer;
 mod run;
 #[cfg(test)]

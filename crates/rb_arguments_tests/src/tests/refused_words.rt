@@ -1,4 +1,4 @@
-use crate::tests::devices::{expect_same, refuses};
+use crate::tests::fixtures::{expect_same, refuses};
 use clap::error::ErrorKind;
 use rb_arguments::read_words;
 use std::alloc::Global;

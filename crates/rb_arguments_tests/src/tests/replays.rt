@@ -1,4 +1,4 @@
-use crate::tests::devices::{expect, expect_same, refuses, words_of};
+use crate::tests::fixtures::{expect, expect_same, refuses, words_of};
 use clap::error::ErrorKind;
 use rb_arguments::{ReplayOptions, Words};
 use rb_retry::Policy;

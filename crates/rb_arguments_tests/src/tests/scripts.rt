@@ -1,7 +1,7 @@
 ghost use Rattle.std.specs.Prelude.{◌≤◌};
 ghost use Rattle.rb_kept.specs.declared.kept.TheConstants.{MOST_CALLS};
 
-use crate::tests::devices::{expect, expect_same, words_of};
+use crate::tests::fixtures::{expect, expect_same, words_of};
 use rb_arguments::{ScriptOptions, TimerKind, Words};
 use rb_retry::Policy;
 use std::alloc::Global;

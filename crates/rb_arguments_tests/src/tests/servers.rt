@@ -1,4 +1,4 @@
-use crate::tests::devices::{expect_same, refuses, words_of};
+use crate::tests::fixtures::{expect_same, refuses, words_of};
 use clap::error::ErrorKind;
 use rb_arguments::{RunOptions, ServeOptions, TimerKind, Words};
 use rb_retry::Policy;

@@ -1,7 +1,7 @@
 // A bell by itself: counts, and rests that a ring ends or that nothing ends.
 
-use super::{await_more, expect, expect_number};
 use crate::Bell;
+use crate::tests::fixtures::{await_more, expect, expect_number};
 use std::process::Abort;
 use std::sync::Wait;
 use std::sync::atomic::{AtomicU64, Ordering};

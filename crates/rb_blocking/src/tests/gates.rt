@@ -2,7 +2,9 @@
 
 ghost use Rattle.std.specs.Prelude.{◌≡◌};
 
-use super::{CountingGate, FixedClock, ListPass, ListShared, expect_number, opened};
+use crate::tests::fixtures::{
+    CountingGate, FixedClock, ListPass, ListShared, expect_number, opened,
+};
 use crate::{Bell, Clock, MachineClock, WaitFault, take};
 use std::process::Abort;
 use std::sync::Wait;

@@ -2,7 +2,9 @@
 
 ghost use Rattle.std.specs.Prelude.{◌≡◌};
 
-use super::{FixedClock, ListPass, ListShared, await_more, draft, opened, split_off};
+use crate::tests::fixtures::{
+    FixedClock, ListPass, ListShared, await_more, draft, opened, split_off,
+};
 use crate::{Bell, Gate, WaitFault, offer_ring, take};
 use std::process::Abort;
 use std::sync::Wait;

@@ -1,7 +1,7 @@
 // Calls that take no memory. `tools/count_allocations` counts what the two tests of this file allocate:
 // they make the same things, and only the second makes the calls, so they have to allocate as often.
 
-use crate::tests::devices::{expect_number, payload};
+use crate::tests::fixtures::{expect_number, payload};
 use rb_binary::BinaryTimer;
 use rb_delayed::{Delayed, Element, Payload, add_capped, add_delay, is_expired};
 use rb_kept::{Kept, Outcome};

@@ -1,10 +1,10 @@
 // Calls at both ends of their ranges, and many of them, find memory too.
 
-use super::devices::{
+use super::exchanges::Run;
+use super::fixtures::{
     ListKept, audit_of, done, element, expect, expect_audit, expect_element, expect_number,
     expect_opening, expect_step, offer, offered, opening, payload,
 };
-use super::run::Run;
 use rb_binary::BinaryTimer;
 use rb_delayed::{Element, GREATEST_ATTEMPT, GREATEST_MOMENT};
 use rb_kept::{Kept, Outcome, Step};

@@ -1,9 +1,9 @@
 // Runs that go on from an opening.
 
-use super::devices::{
+use super::exchanges::{Line, Run, answers, expect_lines_from_two, offers, waits};
+use super::fixtures::{
     ListKept, expect_handed_back, expect_number, expect_opening, item, opening, retried, timed_poll,
 };
-use super::run::{Line, Run, answers, expect_lines_from_two, offers, waits};
 use rb_kept::NewFault;
 use rb_queue::{Act, Ask, Opening, Reply};
 use std::alloc::Global;

@@ -1,5 +1,5 @@
-use super::devices::{expect_handed_back, expect_number};
-use super::refusals::{opening_of, run_through};
+use super::fixtures::{expect_handed_back, expect_number};
+use super::memory_refusals::{opening_of, run_through};
 use rb_kept::{Kept, NewFault};
 use rb_timer::{ListTimer, Timer};
 use std::alloc::{AllocError, Global};

@@ -2,7 +2,7 @@
 
 ghost use Rattle.std.specs.Prelude.{◌≡◌};
 
-use super::{ListPass, ListShared, expect_number, opened, split_off};
+use crate::tests::fixtures::{ListPass, ListShared, expect_number, opened, split_off};
 use rb_lock::SplitFault;
 use std::process::Abort;
 use std::sync::Wait;

@@ -1,4 +1,4 @@
-use crate::tests::devices::{element, expect, expect_number};
+use crate::tests::fixtures::{element, expect, expect_number};
 use crate::{Act, Ids};
 use std::alloc::{AllocError, Global};
 use std::process::Abort;

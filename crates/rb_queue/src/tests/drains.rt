@@ -1,4 +1,6 @@
-use crate::tests::devices::{ListQueue, drained, element, expect_found, expect_number, expect_tie};
+use crate::tests::fixtures::{
+    ListQueue, drained, element, expect_found, expect_number, expect_tie,
+};
 use crate::tests::steps::Step::{Drain, Head, Offer, Remove, Size};
 use crate::tests::steps::{expect_run, expect_steps};
 use rb_delayed::Element;

@@ -1,4 +1,4 @@
-use crate::tests::devices::{
+use crate::tests::fixtures::{
     ListQueue, begun, element, expect, expect_elements, expect_number, expect_offer, expect_size,
     many, opening_of, standing,
 };

@@ -1,7 +1,7 @@
-use crate::tests::devices::{
+use crate::tests::fixtures::{
     begun, expect, expect_elements, expect_number, expect_size, opening_of, standing,
 };
-use crate::tests::refusals::run_through;
+use crate::tests::memory_refusals::run_through;
 use crate::{DelayQueue, Opening};
 use rb_timer::{ListTimer, Timer};
 use std::alloc::{AllocError, Global};

@@ -1,4 +1,4 @@
-use crate::tests::devices::ListQueue;
+use crate::tests::fixtures::ListQueue;
 use crate::tests::steps::Step::{
     self, Clear, Head, NoHead, Offer, Poll, PollNothing, Remove, Size,
 };

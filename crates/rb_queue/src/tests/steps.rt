@@ -1,4 +1,4 @@
-use crate::tests::devices::{
+use crate::tests::fixtures::{
     ListQueue, element, expect_drained, expect_found, expect_moment, expect_no_head, expect_offer,
     expect_polled, expect_removal, expect_size,
 };

@@ -1,6 +1,11 @@
-use super::*;
-use crate::tests::calls::{expect_opening, opened};
+use crate::tests::fixtures::{
+    Deed, EMPTY, NEXT_ID, Row, Start, expect_opening, first, history, one_retry, opened, opening,
+    second,
+};
 use rb_replay::{OpeningFault, Reason};
+use std::alloc::Global;
+use std::process::Abort;
+use std::test::Fail;
 
 // That no run begins where this one ends, for this fault.
 fn refused(

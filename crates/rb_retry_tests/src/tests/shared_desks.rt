@@ -7,7 +7,7 @@ use crate::tests::devices::{
     FixedClock, ListPass, ListShared, expect_count, expect_holds, expect_number, expect_same,
 };
 use crate::tests::fixtures::{expect, expect_set, offer, opened};
-use crate::tests::jobs::{End, expect_end};
+use crate::tests::retries::{End, expect_end};
 use rb_blocking::{Bell, Gate, TurnGate};
 use rb_kept::Kept;
 use rb_queue::{Ask, Event};

@@ -1,0 +1,166 @@
+// Each allocation of the reading of words, refused in turn.
+
+use crate::tests::fixtures::expect_same;
+use clap::Error;
+use clap::error::ErrorKind;
+use rb_arguments::{
+    ReplayOptions, RunOptions, ScriptOptions, ServeOptions, TimerKind, Words, read_words,
+};
+use rb_retry::Policy;
+use std::alloc::Global;
+use std::process::Abort;
+
+// How many refusals the test meets. `tools/refuse_allocations` sets 1, and refuses each allocation
+// of the test in turn.
+const REFUSALS: u32 = 0;
+
+// What a line asks for, with the files of each line here, or why it is refused.
+#[derive(Clone, Copy, Debug, PartialEq, Eq)]
+enum Answer {
+    Script(ScriptOptions),
+    Replay(ReplayOptions),
+    Serve(ServeOptions),
+    Refused(ErrorKind),
+}
+
+// What the words were read as, if the files are those of each line.
+fn answer_of(read: &Result<Words, Error>) -> Option<Answer> {
+    match read {
+        Ok(
+            Words::Script {
+                options,
+                history,
+                from,
+            },
+        ) => with_files(Answer::Script(*options), history, from),
+        Ok(
+            Words::Serve {
+                options,
+                history,
+                from,
+            },
+        ) => with_files(Answer::Serve(*options), history, from),
+        Ok(Words::Replay { options, file }) => {
+            if file.as_str() == "run.txt" {
+                Some(Answer::Replay(*options))
+            } else {
+                None
+            }
+        }
+        Err(error) => Some(Answer::Refused(error.kind())),
+    }
+}
+
+fn with_files(answer: Answer, history: &Option<String>, from: &Option<String>) -> Option<Answer> {
+    if is_text(history, "run.txt") && is_text(from, "a b") {
+        Some(answer)
+    } else {
+        None
+    }
+}
+
+fn is_text(found: &Option<String>, wanted: &str) -> bool {
+    match found {
+        Some(text) => text.as_str() == wanted,
+        None => false,
+    }
+}
+
+// Whether the line met a refusal. It is read once more then.
+fn refused_line(rt: &impl Abort, alloc: Global, words: &[&str], answer: Answer) -> bool {
+    let read = answer_of(&read_words(alloc, words));
+    if read == Some(answer) {
+        return false;
+    }
+    let wanted = Some(Answer::Refused(ErrorKind::OutOfMemory));
+    expect_same(rt, words, &read, &wanted);
+    let again = answer_of(&read_words(alloc, words));
+    expect_same(rt, words, &again, &Some(answer));
+    true
+}
+
+const SCRIPT: [&'static str; 10] = [
+    "rb_broker",
+    "script",
+    "--timer=wheel",
+    "--calls",
+    "7",
+    "--history",
+    "run.txt",
+    "--from=a b",
+    "--delay=6",
+    "--attempts=9",
+];
+
+const REPLAY: [&'static str; 6] = [
+    "rb_broker",
+    "replay",
+    "run.txt",
+    "--chains",
+    "--rate=8",
+    "--attempts=9",
+];
+
+const SERVE: [&'static str; 12] = [
+    "rb_broker",
+    "serve",
+    "--port=7011",
+    "--timer=pairing",
+    "--workers=2",
+    "--sessions=5",
+    "--turns=11",
+    "--calls=7",
+    "--from=a b",
+    "--history=run.txt",
+    "--rate=8",
+    "--attempts=9",
+];
+
+#[test]
+fn a_refused_allocation_is_answered(rt: HostRuntime) {
+    let alloc = rt.alloc();
+    let delayed = Policy::fixed(6, 9).expect(&rt, "a policy");
+    let rated = Policy::fixed_rate(8, 9).expect(&rt, "a policy");
+    let script = ScriptOptions {
+        timer: TimerKind::Wheel,
+        calls: 7,
+        policy: delayed,
+    };
+    let replay = ReplayOptions {
+        chains: Some(rated),
+    };
+    let run = RunOptions {
+        workers: 2,
+        calls: 7,
+        policy: rated,
+    };
+    let serve = ServeOptions {
+        port: 7011,
+        timer: TimerKind::Pairing,
+        sessions: 5,
+        turns: 11,
+        run,
+    };
+    let mut refusals = 0_u32;
+    for (words, answer) in [
+        (SCRIPT.as_slice(), Answer::Script(script)),
+        (REPLAY.as_slice(), Answer::Replay(replay)),
+        (SERVE.as_slice(), Answer::Serve(serve)),
+        (
+            ["rb_broker", "scripts"].as_slice(),
+            Answer::Refused(ErrorKind::InvalidSubcommand),
+        ),
+        (
+            ["rb_broker", "script", "--call", "7"].as_slice(),
+            Answer::Refused(ErrorKind::UnknownArgument),
+        ),
+        (
+            ["rb_broker", "serve", "--timer=tree"].as_slice(),
+            Answer::Refused(ErrorKind::InvalidValue),
+        ),
+    ] {
+        let refused = refused_line(&rt, alloc, words, answer);
+        refusals = refusals.saturating_add(u32::from(refused));
+    }
+    assert_eq!(rt; refusals, REFUSALS);
+}

@@ -1,0 +1,85 @@
+// A clock that stands still, and a queue with nothing in it.
+
+ghost use Rattle.std.specs.Prelude.{◌≡◌};
+
+use crate::tests::fixtures::{
+    CountingGate, FixedClock, ListPass, ListShared, draft, element, expect_number, expect_offered,
+    expect_polled, expect_taken, opened,
+};
+use crate::{Bell, TurnGate, WaitFault, offer_ring, poll_for, take};
+use rb_delayed::Element;
+use std::process::Abort;
+use std::sync::Wait;
+use std::test::Fail;
+use std::time;
+
+// Takes at moment 0, where the gate lets no turn be made.
+fn expect_take<R: Wait + time::Clock + Abort>(
+    rt: &R,
+    shared: &ListShared,
+    pass: &mut ListPass,
+    bell: &Bell,
+    wanted: Result<Element, WaitFault>,
+)
+    requires { pass.old.table ≡ shared.now }
+    ensures { pass.new.table ≡ pass.old.table }
+{
+    let mut gate = TurnGate { limit: 0 };
+    let taken = take(rt, shared, pass, &FixedClock(0), &mut gate, bell);
+    expect_taken(rt, taken, wanted);
+}
+
+fn expect_rung_and_taken<R: Wait + time::Clock + Abort>(
+    rt: &R,
+    shared: &ListShared,
+    pass: &mut ListPass,
+    bell: &Bell,
+)
+    requires { pass.old.table ≡ shared.now }
+{
+    expect_take(rt, shared, pass, bell, Err(WaitFault::Stopped));
+    expect_number(rt, pass.calls(), 0);
+    let offered = offer_ring(rt, shared, pass, 0, draft(rt, 0), bell);
+    expect_offered(rt, offered, Ok(element(rt, 0, 0)));
+    expect_take(rt, shared, pass, bell, Ok(element(rt, 0, 0)));
+    expect_number(rt, pass.calls(), 2);
+    expect_number(rt, bell.count(rt), 1);
+}
+
+#[test]
+fn takes_what_was_offered(rt: HostRuntime) -> Result<(), Fail> {
+    let (shared, mut pass) = opened(rt.alloc(), 4)?;
+    expect_rung_and_taken(&rt, &shared, &mut pass, &Bell::new());
+    Ok(())
+}
+
+// Polls at moment 7 until so many nanoseconds later. The gate has been asked so often then, and one
+// call was answered.
+fn expect_poll<R: Wait + time::Clock + Abort>(
+    rt: &R,
+    shared: &ListShared,
+    pass: &mut ListPass,
+    gate: &mut CountingGate,
+    timeout: u64,
+    wanted: Result<Option<Element>, WaitFault>,
+    asked: u64,
+)
+    requires { pass.old.table ≡ shared.now }
+    ensures { pass.new.table ≡ pass.old.table }
+{
+    let bell = Bell::new();
+    let polled = poll_for(rt, shared, pass, &FixedClock(7), gate, &bell, 7, timeout);
+    expect_polled(rt, polled, wanted);
+    expect_number(rt, pass.calls(), 1);
+    expect_number(rt, gate.asked, asked);
+}
+
+#[test]
+fn polls_until_the_deadline(rt: HostRuntime) -> Result<(), Fail> {
+    let (shared, mut pass) = opened(rt.alloc(), 4)?;
+    let mut gate = CountingGate { limit: 3, asked: 0 };
+    expect_poll(&rt, &shared, &mut pass, &mut gate, 0, Ok(None), 0);
+    let stopped = Err(WaitFault::Stopped);
+    expect_poll(&rt, &shared, &mut pass, &mut gate, 5, stopped, 4);
+    Ok(())
+}

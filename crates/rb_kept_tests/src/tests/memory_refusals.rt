@@ -1,0 +1,354 @@
+use super::fixtures::{
+    done, element, expect, expect_element, expect_number, expect_opening, expect_step, later,
+    offer, offered,
+};
+use rb_delayed::Element;
+use rb_kept::{CallFault, Kept, NewFault, Outcome, Step, Try};
+use rb_ledger::{Tally, Totals};
+use rb_queue::{Act, Ask, Audit, Event, Items, Opening, Reply};
+use rb_timer::{ListTimer, Timer};
+use std::alloc::{AllocError, Global};
+use std::process::Abort;
+
+// How many refusals the run meets. `tools/refuse_allocations` sets 1, and refuses each allocation of
+// the run in turn.
+const REFUSALS: u32 = 0;
+
+// Past several growths of slots, timer and directory.
+const MANY: u64 = 20;
+
+// The later the offer, the sooner it expires. At 95 elements 5 to 19 are expired.
+fn expiry_of(id: u64) -> u64 {
+    100 - id % 100
+}
+
+fn numbered(rt: &impl Abort, id: u64) -> Element {
+    element(rt, id, expiry_of(id), b"a")
+}
+
+// A queue with its one caller, and how many refusals they met.
+#[derive(Drop)]
+struct Caller<T: Timer> {
+    kept: Kept<T>,
+    tally: Tally,
+    met: u32,
+}
+
+// The numbers that a refused call must leave.
+type Standing = (Audit, usize, u64, Totals);
+
+fn standing<T: Timer>(caller: &Caller<T>) -> Standing {
+    let events = caller.kept.history().len();
+    let (audit, capacity) = (caller.kept.audit(), caller.kept.capacity());
+    (audit, events, capacity, caller.tally.totals())
+}
+
+fn expect_standing(rt: &impl Abort, found: Standing, wanted: Standing) {
+    assert_eq!(rt; found, wanted);
+}
+
+// A refused call has left these numbers, the opening and each event. The elements are shown by the
+// calls after it, up to the last.
+fn expect_unchanged<T: Timer>(rt: &impl Abort, caller: &mut Caller<T>, before: Standing) {
+    expect_standing(rt, standing(caller), before);
+    expect_events(rt, caller.kept.opening(), caller.kept.history());
+    caller.met = caller.met.saturating_add(1);
+}
+
+fn room(alloc: Global) -> Result<Vec<Element>, AllocError> {
+    match Vec::with_capacity(alloc, MANY as usize) {
+        Ok(elements) => Ok(elements),
+        Err(_) => Vec::with_capacity(alloc, MANY as usize),
+    }
+}
+
+fn elements_of(rt: &impl Abort, alloc: Global, count: u64) -> Result<Items, AllocError> {
+    let mut elements = room(alloc)?;
+    for id in 0..count {
+        elements.push(numbered(rt, id))?;
+    }
+    Ok(Items::new(elements))
+}
+
+// The opening of the first elements.
+pub fn opening_of(rt: &impl Abort, alloc: Global, count: u64) -> Opening {
+    let items = elements_of(rt, alloc, count).ok().expect(rt, "elements");
+    Opening::new(items, count, 0).expect(rt, "an opening")
+}
+
+// A new queue that was refused once is asked for once more.
+fn made_again<T: Timer>(rt: &impl Abort, alloc: Global, fault: NewFault) -> Caller<T> {
+    expect(
+        rt,
+        fault == NewFault::Memory,
+        "the fault of a refused queue",
+    );
+    let (kept, tally) = Kept::new(alloc, 30).ok().expect(rt, "a queue");
+    Caller {
+        kept,
+        tally,
+        met: 1,
+    }
+}
+
+fn made<T: Timer>(rt: &impl Abort, alloc: Global) -> Caller<T> {
+    match Kept::new(alloc, 30) {
+        Ok((kept, tally)) => Caller {
+            kept,
+            tally,
+            met: 0,
+        },
+        Err(fault) => made_again(rt, alloc, fault),
+    }
+}
+
+// The same from an opening, which a refusal hands back.
+fn begun_again<T: Timer>(
+    rt: &impl Abort,
+    alloc: Global,
+    back: Opening,
+    fault: NewFault,
+) -> Caller<T> {
+    expect(
+        rt,
+        fault == NewFault::Memory,
+        "the fault of a refused queue",
+    );
+    expect_opening(rt, &back, &opening_of(rt, alloc, MANY));
+    let begun = Kept::new_from(alloc, 30, back);
+    let (kept, tally) = begun.ok().expect(rt, "a queue");
+    Caller {
+        kept,
+        tally,
+        met: 1,
+    }
+}
+
+fn begun<T: Timer>(rt: &impl Abort, alloc: Global) -> Caller<T> {
+    match Kept::new_from(alloc, 30, opening_of(rt, alloc, MANY)) {
+        Ok((kept, tally)) => Caller {
+            kept,
+            tally,
+            met: 0,
+        },
+        Err((back, fault)) => begun_again(rt, alloc, back, fault),
+    }
+}
+
+fn asks<T: Timer>(caller: &mut Caller<T>, ask: Ask) -> Step {
+    caller.kept.act(&mut caller.tally, 0, 95, ask)
+}
+
+// Asks at 95, and once more where that was refused.
+fn answered<T: Timer>(rt: &impl Abort, caller: &mut Caller<T>, ask: Ask) -> Step {
+    let (before, again) = (standing(caller), ask);
+    match asks(caller, ask) {
+        Ok(outcome) => Ok(outcome),
+        Err(fault) => {
+            expect(
+                rt,
+                fault == CallFault::Memory,
+                "the fault of a refused call",
+            );
+            expect_unchanged(rt, caller, before);
+            asks(caller, again)
+        }
+    }
+}
+
+// Elements 19 to 5 are drained.
+fn expect_items(rt: &impl Abort, items: &[Element]) {
+    expect_number(rt, items.len() as u64, 15);
+    let mut id = MANY;
+    for item in items {
+        id = id.saturating_sub(1);
+        expect_element(rt, item, &numbered(rt, id));
+    }
+}
+
+// Their ids are recorded.
+fn expect_ids(rt: &impl Abort, ids: &[u64]) {
+    expect_number(rt, ids.len() as u64, 15);
+    let mut wanted = MANY;
+    for &id in ids {
+        wanted = wanted.saturating_sub(1);
+        expect_number(rt, id, wanted);
+    }
+}
+
+fn expect_drained(rt: &impl Abort, step: &Step) {
+    match step {
+        Ok(Outcome::Done(Reply::Drained(items))) => expect_items(rt, items.as_slice()),
+        _ => expect(rt, false, "the drain gave nothing"),
+    }
+}
+
+// A run of one try, which offers element 20.
+fn one_try(rt: &impl Abort, alloc: Global) -> Result<Vec<Try>, AllocError> {
+    let mut tries = Vec::new(alloc);
+    tries.push(Try {
+        seat: 0,
+        asked: 95,
+        ask: offer(rt, expiry_of(20), b"a"),
+    })?;
+    Ok(tries)
+}
+
+fn one_try_at_last(rt: &impl Abort, alloc: Global) -> Result<Vec<Try>, AllocError> {
+    match one_try(rt, alloc) {
+        Ok(tries) => Ok(tries),
+        Err(_) => one_try(rt, alloc),
+    }
+}
+
+// Whether the run's one step offers element 20. A refused offer is a step too.
+fn has_offered(rt: &impl Abort, steps: &[Step]) -> bool {
+    let step = [done(offered(rt, 20, 80, b"a"))];
+    let has_offered = steps == step.as_slice();
+    expect(rt, has_offered || is_refused(steps), "the run's one step");
+    has_offered
+}
+
+fn is_refused(steps: &[Step]) -> bool {
+    matches!(steps, [Err(CallFault::Memory)])
+}
+
+// Whether a run was made and offered element 20. A refused offer gives no id away.
+fn has_run<T: Timer>(rt: &impl Abort, alloc: Global, caller: &mut Caller<T>) -> bool {
+    let tries = one_try_at_last(rt, alloc).ok().expect(rt, "a try");
+    match caller.kept.run_tries(&mut caller.tally, tries) {
+        Ok(steps) => has_offered(rt, &steps),
+        Err(_) => false,
+    }
+}
+
+fn runs_once<T: Timer>(rt: &impl Abort, alloc: Global, caller: &mut Caller<T>) -> bool {
+    let before = standing(caller);
+    let has_run = has_run(rt, alloc, caller);
+    if !has_run {
+        expect_unchanged(rt, caller, before);
+    }
+    has_run
+}
+
+// Offers element 20 in a run, once more where that was refused.
+fn runs<T: Timer>(rt: &impl Abort, alloc: Global, caller: &mut Caller<T>) {
+    let has_run = runs_once(rt, alloc, caller) || runs_once(rt, alloc, caller);
+    expect(rt, has_run, "no memory for a run");
+}
+
+fn offers<T: Timer>(rt: &impl Abort, caller: &mut Caller<T>, id: u64) {
+    let step = answered(rt, caller, offer(rt, expiry_of(id), b"a"));
+    let wanted = done(offered(rt, id, expiry_of(id), b"a"));
+    expect_step(rt, &step, &wanted, 95);
+}
+
+// Offers elements 0 to 19.
+fn offers_many<T: Timer>(rt: &impl Abort, caller: &mut Caller<T>) {
+    for id in 0..MANY {
+        offers(rt, caller, id);
+    }
+}
+
+// The opening has elements from 0 on, and no other. Answers how many.
+fn expect_elements(rt: &impl Abort, opening: &Opening) -> u64 {
+    let mut count = 0_u64;
+    for element in opening.elements.as_slice() {
+        expect_element(rt, element, &numbered(rt, count));
+        count = count.saturating_add(1);
+    }
+    expect_number(rt, opening.next_id, count);
+    expect_number(rt, opening.last_at, 0);
+    count
+}
+
+// Elements 0 to 19 stand in the opening or were offered. Then comes the drain, and then element 20.
+fn expect_events(rt: &impl Abort, opening: &Opening, history: &[Event]) {
+    let mut place = expect_elements(rt, opening);
+    for event in history {
+        expect_event(rt, event, place);
+        place = place.saturating_add(1);
+    }
+}
+
+// Places count the opening's elements and the events behind them.
+fn expect_event(rt: &impl Abort, found: &Event, place: u64) {
+    expect_number(rt, found.seat, 0);
+    expect_number(rt, found.asked, 95);
+    expect_number(rt, found.at, 95);
+    match &found.act {
+        Act::Offer(element) => expect_offer(rt, element, place),
+        Act::Drain { max, ids } => {
+            expect_number(rt, place, MANY);
+            expect_number(rt, *max, MANY);
+            expect_ids(rt, ids.as_slice());
+        }
+        _ => expect(rt, false, "another act"),
+    }
+}
+
+fn expect_offer(rt: &impl Abort, element: &Element, place: u64) {
+    if place < MANY {
+        expect_element(rt, element, &numbered(rt, place));
+    } else {
+        expect_number(rt, place, 21);
+        expect_element(rt, element, &numbered(rt, 20));
+    }
+}
+
+// With elements 0 to 19 in the queue, drains and runs.
+fn goes_on<T: Timer>(rt: &impl Abort, alloc: Global, caller: &mut Caller<T>) {
+    expect_drained(rt, &answered(rt, caller, Ask::Drain(MANY)));
+    let next = answered(rt, caller, Ask::Take);
+    expect_step(rt, &next, &later(Some(96)), 95);
+    runs(rt, alloc, caller);
+    expect_events(rt, caller.kept.opening(), caller.kept.history());
+    polls_the_rest(rt, caller);
+}
+
+fn polls<T: Timer>(rt: &impl Abort, caller: &mut Caller<T>, reply: Reply) {
+    let polled = caller.kept.act(&mut caller.tally, 0, 100, Ask::Poll);
+    expect_step(rt, &polled, &done(reply), 100);
+}
+
+// Elements 20 and 4 to 0 are left, which expire in this order.
+fn polls_the_rest<T: Timer>(rt: &impl Abort, caller: &mut Caller<T>) {
+    for id in [20, 4, 3, 2, 1, 0] {
+        polls(rt, caller, Reply::Item(numbered(rt, id)));
+    }
+    polls(rt, caller, Reply::Nothing);
+    expect_number(rt, caller.kept.audit().left, 0);
+}
+
+// The calls of a queue that began empty, by the audit and by the caller's share.
+fn expect_calls(rt: &impl Abort, audit: Audit, totals: Totals) {
+    expect_number(rt, audit.calls, 29);
+    expect_number(rt, audit.offered, 21);
+    expect_number(rt, audit.given, 21);
+    expect_number(rt, totals.calls, 29);
+    expect_number(rt, totals.offered, 21);
+    expect_number(rt, totals.given, 21);
+}
+
+// Makes each call that may want memory, and answers how often it was refused.
+pub fn run_through<T: Timer>(rt: &impl Abort, alloc: Global) -> u32 {
+    let mut caller = made::<T>(rt, alloc);
+    offers_many(rt, &mut caller);
+    goes_on(rt, alloc, &mut caller);
+    expect_calls(rt, caller.kept.audit(), caller.tally.totals());
+    caller.met
+}
+
+// The same for a queue that begins with an opening.
+fn run_on(rt: &impl Abort, alloc: Global) -> u32 {
+    let mut caller = begun::<ListTimer>(rt, alloc);
+    goes_on(rt, alloc, &mut caller);
+    caller.met
+}
+
+#[test]
+fn a_refusal_changes_nothing(rt: HostRuntime) {
+    let begun_empty = run_through::<ListTimer>(&rt, rt.alloc());
+    let begun_with_elements = run_on(&rt, rt.alloc());
+    assert_eq!(rt; begun_empty.saturating_add(begun_with_elements), REFUSALS);
+}

@@ -1,6 +1,0 @@
--- The pass stays at its table, so one more element may be offered beside those that stand.
-use Rattle.std.proofs.Common.{◌≡◌}
-use Rattle.rb_lock_tests.proofs.tests.ample.expect_standing.Given as goal
-
-abbrev pub invariant-loop-id : goal.invariant-loop-id
-invariant-loop-id g l = l.pass.table ≡ l.initial.pass.table

@@ -1,0 +1,97 @@
+// An offer and a poll by two passes, a closing that is refused, and one that is not.
+
+ghost use Rattle.std.specs.Prelude.{◌≡◌};
+
+use crate::tests::fixtures::{
+    ListPass, ListShared, all_given, done, element, expect_audit, expect_call, expect_number,
+    expect_totals, offer, offered, opened, split_off, totals,
+};
+use rb_kept::Kept;
+use rb_ledger::Tally;
+use rb_lock::CloseFault;
+use rb_queue::{Ask, Audit, Reply};
+use rb_timer::ListTimer;
+use std::process::Abort;
+use std::sync::Wait;
+use std::test::Fail;
+
+// An offer by one pass and a poll by the other, which then meet.
+fn call_and_meet<R: Wait + Abort>(
+    rt: &R,
+    shared: &ListShared,
+    first: &mut ListPass,
+    second: &mut ListPass,
+)
+    requires first { first.old.table ≡ shared.now }
+    requires second { second.old.table ≡ shared.now }
+    ensures first { first.new.table ≡ first.old.table }
+    ensures second { second.new.table ≡ second.old.table }
+{
+    expect_call(rt, shared, first, 10, offer(rt, 10), offered(rt, 0, 10));
+    let item = Reply::Item(element(rt, 0, 10));
+    expect_call(rt, shared, second, 5, Ask::Poll, done(item));
+    shared.meet(first, second);
+}
+
+fn expect_refused(rt: &impl Abort, fault: CloseFault) {
+    let refused = CloseFault::NotAll {
+        counted: totals(1, 1, 0),
+        booked: totals(2, 1, 1),
+    };
+    assert_eq!(rt; fault, refused);
+}
+
+// What a closing hands back that is refused, as a pass with a call is outside.
+fn handed_back<R: Wait + Abort>(
+    rt: &R,
+    shared: ListShared,
+    pass: ListPass,
+) -> (ListShared, ListPass)
+    requires { pass.table ≡ shared }
+    ensures shared { result.0 ≡ shared }
+    ensures pass { result.1.table ≡ shared }
+{
+    let refused = shared.close(rt, pass).err();
+    let (shared, pass, fault) = refused.expect(rt, "a pass is outside");
+    expect_refused(rt, fault);
+    (shared, pass)
+}
+
+fn expect_run(rt: &impl Abort, kept: &Kept<ListTimer>, tally: &Tally, audit: Audit) {
+    expect_audit(rt, audit, all_given(2, 1));
+    expect_totals(rt, tally.totals(), totals(2, 1, 1));
+    expect_audit(rt, kept.audit(), audit);
+}
+
+// Closes by the pass into which the other is folded.
+fn expect_closed<R: Wait + Abort>(rt: &R, shared: ListShared, pass: ListPass)
+    requires { pass.table ≡ shared }
+{
+    let closed = shared.close(rt, pass).ok();
+    let (kept, tally, audit) = closed.expect(rt, "the other pass is folded in");
+    expect_run(rt, &kept, &tally, audit);
+}
+
+// Closes while one of the two is outside, and then once it is folded.
+fn fold_both<R: Wait + Abort>(rt: &R, shared: ListShared, first: ListPass, second: ListPass)
+    requires first { first.table ≡ shared }
+    requires second { second.table ≡ shared }
+{
+    let (shared, mut first) = handed_back(rt, shared, first);
+    expect_number(rt, first.name(), 0);
+    expect_number(rt, first.calls(), 1);
+    expect_number(rt, second.calls(), 1);
+    shared.fold(&mut first, second);
+    expect_number(rt, first.calls(), 2);
+    expect_closed(rt, shared, first);
+}
+
+#[test]
+fn closes_once_all_are_folded(rt: HostRuntime) -> Result<(), Fail> {
+    let (shared, mut first) = opened(rt.alloc(), 10)?;
+    let mut second = split_off(&rt, &shared, &mut first, 1);
+    expect_number(&rt, first.name(), 0);
+    call_and_meet(&rt, &shared, &mut first, &mut second);
+    fold_both(&rt, shared, first, second);
+    Ok(())
+}

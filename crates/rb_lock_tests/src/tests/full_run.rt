@@ -1,0 +1,35 @@
+// Calls that are answered, would wait, or are refused.
+
+ghost use Rattle.std.specs.Prelude.{◌≡◌};
+
+use crate::tests::fixtures::{
+    ListPass, ListShared, done, element, expect_call, expect_number, later, offer, offered, opened,
+};
+use rb_kept::CallFault;
+use rb_queue::{Ask, Reply};
+use std::process::Abort;
+use std::sync::Wait;
+use std::test::Fail;
+
+// The four calls for which the history has room, and one more.
+fn expect_answers<R: Wait + Abort>(rt: &R, shared: &ListShared, pass: &mut ListPass)
+    requires { pass.old.table ≡ shared.now }
+{
+    expect_call(rt, shared, pass, 3, Ask::Take, later(None));
+    expect_call(rt, shared, pass, 3, offer(rt, 9), offered(rt, 0, 9));
+    expect_call(rt, shared, pass, 8, Ask::Take, later(Some(9)));
+    expect_call(rt, shared, pass, 8, Ask::Size, done(Reply::Size(1)));
+    let item = Reply::Item(element(rt, 0, 9));
+    expect_call(rt, shared, pass, 9, Ask::Take, done(item));
+    expect_call(rt, shared, pass, 0, Ask::Clear, done(Reply::Cleared));
+    expect_number(rt, pass.calls(), 4);
+    expect_call(rt, shared, pass, 0, Ask::Size, Err(CallFault::Full));
+    expect_number(rt, pass.calls(), 4);
+}
+
+#[test]
+fn answers_with_ample_memory(rt: HostRuntime) -> Result<(), Fail> {
+    let (shared, mut pass) = opened(rt.alloc(), 4)?;
+    expect_answers(&rt, &shared, &mut pass);
+    Ok(())
+}

@@ -1,0 +1,212 @@
+// Threads that offer and as many that take: nothing is lost and nothing doubled, and each seat has
+// just the calls that its thread made.
+
+ghost use Rattle.std.specs.Prelude.{◌≡◌, IfSome};
+
+use crate::tests::fixtures::{all_given, expect_audit, expect_number, offer, opened};
+use rb_binary::BinaryTimer;
+use rb_kept::Outcome;
+use rb_lock::{Pass, Shared};
+use rb_queue::{Ask, Audit, Event};
+use std::process::Abort;
+use std::sync::Wait;
+use std::test::Fail;
+use std::thread::{Threads, join};
+
+pub(super) type HeapShared = Shared<BinaryTimer>;
+
+pub(super) type HeapPass = Pass<BinaryTimer>;
+
+// How many elements go through the queue in each run.
+const ELEMENTS: u64 = 100_000;
+
+// Room for the calls of a run.
+pub(super) const ROOM: u64 = 2 * ELEMENTS;
+
+// Offers an element, which is expired at once.
+fn offer_one<R: Wait + Abort>(rt: &R, shared: &HeapShared, pass: &mut HeapPass)
+    requires { pass.old.table ≡ shared.now }
+    ensures { pass.new.table ≡ pass.old.table }
+{
+    let _ = shared.call(rt, pass, 9, offer(rt, 9));
+}
+
+// Offers so many of them.
+pub(super) fn offer_all<R: Wait + Abort>(
+    rt: &R,
+    shared: &HeapShared,
+    mut pass: HeapPass,
+    count: u64,
+) -> HeapPass
+    requires { pass.table ≡ shared.now }
+    ensures { result.table ≡ pass.table }
+{
+    for _ in 0..count {
+        offer_one(rt, shared, &mut pass);
+    }
+    pass
+}
+
+// Whether an element was expired, which then was taken.
+fn has_taken(rt: &impl Wait, shared: &HeapShared, pass: &mut HeapPass) -> bool
+    requires { pass.old.table ≡ shared.now }
+    ensures { pass.new.table ≡ pass.old.table }
+{
+    let outcome = shared.call(rt, pass, 9, Ask::Take);
+    matches!(outcome, Ok(Outcome::Done(_)))
+}
+
+// Takes so many elements, and tries again where nothing is expired.
+pub(super) fn take_all(
+    rt: &impl Wait,
+    shared: &HeapShared,
+    mut pass: HeapPass,
+    mut wanted: u64,
+) -> HeapPass
+    requires { pass.table ≡ shared.now }
+    ensures { result.table ≡ pass.table }
+{
+    for _ in rt.forever() {
+        if wanted == 0 {
+            break;
+        }
+        if has_taken(rt, shared, &mut pass) {
+            wanted -= 1;
+        }
+    }
+    pass
+}
+
+// One thread offers so many elements and another takes as many. Their passes are folded into the
+// one given.
+fn pair<R: Threads + Wait + Abort + Sync>(
+    rt: &R,
+    shared: &HeapShared,
+    mut giver: HeapPass,
+    count: u64,
+) -> Option<HeapPass>
+    requires { giver.table ≡ shared.now }
+    ensures { IfSome result (λ folded. folded.table ≡ shared.now) }
+{
+    let taker = shared.split(rt, &mut giver).ok()?;
+    let (mut giver, taker) = join(
+        rt,
+        || -> HeapPass
+            requires { giver.table ≡ shared.now }
+            ensures { result.table ≡ shared.entry.now }
+        { offer_all(rt, shared, giver, count) },
+        || -> HeapPass
+            requires { taker.table ≡ shared.now }
+            ensures { result.table ≡ shared.entry.now }
+        { take_all(rt, shared, taker, count) },
+    );
+    shared.fold(&mut giver, taker);
+    Some(giver)
+}
+
+// Two such pairs at once.
+fn two_pairs<R: Threads + Wait + Abort + Sync>(
+    rt: &R,
+    shared: &HeapShared,
+    mut first: HeapPass,
+    count: u64,
+) -> Option<HeapPass>
+    requires { first.table ≡ shared.now }
+    ensures { IfSome result (λ folded. folded.table ≡ shared.now) }
+{
+    let second = shared.split(rt, &mut first).ok()?;
+    let (first, second) = join(
+        rt,
+        || -> Option<HeapPass>
+            requires { first.table ≡ shared.now }
+            ensures { IfSome result (λ folded. folded.table ≡ shared.entry.now) }
+        { pair(rt, shared, first, count) },
+        || -> Option<HeapPass>
+            requires { second.table ≡ shared.now }
+            ensures { IfSome result (λ folded. folded.table ≡ shared.entry.now) }
+        { pair(rt, shared, second, count) },
+    );
+    let mut first = first?;
+    shared.fold(&mut first, second?);
+    Some(first)
+}
+
+// Four of them.
+fn four_pairs<R: Threads + Wait + Abort + Sync>(
+    rt: &R,
+    shared: &HeapShared,
+    mut first: HeapPass,
+    count: u64,
+) -> Option<HeapPass>
+    requires { first.table ≡ shared.now }
+    ensures { IfSome result (λ folded. folded.table ≡ shared.now) }
+{
+    let second = shared.split(rt, &mut first).ok()?;
+    let (first, second) = join(
+        rt,
+        || -> Option<HeapPass>
+            requires { first.table ≡ shared.now }
+            ensures { IfSome result (λ folded. folded.table ≡ shared.entry.now) }
+        { two_pairs(rt, shared, first, count) },
+        || -> Option<HeapPass>
+            requires { second.table ≡ shared.now }
+            ensures { IfSome result (λ folded. folded.table ≡ shared.entry.now) }
+        { two_pairs(rt, shared, second, count) },
+    );
+    let mut first = first?;
+    shared.fold(&mut first, second?);
+    Some(first)
+}
+
+// How many events a seat has.
+fn events_of(history: &[Event], seat: u64) -> usize {
+    history.iter().filter(|event| event.seat == seat).count()
+}
+
+// This share of the calls was made by each seat.
+fn expect_share(rt: &impl Abort, history: &[Event], seat: u64, seats: u64) {
+    let count = events_of(history, seat) as u64;
+    expect_number(rt, count.saturating_mul(seats), ROOM);
+}
+
+fn expect_shares(rt: &impl Abort, history: &[Event], audit: Audit, seats: u64) {
+    expect_audit(rt, audit, all_given(ROOM, ELEMENTS));
+    for seat in 0..seats {
+        expect_share(rt, history, seat, seats);
+    }
+}
+
+// Closes the queue by the pass into which all are folded: so many seats have made their share of
+// the calls.
+fn expect_calls<R: Wait + Abort>(rt: &R, shared: HeapShared, folded: Option<HeapPass>, seats: u64)
+    requires { IfSome folded (λ pass. pass.table ≡ shared) }
+{
+    let pass = folded.expect(rt, "all passes are split off");
+    let closed = shared.close(rt, pass).ok();
+    let (kept, _, audit) = closed.expect(rt, "all passes are folded in");
+    expect_shares(rt, kept.history(), audit, seats);
+}
+
+#[test]
+fn one_pair_loses_nothing(rt: HostRuntime) -> Result<(), Fail> {
+    let (shared, first) = opened(rt.alloc(), ROOM)?;
+    let folded = pair(&rt, &shared, first, ELEMENTS);
+    expect_calls(&rt, shared, folded, 2);
+    Ok(())
+}
+
+#[test]
+fn two_pairs_lose_nothing(rt: HostRuntime) -> Result<(), Fail> {
+    let (shared, first) = opened(rt.alloc(), ROOM)?;
+    let folded = two_pairs(&rt, &shared, first, ELEMENTS / 2);
+    expect_calls(&rt, shared, folded, 4);
+    Ok(())
+}
+
+#[test]
+fn four_pairs_lose_nothing(rt: HostRuntime) -> Result<(), Fail> {
+    let (shared, first) = opened(rt.alloc(), ROOM)?;
+    let folded = four_pairs(&rt, &shared, first, ELEMENTS / 4);
+    expect_calls(&rt, shared, folded, 8);
+    Ok(())
+}

@@ -1,0 +1,238 @@
+use rb_delayed::{Element, Payload};
+use rb_queue::{Act, Audit, Event, Ids, Items, Opening, Sequence};
+use rb_replay::{
+    ChainFault, History, OpeningFault, ReplayFault, TextFault, chains, check, opening_of,
+    read_history,
+};
+use rb_retry::Policy;
+use std::alloc::{AllocError, Global};
+use std::process::Abort;
+use std::test::Fail;
+
+/// What an event did, as a row tells it: a row is copied, and owns nothing.
+#[derive(Clone, Copy)]
+pub enum Deed {
+    Offer(Element),
+    Poll(Option<u64>),
+    Take(u64),
+    /// The start, the timeout, and what was got.
+    PollFor(u64, u64, Option<u64>),
+    Peek(Option<u64>),
+    /// The id, and whether it was found.
+    Remove(u64, bool),
+    /// The greatest number, and at most three ids.
+    Drain(u64, [Option<u64>; 3]),
+    Clear,
+    Size(u64),
+}
+
+/// An event: its seat, the moment that was asked for, that at which it took place, and what it did.
+pub type Row = (u64, u64, u64, Deed);
+
+/// What a run begins with: its elements, and the next id, or else the empty opening. Moments begin at 0.
+pub type Start<'a> = Option<(&'a [Element], u64)>;
+
+pub const EMPTY: Start<'static> = None;
+
+/// What stands after a job failed once has this next id.
+pub const NEXT_ID: u64 = 2;
+
+pub fn payload(rt: &impl Abort, bytes: &[u8]) -> Payload {
+    Payload::new(bytes).ok().expect(rt, "a payload")
+}
+
+/// The attempt of job 0 with this number, with the payload `a`.
+pub fn attempt(rt: &impl Abort, id: u64, expiry: u64, attempt: u32) -> Element {
+    assert!(rt; attempt >= 1 && attempt <= 1_000);
+    Element {
+        id,
+        expiry,
+        origin: 0,
+        first: 0,
+        attempt,
+        payload: payload(rt, b"a"),
+    }
+}
+
+/// Element 0 or 1 of a run: the first of its job, with payload `a` or `b`.
+pub fn first(rt: &impl Abort, id: u64, expiry: u64) -> Element {
+    let bytes: &[u8] = if id == 0 { b"a" } else { b"b" };
+    Element {
+        id,
+        expiry,
+        origin: id,
+        first: expiry,
+        attempt: 1,
+        payload: payload(rt, bytes),
+    }
+}
+
+/// The second attempt of job 0, offered as element 1.
+pub fn second(rt: &impl Abort) -> Element {
+    attempt(rt, 1, 1000, 2)
+}
+
+/// A run of two seats: an offer, its poll, a timed poll that gives up, and a count.
+pub fn two_seats(rt: &impl Abort) -> [Row; 4] {
+    [
+        (0, 10, 10, Deed::Offer(first(rt, 0, 10))),
+        (1, 5, 10, Deed::Poll(Some(0))),
+        (1, 3, 10, Deed::PollFor(3, 4, None)),
+        (0, 11, 11, Deed::Size(0)),
+    ]
+}
+
+/// A job that was offered, polled, failed at once, and was offered again.
+pub fn one_retry(rt: &impl Abort, again: Element) -> [Row; 3] {
+    [
+        (0, 0, 0, Deed::Offer(first(rt, 0, 0))),
+        (0, 0, 0, Deed::Poll(Some(0))),
+        (0, 0, 0, Deed::Offer(again)),
+    ]
+}
+
+/// The run behind one in which a job failed once: a count, its poll, and another job.
+pub fn next_run(rt: &impl Abort) -> [Row; 3] {
+    let mut offered = first(rt, 1, 1000);
+    offered.id = 2;
+    offered.origin = 2;
+    [
+        (0, 0, 0, Deed::Size(1)),
+        (0, 1000, 1000, Deed::Poll(Some(1))),
+        (0, 1000, 1000, Deed::Offer(offered)),
+    ]
+}
+
+fn drained(alloc: Global, given: [Option<u64>; 3]) -> Result<Ids, AllocError> {
+    let mut ids = Vec::new(alloc);
+    for id in given {
+        if let Some(id) = id {
+            ids.push(id)?;
+        }
+    }
+    Ok(Ids::new(ids))
+}
+
+fn act(alloc: Global, deed: Deed) -> Result<Act, AllocError> {
+    Ok(match deed {
+        Deed::Offer(element) => Act::Offer(element),
+        Deed::Poll(given) => Act::Poll(given),
+        Deed::Take(id) => Act::Take(id),
+        Deed::PollFor(start, timeout, got) => {
+            Act::PollFor {
+                start,
+                timeout,
+                got,
+            }
+        }
+        Deed::Peek(shown) => Act::Peek(shown),
+        Deed::Remove(id, found) => Act::Remove { id, found },
+        Deed::Drain(max, given) => {
+            let ids = drained(alloc, given)?;
+            Act::Drain { max, ids }
+        }
+        Deed::Clear => Act::Clear,
+        Deed::Size(count) => Act::Size(count),
+    })
+}
+
+pub fn push_row(events: &mut Vec<Event>, alloc: Global, row: Row) -> Result<(), AllocError> {
+    let (seat, asked, at, deed) = row;
+    events.push(Event {
+        seat,
+        asked,
+        at,
+        act: act(alloc, deed)?,
+    })?;
+    Ok(())
+}
+
+fn events(alloc: Global, rows: &[Row]) -> Result<Vec<Event>, AllocError> {
+    let mut events = Vec::new(alloc);
+    for row in rows {
+        push_row(&mut events, alloc, *row)?;
+    }
+    Ok(events)
+}
+
+pub fn opening_at(elements: Items, next_id: u64, last_at: u64) -> Result<Opening, Fail> {
+    match Opening::new(elements, next_id, last_at) {
+        Some(opening) => Ok(opening),
+        None => Err(Fail::from("no opening")),
+    }
+}
+
+pub fn opening(alloc: Global, start: Start<'_>) -> Result<Opening, Fail> {
+    let Some((elements, next_id)) = start else {
+        return Ok(Opening::empty(alloc));
+    };
+    let elements = Items::new(Vec::from_slice(alloc, elements)?);
+    opening_at(elements, next_id, 0)
+}
+
+pub fn history(alloc: Global, start: Start<'_>, rows: &[Row]) -> Result<History, Fail> {
+    let opening = opening(alloc, start)?;
+    let events = Sequence::new(events(alloc, rows)?);
+    Ok(History { opening, events })
+}
+
+// Each call and each comparison is a function of its own with no clause, so that a test that makes it
+// has nothing to prove.
+
+pub fn checked(rt: &impl Abort, alloc: Global, history: &History) -> Result<Audit, ReplayFault> {
+    assert!(rt; history.events().len() <= 1_000_000);
+    check(alloc, history.opening(), history.events())
+}
+
+/// Whether a history, which is to be legal, is chained.
+pub fn linked(
+    rt: &impl Abort,
+    alloc: Global,
+    history: &History,
+    policy: Option<Policy>,
+) -> Result<(), ChainFault> {
+    let (opening, events) = (history.opening(), history.events());
+    assert!(rt; events.len() <= 1_000_000);
+    assert!(rt; check(alloc, opening, events).is_ok());
+    chains(alloc, opening, events, &policy.expect(rt, "a policy"))
+}
+
+pub fn opened(rt: &impl Abort, alloc: Global, history: &History) -> Result<Opening, OpeningFault> {
+    assert!(rt; history.events().len() <= 1_000_000);
+    opening_of(alloc, history)
+}
+
+pub fn is_read_as(alloc: Global, text: &[u8], history: &History) -> bool {
+    match read_history(alloc, text) {
+        Ok(found) => found == *history,
+        Err(_) => false,
+    }
+}
+
+pub fn expect_audit(
+    rt: &impl Abort,
+    answer: Result<Audit, ReplayFault>,
+    wanted: Result<Audit, ReplayFault>,
+) {
+    assert_eq!(rt; answer, wanted);
+}
+
+pub fn expect_linked(rt: &impl Abort, answer: Result<(), ChainFault>, wanted: Option<ChainFault>) {
+    assert_eq!(rt; answer.err(), wanted);
+}
+
+pub fn expect_opening(
+    rt: &impl Abort,
+    answer: &Result<Opening, OpeningFault>,
+    wanted: &Result<Opening, OpeningFault>,
+) {
+    assert_eq!(rt; *answer, *wanted);
+}
+
+pub fn expect_read(
+    rt: &impl Abort,
+    answer: &Result<History, TextFault>,
+    wanted: &Result<History, TextFault>,
+) {
+    assert_eq!(rt; *answer, *wanted);
+}

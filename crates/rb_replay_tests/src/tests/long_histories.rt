@@ -1,0 +1,523 @@
+//! Histories with as many events, elements and bytes as make each array and map grow many times.
+//!
+//! A run has 1,000 rounds of 100 events. Each number of it is given by its round, from 0, and its place
+//! in the round, from 0 to 99, and has as many digits in each round, but for attempts and sizes.
+
+use crate::tests::devices::{
+    Device, NEVER, Restless, expect, expect_count, expect_unreadable, expect_written, write_to,
+};
+use crate::tests::fixtures::{
+    Deed, EMPTY, Start, checked, expect_audit, expect_linked, is_read_as, linked, opened, opening,
+    opening_at, payload, push_row,
+};
+use rb_delayed::Element;
+use rb_queue::{Act, Audit, Event, Ids, Items, Opening, Sequence};
+use rb_replay::{
+    ChainFault, ChainReason, History, OpeningFault, Reason, ReplayFault, TextReason, read_history,
+};
+use rb_retry::Policy;
+use std::alloc::{AllocError, Global};
+use std::fmt::Write;
+use std::process::Abort;
+use std::test::Fail;
+
+const ROUNDS: u64 = 1_000;
+
+// The round that ends in a clear, the 500th.
+const CLEARED_ROUND: u64 = 499;
+
+const FIRST_ID: u64 = 100_000;
+
+// A round offers 50 elements, of which 10 are given, 10 are removed, and 30 are left.
+const OFFERS_A_ROUND: u64 = 50;
+
+const LEFT_A_ROUND: u64 = 30;
+
+// The moment at which a round begins.
+fn begin(round: u64) -> u64 {
+    1_000_000_u64.saturating_add(round.saturating_mul(1_000))
+}
+
+// The id of the element that is offered at this place, 0 to 49.
+fn id(round: u64, place: u64) -> u64 {
+    FIRST_ID
+        .saturating_add(round.saturating_mul(OFFERS_A_ROUND))
+        .saturating_add(place)
+}
+
+// The expiry of what is offered at this place: 10 for the retry, 1 to 9 for what is given, 30 to 39 for
+// what is removed, all after the round began, and a moment behind the run for what is left.
+fn expiry(round: u64, place: u64) -> u64 {
+    match place {
+        0 => begin(round).saturating_add(10),
+        1..=9 => begin(round).saturating_add(place),
+        10..=19 => begin(round).saturating_add(place).saturating_add(20),
+        _ => 2_000_000_u64.saturating_add(id(round, place)),
+    }
+}
+
+// The element that is offered at this place. The first of a round is an attempt of one job, which fails
+// at the start of each round but the first, and is offered again 10 nanoseconds later.
+fn offered(rt: &impl Abort, round: u64, place: u64) -> Element {
+    let retry = place == 0;
+    let begun = if retry { 0 } else { round };
+    let attempt = if retry { round.saturating_add(1) } else { 1 };
+    let bytes: &[u8] = if retry { b"again" } else { b"j" };
+    assert!(rt; attempt >= 1 && attempt <= 1_000);
+    Element {
+        id: id(round, place),
+        expiry: expiry(round, place),
+        origin: id(begun, place),
+        first: expiry(begun, place),
+        attempt: attempt as u32,
+        payload: payload(rt, bytes),
+    }
+}
+
+// How many elements of the rounds up to this one are left, since the clear where it was.
+fn left(round: u64) -> u64 {
+    let rounds = if round > CLEARED_ROUND {
+        round.saturating_sub(CLEARED_ROUND)
+    } else {
+        round.saturating_add(1)
+    };
+    rounds.saturating_mul(LEFT_A_ROUND)
+}
+
+// The id of the element that is least of those that are left.
+fn least_left(round: u64) -> u64 {
+    if round > CLEARED_ROUND {
+        id(CLEARED_ROUND.saturating_add(1), 20)
+    } else {
+        id(0, 20)
+    }
+}
+
+// The act that gives, shows or counts at this place, 50 to 60.
+fn giving(round: u64, place: u64) -> Deed {
+    let begin = begin(round);
+    match place {
+        50 => Deed::Peek(Some(id(round, 1))),
+        51 => Deed::Poll(None),
+        52 => Deed::Poll(Some(id(round, 1))),
+        53 => Deed::Take(id(round, 2)),
+        54 => Deed::PollFor(begin, 3, Some(id(round, 3))),
+        55 => Deed::PollFor(begin.saturating_add(3), 0, None),
+        56 => Deed::Drain(
+            9,
+            [Some(id(round, 4)), Some(id(round, 5)), Some(id(round, 6))],
+        ),
+        57 => Deed::Drain(2, [Some(id(round, 7)), Some(id(round, 8)), None]),
+        58 => Deed::Poll(Some(id(round, 9))),
+        59 => Deed::Size(left(round).saturating_add(11)),
+        _ => Deed::Take(id(round, 0)),
+    }
+}
+
+// The act that removes, shows or counts at this place, 61 to 99.
+fn closing(round: u64, place: u64) -> Deed {
+    match place {
+        61..=70 => Deed::Remove(id(round, place.saturating_sub(51)), true),
+        71..=80 => Deed::Remove(id(round, place.saturating_sub(61)), false),
+        81 => Deed::Peek(Some(least_left(round))),
+        82..=98 => Deed::Size(left(round)),
+        _ if round == CLEARED_ROUND => Deed::Clear,
+        _ => Deed::Drain(0, [None, None, None]),
+    }
+}
+
+// How many nanoseconds after the round began the moment was asked for.
+fn asked(place: u64) -> u64 {
+    match place {
+        0..=51 => 0,
+        52 | 55 => 1,
+        53 => 2,
+        54 => 3,
+        56 => 6,
+        57..=59 => 9,
+        _ => 10,
+    }
+}
+
+// How many nanoseconds after the round began the event took place: the moment of place 55 had passed.
+fn took_place(place: u64) -> u64 {
+    if place == 55 { 3 } else { asked(place) }
+}
+
+fn push_event(
+    events: &mut Vec<Event>,
+    rt: &impl Abort,
+    alloc: Global,
+    round: u64,
+    place: u64,
+) -> Result<(), AllocError> {
+    let deed = match place {
+        0..=49 => Deed::Offer(offered(rt, round, place)),
+        50..=60 => giving(round, place),
+        _ => closing(round, place),
+    };
+    let asked = begin(round).saturating_add(asked(place));
+    let at = begin(round).saturating_add(took_place(place));
+    push_row(events, alloc, (place % 10, asked, at, deed))
+}
+
+fn push_round(
+    events: &mut Vec<Event>,
+    rt: &impl Abort,
+    alloc: Global,
+    round: u64,
+) -> Result<(), AllocError> {
+    for place in 0..100 {
+        push_event(events, rt, alloc, round, place)?;
+    }
+    Ok(())
+}
+
+fn rounds(rt: &impl Abort, alloc: Global, count: u64) -> Result<Vec<Event>, AllocError> {
+    let mut events = Vec::new(alloc);
+    for round in 0..count {
+        push_round(&mut events, rt, alloc, round)?;
+    }
+    Ok(events)
+}
+
+// The history of the first rounds.
+fn run(rt: &impl Abort, alloc: Global, count: u64) -> Result<History, Fail> {
+    let opening = opening(alloc, Some((&[], FIRST_ID)))?;
+    let events = Sequence::new(rounds(rt, alloc, count)?);
+    Ok(History { opening, events })
+}
+
+// Appends what is left of a round.
+fn push_left(elements: &mut Vec<Element>, rt: &impl Abort, round: u64) -> Result<(), AllocError> {
+    for place in 20..OFFERS_A_ROUND {
+        elements.push(offered(rt, round, place))?;
+    }
+    Ok(())
+}
+
+// What is left of the rounds behind the clear, in the order of ids and of expiries.
+fn all_left(rt: &impl Abort, alloc: Global) -> Result<Vec<Element>, AllocError> {
+    let mut elements = Vec::new(alloc);
+    for round in CLEARED_ROUND.saturating_add(1)..ROUNDS {
+        push_left(&mut elements, rt, round)?;
+    }
+    Ok(elements)
+}
+
+// What all rounds lead to: the last of them ended 10 nanoseconds after it began.
+fn end(rt: &impl Abort, alloc: Global) -> Result<Opening, Fail> {
+    opening_at(Items::new(all_left(rt, alloc)?), id(ROUNDS, 0), 1_999_010)
+}
+
+// The moment at which all that was left is expired.
+const EXPIRED: u64 = 2_200_000;
+
+// The history of a run that polls each of the elements that stand at its start.
+fn polls(opening: Opening, alloc: Global) -> Result<History, Fail> {
+    let mut events = Vec::new(alloc);
+    for element in opening.elements.as_slice() {
+        push_row(
+            &mut events,
+            alloc,
+            (0, EXPIRED, EXPIRED, Deed::Poll(Some(element.id))),
+        )?;
+    }
+    let events = Sequence::new(events);
+    Ok(History { opening, events })
+}
+
+// That the history has a text of so many bytes, and is read from it.
+fn is_written_and_read(rt: &impl Abort, alloc: Global, history: &History, bytes: usize) {
+    let mut device = Device::new(alloc, NEVER, NEVER);
+    let ended = write_to(rt, alloc, history.opening(), history.events(), &mut device);
+    expect_written(rt, ended, Ok(()));
+    expect_count(rt, device.bytes.len(), bytes);
+    expect(rt, is_read_as(alloc, &device.bytes, history));
+}
+
+// Whether a run may begin so where the history ends.
+fn leads_to(rt: &impl Abort, alloc: Global, history: &History, end: &Opening) -> bool {
+    match opened(rt, alloc, history) {
+        Ok(opening) => opening == *end,
+        Err(_) => false,
+    }
+}
+
+// That each call takes the history.
+fn passes(
+    rt: &impl Abort,
+    alloc: Global,
+    history: &History,
+    bytes: usize,
+    audit: Audit,
+    end: &Opening,
+) {
+    is_written_and_read(rt, alloc, history, bytes);
+    expect_audit(rt, checked(rt, alloc, history), Ok(audit));
+    expect_linked(
+        rt,
+        linked(rt, alloc, history, Policy::fixed(10, 1_000)),
+        None,
+    );
+    expect(rt, leads_to(rt, alloc, history, end));
+}
+
+// The bytes of the text of all rounds. The lines of a round have, but for the digits of attempts and
+// of sizes: 49 offers 58 each, that of the retry 61, places 50 to 60 30, 28, 30, 30, 43, 41, 47, 40, 30,
+// 24 and 30, removals 10 times 36 and 10 times 35, the last peek 30, the sizes 17 times 24, the drain 26.
+// So that is 4,450 for each round, less 2 where a clear stands for the drain. The attempts have 2,893
+// digits. The 500 sizes before a clear or the end have 2,134 at place 59, and 17 times 2,131 behind.
+// The lines round the events have 10, 16 and 11.
+const BYTES: usize = 4_450_000 - 2 + 2_893 + 2 * 2_134 + 34 * 2_131 + 37;
+
+#[test]
+fn a_long_history_passes_each_call(rt: HostRuntime) -> Result<(), Fail> {
+    let alloc = rt.alloc();
+    let (history, end) = (run(&rt, alloc, ROUNDS)?, end(&rt, alloc)?);
+    let audit = Audit {
+        calls: 100_000,
+        offered: 50_000,
+        given: 10_000,
+        removed: 10_000,
+        cleared: 15_000,
+        left: 15_000,
+        opening: 0,
+    };
+    passes(&rt, alloc, &history, BYTES, audit, &end);
+    Ok(())
+}
+
+// The lines have 39 bytes for an element and 30 for a poll, and those round them 10, 26 and 10.
+const POLLED_BYTES: usize = 15_000 * 39 + 15_000 * 30 + 46;
+
+#[test]
+fn a_long_opening_passes_each_call(rt: HostRuntime) -> Result<(), Fail> {
+    let alloc = rt.alloc();
+    let history = polls(end(&rt, alloc)?, alloc)?;
+    let audit = Audit {
+        calls: 15_000,
+        offered: 0,
+        given: 15_000,
+        removed: 0,
+        cleared: 0,
+        left: 0,
+        opening: 15_000,
+    };
+    let nothing = opening_at(Items::new(Vec::new(alloc)), id(ROUNDS, 0), EXPIRED)?;
+    passes(&rt, alloc, &history, POLLED_BYTES, audit, &nothing);
+    Ok(())
+}
+
+// The event of this index is the last.
+const LAST: u64 = 99_999;
+
+// The history, whose last event counts nothing where 15,000 elements stand.
+fn forged(history: History) -> History {
+    let History { opening, events } = history;
+    let mut events = events.into_vec();
+    if let Some(event) = events.last_mut() {
+        event.act = Act::Size(0);
+    }
+    let events = Sequence::new(events);
+    History { opening, events }
+}
+
+fn expect_late_faults(rt: &impl Abort, alloc: Global, history: &History) {
+    let (index, reason) = (LAST, Reason::WrongSize);
+    expect_audit(
+        rt,
+        checked(rt, alloc, history),
+        Err(ReplayFault::At { index, reason }),
+    );
+    let fault = opened(rt, alloc, history).err();
+    expect(rt, fault == Some(OpeningFault::At { index, reason }));
+}
+
+#[test]
+fn a_late_fault_is_told(rt: HostRuntime) -> Result<(), Fail> {
+    let alloc = rt.alloc();
+    let history = forged(run(&rt, alloc, ROUNDS)?);
+    expect_late_faults(&rt, alloc, &history);
+    Ok(())
+}
+
+// The last attempt is offered by the first event of the last round.
+#[test]
+fn a_late_attempt_too_many_is_told(rt: HostRuntime) -> Result<(), Fail> {
+    let alloc = rt.alloc();
+    let history = run(&rt, alloc, ROUNDS)?;
+    let answer = linked(&rt, alloc, &history, Policy::fixed(10, 999));
+    let (index, reason) = (99_900, ChainReason::TooMany);
+    expect_linked(&rt, answer, Some(ChainFault::At { index, reason }));
+    Ok(())
+}
+
+// How many elements the texts of the first versions tell.
+const TOLD: u64 = 100_000;
+
+// Two elements have each job, of which the first expires at 5 and the other at 6.
+fn told(rt: &impl Abort, id: u64) -> Element {
+    Element {
+        id,
+        expiry: 5 + id % 2,
+        origin: id / 2,
+        first: 5,
+        attempt: 1,
+        payload: payload(rt, b"j"),
+    }
+}
+
+// Appends a line for each of the elements.
+fn push_lines(text: &mut String, front: &str) -> Result<(), AllocError> {
+    for id in 0..TOLD {
+        writeln!(text, "{front} {id} {} {} 1 j", 5 + id % 2, id / 2)?;
+    }
+    Ok(())
+}
+
+// A text of the second version, whose opening tells the elements, and whose events offer them again.
+fn second_text(alloc: Global) -> Result<String, AllocError> {
+    let mut text = String::new(alloc);
+    text.push_str("history 2\nopen 100000 0 100000\n")?;
+    push_lines(&mut text, "keep")?;
+    push_lines(&mut text, "0 0 0 offer")?;
+    text.push_str("end 100000\n")?;
+    Ok(text)
+}
+
+fn first_text(alloc: Global) -> Result<String, AllocError> {
+    let mut text = String::new(alloc);
+    text.push_str("history 1\n")?;
+    push_lines(&mut text, "0 0 0 offer")?;
+    text.push_str("end 100000\n")?;
+    Ok(text)
+}
+
+fn told_elements(rt: &impl Abort, alloc: Global) -> Result<Vec<Element>, AllocError> {
+    let mut elements = Vec::new(alloc);
+    for id in 0..TOLD {
+        elements.push(told(rt, id))?;
+    }
+    Ok(elements)
+}
+
+// The history in which such elements stand at the start, and all are offered.
+fn told_history(rt: &impl Abort, alloc: Global, start: Start<'_>) -> Result<History, Fail> {
+    let mut events = Vec::new(alloc);
+    for id in 0..TOLD {
+        push_row(&mut events, alloc, (0, 0, 0, Deed::Offer(told(rt, id))))?;
+    }
+    let opening = opening(alloc, start)?;
+    let events = Sequence::new(events);
+    Ok(History { opening, events })
+}
+
+#[test]
+fn a_long_text_of_the_first_version_is_read(rt: HostRuntime) -> Result<(), Fail> {
+    let alloc = rt.alloc();
+    let wanted = told_history(&rt, alloc, EMPTY)?;
+    let text = first_text(alloc)?;
+    expect(&rt, is_read_as(alloc, text.as_bytes(), &wanted));
+    Ok(())
+}
+
+#[test]
+fn a_long_text_of_the_second_version_is_read(rt: HostRuntime) -> Result<(), Fail> {
+    let alloc = rt.alloc();
+    let kept = told_elements(&rt, alloc)?;
+    let wanted = told_history(&rt, alloc, Some((&kept, TOLD)))?;
+    let text = second_text(alloc)?;
+    expect(&rt, is_read_as(alloc, text.as_bytes(), &wanted));
+    Ok(())
+}
+
+// How many rounds have a text of more than 100,000 bytes. Their attempts have 41 digits, their sizes 73
+// at place 59 and 17 times 72 behind, and the lines round the events 10, 16 and 9 bytes.
+const FEW_ROUNDS: u64 = 25;
+
+const FEW_BYTES: usize = 25 * 4_450 + 41 + 73 + 17 * 72 + 35;
+
+fn is_whole(rt: &impl Abort, alloc: Global, history: &History, bytes: &[u8]) {
+    expect_count(rt, bytes.len(), FEW_BYTES);
+    expect(rt, is_read_as(alloc, bytes, history));
+}
+
+// Each byte is one write, behind which comes one flush.
+#[test]
+fn a_device_may_take_a_byte_at_a_time(rt: HostRuntime) -> Result<(), Fail> {
+    let alloc = rt.alloc();
+    let history = run(&rt, alloc, FEW_ROUNDS)?;
+    let mut device = Device::new(alloc, 1, NEVER);
+    let ended = write_to(&rt, alloc, history.opening(), history.events(), &mut device);
+    expect_written(&rt, ended, Ok(()));
+    expect_count(&rt, device.calls, FEW_BYTES.saturating_add(1));
+    is_whole(&rt, alloc, &history, &device.bytes);
+    Ok(())
+}
+
+// That a device that is interrupted at two writes of three, and takes so many bytes at the third, gets
+// the whole text.
+fn is_written_between(rt: &impl Abort, alloc: Global, history: &History, most: usize) {
+    let bytes = Vec::new(alloc);
+    let mut device = Restless {
+        bytes,
+        most,
+        writes: 0,
+    };
+    let ended = write_to(rt, alloc, history.opening(), history.events(), &mut device);
+    expect_written(rt, ended, Ok(()));
+    is_whole(rt, alloc, history, &device.bytes);
+}
+
+#[test]
+fn a_write_that_is_interrupted_is_made_again(rt: HostRuntime) -> Result<(), Fail> {
+    let alloc = rt.alloc();
+    let history = run(&rt, alloc, FEW_ROUNDS)?;
+    for most in [1, 1_000, NEVER] {
+        is_written_between(&rt, alloc, &history, most);
+    }
+    Ok(())
+}
+
+// Ids of 20 digits.
+fn long_ids(alloc: Global) -> Result<Vec<u64>, AllocError> {
+    let mut ids = Vec::new(alloc);
+    for number in 0..100_000 {
+        ids.push(10_000_000_000_000_000_000_u64.saturating_add(number))?;
+    }
+    Ok(ids)
+}
+
+fn push_drain(events: &mut Vec<Event>, alloc: Global) -> Result<(), AllocError> {
+    let ids = Ids::new(long_ids(alloc)?);
+    let max = 100_000;
+    events.push(Event {
+        seat: 0,
+        asked: 0,
+        at: 0,
+        act: Act::Drain { max, ids },
+    })?;
+    Ok(())
+}
+
+// The history of 50 drains of 100,000 ids.
+fn drains(alloc: Global) -> Result<History, Fail> {
+    let mut events = Vec::new(alloc);
+    for _ in 0..50 {
+        push_drain(&mut events, alloc)?;
+    }
+    let (opening, events) = (Opening::empty(alloc), Sequence::new(events));
+    Ok(History { opening, events })
+}
+
+// A drain's line has 19 bytes and 21 for each id. The lines round them have 10, 11 and 7.
+const DRAINED_BYTES: usize = 50 * (19 + 100_000 * 21) + 28;
+
+#[test]
+fn a_text_of_a_hundred_megabytes_is_written_and_read(rt: HostRuntime) -> Result<(), Fail> {
+    let alloc = rt.alloc();
+    let history = drains(alloc)?;
+    is_written_and_read(&rt, alloc, &history, DRAINED_BYTES);
+    Ok(())
+}

@@ -1,0 +1,87 @@
+use crate::tests::devices::{Device, NEVER, expect, expect_bytes, expect_written, write_to};
+use crate::tests::fixtures::{EMPTY, NEXT_ID, history, is_read_as, next_run, second, two_seats};
+use rb_replay::{
+    History, HistoryFault, no_fault_of_text, no_text_of_two, one_fault, one_text_each,
+};
+use std::alloc::Global;
+use std::process::Abort;
+use std::test::Fail;
+
+const EMPTY_RUN: &[u8] = b"history 3\nopen 0 0 0\nend 0\n";
+
+const TWO_SEATS: &[u8] =
+    b"history 3\nopen 0 0 0\n0 10 10 offer 0 10 0 10 1 a\n1 5 10 poll 0\n1 3 10 pollfor 3 4 none\n0 11 11 size 0\nend 4\n";
+
+const NEXT_RUN: &[u8] =
+    b"history 3\nopen 2 0 1\nkeep 1 1000 0 0 2 a\n0 0 0 size 1\n0 1000 1000 poll 1\n0 1000 1000 offer 2 1000 2 1000 1 b\nend 3\n";
+
+// That a device that takes so many bytes at a time, and fails at this call, has got these.
+fn written_as(
+    rt: &impl Abort,
+    alloc: Global,
+    history: &History,
+    (most, fails_at): (usize, usize),
+    answer: Result<(), HistoryFault>,
+    text: &[u8],
+) {
+    let mut device = Device::new(alloc, most, fails_at);
+    let ended = write_to(rt, alloc, history.opening(), history.events(), &mut device);
+    expect_written(rt, ended, answer);
+    expect_bytes(rt, &device.bytes, text);
+}
+
+#[test]
+fn an_empty_run_is_written(rt: HostRuntime) -> Result<(), Fail> {
+    let alloc = rt.alloc();
+    let run = history(alloc, EMPTY, &[])?;
+    written_as(&rt, alloc, &run, (99, 99), Ok(()), EMPTY_RUN);
+    one_text_each();
+    no_text_of_two();
+    no_fault_of_text();
+    one_fault();
+    Ok(())
+}
+
+#[test]
+fn runs_are_written(rt: HostRuntime) -> Result<(), Fail> {
+    let alloc = rt.alloc();
+    let run = history(alloc, EMPTY, &two_seats(&rt))?;
+    written_as(&rt, alloc, &run, (999, 99), Ok(()), TWO_SEATS);
+    let run = history(alloc, Some((&[second(&rt)], NEXT_ID)), &next_run(&rt))?;
+    written_as(&rt, alloc, &run, (7, 99), Ok(()), NEXT_RUN);
+    Ok(())
+}
+
+#[test]
+fn what_was_written_is_read(rt: HostRuntime) -> Result<(), Fail> {
+    let alloc = rt.alloc();
+    let run = history(alloc, Some((&[second(&rt)], NEXT_ID)), &next_run(&rt))?;
+    let mut device = Device::new(alloc, 999, NEVER);
+    let ended = write_to(&rt, alloc, run.opening(), run.events(), &mut device);
+    expect_written(&rt, ended, Ok(()));
+    expect(&rt, is_read_as(alloc, &device.bytes, &run));
+    Ok(())
+}
+
+#[test]
+fn a_device_that_fails_has_the_first_part(rt: HostRuntime) -> Result<(), Fail> {
+    let alloc = rt.alloc();
+    let run = history(alloc, EMPTY, &two_seats(&rt))?;
+    for (most, fails_at, count) in [
+        (999, 0, 0),
+        (40, 2, 80),
+        (999, 1, TWO_SEATS.len()),
+        (0, 99, 0),
+    ] {
+        let text = TWO_SEATS.get(..count).unwrap_or_default();
+        written_as(
+            &rt,
+            alloc,
+            &run,
+            (most, fails_at),
+            Err(HistoryFault::Write),
+            text,
+        );
+    }
+    Ok(())
+}
