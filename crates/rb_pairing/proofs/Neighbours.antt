@@ -48,7 +48,6 @@ module _ (old new : List Node) (earlier later : ℕ) (parent rank : ℕ → ℕ)
     (present : IsSome (expiry_of old earlier)) (present_later : IsSome (expiry_of old later))
     (in_row : is_some (previous_of old later) ≡ true)
     (under : (other : ℕ) → previous_of moves.between earlier ≡ Some other → rank other < rank later) where
-
   cut_long : length moves.between ≡ length old
   cut_long = same_length old moves.between moves.cuts.expiries
 

@@ -67,7 +67,6 @@ pub record KeptSoFar (version : Version) (end : ℕ) (text : List ℕ) (kept : L
   pub order : InOrderSoFar kept end (length kept) least
   pub right : AreRightElements kept
   pub counted : length kept ≡ place
-})
 
 -- one line more
 pub kept_more : (version : Version) (end : ℕ) (text : List ℕ) (kept : List Element) (rest : List ℕ) (least place : ℕ) (element : Element) (line behind : List ℕ)
