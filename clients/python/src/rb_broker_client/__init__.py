@@ -1,0 +1,28 @@
+"""A client of `rb_broker serve`, of the standard library alone.
+
+- `Broker` is one session with the server: a method for each request, and several requests in one piece.
+- `Producer` offers jobs to a server that may be replaced by another.
+- `Worker` takes jobs, runs a handler on each, and tells the server what came of it.
+
+Delays, timeouts, expiries and moments are nanoseconds, as in the protocol: `5 * SECOND`. What the client itself
+waits for (`patience`, `Pauses`) is seconds.
+"""
+from . import requests
+from .broker import Broker
+from .errors import (
+    BrokerError, Disconnected, Full, HeldTooMany, InDoubt, LineRefused, NotHeld, NotOffered, NumberRefused,
+    OutOfMemory, PayloadRefused, RangeRefused, Refused, Stopped, SyntaxRefused, UnknownReply,
+)
+from .limits import GREATEST_NUMBER, LONGEST_PAYLOAD, MOST_HELD, SECOND
+from .pauses import Pauses
+from .producer import Producer
+from .replies import Again, Dead, Item, Offered, Verdict
+from .requests import Request
+from .worker import Handler, Report, Worker
+
+__all__ = [
+    "Again", "Broker", "BrokerError", "Dead", "Disconnected", "Full", "GREATEST_NUMBER", "Handler", "HeldTooMany",
+    "InDoubt", "Item", "LONGEST_PAYLOAD", "LineRefused", "MOST_HELD", "NotHeld", "NotOffered", "NumberRefused",
+    "Offered", "OutOfMemory", "Pauses", "PayloadRefused", "Producer", "RangeRefused", "Refused", "Report", "Request",
+    "SECOND", "Stopped", "SyntaxRefused", "UnknownReply", "Verdict", "Worker", "requests",
+]

@@ -1,0 +1,94 @@
+"""A TCP connection that sends bytes and receives lines."""
+from __future__ import annotations
+
+import selectors
+import socket
+from typing import Optional
+
+from .errors import Disconnected, UnknownReply
+from .limits import LONGEST_REPLY
+
+_PIECE = 65_536
+
+
+class Connection:
+    """A connection to a server. `patience` is how many seconds a wait for the other side may last.
+
+    An exception in the middle of a wait, such as that of a signal handler, loses no byte that was received.
+    """
+
+    def __init__(self, port: int, host: str, patience: Optional[float]) -> None:
+        """Connects."""
+        self._socket = socket.create_connection((host, port), timeout=patience)
+        self._socket.setsockopt(socket.IPPROTO_TCP, socket.TCP_NODELAY, 1)
+        self._socket.setblocking(False)
+        self._selector = selectors.DefaultSelector()
+        self._selector.register(self._socket, selectors.EVENT_READ)
+        self._patience = patience
+        self._received = bytearray()
+
+    def fileno(self) -> int:
+        """The descriptor, for a selector that waits until something is received."""
+        return self._socket.fileno()
+
+    def send(self, data: bytes) -> None:
+        """Sends all of it.
+
+        A server reads no further while its replies are not read. So what is received meanwhile is kept, and the
+        two sides never wait for each other, however much is sent in one piece.
+        """
+        rest = memoryview(data)
+        while rest:
+            try:
+                rest = rest[self._socket.send(rest):]
+            except BlockingIOError:
+                self._wait_to_send()
+
+    def receive_line(self) -> bytes:
+        """The next line, without its line feed."""
+        while True:
+            end = self._received.find(b"\n", 0, LONGEST_REPLY)
+            if end >= 0:
+                line = bytes(self._received[:end])
+                del self._received[:end + 1]
+                return line
+            if len(self._received) >= LONGEST_REPLY:
+                raise UnknownReply(f"a line that begins {bytes(self._received[:LONGEST_REPLY])!r}")
+            self._wait()
+            self._receive()
+
+    def is_lost(self) -> bool:
+        """Whether the connection is known to have ended. Where it is not known, it may have ended all the same."""
+        try:
+            self._receive()
+        except OSError:
+            return True
+        return False
+
+    def close(self) -> None:
+        """Hangs up."""
+        self._selector.close()
+        self._socket.close()
+
+    def _receive(self) -> None:
+        """Keeps what has come, if anything has."""
+        try:
+            piece = self._socket.recv(_PIECE)
+        except BlockingIOError:
+            return
+        if not piece:
+            raise Disconnected("the server closed the connection")
+        self._received += piece
+
+    def _wait_to_send(self) -> None:
+        """Waits until more can be sent, and keeps what comes before."""
+        self._selector.modify(self._socket, selectors.EVENT_READ | selectors.EVENT_WRITE)
+        try:
+            self._wait()
+        finally:
+            self._selector.modify(self._socket, selectors.EVENT_READ)
+        self._receive()
+
+    def _wait(self) -> None:
+        if not self._selector.select(self._patience):
+            raise TimeoutError(f"the server did not answer within {self._patience} seconds")

@@ -1,0 +1,82 @@
+"""A server that plays a script, for what the real one does rarely or at no stated moment."""
+import socket
+import threading
+import unittest
+
+PATIENCE = 10  # seconds after which a client that does not go on is given up
+
+HANGS_UP = object()  # in a reply's place: the connection is closed
+SAYS_NOTHING = object()  # in a reply's place: the client has to go on by itself
+
+GREETING = ("AT 0", "ERR 1 syntax")
+GOODBYE = ("QUIT", "BYE")
+
+
+class ScriptedServer:
+    """Serves its sessions one after the other, at a free port, and then listens no more.
+
+    A session is a list of steps: the request line that has to come, and the reply. Bytes are sent as they are, and a
+    text as a line. A function in the reply's place is called for it. After the last step the client has to leave,
+    and to send nothing before.
+    """
+
+    def __init__(self, *sessions):
+        self._listener = socket.create_server(("127.0.0.1", 0))
+        self._listener.settimeout(PATIENCE)
+        self.port = self._listener.getsockname()[1]
+        self.faults = []
+        self._thread = threading.Thread(target=self._serve_all, args=(sessions,), daemon=True)
+        self._thread.start()
+
+    def end(self):
+        """Waits until all sessions have ended."""
+        self._thread.join(2 * PATIENCE)
+        if self._thread.is_alive():
+            self.faults.append("a session does not end")
+
+    def _serve_all(self, sessions):
+        with self._listener:
+            for number, steps in enumerate(sessions):
+                try:
+                    self._serve(steps)
+                except OSError as fault:
+                    self.faults.append(f"session {number}: {fault}")
+
+    def _serve(self, steps):
+        connection, _ = self._listener.accept()
+        connection.settimeout(PATIENCE)
+        with connection, connection.makefile("rb") as lines:
+            for request, reply in steps:
+                line = lines.readline().decode()
+                if line != f"{request}\n":
+                    self.faults.append(f"{line!r} came in the place of {request!r}")
+                    return
+                reply = reply() if callable(reply) else reply
+                if reply is HANGS_UP:
+                    return
+                if reply is not SAYS_NOTHING:
+                    connection.sendall(reply if isinstance(reply, bytes) else f"{reply}\n".encode())
+            rest = lines.read()
+            if rest:
+                self.faults.append(f"{rest!r} came after the last step")
+
+
+class ScriptedTest(unittest.TestCase):
+    """A test whose servers play scripts. At its end each script has to be played to its last step."""
+
+    def play(self, *sessions):
+        """A server that plays these sessions."""
+        server = ScriptedServer(*sessions)
+
+        def end():
+            server.end()
+            self.assertEqual(server.faults, [])
+
+        self.addCleanup(end)
+        return server
+
+
+def free_port():
+    """A port at which nobody listens."""
+    with socket.create_server(("127.0.0.1", 0)) as it:
+        return it.getsockname()[1]

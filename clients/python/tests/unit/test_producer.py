@@ -1,0 +1,88 @@
+"""A producer whose servers go away, are full, or have no memory."""
+import unittest
+
+from scripted import GREETING, HANGS_UP, PATIENCE, ScriptedTest, free_port
+from rb_broker_client import Full, InDoubt, NotOffered, Offered, OutOfMemory, Pauses, PayloadRefused, Producer
+
+OFFER = "OFFER 5 a"
+
+
+class ProducerTest(ScriptedTest):
+    def produce(self, *sessions, patience=PATIENCE, may_double=False):
+        """A producer, and the server of these sessions, each of which begins with the greeting."""
+        server = self.play(*([GREETING, *steps] for steps in sessions))
+        pauses = Pauses(first=0.01, longest=0.02)
+        producer = Producer(server.port, patience=patience, may_double=may_double, pauses=pauses)
+        self.addCleanup(producer.close)
+        return producer, server
+
+    def test_offers_go_through_one_session(self):
+        producer, _ = self.produce([(OFFER, "OFFERED 0 5"), ("OFFERAT 9 b", "OFFERED 1 9")])
+        self.assertEqual(producer.offer(5, "a"), Offered(0, 5))
+        self.assertEqual(producer.offer_at(9, "b"), Offered(1, 9))
+
+    def test_a_connection_that_was_lost_before_the_offer(self):
+        producer, server = self.produce([(OFFER, "OFFERED 0 5"), ("QUIT", HANGS_UP)], [(OFFER, "OFFERED 1 6")])
+        self.assertEqual(producer.offer(5, "a"), Offered(0, 5))
+        producer._broker._connection.send(b"QUIT\n")
+        while not producer._broker.is_lost():
+            pass
+        self.assertEqual(producer.offer(5, "a"), Offered(1, 6))
+
+    def test_a_reply_that_is_not_heard_leaves_a_doubt(self):
+        producer, server = self.produce([(OFFER, HANGS_UP)])
+        with self.assertRaisesRegex(InDoubt, OFFER):
+            producer.offer(5, "a")
+        server.end()
+        self.assertEqual(server.faults, [])
+
+    def test_after_a_doubt_the_next_offer_connects_again(self):
+        producer, _ = self.produce([(OFFER, HANGS_UP)], [("OFFER 5 b", "OFFERED 0 5")])
+        self.assertRaises(InDoubt, producer.offer, 5, "a")
+        self.assertEqual(producer.offer(5, "b"), Offered(0, 5))
+
+    def test_an_offer_that_may_double_is_made_again(self):
+        producer, _ = self.produce([(OFFER, HANGS_UP)], [(OFFER, "OFFERED 7 6")], may_double=True)
+        self.assertEqual(producer.offer(5, "a"), Offered(7, 6))
+
+    def test_a_doubt_stays_when_no_server_comes_back(self):
+        producer, _ = self.produce([(OFFER, HANGS_UP)], patience=0.3, may_double=True)
+        self.assertRaises(InDoubt, producer.offer, 5, "a")
+
+    def test_a_doubt_stays_when_the_next_server_refuses(self):
+        sessions = [[(OFFER, HANGS_UP)], *[[(OFFER, "ERR 6 full")] for _ in range(3)]]
+        producer, _ = self.produce(*sessions, patience=0.3, may_double=True)
+        self.assertRaises(InDoubt, producer.offer, 5, "a")
+
+    def test_no_server(self):
+        with Producer(free_port(), patience=0.2) as producer:
+            self.assertRaises(NotOffered, producer.offer, 5, "a")
+
+    def test_a_server_that_hangs_up_before_it_serves(self):
+        server = self.play([("AT 0", HANGS_UP)], [GREETING, (OFFER, "OFFERED 0 5")])
+        with Producer(server.port, pauses=Pauses(first=0.01)) as producer:
+            self.assertEqual(producer.offer(5, "a"), Offered(0, 5))
+
+    def test_a_full_run_is_left_for_the_next(self):
+        producer, _ = self.produce([(OFFER, "ERR 6 full")], [(OFFER, "OFFERED 0 5")])
+        self.assertEqual(producer.offer(5, "a"), Offered(0, 5))
+
+    def test_want_of_memory_is_tried_again_in_the_same_session(self):
+        producer, _ = self.produce([(OFFER, "ERR 7 memory"), (OFFER, "ERR 7 memory"), (OFFER, "OFFERED 0 5")])
+        self.assertEqual(producer.offer(5, "a"), Offered(0, 5))
+
+    def test_patience_has_an_end(self):
+        for reply, refusal in (("ERR 6 full", Full), ("ERR 7 memory", OutOfMemory)):
+            server = self.play([GREETING, (OFFER, reply)])
+            with Producer(server.port, patience=0.4, pauses=Pauses(first=1.0)) as producer:
+                self.assertRaises(refusal, producer.offer, 5, "a")
+
+    def test_other_refusals_are_the_callers(self):
+        long = "a" * 65
+        producer, _ = self.produce([(f"OFFER 5 {long}", "ERR 4 payload"), (OFFER, "OFFERED 0 5")])
+        self.assertRaises(PayloadRefused, producer.offer, 5, long)
+        self.assertEqual(producer.offer(5, "a"), Offered(0, 5))
+
+
+if __name__ == "__main__":
+    unittest.main()

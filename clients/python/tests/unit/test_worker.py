@@ -1,0 +1,159 @@
+"""A worker whose servers stop waits, refuse, go away and come back; and the ways to stop it."""
+import logging
+import signal
+import threading
+import time
+import unittest
+
+from scripted import GOODBYE, GREETING, HANGS_UP, PATIENCE, SAYS_NOTHING, ScriptedTest, free_port
+from rb_broker_client import Item, Pauses, Report, UnknownReply, Worker
+
+POLL = "POLLFOR 1000000000"
+GIVES_A, GIVES_B = (POLL, "ITEM 0 0 1 a"), (POLL, "ITEM 1 0 1 b")
+
+
+def setUpModule():
+    logging.disable(logging.CRITICAL)
+
+
+def tearDownModule():
+    logging.disable(logging.NOTSET)
+
+
+class WorkerCase(ScriptedTest):
+    """A worker of one scripted server. The payload `b` fails."""
+
+    def work(self, *sessions, handler=None, is_greeted=True):
+        """Makes a worker for these sessions, each of which begins with the greeting."""
+        server = self.play(*([GREETING, *steps] if is_greeted else steps for steps in sessions))
+        self.handled = []
+        self.worker = Worker(handler or self.handle, server.port, pauses=Pauses(first=0.01, longest=0.02))
+        return self.worker
+
+    def handle(self, job):
+        self.handled.append(job)
+        if job.payload == "b":
+            raise ValueError("the payload is b")
+
+    def stops(self, reply):
+        """A reply before which the worker is asked to stop."""
+        def stop():
+            self.worker.stop()
+            return reply
+        return stop
+
+    def last(self):
+        """The last steps of a session: a wait in which a stop is asked for, and the end."""
+        return (POLL, self.stops("NONE")), GOODBYE
+
+
+class JobTest(WorkerCase):
+    def test_jobs_are_done_or_fail(self):
+        steps = [GIVES_A, ("DONE 0", "DONE 0"), GIVES_B, ("FAIL 1", "AGAIN 2 1000"), (POLL, "NONE"),
+                 (POLL, "ITEM 2 1000 3 b"), ("FAIL 2", "DEAD 2")]
+        self.assertEqual(self.work([*steps, *self.last()]).run(), Report(done=1, again=1, dead=1))
+        self.assertEqual(self.handled, [Item(0, 0, 1, "a"), Item(1, 0, 1, "b"), Item(2, 1000, 3, "b")])
+
+    def test_a_handler_that_is_broken_off_ends_the_session_with_its_job(self):
+        def interrupt(job):
+            raise KeyboardInterrupt
+
+        worker = self.work([GIVES_A], handler=interrupt)
+        self.assertRaises(KeyboardInterrupt, worker.run)
+
+    def test_a_server_of_another_kind(self):
+        self.assertRaises(UnknownReply, self.work([(POLL, "HELLO")]).run)
+
+
+class RefusalTest(WorkerCase):
+    def test_a_wait_that_was_given_up(self):
+        steps = [(POLL, "STOPPED"), (POLL, "STOPPED"), GIVES_A, ("DONE 0", "DONE 0")]
+        self.assertEqual(self.work([*steps, *self.last()]).run(), Report(done=1))
+
+    def test_a_full_run_is_left_for_the_next(self):
+        sessions = [[(POLL, "ERR 6 full"), GOODBYE]] * 2
+        self.assertEqual(self.work(*sessions, self.last()).run(), Report())
+
+    def test_a_job_that_fails_in_a_full_run_is_told_as_lost(self):
+        sessions = [GIVES_B, ("FAIL 1", "ERR 6 full"), GOODBYE], self.last()
+        logging.disable(logging.NOTSET)
+        with self.assertLogs("rb_broker_client", logging.ERROR) as said:
+            self.assertEqual(self.work(*sessions).run(), Report(lost=1))
+        logging.disable(logging.CRITICAL)
+        self.assertEqual(said.records[-1].getMessage(), "job b is lost: it failed in a full run")
+
+    def test_a_failure_that_finds_no_memory_is_told_again(self):
+        steps = [GIVES_B, *[("FAIL 1", "ERR 7 memory")] * 3, ("FAIL 1", "AGAIN 2 1000")]
+        self.assertEqual(self.work([*steps, *self.last()]).run(), Report(again=1))
+
+    def test_a_stop_while_no_failure_finds_memory(self):
+        steps = [GIVES_B, ("FAIL 1", "ERR 7 memory"), ("FAIL 1", self.stops("ERR 7 memory")), GOODBYE]
+        self.work(steps)
+        self.assertEqual(self.worker.run(), Report(unheard=1))
+
+    def test_want_of_memory_for_a_wait(self):
+        self.assertEqual(self.work([(POLL, "ERR 7 memory"), *self.last()]).run(), Report())
+
+    def test_a_session_that_holds_too_many_is_left(self):
+        sessions = [(POLL, "ERR 9 held"), GOODBYE], self.last()
+        self.assertEqual(self.work(*sessions).run(), Report())
+
+
+class LossTest(WorkerCase):
+    def test_a_server_that_goes_away_between_jobs(self):
+        sessions = [(POLL, HANGS_UP)], [(POLL, HANGS_UP)], [GIVES_A, ("DONE 0", "DONE 0"), *self.last()]
+        self.assertEqual(self.work(*sessions).run(), Report(done=1))
+
+    def test_a_server_that_goes_away_before_it_serves(self):
+        sessions = [("AT 0", HANGS_UP)], [GREETING, *self.last()]
+        self.assertEqual(self.work(*sessions, is_greeted=False).run(), Report())
+
+    def test_what_the_server_made_of_a_job_is_not_heard(self):
+        sessions = [GIVES_A, ("DONE 0", HANGS_UP)], [GIVES_B, ("FAIL 1", HANGS_UP)], self.last()
+        self.assertEqual(self.work(*sessions).run(), Report(unheard=2))
+
+    def test_a_server_that_does_not_answer(self):
+        server = self.play([GREETING, ("POLLFOR 1000000", SAYS_NOTHING)],
+                           [GREETING, ("POLLFOR 1000000", self.stops("NONE")), GOODBYE])
+        self.worker = Worker(self.handle, server.port, wait=1_000_000, patience=0.2, pauses=Pauses(first=0.01))
+        self.assertEqual(self.worker.run(), Report())
+
+
+class StopTest(WorkerCase):
+    def test_before_it_runs(self):
+        worker = Worker(self.handle, free_port())
+        worker.stop()
+        self.assertEqual(worker.run(), Report())
+        worker.stop()
+
+    def test_before_the_session_is_served_nothing_is_fetched(self):
+        worker = self.work([("AT 0", self.stops(SAYS_NOTHING))], is_greeted=False)
+        self.assertEqual(worker.run(), Report())
+
+    def test_a_job_that_is_given_meanwhile_is_settled(self):
+        worker = self.work([(POLL, self.stops("ITEM 0 0 1 a")), ("DONE 0", "DONE 0"), GOODBYE])
+        self.assertEqual(worker.run(), Report(done=1))
+
+    def test_in_the_handler(self):
+        worker = self.work([GIVES_A, ("DONE 0", "DONE 0"), GOODBYE], handler=lambda _: self.worker.stop())
+        self.assertEqual(worker.run(), Report(done=1))
+
+    def test_by_another_thread_in_a_pause(self):
+        worker = Worker(self.handle, free_port(), pauses=Pauses(first=60.0, longest=60.0))
+        thread = threading.Thread(target=worker.run, daemon=True)
+        thread.start()
+        time.sleep(0.2)
+        worker.stop()
+        thread.join(PATIENCE)
+        self.assertFalse(thread.is_alive())
+
+    def test_by_a_signal(self):
+        worker = self.work([("AT 0", SAYS_NOTHING)], is_greeted=False)
+        before = signal.signal(signal.SIGALRM, worker.stop)
+        self.addCleanup(signal.signal, signal.SIGALRM, before)
+        signal.setitimer(signal.ITIMER_REAL, 0.2)
+        self.assertEqual(worker.run(), Report())
+
+
+if __name__ == "__main__":
+    unittest.main()
