@@ -20,6 +20,11 @@ class Connection:
     def __init__(self, port: int, host: str, patience: Optional[float]) -> None:
         """Connects."""
         self._socket = socket.create_connection((host, port), timeout=patience)
+        if self._socket.getsockname() == self._socket.getpeername():
+            # Nobody listens, and the system gave this side the very port that it looks for: it found itself. To stay
+            # connected would keep the port from the next server.
+            self._socket.close()
+            raise ConnectionRefusedError(f"nobody listens at {host}:{port}")
         self._socket.setsockopt(socket.IPPROTO_TCP, socket.TCP_NODELAY, 1)
         self._socket.setblocking(False)
         self._selector = selectors.DefaultSelector()

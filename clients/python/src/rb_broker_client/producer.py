@@ -24,6 +24,9 @@ class Producer:
     server can't be asked. By default `InDoubt` is raised then, so that no job is offered twice unless the caller
     does it. With `may_double=True` the offer is made again: the job is then offered at least once, and perhaps
     twice, so its handler must bear that.
+
+    From its first offer on a producer keeps one of the server's workers busy. `close` frees it until the next offer,
+    which begins another session.
     """
 
     def __init__(self, port: int, host: str = "127.0.0.1", *, may_double: bool = False, patience: float = 30.0,

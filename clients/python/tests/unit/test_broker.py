@@ -1,9 +1,11 @@
 """A session with a scripted server: order of replies, waits that are broken off, and ends of the connection."""
+import functools
 import socket
 import threading
 import unittest
+import unittest.mock
 
-from scripted import HANGS_UP, PATIENCE, SAYS_NOTHING, ScriptedTest
+from scripted import HANGS_UP, PATIENCE, SAYS_NOTHING, ScriptedTest, free_port
 from rb_broker_client import Broker, Disconnected, Full, Item, Offered, Stopped, UnknownReply, requests
 
 
@@ -88,15 +90,24 @@ class BrokerTest(ScriptedTest):
         self.assertTrue(broker.is_lost())
 
 
+class OwnPortTest(unittest.TestCase):
+    def test_a_client_that_finds_itself_has_found_nobody(self):
+        port = free_port()
+        connect = functools.partial(socket.create_connection, source_address=("127.0.0.1", port))
+        with unittest.mock.patch("socket.create_connection", connect):
+            self.assertRaises(ConnectionRefusedError, Broker, port)
+
+
 class ManyTest(unittest.TestCase):
     """Requests in one piece of which a server keeps no more than it answers."""
 
-    COUNT = 60_000
+    COUNT = 80_000
 
     def test_a_piece_of_any_size_waits_for_nobody(self):
         listener = socket.create_server(("127.0.0.1", 0))
         self.addCleanup(listener.close)
-        listener.setsockopt(socket.SOL_SOCKET, socket.SO_RCVBUF, 4096)
+        for size in (socket.SO_RCVBUF, socket.SO_SNDBUF):  # small, so that the system keeps little of what is sent
+            listener.setsockopt(socket.SOL_SOCKET, size, 32_768)
         thread = threading.Thread(target=answer_each_line, args=(listener,), daemon=True)
         thread.start()
         with Broker(listener.getsockname()[1], patience=PATIENCE) as broker:

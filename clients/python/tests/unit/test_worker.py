@@ -26,8 +26,16 @@ class WorkerCase(ScriptedTest):
     def work(self, *sessions, handler=None, is_greeted=True):
         """Makes a worker for these sessions, each of which begins with the greeting."""
         server = self.play(*([GREETING, *steps] if is_greeted else steps for steps in sessions))
+        return self.make(handler or self.handle, server.port)
+
+    def make(self, handler, port, pauses=None, **options):
+        """Makes a worker, which is stopped in the end whatever comes."""
         self.handled = []
-        self.worker = Worker(handler or self.handle, server.port, pauses=Pauses(first=0.01, longest=0.02))
+        self.worker = Worker(handler, port, pauses=pauses or Pauses(first=0.01, longest=0.02), **options)
+        watch = threading.Timer(PATIENCE, self.worker.stop)
+        watch.daemon = True
+        watch.start()
+        self.addCleanup(watch.cancel)
         return self.worker
 
     def handle(self, job):
@@ -115,13 +123,31 @@ class LossTest(WorkerCase):
     def test_a_server_that_does_not_answer(self):
         server = self.play([GREETING, ("POLLFOR 1000000", SAYS_NOTHING)],
                            [GREETING, ("POLLFOR 1000000", self.stops("NONE")), GOODBYE])
-        self.worker = Worker(self.handle, server.port, wait=1_000_000, patience=0.2, pauses=Pauses(first=0.01))
-        self.assertEqual(self.worker.run(), Report())
+        worker = self.make(self.handle, server.port, wait=1_000_000, patience=0.2)
+        self.assertEqual(worker.run(), Report())
+
+
+class PauseTest(WorkerCase):
+    def test_pauses_grow_until_a_wait_is_answered(self):
+        noted = []
+
+        class NotedPauses(Pauses):
+            def next(self):
+                noted.append("longer")
+                return 0.01
+
+            def reset(self):
+                noted.append("short again")
+
+        full = [GREETING, (POLL, "ERR 6 full"), GOODBYE]
+        server = self.play(full, full, [GREETING, (POLL, "STOPPED"), (POLL, "NONE"), *self.last()])
+        self.make(self.handle, server.port, NotedPauses()).run()
+        self.assertEqual(noted[:5], ["longer", "longer", "longer", "short again", "short again"])
 
 
 class StopTest(WorkerCase):
     def test_before_it_runs(self):
-        worker = Worker(self.handle, free_port())
+        worker = self.make(self.handle, free_port())
         worker.stop()
         self.assertEqual(worker.run(), Report())
         worker.stop()
@@ -139,7 +165,7 @@ class StopTest(WorkerCase):
         self.assertEqual(worker.run(), Report(done=1))
 
     def test_by_another_thread_in_a_pause(self):
-        worker = Worker(self.handle, free_port(), pauses=Pauses(first=60.0, longest=60.0))
+        worker = self.make(self.handle, free_port(), Pauses(first=60.0, longest=60.0))
         thread = threading.Thread(target=worker.run, daemon=True)
         thread.start()
         time.sleep(0.2)

@@ -1,0 +1,97 @@
+"""The program as a server, and what it leaves. RB_BROKER_PROGRAM names the program; without it, it is the built one."""
+import logging
+import os
+import random
+import socket
+import subprocess
+import tempfile
+import threading
+import time
+import unittest
+
+from crew import PATIENCE, Crew
+
+TOP = os.path.realpath(os.path.join(os.path.dirname(os.path.realpath(__file__)), *[os.pardir] * 4))
+PROGRAM = os.environ.get("RB_BROKER_PROGRAM") or os.path.join(TOP, "crates", "rb_broker", "out", "rb_broker")
+
+LONGEST = 300  # seconds after which a server is killed, so that no test lasts for ever
+
+
+class Server:
+    """A server with these options, at this port or at one that nobody else uses."""
+
+    def __init__(self, *options, port=None):
+        tries = [port] if port else [random.randrange(20_000, 32_000) for _ in range(20)]  # below the clients' ports
+        for self.port in tries:
+            words = [PROGRAM, "serve", "--port", str(self.port), *map(str, options)]
+            pipe = subprocess.PIPE
+            self._process = subprocess.Popen(words, stdout=pipe, stderr=pipe, encoding="utf-8")
+            if self._process.stdout.readline() == f"listening 127.0.0.1:{self.port}\n":
+                self._watch = threading.Timer(LONGEST, self._process.kill)
+                self._watch.daemon = True
+                self._watch.start()
+                return
+            self._process.kill()
+            fault = self._process.communicate()[1].strip()
+        raise RuntimeError(f"no server could be started: {fault}")
+
+    def use_up(self):
+        """Uses up the sessions that are left, so that the server ends once those that go on have ended."""
+        deadline = time.monotonic() + PATIENCE
+        while time.monotonic() < deadline:
+            try:
+                socket.create_connection(("127.0.0.1", self.port), timeout=PATIENCE).close()
+            except OSError:
+                return
+            time.sleep(0.002)
+        raise RuntimeError("the server listens on and on")
+
+    def end(self):
+        """Waits for its end. Its status, and the lines that it wrote then to standard output and standard error."""
+        said, errors = self._process.communicate(timeout=PATIENCE)
+        self._watch.cancel()
+        return self._process.returncode, said.splitlines() + errors.splitlines()
+
+    def kill(self):
+        """Ends it at once, if it has not ended."""
+        self._watch.cancel()
+        self._process.kill()
+        self._process.wait()
+        self._process.stdout.close()
+        self._process.stderr.close()
+
+
+class ServedTest(unittest.TestCase):
+    """A test that starts servers and workers, each of which is gone at its end."""
+
+    def setUp(self):
+        logging.disable(logging.CRITICAL)  # workers tell of each job that fails and each server that goes away
+        self.addCleanup(logging.disable, logging.NOTSET)
+        room = tempfile.TemporaryDirectory()
+        self.addCleanup(room.cleanup)
+        self.room = room.name
+
+    def serve(self, *options, port=None):
+        server = Server(*options, port=port)
+        self.addCleanup(server.kill)
+        return server
+
+    def gather(self, server, count, is_done):
+        """So many workers of the server's port."""
+        crew = Crew(server.port, count, is_done)
+        self.addCleanup(crew.stop)
+        return crew
+
+    def assert_chained(self, history, *policy):
+        """The history is legal and its retries are right, by the program's own replay. Gives the audit line."""
+        words = [PROGRAM, "replay", history, "--chains", *map(str, policy)]
+        told = subprocess.run(words, stdout=subprocess.PIPE, stderr=subprocess.STDOUT, encoding="utf-8", timeout=PATIENCE)
+        self.assertEqual(told.returncode, 0, told.stdout)
+        return told.stdout.strip()
+
+    def wait_until(self, is_so, seconds=PATIENCE):
+        """Waits for a condition that another thread brings about."""
+        deadline = time.monotonic() + seconds
+        while not is_so():
+            self.assertLess(time.monotonic(), deadline, "it did not come about in time")
+            time.sleep(0.01)

@@ -1,0 +1,41 @@
+"""The example of the README, as a program of its own."""
+import os
+import socket
+import subprocess
+import sys
+import unittest
+
+from server import PATIENCE, TOP, ServedTest
+
+LETTERS = os.path.join(TOP, "clients", "python", "examples", "letters.py")
+OUTPUT = """to-ann, attempt 1
+to-bob, attempt 1
+to-bob, attempt 2
+Report(done=2, again=1, dead=0, lost=0, unheard=0)
+"""
+
+
+def run_letters(port):
+    return subprocess.run([sys.executable, LETTERS, str(port)], stdout=subprocess.PIPE, stderr=subprocess.PIPE,
+                          encoding="utf-8", timeout=PATIENCE)
+
+
+class LettersTest(ServedTest):
+    def test_letters_are_delivered(self):
+        server = self.serve("--sessions", 2)
+        told = run_letters(server.port)
+        self.assertEqual((told.returncode, told.stdout), (0, OUTPUT))
+        status, (counts, line) = server.end()
+        self.assertEqual((status, counts), (0, "sessions 2 faults 0 lost 0"))
+        self.assertRegex(line, '"given":3,"left":0,"offered":3,"opening":0,"removed":0}$')
+
+    def test_nobody_listens(self):
+        with socket.create_server(("127.0.0.1", 0)) as it:
+            port = it.getsockname()[1]
+        told = run_letters(port)
+        self.assertEqual((told.returncode, told.stdout), (1, ""))
+        self.assertRegex(told.stderr, "^letters: OFFER 0 to-ann: .*\n$")
+
+
+if __name__ == "__main__":
+    unittest.main()

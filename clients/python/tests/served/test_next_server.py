@@ -1,0 +1,96 @@
+"""A server that goes away while workers and a producer go on, and the next one at its port."""
+import threading
+import unittest
+
+from history import History
+from rb_broker_client import Broker, Full, Producer
+from server import PATIENCE, ServedTest
+
+JOBS = 2_000
+WORKERS = 3
+POLICY = ("--delay", 1_000_000, "--attempts", 3)
+
+
+def is_done(job):
+    """Whether a handler returns: each seventh job fails in its first attempt."""
+    return job.attempt > 1 or int(job.payload) % 7 != 0
+
+
+class NextServerTest(ServedTest):
+    def setUp(self):
+        super().setUp()
+        self.histories = [f"{self.room}/first", f"{self.room}/next"]
+
+    def test_what_a_full_run_left_is_worked_off_in_the_next(self):
+        first = self.serve("--workers", 6, "--sessions", 60, "--calls", JOBS, *POLICY, "--history", self.histories[0])
+        crew = self.gather(first, WORKERS, is_done)
+        producing = threading.Thread(target=self.produce, args=(first.port,), daemon=True)
+        producing.start()
+        self.wait_until_full(first)
+        first.use_up()
+        first_end = first.end()
+        following = self.serve("--workers", 6, "--sessions", 60, "--calls", 100_000, *POLICY, "--from",
+                               self.histories[0], "--history", self.histories[1], port=first.port)
+        producing.join(2 * PATIENCE)
+        self.wait_until(lambda: len(crew.done()) + self.lost(crew) >= JOBS)
+        report = crew.stop()
+        following.use_up()
+        self.assertEqual((report.done, report.unheard), (JOBS - report.lost, 0))
+        self.check_end(first_end, self.histories[0], report.lost)
+        self.check_end(following.end(), self.histories[1], 0)
+        self.check_jobs(crew, report)
+
+    def produce(self, port):
+        with Producer(port, patience=2 * PATIENCE) as producer:
+            for number in range(JOBS):
+                producer.offer(0, str(number))
+
+    def wait_until_full(self, server):
+        """Waits until the first run has made all its calls, of which a few are the ones that ask."""
+        def is_full():
+            try:
+                broker.size()
+            except Full:
+                return True
+            return False
+
+        with Broker(server.port, patience=PATIENCE) as broker:
+            self.wait_until(is_full)
+            broker.quit()
+
+    def lost(self, crew):
+        return sum(it.report.lost for it in crew.workers)
+
+    def check_end(self, ended, path, lost):
+        status, lines = ended
+        self.assertEqual(status, 0)
+        self.assertRegex(lines[0], f"^sessions 60 faults 0 lost {lost}$")
+        self.assertEqual(self.assert_chained(path, *POLICY), lines[1])
+
+    def check_jobs(self, crew, report):
+        """Each job was offered once, though the server was replaced; each element that was given was handled once;
+        and each job that was not lost was done once."""
+        history = History(*self.histories)
+        first_attempts = sorted(it.payload for it in history.elements.values() if it.attempt == 1)
+        self.assertEqual(first_attempts, sorted(map(str, range(JOBS))))
+        self.assertEqual(sorted(it.id for it in crew.handled), sorted(history.given))
+        self.assertEqual(len(set(crew.done())), JOBS - report.lost)
+        self.assertEqual(len(crew.done()), JOBS - report.lost)
+
+    def test_a_server_that_is_killed(self):
+        server = self.serve("--sessions", 3)
+        crew = self.gather(server, 1, lambda job: True)
+        with Broker(server.port, patience=PATIENCE) as broker, Producer(server.port, patience=PATIENCE) as producer:
+            producer.offer(0, "first")
+            self.wait_until(lambda: crew.done() == ["first"])
+            server.kill()
+            self.assertRaises(OSError, broker.size)
+            following = self.serve("--sessions", 2, port=server.port)
+            producer.offer(0, "second")
+            self.wait_until(lambda: crew.done() == ["first", "second"])
+        crew.stop()
+        self.assertEqual(following.end()[1][0], "sessions 2 faults 0 lost 0")
+
+
+if __name__ == "__main__":
+    unittest.main()
