@@ -3,13 +3,14 @@
 
 The second letter expires after a second. Nobody is in when it is brought for the first time, so it is brought again.
 Printed is a line for each attempt, and at last what became of the jobs. Ctrl-C ends it early, with no job held.
-Exit status: 0, or 1 where no server is found in three seconds, with a line on standard error.
+Exit status: 0, or 1 where no such server is found in three seconds, with a line on standard error.
 """
 import argparse
+import logging
 import signal
 import sys
 
-from rb_broker_client import SECOND, Item, NotOffered, Producer, Worker
+from rb_broker_client import SECOND, BrokerError, Item, Producer, Worker
 
 
 def deliver(job: Item) -> None:
@@ -29,9 +30,10 @@ try:
     with Producer(port, patience=3) as producer:
         producer.offer(0, "to-ann")
         producer.offer(SECOND, "to-bob")
-except NotOffered as fault:
+except (BrokerError, OverflowError) as fault:
     sys.exit(f"letters: {fault}")
 
+logging.getLogger("rb_broker_client").setLevel(logging.ERROR)  # an attempt that fails is nothing special here
 worker = Worker(deliver, port)
 signal.signal(signal.SIGINT, worker.stop)
 signal.signal(signal.SIGTERM, worker.stop)

@@ -14,24 +14,23 @@ from .requests import Request
 
 
 class Producer:
-    """Offers jobs, and connects again where its connection was lost. One thread at a time may use it.
+    """Offers jobs, and connects again when its connection is lost. One thread at a time may use it.
 
-    An offer is tried again, for up to `patience` seconds, where the job was surely not accepted: no server could
-    be connected to, or it refused the offer since its run is full or it has no memory. Other refusals are raised
-    at once.
+    An offer is tried again, for up to `patience` seconds, when the job was surely not accepted: no server was there,
+    or it refused the offer because its run is full or it has no memory. Other refusals are raised at once.
 
     If the connection is lost between an offer and its reply, nobody can tell whether the job was accepted, and the
-    server can't be asked. By default `InDoubt` is raised then, so that no job is offered twice unless the caller
-    does it. With `may_double=True` the offer is made again: the job is then offered at least once, and perhaps
-    twice, so its handler must bear that.
+    server can't be asked. By default the producer then raises `InDoubt`, and no job is offered twice unless the
+    caller repeats the offer. With `may_double=True` the producer repeats it: each job is offered at least once, and
+    perhaps twice, which its handler must bear.
 
-    From its first offer on a producer keeps one of the server's workers busy. `close` frees it until the next offer,
-    which begins another session.
+    From its first offer on, a producer keeps one of the server's workers busy. `close` frees it until the next
+    offer, which begins another session.
     """
 
     def __init__(self, port: int, host: str = "127.0.0.1", *, may_double: bool = False, patience: float = 30.0,
                  pauses: Optional[Pauses] = None) -> None:
-        """Connects to nothing yet. A reply too is waited for up to `patience` seconds."""
+        """Connects to nothing yet. A reply is waited for up to `patience` seconds too."""
         self._port, self._host = port, host
         self._may_double, self._patience = may_double, patience
         self._pauses = pauses or Pauses(longest=2.0)
@@ -45,7 +44,7 @@ class Producer:
         self.close()
 
     def offer(self, delay: int, payload: str) -> Offered:
-        """Offers a job that expires `delay` after the server has read the offer that it accepts."""
+        """Offers a job that expires `delay` after the server has accepted it."""
         return self._offer(requests.offer(delay, payload))
 
     def offer_at(self, expiry: int, payload: str) -> Offered:
@@ -90,7 +89,7 @@ class Producer:
             raise InDoubt(f"{request}: {fault}") from fault
 
     def _served(self) -> Broker:
-        """A session that the server serves: so what is asked next is read soon, and not when its turn comes."""
+        """A session that the server serves already, so that an offer is in doubt only while it is answered."""
         if self._broker is not None and (self._broker.unanswered > 0 or self._broker.is_lost()):
             self.close()
         if self._broker is None:

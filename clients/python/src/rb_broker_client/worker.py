@@ -8,7 +8,7 @@ from typing import Callable, Optional
 
 from . import requests
 from .broker import Broker
-from .errors import Full, HeldTooMany, OutOfMemory, Refused, Stopped, SyntaxRefused
+from .errors import Full, HeldTooMany, OutOfMemory, Stopped, SyntaxRefused
 from .limits import SECOND
 from .pauses import Pauses
 from .replies import Again, Item
@@ -17,7 +17,7 @@ from .stop import Stop
 log = logging.getLogger(__name__)
 
 Handler = Callable[[Item], object]
-"""Does a job. The job is done where it returns, whatever it returns, and fails where it raises an `Exception`."""
+"""Does a job. The job is done when it returns, whatever it returns, and fails when it raises an `Exception`."""
 
 
 @dataclass
@@ -39,9 +39,9 @@ class Report:
 class Worker:
     """Takes jobs, one after the other, and runs the handler on each.
 
-    It keeps one session, and connects again where that is lost: at once no more than a short pause later, then
-    after longer and longer pauses. A job may so be handled more than once, also one whose handler returned: if the
-    session is lost before the server has read that it is done, it comes back as its next attempt.
+    It keeps one session, and connects again when that is lost, after pauses that grow while no server answers. So a
+    job may be handled more than once, even if its handler returned: when the session is lost before the server has
+    read that the job is done, it comes back as its next attempt.
 
     To do several jobs at the same time run several workers, in threads or processes. Each keeps one of the server's
     workers busy.
@@ -51,8 +51,9 @@ class Worker:
                  patience: float = 10.0, pauses: Optional[Pauses] = None) -> None:
         """Connects to nothing yet.
 
-        `wait` is how many nanoseconds the worker waits for a job at a time, and so how long a stop may take. An
-        idle worker makes a call each time. A reply that is `patience` seconds late is taken for a lost session.
+        `wait` is how many nanoseconds the worker waits for a job at a time, and so how long a stop takes at most
+        while it is idle. It makes a call each time. A reply that is `patience` seconds late is taken for a lost
+        session.
         """
         self._handler, self._port, self._host = handler, port, host
         self._wait, self._patience = wait, patience
@@ -88,8 +89,8 @@ class Worker:
     def _is_served(self, broker: Broker) -> bool:
         """Waits until the session is served, or a stop is requested. Gives whether it is served.
 
-        Nothing is fetched before that. A `POLLFOR` that waits for a busy server can't be taken back, and would cost
-        a job one attempt where the worker has left when it is served.
+        Nothing is fetched before that. A `POLLFOR` that waits for a busy server can't be taken back: if the worker
+        left meanwhile, it would cost a job one attempt.
         """
         broker.send(requests.greeting())
         if self._stop.wait(beside=broker):

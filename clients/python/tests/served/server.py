@@ -1,4 +1,5 @@
-"""The program as a server, and what it leaves. RB_BROKER_PROGRAM names the program; without it, it is the built one."""
+"""The program as a server, and what it leaves. RB_BROKER_PROGRAM names another program than the built one."""
+import atexit
 import logging
 import os
 import random
@@ -14,7 +15,14 @@ from crew import PATIENCE, Crew
 TOP = os.path.realpath(os.path.join(os.path.dirname(os.path.realpath(__file__)), *[os.pardir] * 4))
 PROGRAM = os.environ.get("RB_BROKER_PROGRAM") or os.path.join(TOP, "crates", "rb_broker", "out", "rb_broker")
 
-LONGEST = 300  # seconds after which a server is killed, so that no test lasts for ever
+LONGEST = 600  # seconds after which a server is killed, so that no test lasts for ever
+
+
+def start(words, **options):
+    """Starts a process that does not outlive the tests, also where they are broken off."""
+    process = subprocess.Popen(words, stdout=subprocess.PIPE, **options)
+    atexit.register(process.kill)
+    return process
 
 
 class Server:
@@ -24,8 +32,7 @@ class Server:
         tries = [port] if port else [random.randrange(20_000, 32_000) for _ in range(20)]  # below the clients' ports
         for self.port in tries:
             words = [PROGRAM, "serve", "--port", str(self.port), *map(str, options)]
-            pipe = subprocess.PIPE
-            self._process = subprocess.Popen(words, stdout=pipe, stderr=pipe, encoding="utf-8")
+            self._process = start(words, stderr=subprocess.PIPE, encoding="utf-8")
             if self._process.stdout.readline() == f"listening 127.0.0.1:{self.port}\n":
                 self._watch = threading.Timer(LONGEST, self._process.kill)
                 self._watch.daemon = True
@@ -85,9 +92,10 @@ class ServedTest(unittest.TestCase):
     def assert_chained(self, history, *policy):
         """The history is legal and its retries are right, by the program's own replay. Gives the audit line."""
         words = [PROGRAM, "replay", history, "--chains", *map(str, policy)]
-        told = subprocess.run(words, stdout=subprocess.PIPE, stderr=subprocess.STDOUT, encoding="utf-8", timeout=PATIENCE)
-        self.assertEqual(told.returncode, 0, told.stdout)
-        return told.stdout.strip()
+        process = start(words, stderr=subprocess.STDOUT, encoding="utf-8")
+        said, _ = process.communicate(timeout=LONGEST)
+        self.assertEqual(process.returncode, 0, said)
+        return said.strip()
 
     def wait_until(self, is_so, seconds=PATIENCE):
         """Waits for a condition that another thread brings about."""

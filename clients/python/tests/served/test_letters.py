@@ -24,7 +24,7 @@ class LettersTest(ServedTest):
     def test_letters_are_delivered(self):
         server = self.serve("--sessions", 2)
         told = run_letters(server.port)
-        self.assertEqual((told.returncode, told.stdout), (0, OUTPUT))
+        self.assertEqual((told.returncode, told.stdout, told.stderr), (0, OUTPUT, ""))
         status, (counts, line) = server.end()
         self.assertEqual((status, counts), (0, "sessions 2 faults 0 lost 0"))
         self.assertRegex(line, '"given":3,"left":0,"offered":3,"opening":0,"removed":0}$')
@@ -32,9 +32,10 @@ class LettersTest(ServedTest):
     def test_nobody_listens(self):
         with socket.create_server(("127.0.0.1", 0)) as it:
             port = it.getsockname()[1]
-        told = run_letters(port)
-        self.assertEqual((told.returncode, told.stdout), (1, ""))
-        self.assertRegex(told.stderr, "^letters: OFFER 0 to-ann: .*\n$")
+        for wrong in (port, 65_536):
+            told = run_letters(wrong)
+            self.assertEqual((told.returncode, told.stdout), (1, ""))
+            self.assertRegex(told.stderr, "^letters: .*\n$")
 
 
 if __name__ == "__main__":

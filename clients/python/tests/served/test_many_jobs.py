@@ -3,7 +3,7 @@ import unittest
 
 from history import History
 from rb_broker_client import Broker, Report, requests
-from server import ServedTest
+from server import LONGEST, ServedTest
 
 JOBS, PIECE = 20_000, 1_000
 ATTEMPTS = 3
@@ -28,7 +28,7 @@ class ManyJobsTest(ServedTest):
         crew = self.gather(server, 4, is_done)
         self.offer_all(server.port)
         given = sum(min(attempts_of(it), ATTEMPTS) for it in range(JOBS))
-        self.wait_until(lambda: len(crew.handled) >= given, seconds=200)
+        self.wait_until(lambda: len(crew.handled) >= given, seconds=LONGEST)
         dead = JOBS // 100
         self.assertEqual(crew.stop(), Report(done=JOBS - dead, again=given - JOBS, dead=dead))
         status, lines = server.end()

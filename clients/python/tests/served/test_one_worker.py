@@ -8,7 +8,7 @@ import unittest
 
 from history import History
 from rb_broker_client import SECOND, Broker, Report
-from server import PATIENCE, ServedTest
+from server import PATIENCE, ServedTest, start
 
 FOLDER = os.path.dirname(os.path.realpath(__file__))
 POLICY = ("--delay", 1_000_000, "--attempts", 3)
@@ -24,8 +24,7 @@ class OneWorkerTest(ServedTest):
 
     def start_worker(self, port):
         words = [sys.executable, os.path.join(FOLDER, "one_worker.py"), str(port)]
-        pipe = subprocess.PIPE
-        process = subprocess.Popen(words, stdin=pipe, stdout=pipe, stderr=subprocess.DEVNULL, encoding="ascii")
+        process = start(words, stdin=subprocess.PIPE, stderr=subprocess.DEVNULL, encoding="ascii")
         self.addCleanup(process.communicate)
         self.addCleanup(process.kill)
         self.assertEqual(process.stdout.readline(), "ready\n")

@@ -2,8 +2,8 @@
 import unittest
 
 from rb_broker_client import (
-    GREATEST_NUMBER, SECOND, Again, Broker, Dead, Full, HeldTooMany, Item, LineRefused, NotHeld, NumberRefused, Offered,
-    PayloadRefused, RangeRefused, Stopped, SyntaxRefused, requests,
+    GREATEST_NUMBER, SECOND, Again, Broker, Dead, Full, HeldTooMany, Item, LineRefused, NotHeld, NumberRefused,
+    Offered, PayloadRefused, RangeRefused, Stopped, SyntaxRefused, requests,
 )
 from server import PATIENCE, ServedTest
 
@@ -13,7 +13,7 @@ def connect(server):
 
 
 class SessionTest(ServedTest):
-    """One session or two, with the server's own replies. The values that are expected are those of docs/PROTOCOL.md."""
+    """One session or two. The replies that are expected are those of docs/PROTOCOL.md."""
 
     def test_the_day_of_a_job(self):
         server = self.serve("--sessions", "2", "--workers", "1")
@@ -138,7 +138,8 @@ class SessionTest(ServedTest):
     def test_a_refusal_among_others(self):
         server = self.serve("--calls", 2)
         with connect(server) as client:
-            client.send(requests.offer_at(0, "a"), requests.done(0), requests.take(), requests.size(), requests.done(0))
+            client.send(requests.offer_at(0, "a"), requests.done(0), requests.take())
+            client.send(requests.size(), requests.done(0))
             self.assertEqual(client.receive(), Offered(0, 0))
             self.assertRaises(NotHeld, client.receive)
             self.assertEqual(client.receive(), Item(0, 0, 1, "a"))

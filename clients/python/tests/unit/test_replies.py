@@ -93,8 +93,10 @@ class UnknownTest(unittest.TestCase):
                 self.assertRaises(UnknownReply, answer, request, line)
 
     def test_other_words(self):
-        self.refuse(requests.size(), "", " ", "size 1", "SIZE", "SIZE 1 2", "SIZE  1", " SIZE 1", "SIZE 1 ", "SIZE 1\r")
-        self.refuse(requests.poll(), "HEAD 0 150 1 a", "NONE ", "OFFERED 0 150", "ITEM 0 150 1", "ITEM 0 150 1 a b")
+        self.refuse(requests.size(), "", " ", "size 1", "SIZE", "SIZE 1 2", "SIZE  1", " SIZE 1", "SIZE 1 ",
+                    "SIZE 1\r")
+        self.refuse(requests.poll(), "HEAD 0 150 1 a", "NONE ", "OFFERED 0 150", "ITEM 0 150 1",
+                    "ITEM 0 150 1 a b")
         self.refuse(requests.peek(), "ITEM 0 150 1 a")
         self.refuse(requests.remove(0), "REMOVED", "REMOVED maybe", "REMOVED yes no")
         self.refuse(requests.take(), "NONE")
@@ -115,8 +117,9 @@ class UnknownTest(unittest.TestCase):
         self.refuse(requests.size(), "ERR", "ERR 6", "ERR 6 memory", "ERR 10 other", "ERR 6 full ")
 
     def test_a_drain_that_breaks_off(self):
-        for lines in (["DRAINED 65"], ["DRAINED 1", "NONE"], ["DRAINED 1", "ERR 6 full"], ["DRAINED 1", "HEAD 0 0 1 a"]):
-            self.assertRaises(UnknownReply, answer, requests.drain(100), *lines)
+        self.assertRaises(UnknownReply, answer, requests.drain(100), "DRAINED 65")
+        for line in ("NONE", "ERR 6 full", "HEAD 0 0 1 a"):
+            self.assertRaises(UnknownReply, answer, requests.drain(100), "DRAINED 1", line)
 
 
 if __name__ == "__main__":

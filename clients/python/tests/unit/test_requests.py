@@ -7,10 +7,20 @@ from rb_broker_client import requests
 class LineTest(unittest.TestCase):
     def test_each_request(self):
         lines = {
-            "AT 100": requests.at(100), "OFFER 50 a": requests.offer(50, "a"), "OFFERAT 150 a": requests.offer_at(150, "a"),
-            "POLL": requests.poll(), "POLLFOR 5": requests.poll_for(5), "TAKE": requests.take(), "PEEK": requests.peek(),
-            "DRAIN 10": requests.drain(10), "DONE 2": requests.done(2), "FAIL 2": requests.fail(2),
-            "REMOVE 0": requests.remove(0), "CLEAR": requests.clear(), "SIZE": requests.size(), "QUIT": requests.quit(),
+            "AT 100": requests.at(100),
+            "OFFER 50 a": requests.offer(50, "a"),
+            "OFFERAT 150 a": requests.offer_at(150, "a"),
+            "POLL": requests.poll(),
+            "POLLFOR 5": requests.poll_for(5),
+            "TAKE": requests.take(),
+            "PEEK": requests.peek(),
+            "DRAIN 10": requests.drain(10),
+            "DONE 2": requests.done(2),
+            "FAIL 2": requests.fail(2),
+            "REMOVE 0": requests.remove(0),
+            "CLEAR": requests.clear(),
+            "SIZE": requests.size(),
+            "QUIT": requests.quit(),
         }
         self.assertEqual({line: str(it) for line, it in lines.items()}, {line: line for line in lines})
 
