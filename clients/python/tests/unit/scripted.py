@@ -5,6 +5,7 @@ import unittest
 
 PATIENCE = 10  # seconds after which a client that does not go on is given up
 
+NOTHING = object()  # in a request's place: the reply comes unasked
 HANGS_UP = object()  # in a reply's place: the connection is closed
 SAYS_NOTHING = object()  # in a reply's place: the client has to go on by itself
 
@@ -16,8 +17,8 @@ class ScriptedServer:
     """Serves its sessions one after the other, at a free port, and then listens no more.
 
     A session is a list of steps: the request line that has to come, and the reply. Bytes are sent as they are, and a
-    text as a line. A function in the reply's place is called for it. After the last step the client has to leave,
-    and to send nothing before.
+    text as a line. A function in the reply's place is called for it. `NOTHING` in a request's place is no wait. After
+    the last step the client has to leave, and to send nothing before. `ended` is released once for each session.
     """
 
     def __init__(self, *sessions):
@@ -25,6 +26,7 @@ class ScriptedServer:
         self._listener.settimeout(PATIENCE)
         self.port = self._listener.getsockname()[1]
         self.faults = []
+        self.ended = threading.Semaphore(0)
         self._thread = threading.Thread(target=self._serve_all, args=(sessions,), daemon=True)
         self._thread.start()
 
@@ -41,14 +43,15 @@ class ScriptedServer:
                     self._serve(steps)
                 except OSError as fault:
                     self.faults.append(f"session {number}: {fault}")
+                self.ended.release()
 
     def _serve(self, steps):
         connection, _ = self._listener.accept()
         connection.settimeout(PATIENCE)
         with connection, connection.makefile("rb") as lines:
             for request, reply in steps:
-                line = lines.readline().decode()
-                if line != f"{request}\n":
+                line = "" if request is NOTHING else lines.readline().decode()
+                if request is not NOTHING and line != f"{request}\n":
                     self.faults.append(f"{line!r} came in the place of {request!r}")
                     return
                 reply = reply() if callable(reply) else reply

@@ -1,7 +1,7 @@
 """A producer whose servers go away, are full, or have no memory."""
 import unittest
 
-from scripted import GREETING, HANGS_UP, PATIENCE, ScriptedTest, free_port
+from scripted import GREETING, HANGS_UP, NOTHING, PATIENCE, ScriptedTest, free_port
 from rb_broker_client import Full, InDoubt, NotOffered, Offered, OutOfMemory, Pauses, PayloadRefused, Producer
 
 OFFER = "OFFER 5 a"
@@ -22,11 +22,9 @@ class ProducerTest(ScriptedTest):
         self.assertEqual(producer.offer_at(9, "b"), Offered(1, 9))
 
     def test_a_connection_that_was_lost_before_the_offer(self):
-        producer, server = self.produce([(OFFER, "OFFERED 0 5"), ("QUIT", HANGS_UP)], [(OFFER, "OFFERED 1 6")])
+        producer, server = self.produce([(OFFER, "OFFERED 0 5"), (NOTHING, HANGS_UP)], [(OFFER, "OFFERED 1 6")])
         self.assertEqual(producer.offer(5, "a"), Offered(0, 5))
-        producer._broker._connection.send(b"QUIT\n")
-        while not producer._broker.is_lost():
-            pass
+        self.assertTrue(server.ended.acquire(timeout=PATIENCE))
         self.assertEqual(producer.offer(5, "a"), Offered(1, 6))
 
     def test_a_reply_that_is_not_heard_leaves_a_doubt(self):
