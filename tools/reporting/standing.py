@@ -10,7 +10,7 @@ from reporting.history import NONE, History
 ElementWords = Tuple[bytes, ...]
 
 
-class Queue:
+class Standing:
     """Fills the columns of a history's elements. Each method raises a `Wrong` where no queue does so.
 
     A number above 2^64 - 1 is refused by its column with an `OverflowError`; the history is of no use then. The
@@ -20,7 +20,7 @@ class Queue:
     def __init__(self, history: History) -> None:
         self._history, self._elements = history, history.elements
         self._left_in, self._expiries = history.elements.left_in, history.elements.expiries
-        self._rows = self._standing = 0
+        self._rows = self._number = 0
         self._cleared = 0  # all rows before this one have left
 
     def keep(self, words: ElementWords) -> None:
@@ -44,7 +44,7 @@ class Queue:
         if self._expiries[row] > moment:
             raise Wrong(f"element {id} is given at {moment}, and expires at {self._expiries[row]}")
         self._left_in[row] = event
-        self._standing -= 1
+        self._number -= 1
         return row
 
     def remove(self, id: int, found: bool, event: int) -> int:
@@ -54,7 +54,7 @@ class Queue:
             raise Wrong(f"element {id} was {'not ' if found else ''}in the queue")
         if found and row is not None:
             self._left_in[row] = event
-            self._standing -= 1
+            self._number -= 1
         return NONE if row is None else row
 
     def clear(self, event: int) -> int:
@@ -63,13 +63,13 @@ class Queue:
             if self._left_in[row] == NONE:
                 self._left_in[row] = event
         self._cleared = self._rows
-        were, self._standing = self._standing, 0
+        were, self._number = self._number, 0
         return were
 
     def count(self, size: int) -> None:
         """So many elements stand."""
-        if size != self._standing:
-            raise Wrong(f"{size} elements are counted, and {self._standing} are in the queue")
+        if size != self._number:
+            raise Wrong(f"{size} elements are counted, and {self._number} are in the queue")
 
     def stands(self, id: int) -> int:
         """An element stands. Its row."""
@@ -94,7 +94,7 @@ class Queue:
         elements.payloads += payload
         elements.payload_ends.append(len(elements.payloads))
         self._rows += 1
-        self._standing += 1
+        self._number += 1
         return row
 
     def _root(self, row: int, origin: int, id: int) -> int:
