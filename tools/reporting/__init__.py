@@ -5,9 +5,10 @@ a page. The columns of a history are `array`s, so that 1,000,000 events take ten
     depth.py, lateness.py, jobs.py, seats.py      figures
     findings.py, figures.py                       what looks wrong, and all figures of a history
     buckets.py, units.py                          long series made short, and numbers as people read them
-    terminal.py                                   the report as text
+    tables.py, terminal.py                              the report as text
     svg.py, plots.py, page.py, page.css, page.js  the report as a page
+    lives.py                                      the lives of jobs, as the page has them
     progress.py                                   a line that says how far a long report is
 
-The tests are test_*.py; make_history.py makes the histories that some of them read.
+The tests are below tests/, with a maker of large histories. tools/check_report runs them.
 """

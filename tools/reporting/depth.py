@@ -52,15 +52,16 @@ def _expiries_on_the_way(history: History) -> array:
 def depth_of(history: History) -> Depth:
     """Follows the queue from event to event. An element that expires between two events counts from that moment on."""
     depth, expiries, start = Depth(), history.elements.expiries, history.start
+    note = depth.note
     standing, expired = history.kept, sum(it <= start for it in expiries[:history.kept])
-    depth.note(start, standing, expired)
+    note(start, standing, expired)
     coming = _expiries_on_the_way(history)
     place, count = 0, len(coming)
     events = history.events
     for moment, act, subject in zip(events.moments, events.acts, events.subjects):
         while place < count and coming[place] <= moment:
             expired += 1
-            depth.note(coming[place], standing, expired)
+            note(coming[place], standing, expired)
             place += 1
         if act == acts.OFFER:
             standing += 1
@@ -76,5 +77,5 @@ def depth_of(history: History) -> Depth:
             standing = expired = 0
         else:
             continue
-        depth.note(moment, standing, expired)
+        note(moment, standing, expired)
     return depth

@@ -20,6 +20,8 @@ class EventReader:
         self.history, self._standing = history, standing
         self._last = history.opened_at
         self._event = 0
+        events = history.events
+        self._seats, self._moments, self._acts, self._subjects = events.seats, events.moments, events.acts, events.subjects
         self._readers: Dict[str, Callable[[Match[bytes], int], Told]] = {
             "offer": self._offer, "take": self._take, "poll": self._poll, "pollfor": self._poll_for,
             "peek": self._peek, "remove": self._remove, "drain": self._drain, "clear": self._clear, "size": self._size,
@@ -27,18 +29,22 @@ class EventReader:
 
     def read(self, match: Match[bytes]) -> None:
         """Adds the event of a line that the grammar's pattern matched."""
-        seat, asked, at = map(int, match.group(1, 2, 3))
-        latest = asked if asked > self._last else self._last
+        seat, asked, at = match.group(1, 2, 3)
+        moment = int(at)
+        if asked != at or moment < self._last:
+            self._test(int(asked), moment)
+        act, subject = self._readers[match.lastgroup or ""](match, moment)
+        self._seats.append(int(seat))
+        self._moments.append(moment)
+        self._acts.append(act)
+        self._subjects.append(subject)
+        self._last = moment
+        self._event += 1
+
+    def _test(self, asked: int, at: int) -> None:
+        latest = max(asked, self._last)
         if at != latest:
             raise Wrong(f"the moment is {at}, and has to be {latest}, the greater of the one asked and the last")
-        act, subject = self._readers[match.lastgroup or ""](match, at)
-        events = self.history.events
-        events.seats.append(seat)
-        events.moments.append(at)
-        events.acts.append(act)
-        events.subjects.append(subject)
-        self._last = at
-        self._event += 1
 
     def _offer(self, match: Match[bytes], at: int) -> Told:
         return acts.OFFER, self._standing.offer(match.group(*OFFERED_GROUPS), self._event)

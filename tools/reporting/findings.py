@@ -62,10 +62,12 @@ def _left_finding(history: History) -> Optional[Finding]:
 
 def _discard_finding(history: History) -> Optional[Finding]:
     events = history.events
+    calls = events.acts.count(acts.CLEAR)
+    if not calls:
+        return None
     cleared = sum(count for act, count in zip(events.acts, events.subjects) if act == acts.CLEAR)
     if not cleared:
         return None
-    calls = events.acts.count(acts.CLEAR)
     return Finding(f"{counted(cleared, 'element')} {'was' if cleared == 1 else 'were'} discarded by {counted(calls, 'clear')}")
 
 

@@ -27,30 +27,25 @@ class Jobs(NamedTuple):
     elements: array
     given: array
     attempts: List[Attempts]
-
-    @property
-    def roots(self) -> List[int]:
-        return [row for row, count in enumerate(self.elements) if count]
-
-    @property
-    def again(self) -> List[int]:
-        """The roots of the jobs that were offered again, those with the most elements first."""
-        found = [row for row, count in enumerate(self.elements) if count > 1]
-        return sorted(found, key=lambda root: -self.elements[root])
+    roots: List[int]
+    again: List[int]  # the roots of the jobs that were offered again, those with the most elements first
 
 
 def jobs_of(history: History) -> Jobs:
     """Counts the elements of each job, and the attempts of all."""
     elements, acts = history.elements, history.events.acts
-    offered, given = array("i", bytes(4 * len(elements))), array("i", bytes(4 * len(elements)))
+    counts, given = array("i", bytes(4 * len(elements))), array("i", bytes(4 * len(elements)))
     attempts_given: Counter[int] = Counter()
     for root, attempt, left in zip(elements.roots, elements.attempts, elements.left_in):
-        offered[root] += 1
+        counts[root] += 1
         if left != NONE and acts[left] in GIVES:
             given[root] += 1
             attempts_given[attempt] += 1
-    attempts_offered = Counter(elements.attempts)
-    return Jobs(offered, given, [Attempts(it, attempts_offered[it], attempts_given[it]) for it in sorted(attempts_offered)])
+    offered = Counter(elements.attempts)
+    attempts = [Attempts(it, offered[it], attempts_given[it]) for it in sorted(offered)]
+    roots = [row for row, count in enumerate(counts) if count]
+    again = sorted((root for root in roots if counts[root] > 1), key=lambda root: -counts[root])
+    return Jobs(counts, given, attempts, roots, again)
 
 
 def lives(history: History, roots: Iterable[int]) -> Dict[int, List[int]]:

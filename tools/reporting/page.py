@@ -45,7 +45,7 @@ def _cards(figures: Figures) -> str:
         ("left at the end", number(depth.standing[-1])),
         ("greatest depth", number(depth.deepest[0])),
         ("lateness, median", span(lateness.median) if some else "–"),
-        ("lateness, 99 %", span(lateness.high) if some else "–"),
+        ("lateness, 99th percentile", span(lateness.high) if some else "–"),
         ("lateness, greatest", span(lateness.greatest) if some else "–"),
         ("jobs offered again", percent(len(jobs.again), len(jobs.roots))),
     ]

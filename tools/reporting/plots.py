@@ -11,11 +11,12 @@ from reporting.jobs import Attempts
 from reporting.lateness import rank
 from reporting.seats import calls_over_time
 from reporting.svg import BOTTOM, LEFT, RIGHT, TOP, Scale, Tick
-from reporting.units import counted, number, span
+from reporting.units import counted, mark, number, span
 
 DEPTH_BUCKETS, LATENESS_BUCKETS, SEAT_BUCKETS = 400, 180, 180
 MOST_SEATS, SEAT_HEIGHT = 16, 34
 MOST_BARS = 40
+ROUND = {0, *(10**power for power in range(20))}  # spans at which a range of lateness is marked
 
 
 class Plot(NamedTuple):
@@ -27,12 +28,12 @@ class Plot(NamedTuple):
     caption: str
 
 
-def _time_scale(figures: Figures) -> Tuple[Scale, str, str]:
-    """The axis of time: its scale, its drawing's title and its unit."""
+def _time_scale(figures: Figures) -> Tuple[Scale, str]:
+    """The scale of the axis of time, and its title with the unit."""
     history = figures.history
     scale = Scale(history.start, history.end, LEFT, RIGHT)
     _, unit = svg.time_ticks(scale)
-    return scale, f"{unit} since the first event, which took effect at moment {history.start}", unit
+    return scale, f"time since the first event, which took effect at moment {history.start} ({unit})"
 
 
 def _time_axis(scale: Scale, title: str, bottom: float = BOTTOM) -> str:
@@ -41,7 +42,7 @@ def _time_axis(scale: Scale, title: str, bottom: float = BOTTOM) -> str:
 
 def depth_plot(figures: Figures) -> Plot:
     """Elements in the queue over time, and those of them that had expired."""
-    depth, (x, title, _) = figures.depth, _time_scale(figures)
+    depth, (x, title) = figures.depth, _time_scale(figures)
     y = Scale(0, max(1, depth.deepest[0]), BOTTOM, TOP)
     buckets = Buckets.over(x.low, x.high, DEPTH_BUCKETS)
     parts = [svg.y_axis(svg.count_ticks(y), "elements"), _time_axis(x, title)]
@@ -62,12 +63,11 @@ def depth_plot(figures: Figures) -> Plot:
 
 def lateness_plot(figures: Figures) -> Plot:
     """How late elements were given, over time: the median and the greatest of each bucket."""
-    lateness, (x, title, _) = figures.lateness, _time_scale(figures)
+    lateness, (x, title) = figures.lateness, _time_scale(figures)
     buckets = Buckets.over(x.low, x.high, LATENESS_BUCKETS)
     top = lateness.greatest if lateness.rising else 0
     y = Scale(0, max(1, svg.level(top)), BOTTOM, TOP)  # type: ignore[arg-type]
-    ticks = [Tick(y.at(svg.level(it)), span(it)) for it in (0, *(10**power for power in range(1, 21))) if it <= top]
-    parts = [svg.y_axis(ticks if top < 10**6 else _thirds(ticks), "lateness"), _time_axis(x, title)]
+    parts = [svg.y_axis(_level_ticks(y, top), "lateness"), _time_axis(x, title)]
     found = [(place, some) for place, some in enumerate(lateness.in_buckets(buckets)) if some]
     for kind, share in (("greatest", 1.0), ("median", 0.5)):
         dashes = []
@@ -82,9 +82,10 @@ def lateness_plot(figures: Figures) -> Plot:
     return Plot("Lateness over time", legend, svg.drawing("lateness", "lateness over time", parts), caption)
 
 
-def _thirds(ticks: List[Tick]) -> List[Tick]:
-    """Of many powers of ten the zero and each third: 1 µs, 1 ms, 1 s."""
-    return [ticks[0], *ticks[3::3]]
+def _level_ticks(scale: Scale, top: int) -> List[Tick]:
+    """Zero, and the powers of ten up to a span; where they are many, each third: 1 µs, 1 ms, 1 s."""
+    powers = range(1, 21) if top < 10**10 else range(3, 21, 3)
+    return [Tick(scale.at(svg.level(it)), mark(it)) for it in (0, *(10**power for power in powers)) if it <= top]
 
 
 class Bin(NamedTuple):
@@ -111,8 +112,9 @@ def spread_plot(figures: Figures) -> Plot:
     width = (RIGHT - LEFT) / max(1, len(bins))
     marks = [svg.bar(LEFT + place * width + 1, width - 2, y.at(it.count), BOTTOM, "given",
                      f"{span(it.low)} to {span(it.high)}: {number(it.count)}") for place, it in enumerate(bins)]
-    every = 1 + len(bins) // 16
-    ticks = [Tick(round(LEFT + place * width, 1), span(it.low)) for place, it in enumerate(bins) if not place % every]
+    ticks = [Tick(round(LEFT + place * width, 1), mark(it.low)) for place, it in enumerate(bins) if it.low in ROUND]
+    if len(ticks) > 1 and ticks[1].place - ticks[0].place < svg.LABEL_WIDTH:
+        del ticks[1]  # of 0 ns and 1 ns there is room for one
     axes = [svg.y_axis(svg.count_ticks(y), "elements given"), svg.x_axis(ticks, "lateness: the moment of the gift less the expiry")]
     caption = f"{counted(len(bins), 'range')}, about four to a power of ten, of {counted(len(rising), 'gift')}."
     if rising:
@@ -161,7 +163,7 @@ def attempts_plot(figures: Figures) -> Plot:
 
 def seats_plot(figures: Figures) -> Plot:
     """The calls of each seat over time, one below the other, all at one scale."""
-    x, title, _ = _time_scale(figures)
+    x, title = _time_scale(figures)
     buckets = Buckets.over(x.low, x.high, SEAT_BUCKETS)
     rows = _seat_rows(figures, buckets)
     most = max([1, *(max(counts) for _, counts in rows)])

@@ -79,15 +79,16 @@ class Standing:
         return row
 
     def _add(self, id: int, words: ElementWords, event: int) -> int:
-        _, expiry, origin, first, attempt, payload = words
+        own, expiry_word, origin_word, first, attempt, payload = words
         elements, row = self._elements, self._rows
+        expiry, origin = int(expiry_word), id if origin_word == own else int(origin_word)
         elements.ids.append(id)
-        elements.expiries.append(int(expiry))
-        elements.origins.append(int(origin))
-        root = self._root(row, int(origin), id)
+        elements.expiries.append(expiry)
+        elements.origins.append(origin)
+        root = self._root(row, origin, id)
         elements.roots.append(root)
         # The versions that do not tell a first expiry mean that of the job's earliest line.
-        elements.firsts.append(int(first) if first else elements.expiries[root])
+        elements.firsts.append(int(first) if first else self._expiries[root])
         elements.attempts.append(int(attempt))
         elements.offered_in.append(event)
         elements.left_in.append(NONE)

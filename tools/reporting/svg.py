@@ -10,6 +10,7 @@ from reporting.units import number, unit_of
 
 WIDTH, HEIGHT = 1040, 270
 LEFT, RIGHT, TOP, BOTTOM = 76, 1024, 14, 222
+LABEL_WIDTH = 50  # of a tick's words, about
 
 
 class Scale(NamedTuple):

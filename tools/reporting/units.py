@@ -26,6 +26,12 @@ def span(nanoseconds: int) -> str:
     return f"{value:,.{digits}f} {name}"
 
 
+def mark(nanoseconds: int) -> str:
+    """A span as it stands at an axis, with no digits that say nothing."""
+    size, name = unit_of(nanoseconds)
+    return f"{nanoseconds / size:g} {name}"
+
+
 def number(value: int) -> str:
     return f"{value:,}"
 

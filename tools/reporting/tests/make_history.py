@@ -36,13 +36,15 @@ class Maker:
         self.moment = self.asked = self.next_id = 0
         self.heap: List[Tuple[int, int]] = []
         self.standing: Dict[int, Element] = {}
+        self.is_rush = False
         self.held: Dict[int, List[Element]] = {seat: [] for seat in range(1, seats + 1)}
 
     def text(self, events: int) -> None:
         self.out.write(f"history {self.version}\n" + ("open 0 0 0\n" if self.version == 3 else ""))
-        for _ in range(events):
+        for event in range(events):
+            self.is_rush = 3 * events <= 10 * event < 4 * events
             self.pass_time()
-            self.call(self.random.randint(1, self.seats))
+            self.call(min(self.random.randint(1, self.seats), self.random.randint(1, self.seats)))
         self.out.write(f"end {events}\n")
 
     def pass_time(self) -> None:
@@ -59,7 +61,7 @@ class Maker:
             if job.attempt < ATTEMPTS and self.random.random() < 0.1:
                 self.offer(seat, self.asked + RETRY_DELAY, job)
                 return
-        if chance < 0.42 or len(held) == MOST_HELD:
+        if chance < (0.65 if self.is_rush else 0.36) or len(held) == MOST_HELD:
             self.offer(seat, self.moment + self.delay())
         elif chance < 0.97:
             self.fetch(seat, chance)
