@@ -91,6 +91,6 @@ def _read_end(line: bytes, lines: Iterator[bytes], number: int, count: int) -> N
     if match is None or int(match[1]) > GREATEST:
         raise Damaged(number, "neither an event nor the last line")
     if int(match[1]) != count:
-        raise Damaged(number, f"it tells {int(match[1])} events, and there are {count}")
+        raise Damaged(number, f"it tells {int(match[1])}, and the number of events is {count}")
     if next(lines, b""):
         raise Damaged(number + 1, "it stands behind the last line")

@@ -67,9 +67,9 @@ class Standing:
         return were
 
     def count(self, size: int) -> None:
-        """So many elements stand."""
+        """So many elements stand, which may be none."""
         if size != self._number:
-            raise Wrong(f"{size} elements are counted, and {self._number} are in the queue")
+            raise Wrong(f"the queue holds {self._number}, not {size}")
 
     def stands(self, id: int) -> int:
         """An element stands. Its row."""

@@ -76,7 +76,7 @@ def _more(all_rows: int, shown: int, noun: str) -> List[str]:
 def _again(figures: Figures) -> List[str]:
     jobs, elements = figures.jobs, figures.history.elements
     again, roots = jobs.again, len(jobs.roots)
-    lines = [f"Jobs: {roots:,}, of which {len(again):,} were offered again ({percent(len(again), roots)})"]
+    lines = [f"Jobs: {roots:,}; offered again: {len(again):,} ({percent(len(again), roots)})"]
     rows = [(number(elements.origins[root]).replace(",", ""), elements.payload(root), number(jobs.elements[root]),
              number(jobs.given[root])) for root in again[:MOST_JOBS]]
     if rows:

@@ -45,7 +45,7 @@ DAMAGED = [
     (f"history 1\n0 0 0 pollfor 0 {2**64} none\nend 1\n", 2, "2^64 - 1"),
     ("history 1\n0 0 0 size 0\n", 3, "ends before"),
     ("history 1\n0 0 0 size 0\nend 1", 3, "ends before"),
-    ("history 1\n0 0 0 size 0\nend 2\n", 3, "2 events, and there are 1"),
+    ("history 1\n0 0 0 size 0\nend 2\n", 3, "it tells 2, and the number of events is 1"),
     ("history 1\nend 0\nend 0\n", 3, "behind the last line"),
     ("history 1\nend 0\n\n", 3, "behind the last line"),
     # What no queue does, in a text that is right by its form.
@@ -56,13 +56,13 @@ DAMAGED = [
     ("history 1\n0 0 0 poll 0\nend 1\n", 2, "not in the queue"),
     ("history 1\n0 0 0 offer 0 5 0 1 a\n0 4 4 take 0\nend 2\n", 3, "expires at 5"),
     ("history 1\n0 0 0 peek 0\nend 1\n", 2, "not in the queue"),
-    ("history 1\n0 0 0 offer 0 5 0 1 a\n0 0 0 peek none\nend 2\n", 3, "1 are in the queue"),
+    ("history 1\n0 0 0 offer 0 5 0 1 a\n0 0 0 peek none\nend 2\n", 3, "holds 1, not 0"),
     ("history 1\n0 0 0 remove 2 yes\nend 1\n", 2, "was not in the queue"),
     ("history 1\n0 0 0 offer 0 5 0 1 a\n0 0 0 remove 0 no\nend 2\n", 3, "was in the queue"),
     ("history 1\n0 0 0 offer 0 0 0 1 a\n0 9 9 drain 2 0 0\nend 2\n", 3, "not in the queue"),
     ("history 1\n0 0 0 offer 0 0 0 1 a\n0 9 9 drain 0 0\nend 2\n", 3, "at most 0"),
     ("history 1\n0 0 0 offer 0 0 0 1 a\n0 0 0 clear\n0 0 0 poll 0\nend 3\n", 4, "not in the queue"),
-    ("history 1\n0 9 9 size 1\nend 1\n", 2, "1 elements are counted"),
+    ("history 1\n0 9 9 size 1\nend 1\n", 2, "holds 0, not 1"),
 ]
 
 
