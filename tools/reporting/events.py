@@ -20,8 +20,8 @@ class EventReader:
         self.history, self._standing = history, standing
         self._last = history.opened_at
         self._event = 0
-        events = history.events
-        self._seats, self._moments, self._acts, self._subjects = events.seats, events.moments, events.acts, events.subjects
+        self._seats, self._moments = history.events.seats, history.events.moments
+        self._acts, self._subjects = history.events.acts, history.events.subjects
         self._readers: Dict[str, Callable[[Match[bytes], int], Told]] = {
             "offer": self._offer, "take": self._take, "poll": self._poll, "pollfor": self._poll_for,
             "peek": self._peek, "remove": self._remove, "drain": self._drain, "clear": self._clear, "size": self._size,

@@ -10,7 +10,7 @@ from reporting.findings import Finding, findings_of
 from reporting.history import History
 from reporting.jobs import Jobs, jobs_of
 from reporting.lateness import Lateness, lateness_of
-from reporting.seats import Seat, seats_of
+from reporting.seats import Seats, seats_of
 
 
 class Calls(NamedTuple):
@@ -32,7 +32,7 @@ class Figures:
     depth: Depth
     lateness: Lateness
     jobs: Jobs
-    seats: List[Seat]
+    seats: Seats
     findings: List[Finding]
 
     @property

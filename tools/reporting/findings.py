@@ -68,7 +68,8 @@ def _discard_finding(history: History) -> Optional[Finding]:
     cleared = sum(count for act, count in zip(events.acts, events.subjects) if act == acts.CLEAR)
     if not cleared:
         return None
-    return Finding(f"{counted(cleared, 'element')} {'was' if cleared == 1 else 'were'} discarded by {counted(calls, 'clear')}")
+    were = "was" if cleared == 1 else "were"
+    return Finding(f"{counted(cleared, 'element')} {were} discarded by {counted(calls, 'clear')}")
 
 
 def _idle_finding(history: History) -> Optional[Finding]:
@@ -77,7 +78,8 @@ def _idle_finding(history: History) -> Optional[Finding]:
     polls = none + all_acts.count(acts.POLL)
     if polls < IDLE_POLLS or none < IDLE_SHARE * polls:
         return None
-    return Finding(f"{percent(none, polls)} of {polls:,} polls found nothing; a take or a timed poll waits, and is one call")
+    says = f"{percent(none, polls)} of {polls:,} polls found nothing; a take or a timed poll waits, and is one call"
+    return Finding(says)
 
 
 def _deep_finding(depth: Depth) -> Optional[Finding]:

@@ -47,7 +47,8 @@ def _exact(number: int) -> Number:
 def _attempt(history: History, row: int) -> List[Union[Number, None]]:
     """Id, attempt, expiry, when and by which seat it was offered, when and to which it left, and by which act."""
     elements, events = history.elements, history.events
-    told: List[Union[Number, None]] = [_exact(elements.ids[row]), elements.attempts[row], _exact(elements.expiries[row])]
+    told: List[Union[Number, None]] = [_exact(elements.ids[row]), elements.attempts[row]]
+    told.append(_exact(elements.expiries[row]))
     for event in (elements.offered_in[row], elements.left_in[row]):
         told += [None, None] if event == NONE else [_exact(events.moments[event]), _exact(events.seats[event])]
     left = elements.left_in[row]

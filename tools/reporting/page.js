@@ -6,14 +6,16 @@ const told = JSON.parse(document.getElementById("lives").textContent);
 const field = document.getElementById("origin");
 const answer = document.getElementById("answer");
 const life = document.getElementById("life");
-const HEADING = ["attempt", "id", "offered at (ns)", "by seat", "expiry (ns)", "left at (ns)", "to seat", "by", "late by"];
+const HEADING = ["attempt", "id", "offered at (ns)", "by seat", "expiry (ns)", "left at (ns)", "to seat", "by",
+  "late by"];
 const UNITS = [[1000000000n, "s"], [1000000n, "ms"], [1000n, "µs"], [1n, "ns"]];
 
 // A span of nanoseconds, which may pass what a number of JavaScript tells exactly.
 function span(nanoseconds) {
   const [size, name] = UNITS.find(([size]) => nanoseconds >= size) || UNITS[3];
   const value = Number(nanoseconds) / Number(size);
-  return (size === 1n ? String(nanoseconds) : value.toPrecision(Math.max(3, String(Math.trunc(value)).length))) + " " + name;
+  const digits = size === 1n || value >= 100 ? 0 : value >= 10 ? 1 : 2;
+  return value.toFixed(digits) + " " + name;
 }
 
 function row(cells, kind) {

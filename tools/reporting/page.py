@@ -16,7 +16,7 @@ from reporting.plots import Plot, plots
 from reporting.units import counted, number, percent, span
 
 HERE = os.path.dirname(os.path.realpath(__file__))
-MOST_BUSY = 20
+MOST_BUSY = 12
 
 
 def _part(name: str) -> str:
@@ -75,10 +75,9 @@ def _plot(plot: Plot) -> str:
 def _calls(figures: Figures) -> str:
     kinds = _table(("call", "calls", "elements", "found nothing"),
                    [(it.keyword, number(it.calls), number(it.elements), number(it.nothing)) for it in figures.calls])
-    seats = sorted(sorted(figures.seats, key=lambda it: -it.calls)[:MOST_BUSY])
     told = _table(("seat", "calls", "offered", "given", "found nothing", "others"),
-                  [tuple(map(number, seat[:6])) for seat in seats])
-    more = len(figures.seats) - len(seats)
+                  [(str(it.number), *map(number, it[1:6])) for it in figures.seats.busiest])
+    more = figures.seats.more
     note = f'<p class="note">and {counted(more, "seat")} more with fewer calls</p>' if more else ""
     return f'<div class="pair"><div>{kinds}</div><div>{told}{note}</div></div>'
 
@@ -101,19 +100,21 @@ def _busiest(figures: Figures) -> str:
 def _lookup(figures: Figures, shown: int, jobs: int) -> str:
     has = f"This page has the life of each of its {counted(jobs, 'job')}."
     if shown < jobs:
-        has = (f"This page has the lives of {number(shown)} of {counted(jobs, 'job')}: those that look wrong, those that"
-               " were offered most often, and then the earliest. The others are told by"
+        has = (f"This page has the lives of {number(shown)} of {counted(jobs, 'job')}: those that look wrong, those"
+               " that were offered most often, and then the earliest. The others are told by"
                f" tools/report {figures.name} --job ORIGIN.")
     return (f'<p class="note">{escape(has)}</p>\n'
-            '<form id="ask"><label for="origin">Origin</label> <input id="origin" inputmode="numeric" autocomplete="off"'
-            ' placeholder="the id under which it was first offered"> <button>Show</button></form>\n'
+            '<form id="ask"><label for="origin">Origin</label>\n'
+            '<input id="origin" inputmode="numeric" autocomplete="off"'
+            ' placeholder="the id under which it was first offered">\n<button>Show</button></form>\n'
             '<p id="answer" role="status"></p>\n<table id="life" hidden><thead></thead><tbody></tbody></table>')
 
 
 def _body(figures: Figures, jobs_shown: int, jobs: int) -> str:
     history = figures.history
     lasted = f"{span(history.end - history.start)} from moment {history.start} to {history.end}"
-    about = f"{counted(len(history.events), 'event')} of {counted(len(figures.seats), 'seat')}, {lasted} (in nanoseconds)"
+    callers = counted(figures.seats.count, "seat")
+    about = f"{counted(len(history.events), 'event')} of {callers}, {lasted} (in nanoseconds)"
     return "".join([
         f"<header><h1>{escape(figures.name)}</h1><p>{escape(about)}</p></header>\n",
         f'<section class="cards">{_cards(figures)}</section>\n',
@@ -128,7 +129,8 @@ def _body(figures: Figures, jobs_shown: int, jobs: int) -> str:
 def page(figures: Figures) -> str:
     """The page."""
     style, script = _part("page.css"), _part("page.js")
-    policy = f"default-src 'none'; style-src {_hash(style)}; script-src {_hash(script)}; base-uri 'none'; form-action 'none'"
+    sources = f"style-src {_hash(style)}; script-src {_hash(script)}"
+    policy = f"default-src 'none'; {sources}; base-uri 'none'; form-action 'none'"
     chosen = chosen_jobs(figures)
     return (
         '<!DOCTYPE html>\n<html lang="en">\n<head>\n<meta charset="utf-8">\n'

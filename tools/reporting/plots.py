@@ -14,7 +14,7 @@ from reporting.svg import BOTTOM, LEFT, RIGHT, TOP, Scale, Tick
 from reporting.units import counted, mark, number, span
 
 DEPTH_BUCKETS, LATENESS_BUCKETS, SEAT_BUCKETS = 400, 180, 180
-MOST_SEATS, SEAT_HEIGHT = 16, 34
+SEAT_HEIGHT = 34
 MOST_BARS = 40
 ROUND = {0, *(10**power for power in range(20))}  # spans at which a range of lateness is marked
 
@@ -76,8 +76,9 @@ def lateness_plot(figures: Figures) -> Plot:
             low, high = x.at(buckets.edges[place]), x.at(buckets.edges[place + 1])
             dashes.append(f"M{low} {y.at(svg.level(value))}h{max(2.0, round(high - low, 1))}")
         parts.append(f'<path class="dash {kind}" d="{"".join(dashes)}"/>')
-    caption = (f"{counted(len(found), 'median')} and as many greatest values, of {counted(len(lateness.rising), 'gift')}:"
-               f" one of each {span(round(buckets.width))} in which something was given. The steps are powers of ten.")
+    gave = counted(len(lateness.rising), "gift")
+    caption = (f"{counted(len(found), 'median')} and as many greatest values, of {gave}: one of each"
+               f" {span(round(buckets.width))} in which something was given. The steps are powers of ten.")
     legend = (("median", "median"), ("greatest", "greatest"))
     return Plot("Lateness over time", legend, svg.drawing("lateness", "lateness over time", parts), caption)
 
@@ -115,11 +116,12 @@ def spread_plot(figures: Figures) -> Plot:
     ticks = [Tick(round(LEFT + place * width, 1), mark(it.low)) for place, it in enumerate(bins) if it.low in ROUND]
     if len(ticks) > 1 and ticks[1].place - ticks[0].place < svg.LABEL_WIDTH:
         del ticks[1]  # of 0 ns and 1 ns there is room for one
-    axes = [svg.y_axis(svg.count_ticks(y), "elements given"), svg.x_axis(ticks, "lateness: the moment of the gift less the expiry")]
+    title = "lateness: the moment at which an element was given, less its expiry"
+    axes = [svg.y_axis(svg.count_ticks(y), "elements given"), svg.x_axis(ticks, title)]
     caption = f"{counted(len(bins), 'range')}, about four to a power of ten, of {counted(len(rising), 'gift')}."
     if rising:
-        caption += (f" The median is {span(figures.lateness.median)}, the 99th percentile {span(figures.lateness.high)},"
-                    f" the greatest {span(figures.lateness.greatest)}.")
+        median, high, greatest = map(span, (figures.lateness.median, figures.lateness.high, rising[-1]))
+        caption += f" The median is {median}, the 99th percentile {high}, the greatest {greatest}."
     drawing = svg.drawing("spread", "how many gifts were how late", [*axes, *marks])
     return Plot("How late elements were given", (("given", "elements given"),), drawing, caption)
 
@@ -171,7 +173,8 @@ def seats_plot(figures: Figures) -> Plot:
     for name, counts in rows:
         y = Scale(0, most, bottom + SEAT_HEIGHT - 4, bottom)
         path = svg.stairs(list(zip(buckets.edges, counts)), x, y)
-        parts.append(f'<path class="area seat" d="{svg.area_below(path, x, y, x.low)}"/><path class="line seat" d="{path}"/>')
+        parts.append(f'<path class="area seat" d="{svg.area_below(path, x, y, x.low)}"/>')
+        parts.append(f'<path class="line seat" d="{path}"/>')
         parts.append(svg.text(LEFT - 8, y.start - 8, name, "y"))
         bottom += SEAT_HEIGHT
     parts.append(_time_axis(x, title, bottom))
@@ -183,14 +186,12 @@ def seats_plot(figures: Figures) -> Plot:
 
 def _seat_rows(figures: Figures, buckets: Buckets) -> List[Tuple[str, List[int]]]:
     """The busiest seats, in rising order, and all others together."""
-    counts = calls_over_time(figures.history, buckets)
-    busiest = sorted(figures.seats, key=lambda it: -it.calls)[:MOST_SEATS]
-    rows = [(f"seat {seat.number}", counts.pop(seat.number)) for seat in sorted(busiest)]
-    if counts:
-        rows.append((f"{number(len(counts))} more", [sum(some) for some in zip(*counts.values())]))
-    return rows
+    seats = figures.seats
+    told, others = calls_over_time(figures.history, buckets, [seat.number for seat in seats.busiest])
+    rows = [(f"seat {seat}", counts) for seat, counts in told.items()]
+    return rows + [(f"{number(seats.more)} more", others)] if seats.more else rows
 
 
 def plots(figures: Figures) -> List[Plot]:
     """All plots of a page."""
-    return [depth_plot(figures), lateness_plot(figures), spread_plot(figures), attempts_plot(figures), seats_plot(figures)]
+    return [draw(figures) for draw in (depth_plot, lateness_plot, spread_plot, attempts_plot, seats_plot)]

@@ -9,7 +9,7 @@ from reporting.history import NONE, History
 from reporting.tables import table
 from reporting.units import counted, number, percent, span
 
-MOST_ROWS = 20  # of the attempts, and of the seats
+MOST_ATTEMPTS = 20
 MOST_JOBS = 10
 
 
@@ -28,7 +28,7 @@ def _head(figures: Figures) -> List[str]:
     lasted = span(history.end - history.start)
     return [
         f"{figures.name}: history {history.version}, {counted(len(history.events), 'event')}, "
-        f"{counted(len(figures.seats), 'seat')}, from {history.start} to {history.end} ns ({lasted})",
+        f"{counted(figures.seats.count, 'seat')}, from {history.start} to {history.end} ns ({lasted})",
         f"{counted(history.kept, 'element')} at the start, {figures.offered:,} offered, {figures.given:,} given, "
         f"{figures.depth.standing[-1]:,} left at the end",
     ]
@@ -64,9 +64,9 @@ def _lateness(figures: Figures) -> List[str]:
 
 def _attempts(figures: Figures) -> List[str]:
     attempts = figures.jobs.attempts
-    rows = [(number(it.attempt), number(it.offered), number(it.given)) for it in attempts[:MOST_ROWS]]
+    rows = [(number(it.attempt), number(it.offered), number(it.given)) for it in attempts[:MOST_ATTEMPTS]]
     lines = ["Attempts", *table(("attempt", "offered or kept", "given"), rows, left=0)]
-    return lines + _more(len(attempts), MOST_ROWS, "attempt")
+    return lines + _more(len(attempts), MOST_ATTEMPTS, "attempt")
 
 
 def _more(all_rows: int, shown: int, noun: str) -> List[str]:
@@ -85,11 +85,10 @@ def _again(figures: Figures) -> List[str]:
 
 
 def _seats(figures: Figures) -> List[str]:
-    seats = sorted(figures.seats, key=lambda it: -it.calls)[:MOST_ROWS]
     rows = [(str(it.number), number(it.calls), number(it.offered), number(it.given), number(it.nothing),
-             number(it.others), span(it.last - it.first)) for it in sorted(seats)]
+             number(it.others), span(it.last - it.first)) for it in figures.seats.busiest]
     heading = ("seat", "calls", "offered", "given", "found nothing", "other calls", "first to last call")
-    return ["Seats", *table(heading, rows, left=0), *_more(len(figures.seats), MOST_ROWS, "seat")]
+    return ["Seats", *table(heading, rows, left=0), *_more(figures.seats.count, len(rows), "seat")]
 
 
 def _findings(figures: Figures) -> List[str]:

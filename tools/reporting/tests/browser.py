@@ -27,9 +27,10 @@ class Browser:
                  "--no-first-run", "--remote-debugging-pipe", f"--user-data-dir={room}/profile", "about:blank"]
         # The browser reads descriptor 3 and writes descriptor 4.
         script = f'exec "$@" 3<&{to_browser} 4>&{from_browser}'
+        silent = {"stdin": subprocess.DEVNULL, "stdout": subprocess.DEVNULL, "stderr": subprocess.DEVNULL}
         self._process = subprocess.Popen(
-            ["bash", "-c", script, "bash", *words], pass_fds=(to_browser, from_browser), stdin=subprocess.DEVNULL,
-            stdout=subprocess.DEVNULL, stderr=subprocess.DEVNULL, start_new_session=True, env={**os.environ, "HOME": room},
+            ["bash", "-c", script, "bash", *words], pass_fds=(to_browser, from_browser), start_new_session=True,
+            env={**os.environ, "HOME": room}, **silent,
         )
         os.close(to_browser)
         os.close(from_browser)
@@ -57,8 +58,8 @@ class Browser:
             self._take(self._message())
 
     def value(self, expression: str) -> Any:
-        """What an expression of JavaScript gives in the page."""
-        answer = self._ask("Runtime.evaluate", expression=expression, returnByValue=True)
+        """What an expression of JavaScript gives in the page, or the promise that it is."""
+        answer = self._ask("Runtime.evaluate", expression=expression, returnByValue=True, awaitPromise=True)
         if "exceptionDetails" in answer:
             raise AssertionError(f"{expression}: {answer['exceptionDetails']}")
         return answer["result"].get("value")
@@ -66,11 +67,12 @@ class Browser:
     def type(self, words: str) -> None:
         """Types words where the page's cursor is, and then the enter key."""
         self._ask("Input.insertText", text=words)
+        enter = {"key": "Enter", "code": "Enter", "windowsVirtualKeyCode": 13, "text": "\r"}
         for kind in ("keyDown", "keyUp"):
-            self._ask("Input.dispatchKeyEvent", type=kind, key="Enter", code="Enter", windowsVirtualKeyCode=13, text="\r")
+            self._ask("Input.dispatchKeyEvent", type=kind, **enter)
 
     def picture(self, width: int, height: int) -> bytes:
-        """The upper part of the page, as a PNG."""
+        """The upper part of the page as a PNG."""
         self._ask("Emulation.setDeviceMetricsOverride", width=width, height=height, deviceScaleFactor=1, mobile=False)
         return base64.b64decode(self._ask("Page.captureScreenshot", format="png")["data"])
 

@@ -1,8 +1,11 @@
 #!/usr/bin/env python3
-"""Makes the text of a history as a busy server leaves it: tools/reporting/make_history.py EVENTS [options] > FILE
+"""Makes the text of a history as a busy server leaves it: tools/reporting/tests/make_history.py EVENTS > FILE
 
-Seats offer jobs, take, poll, drain and remove them, look, and fail some, which are offered again after a delay. Time
-goes on by some microseconds from event to event; one in four was asked a little before the one that took effect first. Everything follows from the seed, so that a run can be made again.
+Seats offer jobs, take, poll, drain and remove them, look, and fail some, which are offered again after a delay. The
+seats of small numbers call more than others. For a tenth of the run they offer more than they take, so that jobs wait.
+Time goes on by some microseconds from event to event; one call in four was asked a little before the one that took
+effect first. Everything follows from the seed, so that a run can be made again.
+
 The text is one that a single queue could have had: `rb_broker replay --chains --delay 50000000 --attempts 3` accepts
 it. Status: 0; 2 where a word is wrong.
 """

@@ -17,18 +17,26 @@ ANSWER = "document.getElementById('answer').textContent"
 
 
 class BrowserTest(unittest.TestCase):
-    def setUp(self) -> None:
+    browser: Browser
+    room: str
+
+    @classmethod
+    def setUpClass(cls) -> None:
         if not tests.BROWSER:
-            self.skipTest("there is no chromium, and none was named")
-        room = tempfile.TemporaryDirectory(prefix="rb-report-", ignore_cleanup_errors=True)
-        self.addCleanup(room.cleanup)
-        self.room = room.name
-        self.browser = Browser(str(tests.BROWSER), self.room)
-        self.addCleanup(self.browser.end)
+            raise unittest.SkipTest("there is no chromium, and none was named")
+        room = tempfile.TemporaryDirectory(prefix="rb-report-")
+        cls.addClassCleanup(room.cleanup)
+        cls.room = room.name
+        cls.browser = Browser(tests.BROWSER, cls.room)
+        cls.addClassCleanup(cls.browser.end)
+
+    def setUp(self) -> None:
+        self.browser.complaints.clear()
 
     def show(self, text: str, job: str = "") -> None:
         """Opens the page of a history, at a job if one is named."""
-        history, page = f"{self.room}/run.txt", f"{self.room}/page.html"
+        # A page of its own: to go to another job of the page that is shown loads nothing.
+        history, page = f"{self.room}/run.txt", f"{self.room}/{self._testMethodName}.html"
         with open(history, "w", encoding="utf-8") as file:
             file.write(text)
         self.assertEqual(run(history, "--html", page).returncode, 0)
@@ -59,8 +67,11 @@ class BrowserTest(unittest.TestCase):
     def test_a_link_shows_a_job(self) -> None:
         self.show(RUN, "0")
         self.assertIn("payload a", self.browser.value(ANSWER))
-        self.browser.value("document.querySelector('a[href=\"#job=3\"]').click()")
-        self.assertIn("payload c", self.browser.value(f"new Promise((then) => setTimeout(() => then({ANSWER}), 0)), {ANSWER}"))
+        shown = self.browser.value(f"""new Promise((then) => {{
+            addEventListener("hashchange", () => then({ANSWER}));
+            document.querySelector('a[href="#job=3"]').click();
+        }})""")
+        self.assertIn("payload c", shown)
         self.assertEqual(self.browser.complaints, [])
 
     def test_greatest_moments_are_told_in_full(self) -> None:
@@ -83,18 +94,19 @@ class BrowserTest(unittest.TestCase):
         """What the page's policy is for: even markup that got through is not run."""
         self.show(RUN)
         self.browser.value("document.body.insertAdjacentHTML('beforeend', '<img src=x onerror=\"document.title=1\">')")
-        self.browser.value("document.body.appendChild(document.createElement('script')).textContent = 'document.title = 2'")
+        self.browser.value("document.body.appendChild(document.createElement('script')).text = 'document.title = 2'")
         self.assertEqual(self.browser.value("document.title"), "run.txt: report")
         self.assertNotEqual(self.browser.complaints, [])
 
     def test_a_large_page(self) -> None:
-        made = subprocess.run([sys.executable, tests.MAKE_HISTORY, "30000"], capture_output=True, encoding="ascii", check=True)
-        self.show(made.stdout)
+        words = [sys.executable, tests.MAKE_HISTORY, "30000"]
+        self.show(subprocess.run(words, capture_output=True, encoding="ascii", check=True).stdout)
         for kind in ("standing", "expired"):
             drawn = self.browser.value(f"document.querySelector('.line.{kind}').getAttribute('d').split('V').length")
             note = self.browser.value("document.querySelector('#plot-depth').nextSibling.textContent")
             self.assertIn(f"{kind} {drawn:,} points", note)
-        for plot, mark in (("lateness", "path.dash.median"), ("spread", "rect"), ("attempts", "rect"), ("seats", ".line.seat")):
+        marks = {"lateness": ".dash.median", "spread": "rect", "attempts": "rect", "seats": ".line.seat"}
+        for plot, mark in marks.items():
             drawn = self.browser.value(f"""[...document.querySelectorAll('#plot-{plot} {mark}')].reduce((sum, it) =>
                 sum + (it.matches('.dash') ? it.getAttribute('d').split('M').length - 1 : 1), 0)""")
             note = self.browser.value(f"document.querySelector('#plot-{plot}').nextSibling.textContent")

@@ -105,7 +105,8 @@ class ReaderTest(unittest.TestCase):
         self.assertEqual(list(read(FIRST).elements.firsts), [0, 0])
         self.assertEqual(read(FIRST).elements, read(THIRD).elements)
         self.assertEqual(read(FIRST).events, read(THIRD).events)
-        behind = read("history 2\nopen 2 0 1\nkeep 1 1000 0 2 a\n0 1000 1000 poll 1\n0 1000 1000 offer 2 9 0 3 a\nend 2\n")
+        events = "0 1000 1000 poll 1\n0 1000 1000 offer 2 9 0 3 a\nend 2\n"
+        behind = read(f"history 2\nopen 2 0 1\nkeep 1 1000 0 2 a\n{events}")
         self.assertEqual(list(behind.elements.firsts), [1000, 1000])
         self.assertEqual(list(behind.elements.roots), [0, 0])
 
