@@ -91,7 +91,9 @@ def _busiest(figures: Figures) -> str:
         given = gifts(history, attempts)
         last = attempts[-1]
         stands = "in the queue" if elements.left_in[last] == NONE else "gone"
-        took = span(history.events.moments[given[-1][0]] - elements.firsts[root]) if given else "–"
+        # A text may tell any first expiry, also one that comes after the gifts.
+        passed = history.events.moments[given[-1][0]] - elements.firsts[root] if given else -1
+        took = span(passed) if passed >= 0 else "–"
         rows.append((_link(elements.origins[root]), f"<code>{escape(elements.payload(root))}</code>",
                      number(len(attempts)), number(len(given)), took, stands))
     return _table(("origin", "payload", "elements", "given", "first expiry to last gift", "at the end"), rows, "words")

@@ -44,7 +44,7 @@ def depth_plot(figures: Figures) -> Plot:
     """Elements in the queue over time, and those of them that had expired."""
     depth, (x, title) = figures.depth, _time_scale(figures)
     y = Scale(0, max(1, depth.deepest[0]), BOTTOM, TOP)
-    buckets = Buckets.over(x.low, x.high, DEPTH_BUCKETS)
+    buckets = Buckets.over(figures.history.start, figures.history.end, DEPTH_BUCKETS)
     parts = [svg.y_axis(svg.count_ticks(y), "elements"), _time_axis(x, title)]
     told = []
     for kind, values in (("standing", depth.standing), ("expired", depth.expired)):
@@ -64,9 +64,9 @@ def depth_plot(figures: Figures) -> Plot:
 def lateness_plot(figures: Figures) -> Plot:
     """How late elements were given, over time: the median and the greatest of each bucket."""
     lateness, (x, title) = figures.lateness, _time_scale(figures)
-    buckets = Buckets.over(x.low, x.high, LATENESS_BUCKETS)
+    buckets = Buckets.over(figures.history.start, figures.history.end, LATENESS_BUCKETS)
     top = lateness.greatest if lateness.rising else 0
-    y = Scale(0, max(1, svg.level(top)), BOTTOM, TOP)  # type: ignore[arg-type]
+    y = Scale(0, max(1.0, svg.level(top)), BOTTOM, TOP)
     parts = [svg.y_axis(_level_ticks(y, top), "lateness"), _time_axis(x, title)]
     found = [(place, some) for place, some in enumerate(lateness.in_buckets(buckets)) if some]
     for kind, share in (("greatest", 1.0), ("median", 0.5)):
@@ -166,14 +166,14 @@ def attempts_plot(figures: Figures) -> Plot:
 def seats_plot(figures: Figures) -> Plot:
     """The calls of each seat over time, one below the other, all at one scale."""
     x, title = _time_scale(figures)
-    buckets = Buckets.over(x.low, x.high, SEAT_BUCKETS)
+    buckets = Buckets.over(figures.history.start, figures.history.end, SEAT_BUCKETS)
     rows = _seat_rows(figures, buckets)
     most = max([1, *(max(counts) for _, counts in rows)])
     bottom, parts = TOP, []
     for name, counts in rows:
         y = Scale(0, most, bottom + SEAT_HEIGHT - 4, bottom)
         path = svg.stairs(list(zip(buckets.edges, counts)), x, y)
-        parts.append(f'<path class="area seat" d="{svg.area_below(path, x, y, x.low)}"/>')
+        parts.append(f'<path class="area seat" d="{svg.area_below(path, x, y, buckets.edges[0])}"/>')
         parts.append(f'<path class="line seat" d="{path}"/>')
         parts.append(svg.text(LEFT - 8, y.start - 8, name, "y"))
         bottom += SEAT_HEIGHT

@@ -1,6 +1,7 @@
 """Drawings as SVG: scales, axes with their ticks, and the marks of plots. Text goes through `escape` alone."""
 from __future__ import annotations
 
+import itertools
 import math
 from html import escape
 from typing import Iterable, List, NamedTuple, Sequence, Tuple
@@ -16,8 +17,8 @@ LABEL_WIDTH = 50  # of a tick's words, about
 class Scale(NamedTuple):
     """Puts values from `low` to `high` on pixels from `start` to `stop`."""
 
-    low: int
-    high: int
+    low: float
+    high: float
     start: float
     stop: float
 
@@ -35,20 +36,18 @@ class Tick(NamedTuple):
 
 def steps_of(high: int, most: int = 6) -> List[int]:
     """Round values from 0 to `high`, some `most` of them: 1, 2 or 5 and zeros apart."""
-    step, rough = 1, max(1.0, high / most)
-    for step in (factor * 10**power for power in range(20) for factor in (1, 2, 5)):
-        if step >= rough:
-            break
+    steps = (factor * 10**power for power in itertools.count() for factor in (1, 2, 5))
+    step = next(it for it in steps if it * most >= high)
     return list(range(0, high + 1, step))
 
 
 def count_ticks(scale: Scale) -> List[Tick]:
-    return [Tick(scale.at(value), number(value)) for value in steps_of(scale.high, 5)]
+    return [Tick(scale.at(value), number(value)) for value in steps_of(int(scale.high), 5)]
 
 
 def time_ticks(scale: Scale) -> Tuple[List[Tick], str]:
     """Ticks of an axis of moments, counted from its start, and their unit."""
-    length = scale.high - scale.low
+    length = int(scale.high - scale.low)
     size, unit = unit_of(max(1, length))
     # Tenths of a unit are asked for, so that a length of three seconds has more than four ticks.
     tenth = max(1, size // 10)
