@@ -31,12 +31,11 @@ def chosen_jobs(figures: Figures) -> Chosen:
     history, jobs = figures.history, figures.jobs
     named = [history.root_of(origin) for finding in figures.findings for origin in finding.origins]
     order = dict.fromkeys([*(root for root in named if root is not None), *jobs.again, *jobs.roots])
-    roots, elements = [], 0
+    roots, room = [], MOST_ELEMENTS
     for root in order:
-        elements += jobs.elements[root]
-        if elements > MOST_ELEMENTS and roots:
-            break
-        roots.append(root)
+        if jobs.elements[root] <= room:
+            room -= jobs.elements[root]
+            roots.append(root)
     return Chosen(roots, len(order))
 
 

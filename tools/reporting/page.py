@@ -115,7 +115,7 @@ def _lookup(figures: Figures, shown: int, jobs: int) -> str:
 def _body(figures: Figures, jobs_shown: int, jobs: int) -> str:
     history = figures.history
     lasted = f"{span(history.end - history.start)} from moment {history.start} to {history.end}"
-    callers = counted(figures.seats.count, "seat")
+    callers = counted(figures.seats.total, "seat")
     about = f"{counted(len(history.events), 'event')} of {callers}, {lasted} (in nanoseconds)"
     return "".join([
         f"<header><h1>{escape(figures.name)}</h1><p>{escape(about)}</p></header>\n",

@@ -94,14 +94,14 @@ class Bin(NamedTuple):
 
     low: int
     high: int
-    count: int
+    gifts: int
 
 
 def bins_of(rising: Sequence[int]) -> List[Bin]:
     """Ranges of about equal ratio, four to a power of ten, from that of the least lateness to that of the greatest."""
     edges = sorted({0, 1, *(round(10 ** (step / 4)) for step in range(1, 81))})
     bins = [Bin(low, high, bisect_left(rising, high) - bisect_left(rising, low)) for low, high in zip(edges, edges[1:])]
-    filled = [place for place, it in enumerate(bins) if it.count]
+    filled = [place for place, it in enumerate(bins) if it.gifts]
     return bins[filled[0]:filled[-1] + 1] if filled else []
 
 
@@ -109,10 +109,10 @@ def spread_plot(figures: Figures) -> Plot:
     """How many gifts were how late."""
     rising = figures.lateness.rising
     bins = bins_of(rising)
-    y = Scale(0, max([1, *(it.count for it in bins)]), BOTTOM, TOP)
+    y = Scale(0, max([1, *(it.gifts for it in bins)]), BOTTOM, TOP)
     width = (RIGHT - LEFT) / max(1, len(bins))
-    marks = [svg.bar(LEFT + place * width + 1, width - 2, y.at(it.count), BOTTOM, "given",
-                     f"{span(it.low)} to {span(it.high)}: {number(it.count)}") for place, it in enumerate(bins)]
+    marks = [svg.bar(LEFT + place * width + 1, width - 2, y.at(it.gifts), BOTTOM, "given",
+                     f"{span(it.low)} to {span(it.high)}: {number(it.gifts)}") for place, it in enumerate(bins)]
     ticks = [Tick(round(LEFT + place * width, 1), mark(it.low)) for place, it in enumerate(bins) if it.low in ROUND]
     if len(ticks) > 1 and ticks[1].place - ticks[0].place < svg.LABEL_WIDTH:
         del ticks[1]  # of 0 ns and 1 ns there is room for one

@@ -28,11 +28,11 @@ class Seats(NamedTuple):
     """The busiest seats, in rising order, and how many there are in all."""
 
     busiest: List[Seat]
-    count: int
+    total: int
 
     @property
     def more(self) -> int:
-        return self.count - len(self.busiest)
+        return self.total - len(self.busiest)
 
 
 def seats_of(history: History) -> Seats:

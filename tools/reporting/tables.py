@@ -6,7 +6,7 @@ from typing import Iterable, List, Sequence
 
 def table(heading: Sequence[str], rows: Iterable[Sequence[str]], left: int = 1, indent: str = "  ") -> List[str]:
     """The lines of a table. The first `left` columns begin at one edge, the others, which are numbers, end at one."""
-    cells = [list(heading), *map(list, rows)]
+    cells: List[List[str]] = [list(heading), *(list(row) for row in rows)]
     widths = [max(map(len, column)) for column in zip(*cells)]
     lines = []
     for row in cells:

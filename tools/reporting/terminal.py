@@ -28,7 +28,7 @@ def _head(figures: Figures) -> List[str]:
     lasted = span(history.end - history.start)
     return [
         f"{figures.name}: history {history.version}, {counted(len(history.events), 'event')}, "
-        f"{counted(figures.seats.count, 'seat')}, from {history.start} to {history.end} ns ({lasted})",
+        f"{counted(figures.seats.total, 'seat')}, from {history.start} to {history.end} ns ({lasted})",
         f"{counted(history.kept, 'element')} at the start, {figures.offered:,} offered, {figures.given:,} given, "
         f"{figures.depth.standing[-1]:,} left at the end",
     ]
@@ -88,7 +88,7 @@ def _seats(figures: Figures) -> List[str]:
     rows = [(str(it.number), number(it.calls), number(it.offered), number(it.given), number(it.nothing),
              number(it.others), span(it.last - it.first)) for it in figures.seats.busiest]
     heading = ("seat", "calls", "offered", "given", "found nothing", "other calls", "first to last call")
-    return ["Seats", *table(heading, rows, left=0), *_more(figures.seats.count, len(rows), "seat")]
+    return ["Seats", *table(heading, rows, left=0), *_more(figures.seats.total, len(rows), "seat")]
 
 
 def _findings(figures: Figures) -> List[str]:

@@ -27,10 +27,10 @@ class Browser:
                  "--no-first-run", "--remote-debugging-pipe", f"--user-data-dir={room}/profile", "about:blank"]
         # The browser reads descriptor 3 and writes descriptor 4.
         script = f'exec "$@" 3<&{to_browser} 4>&{from_browser}'
-        silent = {"stdin": subprocess.DEVNULL, "stdout": subprocess.DEVNULL, "stderr": subprocess.DEVNULL}
         self._process = subprocess.Popen(
             ["bash", "-c", script, "bash", *words], pass_fds=(to_browser, from_browser), start_new_session=True,
-            env={**os.environ, "HOME": room}, **silent,
+            env={**os.environ, "HOME": room},
+            stdin=subprocess.DEVNULL, stdout=subprocess.DEVNULL, stderr=subprocess.DEVNULL,
         )
         os.close(to_browser)
         os.close(from_browser)

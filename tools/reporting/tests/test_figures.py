@@ -78,7 +78,7 @@ class FiguresTest(unittest.TestCase):
 
     def test_of_many_seats_the_busiest_are_told(self) -> None:
         told = figures(text_of("7 0 0 size 0", *[f"{seat} 0 0 size 0" for seat in range(100)]))
-        self.assertEqual((told.seats.count, len(told.seats.busiest), told.seats.more), (100, 16, 84))
+        self.assertEqual((told.seats.total, len(told.seats.busiest), told.seats.more), (100, 16, 84))
         self.assertIn(7, [seat.number for seat in told.seats.busiest])
         _, others = calls_over_time(told.history, Buckets.over(0, 0, 9), [seat.number for seat in told.seats.busiest])
         self.assertEqual(others, [84])
@@ -137,8 +137,8 @@ class SeriesTest(unittest.TestCase):
     def test_ranges_of_lateness_hold_each_gift_once(self) -> None:
         rising = [0, 0, 1, 9, 10, 11, 2**64 - 1]
         bins = bins_of(rising)
-        self.assertEqual(sum(it.count for it in bins), len(rising))
-        self.assertEqual((bins[0].low, bins[0].count), (0, 2))
+        self.assertEqual(sum(it.gifts for it in bins), len(rising))
+        self.assertEqual((bins[0].low, bins[0].gifts), (0, 2))
         self.assertEqual(bins_of([]), [])
 
     def test_many_attempts_are_grouped(self) -> None:
