@@ -7,7 +7,8 @@ a page. The columns of a history are `array`s, so that 1,000,000 events take ten
     findings.py, figures.py                       what looks wrong, and all figures of a history
     buckets.py, units.py                          long series made short, and numbers as people read them
     tables.py, terminal.py                        the report as text
-    svg.py, plots.py, lives.py                    the plots of the page, and the lives of jobs that it has
+    svg.py, plot.py, *_plot.py, *_plots.py        the plots of the page
+    lives.py                                      the lives of jobs, as the page has them
     page.py, page.css, page.js                    the page
     progress.py                                   a line that says how far a long report is
 

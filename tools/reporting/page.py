@@ -8,15 +8,21 @@ import os
 from html import escape
 from typing import Iterable, List, Sequence, Tuple
 
+from reporting.attempts_plot import attempts_plot
+from reporting.depth_plot import depth_plot
 from reporting.figures import Figures
 from reporting.history import NONE
 from reporting.jobs import gifts, lives
+from reporting.lateness_plots import lateness_plot, spread_plot
 from reporting.lives import chosen_jobs, lives_json
-from reporting.plots import Plot, plots
+from reporting.plot import Plot
+from reporting.seats_plot import seats_plot
 from reporting.units import counted, number, percent, span
 
 HERE = os.path.dirname(os.path.realpath(__file__))
 MOST_BUSY = 12
+
+PLOTS = (depth_plot, lateness_plot, spread_plot, attempts_plot, seats_plot)
 
 
 def _part(name: str) -> str:
@@ -121,7 +127,7 @@ def _body(figures: Figures, jobs_shown: int, jobs: int) -> str:
         f"<header><h1>{escape(figures.name)}</h1><p>{escape(about)}</p></header>\n",
         f'<section class="cards">{_cards(figures)}</section>\n',
         f"<section><h2>What looks wrong</h2>{_findings(figures)}</section>\n",
-        *map(_plot, plots(figures)),
+        *(_plot(draw(figures)) for draw in PLOTS),
         f"<section><h2>Calls</h2>{_calls(figures)}</section>\n",
         f"<section><h2>Busiest jobs</h2>{_busiest(figures)}</section>\n",
         f'<section id="job"><h2>The life of a job</h2>{_lookup(figures, jobs_shown, jobs)}</section>\n',

@@ -27,9 +27,9 @@ def span(nanoseconds: int) -> str:
 
 
 def mark(nanoseconds: int) -> str:
-    """A span as it stands at an axis, with no digits that say nothing."""
-    size, name = unit_of(nanoseconds)
-    return f"{nanoseconds / size:g} {name}"
+    """A power of ten as it stands at an axis, so not in minutes, hours or days."""
+    size, name = unit_of(min(nanoseconds, SECOND))
+    return f"{nanoseconds // size:,} {name}"
 
 
 def number(value: int) -> str:

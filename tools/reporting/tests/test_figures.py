@@ -5,12 +5,13 @@ import unittest
 from array import array
 from typing import List
 
+from reporting.attempts_plot import grouped
 from reporting.buckets import Buckets, thinned
 from reporting.depth import depth_of
 from reporting.faults import NoJob
 from reporting.jobs import Attempts, life
 from reporting.lateness import rank
-from reporting.plots import bins_of, grouped
+from reporting.lateness_plots import bins_of
 from reporting.seats import calls_over_time
 from reporting.tests.support import RUN, figures, offer, read, text_of
 from reporting.units import percent, span
