@@ -20,6 +20,7 @@ class Standing:
     def __init__(self, history: History) -> None:
         self._history, self._elements = history, history.elements
         self._left_in, self._expiries = history.elements.left_in, history.elements.expiries
+        self._strays = history.strays
         self._rows = self._number = 0
         self._cleared = 0  # all rows before this one have left
 
@@ -85,7 +86,8 @@ class Standing:
         elements.ids.append(id)
         elements.expiries.append(expiry)
         elements.origins.append(origin)
-        root = self._root(row, origin, id)
+        # Most elements are the first of their job, and nothing has to be looked up.
+        root = row if origin == id and not self._strays else self._root(row, origin)
         elements.roots.append(root)
         # The versions that do not tell a first expiry mean that of the job's earliest line.
         elements.firsts.append(int(first) if first else self._expiries[root])
@@ -98,12 +100,9 @@ class Standing:
         self._number += 1
         return row
 
-    def _root(self, row: int, origin: int, id: int) -> int:
+    def _root(self, row: int, origin: int) -> int:
         """The first row with this origin, which may be the new one."""
-        strays = self._history.strays
-        if origin == id and origin not in strays:
-            return row
         root: Optional[int] = self._history.root_of(origin)
         if root is None:
-            strays[origin] = root = row
+            self._strays[origin] = root = row
         return root
