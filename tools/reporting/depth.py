@@ -1,0 +1,81 @@
+"""How many elements stood in the queue over time, and how many of them had expired."""
+from __future__ import annotations
+
+from array import array
+from dataclasses import dataclass, field
+from typing import Tuple
+
+from reporting import acts
+from reporting.history import NONE, History
+
+
+@dataclass
+class Depth:
+    """A series with an entry wherever one of the two numbers may have changed."""
+
+    moments: array = field(default_factory=lambda: array("Q"))
+    standing: array = field(default_factory=lambda: array("l"))
+    expired: array = field(default_factory=lambda: array("l"))
+
+    def note(self, moment: int, standing: int, expired: int) -> None:
+        self.moments.append(moment)
+        self.standing.append(standing)
+        self.expired.append(expired)
+
+    @staticmethod
+    def _greatest(moments: array, values: array) -> Tuple[int, int]:
+        greatest = max(values)
+        return greatest, moments[values.index(greatest)]
+
+    @property
+    def deepest(self) -> Tuple[int, int]:
+        """The greatest number of elements, and the moment at which it was first reached."""
+        return self._greatest(self.moments, self.standing)
+
+    @property
+    def most_expired(self) -> Tuple[int, int]:
+        """The greatest number of expired elements, and the moment at which it was first reached."""
+        return self._greatest(self.moments, self.expired)
+
+
+def _expiries_on_the_way(history: History) -> array:
+    """When elements expired that had been offered before, and stood, in rising order."""
+    elements, moments, end = history.elements, history.events.moments, history.end
+    found = array("Q")
+    for expiry, offered, left in zip(elements.expiries, elements.offered_in, elements.left_in):
+        since = history.start if offered == NONE else moments[offered]
+        if since < expiry <= (end if left == NONE else moments[left]):
+            found.append(expiry)
+    return array("Q", sorted(found))
+
+
+def depth_of(history: History) -> Depth:
+    """Follows the queue from event to event. An element that expires between two events counts from that moment on."""
+    depth, expiries, start = Depth(), history.elements.expiries, history.start
+    note = depth.note
+    standing, expired = history.kept, sum(it <= start for it in expiries[:history.kept])
+    note(start, standing, expired)
+    coming = _expiries_on_the_way(history)
+    place, count = 0, len(coming)
+    events = history.events
+    for moment, act, subject in zip(events.moments, events.acts, events.subjects):
+        while place < count and coming[place] <= moment:
+            expired += 1
+            note(coming[place], standing, expired)
+            place += 1
+        if act == acts.OFFER:
+            standing += 1
+            expired += expiries[subject] <= moment
+        elif act in acts.GIVES_ONE:
+            standing, expired = standing - 1, expired - 1
+        elif act == acts.DRAIN:
+            standing, expired = standing - subject, expired - subject
+        elif act == acts.REMOVE:
+            standing -= 1
+            expired -= expiries[subject] <= moment
+        elif act == acts.CLEAR:
+            standing = expired = 0
+        else:
+            continue
+        note(moment, standing, expired)
+    return depth

@@ -1,0 +1,98 @@
+"""Reads the lines of events: what a matched line tells goes to the queue, and into the columns of the events."""
+from __future__ import annotations
+
+from typing import Callable, Dict, Match, Tuple
+
+from reporting import acts
+from reporting.faults import Wrong
+from reporting.grammar import GREATEST, OFFERED_GROUPS
+from reporting.history import NONE, History
+from reporting.standing import Standing
+
+# The act of an event, and its subject.
+Told = Tuple[int, int]
+
+
+class EventReader:
+    """Adds one event after the other. A `Wrong` or an `OverflowError` says that a line tells what can't be."""
+
+    def __init__(self, history: History, standing: Standing) -> None:
+        self.history, self._standing = history, standing
+        self._last = history.opened_at
+        self._event = 0
+        self._seats, self._moments = history.events.seats, history.events.moments
+        self._acts, self._subjects = history.events.acts, history.events.subjects
+        self._readers: Dict[str, Callable[[Match[bytes], int], Told]] = {
+            "offer": self._offer, "take": self._take, "poll": self._poll, "pollfor": self._poll_for,
+            "peek": self._peek, "remove": self._remove, "drain": self._drain, "clear": self._clear, "size": self._size,
+        }
+
+    def read(self, match: Match[bytes]) -> None:
+        """Adds the event of a line that the grammar's pattern matched."""
+        seat, asked, at = match.group(1, 2, 3)
+        moment = int(at)
+        if asked != at or moment < self._last:
+            self._test(int(asked), moment)
+        act, subject = self._readers[match.lastgroup or ""](match, moment)
+        self._seats.append(int(seat))
+        self._moments.append(moment)
+        self._acts.append(act)
+        self._subjects.append(subject)
+        self._last = moment
+        self._event += 1
+
+    def _test(self, asked: int, at: int) -> None:
+        latest = max(asked, self._last)
+        if at != latest:
+            raise Wrong(f"the moment is {at}, and has to be {latest}, the greater of the one asked and the last")
+
+    def _offer(self, match: Match[bytes], at: int) -> Told:
+        return acts.OFFER, self._standing.offer(match.group(*OFFERED_GROUPS), self._event)
+
+    def _take(self, match: Match[bytes], at: int) -> Told:
+        return acts.TAKE, self._standing.give(int(match["take"]), at, self._event)
+
+    def _poll(self, match: Match[bytes], at: int) -> Told:
+        if match["poll"] == b"none":
+            return acts.POLL_NONE, NONE
+        return acts.POLL, self._standing.give(int(match["poll"]), at, self._event)
+
+    def _poll_for(self, match: Match[bytes], at: int) -> Told:
+        in_range(int(match["start"]), int(match["timeout"]))
+        if match["pollfor"] == b"none":
+            return acts.POLLFOR_NONE, NONE
+        return acts.POLLFOR, self._standing.give(int(match["pollfor"]), at, self._event)
+
+    def _peek(self, match: Match[bytes], at: int) -> Told:
+        if match["peek"] == b"none":
+            self._standing.count(0)
+            return acts.PEEK_NONE, NONE
+        return acts.PEEK, self._standing.stands(int(match["peek"]))
+
+    def _remove(self, match: Match[bytes], at: int) -> Told:
+        id, found = int(match["removed"]), match["remove"] == b"yes"
+        in_range(id)
+        return acts.REMOVE if found else acts.REMOVE_NONE, self._standing.remove(id, found, self._event)
+
+    def _drain(self, match: Match[bytes], at: int) -> Told:
+        most, ids = int(match["most"]), match["drain"].split()
+        in_range(most)
+        if len(ids) > most:
+            raise Wrong(f"a drain of at most {most} gives {len(ids)}")
+        for id in ids:
+            self._standing.give(int(id), at, self._event)
+        return acts.DRAIN, len(ids)
+
+    def _clear(self, match: Match[bytes], at: int) -> Told:
+        return acts.CLEAR, self._standing.clear(self._event)
+
+    def _size(self, match: Match[bytes], at: int) -> Told:
+        size = int(match["size"])
+        self._standing.count(size)
+        return acts.SIZE, size
+
+
+def in_range(*numbers: int) -> None:
+    """Numbers that no column stores are tested here."""
+    if max(numbers) > GREATEST:
+        raise OverflowError

@@ -1,0 +1,21 @@
+"""Why there is no report: what is wrong with the history that was read, or with what was asked for."""
+from __future__ import annotations
+
+
+class Wrong(Exception):
+    """What a line says is not what a queue does."""
+
+
+class Damaged(Exception):
+    """The line of this number, from 1, is not as a history's is, or says what no queue does."""
+
+    def __init__(self, line: int, what: str) -> None:
+        super().__init__(line, what)
+        self.line, self.what = line, what
+
+    def __str__(self) -> str:
+        return f"line {self.line}: {self.what}"
+
+
+class NoJob(Exception):
+    """The history has no job of this origin."""

@@ -1,0 +1,72 @@
+"""The jobs of a history: which elements are attempts of one, how often each was given, and the life of a job.
+
+A job is named by the row of its first element, its *root*.
+"""
+from __future__ import annotations
+
+from array import array
+from collections import Counter
+from typing import Dict, Iterable, List, NamedTuple, Tuple
+
+from reporting.faults import NoJob
+from reporting.history import NONE, History
+from reporting.lateness import GIVES
+
+
+class Attempts(NamedTuple):
+    """How many elements of one attempt were offered, or stood at the start, and how many were given."""
+
+    attempt: int
+    offered: int
+    given: int
+
+
+class Jobs(NamedTuple):
+    """For each row, if it is a root, how many elements its job has and how many were given; 0 for other rows."""
+
+    elements: array
+    given: array
+    attempts: List[Attempts]
+    roots: List[int]
+    again: List[int]  # the roots of the jobs that were offered again, those with the most elements first
+
+
+def jobs_of(history: History) -> Jobs:
+    """Counts the elements of each job, and the attempts of all."""
+    elements, acts = history.elements, history.events.acts
+    counts, given = array("i", bytes(4 * len(elements))), array("i", bytes(4 * len(elements)))
+    attempts_given: Counter[int] = Counter()
+    for root, attempt, left in zip(elements.roots, elements.attempts, elements.left_in):
+        counts[root] += 1
+        if left != NONE and acts[left] in GIVES:
+            given[root] += 1
+            attempts_given[attempt] += 1
+    offered = Counter(elements.attempts)
+    attempts = [Attempts(it, offered[it], attempts_given[it]) for it in sorted(offered)]
+    roots = [row for row, count in enumerate(counts) if count]
+    again = sorted((root for root in roots if counts[root] > 1), key=lambda root: -counts[root])
+    return Jobs(counts, given, attempts, roots, again)
+
+
+def lives(history: History, roots: Iterable[int]) -> Dict[int, List[int]]:
+    """The rows of each of these jobs, in the order in which they were offered."""
+    found: Dict[int, List[int]] = {root: [] for root in roots}
+    for row, root in enumerate(history.elements.roots):
+        if root in found:
+            found[root].append(row)
+    return found
+
+
+def life(history: History, origin: int) -> List[int]:
+    """The rows of the job of this origin."""
+    root = history.root_of(origin)
+    if root is None:
+        raise NoJob(f"no job of origin {origin}")
+    return lives(history, [root])[root]
+
+
+def gifts(history: History, rows: Iterable[int]) -> List[Tuple[int, int]]:
+    """The events that gave these rows, each with the row, in their order."""
+    elements, acts = history.elements, history.events.acts
+    found = [(elements.left_in[row], row) for row in rows]
+    return sorted((event, row) for event, row in found if event != NONE and acts[event] in GIVES)

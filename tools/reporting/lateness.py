@@ -1,0 +1,58 @@
+"""How late elements were given: the moment at which one was given less its expiry."""
+from __future__ import annotations
+
+from array import array
+from typing import List, NamedTuple, Sequence
+
+from reporting import acts
+from reporting.buckets import Buckets
+from reporting.history import NONE, History
+
+GIVES = acts.GIVES_ONE | {acts.DRAIN}
+
+
+def rank(values: Sequence[int], share: float) -> int:
+    """The value of a rising series at which this share of all is reached: of ten values the median is the fifth."""
+    place = -int(-share * len(values) // 1)  # rounded up
+    return values[max(0, place - 1)]
+
+
+class Lateness(NamedTuple):
+    """The gifts in the order of their rows: when each took place and how late it was. And how late, in rising order."""
+
+    moments: array
+    delays: array
+    rising: array
+
+    @property
+    def median(self) -> int:
+        return rank(self.rising, 0.5)
+
+    @property
+    def high(self) -> int:
+        """The 99th percentile."""
+        return rank(self.rising, 0.99)
+
+    @property
+    def greatest(self) -> int:
+        return self.rising[-1]
+
+    def in_buckets(self, buckets: Buckets) -> List[List[int]]:
+        """How late the gifts of each bucket were, in rising order."""
+        found: List[List[int]] = [[] for _ in range(len(buckets))]
+        start, number = buckets.edges[0], len(buckets)
+        length = buckets.edges[-1] - start
+        for moment, delay in zip(self.moments, self.delays):
+            found[(moment - start) * number // length].append(delay)
+        return [sorted(some) for some in found]
+
+
+def lateness_of(history: History) -> Lateness:
+    """How late each element was that a poll, a take, a timed poll or a drain gave."""
+    elements, moments, all_acts = history.elements, history.events.moments, history.events.acts
+    when, delays = array("Q"), array("Q")
+    for expiry, left in zip(elements.expiries, elements.left_in):
+        if left != NONE and all_acts[left] in GIVES:
+            when.append(moments[left])
+            delays.append(moments[left] - expiry)
+    return Lateness(when, delays, array("Q", sorted(delays)))

@@ -1,0 +1,108 @@
+"""The queue of a history while it is read: which elements stand, and what may happen to them."""
+from __future__ import annotations
+
+from typing import Optional, Tuple
+
+from reporting.faults import Wrong
+from reporting.history import NONE, History
+
+# Id, expiry, origin, first expiry or nothing, attempt and payload, as they stand in a line.
+ElementWords = Tuple[bytes, ...]
+
+
+class Standing:
+    """Fills the columns of a history's elements. Each method raises a `Wrong` where no queue does so.
+
+    A number above 2^64 - 1 is refused by its column with an `OverflowError`; the history is of no use then. The
+    methods run once for each event, so they reach for what they need in few steps.
+    """
+
+    def __init__(self, history: History) -> None:
+        self._history, self._elements = history, history.elements
+        self._left_in, self._expiries = history.elements.left_in, history.elements.expiries
+        self._strays = history.strays
+        self._rows = self._number = 0
+        self._cleared = 0  # all rows before this one have left
+
+    def keep(self, words: ElementWords) -> None:
+        """Adds an element of the opening. The ids rise, below the next one."""
+        ids, id = self._elements.ids, int(words[0])
+        if id >= self._history.next_id or (ids and id <= ids[-1]):
+            raise Wrong("the id of a `keep` line is above the one before, and below the next")
+        self._history.kept += 1
+        self._add(id, words, NONE)
+
+    def offer(self, words: ElementWords, event: int) -> int:
+        """Adds an element that was offered. Its row."""
+        id, due = int(words[0]), self._history.next_id + self._rows - self._history.kept
+        if id != due:
+            raise Wrong(f"element {id} is offered, and the next id is {due}")
+        return self._add(id, words, event)
+
+    def give(self, id: int, moment: int, event: int) -> int:
+        """An element leaves, since it has expired. Its row."""
+        row = self.stands(id)
+        if self._expiries[row] > moment:
+            raise Wrong(f"element {id} is given at {moment}, and expires at {self._expiries[row]}")
+        self._left_in[row] = event
+        self._number -= 1
+        return row
+
+    def remove(self, id: int, found: bool, event: int) -> int:
+        """An element is taken out, or was not there. Its row, or NONE where there never was one."""
+        row = self._history.row_of(id)
+        if found != (row is not None and self._left_in[row] == NONE):
+            raise Wrong(f"element {id} was {'not ' if found else ''}in the queue")
+        if found and row is not None:
+            self._left_in[row] = event
+            self._number -= 1
+        return NONE if row is None else row
+
+    def clear(self, event: int) -> int:
+        """All elements leave. How many there were."""
+        for row in range(self._cleared, self._rows):
+            if self._left_in[row] == NONE:
+                self._left_in[row] = event
+        self._cleared = self._rows
+        were, self._number = self._number, 0
+        return were
+
+    def count(self, size: int) -> None:
+        """So many elements stand, which may be none."""
+        if size != self._number:
+            raise Wrong(f"the queue holds {self._number}, not {size}")
+
+    def stands(self, id: int) -> int:
+        """An element stands. Its row."""
+        row = self._history.row_of(id)
+        if row is None or self._left_in[row] != NONE:
+            raise Wrong(f"element {id} is not in the queue")
+        return row
+
+    def _add(self, id: int, words: ElementWords, event: int) -> int:
+        own, expiry_word, origin_word, first, attempt, payload = words
+        elements, row = self._elements, self._rows
+        expiry, origin = int(expiry_word), id if origin_word == own else int(origin_word)
+        elements.ids.append(id)
+        elements.expiries.append(expiry)
+        elements.origins.append(origin)
+        # Most elements are the first of their job, and nothing has to be looked up.
+        root = row if origin == id and not self._strays else self._root(row, origin)
+        elements.roots.append(root)
+        # The versions that do not tell a first expiry mean that of the job's earliest line.
+        elements.firsts.append(int(first) if first else self._expiries[root])
+        elements.attempts.append(int(attempt))
+        elements.offered_in.append(event)
+        elements.left_in.append(NONE)
+        elements.payloads += payload
+        elements.payload_ends.append(len(elements.payloads))
+        self._rows += 1
+        self._number += 1
+        return row
+
+    def _root(self, row: int, origin: int) -> int:
+        """The first row with this origin, which may be the new one."""
+        root: Optional[int] = self._history.root_of(origin)
+        if root is None:
+            self._strays[origin] = root = row
+        return root

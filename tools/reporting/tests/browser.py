@@ -1,0 +1,124 @@
+"""A browser without a window, driven over two pipes by the protocol of Chromium's developer tools."""
+from __future__ import annotations
+
+import base64
+import itertools
+import json
+import os
+import select
+import signal
+import subprocess
+import time
+from typing import Any, Dict, List
+
+PATIENCE = 60.0  # seconds for each answer
+
+# What a page may complain by: an error that no script caught, a line on the console, a log's entry, a dialog.
+COMPLAINTS = ("Runtime.exceptionThrown", "Runtime.consoleAPICalled", "Log.entryAdded", "Page.javascriptDialogOpening")
+
+
+class Browser:
+    """A browser with one page. It has a folder of its own for all that it keeps."""
+
+    def __init__(self, command: str, room: str) -> None:
+        to_browser, self._write = os.pipe()
+        self._read, from_browser = os.pipe()
+        words = [command, "--headless", "--no-sandbox", "--disable-gpu", "--disable-dev-shm-usage", "--hide-scrollbars",
+                 "--no-first-run", "--remote-debugging-pipe", f"--user-data-dir={room}/profile", "about:blank"]
+        # The browser reads descriptor 3 and writes descriptor 4.
+        script = f'exec "$@" 3<&{to_browser} 4>&{from_browser}'
+        self._process = subprocess.Popen(
+            ["bash", "-c", script, "bash", *words], pass_fds=(to_browser, from_browser), start_new_session=True,
+            env={**os.environ, "HOME": room},
+            stdin=subprocess.DEVNULL, stdout=subprocess.DEVNULL, stderr=subprocess.DEVNULL,
+        )
+        os.close(to_browser)
+        os.close(from_browser)
+        self._numbers, self._rest, self._session = itertools.count(1), b"", ""
+        self.complaints: List[Dict[str, Any]] = []
+        self._is_loaded = False
+        try:
+            self._attach()
+        except BaseException:
+            self.end()
+            raise
+
+    def _attach(self) -> None:
+        targets = self._ask("Target.getTargets")["targetInfos"]
+        page = next(it["targetId"] for it in targets if it["type"] == "page")
+        self._session = self._ask("Target.attachToTarget", targetId=page, flatten=True)["sessionId"]
+        for domain in ("Page", "Runtime", "Log"):
+            self._ask(f"{domain}.enable")
+
+    def open(self, path: str) -> None:
+        """Opens a file, and waits until it is loaded."""
+        self._is_loaded = False
+        self._ask("Page.navigate", url=f"file://{path}")
+        while not self._is_loaded:
+            self._take(self._message())
+
+    def value(self, expression: str) -> Any:
+        """What an expression of JavaScript gives in the page, or the promise that it is."""
+        answer = self._ask("Runtime.evaluate", expression=expression, returnByValue=True, awaitPromise=True)
+        if "exceptionDetails" in answer:
+            raise AssertionError(f"{expression}: {answer['exceptionDetails']}")
+        return answer["result"].get("value")
+
+    def type(self, words: str) -> None:
+        """Types words where the page's cursor is, and then the enter key."""
+        self._ask("Input.insertText", text=words)
+        enter = {"key": "Enter", "code": "Enter", "windowsVirtualKeyCode": 13, "text": "\r"}
+        for kind in ("keyDown", "keyUp"):
+            self._ask("Input.dispatchKeyEvent", type=kind, **enter)
+
+    def picture(self, width: int, height: int) -> bytes:
+        """The upper part of the page as a PNG."""
+        self._ask("Emulation.setDeviceMetricsOverride", width=width, height=height, deviceScaleFactor=1, mobile=False)
+        return base64.b64decode(self._ask("Page.captureScreenshot", format="png")["data"])
+
+    def end(self) -> None:
+        """Ends the browser, and all processes that it started."""
+        for descriptor in (self._write, self._read):
+            os.close(descriptor)
+        try:
+            self._process.wait(timeout=5)
+        except subprocess.TimeoutExpired:
+            pass
+        try:
+            os.killpg(self._process.pid, signal.SIGKILL)
+        except ProcessLookupError:
+            pass
+        self._process.wait()
+
+    def _ask(self, method: str, **parameters: Any) -> Dict[str, Any]:
+        number = next(self._numbers)
+        request: Dict[str, Any] = {"id": number, "method": method, "params": parameters}
+        if self._session:
+            request["sessionId"] = self._session
+        os.write(self._write, json.dumps(request).encode() + b"\0")
+        while True:
+            message = self._message()
+            if message.get("id") == number:
+                if "error" in message:
+                    raise AssertionError(f"{method}: {message['error']}")
+                return message["result"]
+            self._take(message)
+
+    def _take(self, message: Dict[str, Any]) -> None:
+        """Notes what the page tells unasked."""
+        method = message.get("method")
+        if method == "Page.loadEventFired":
+            self._is_loaded = True
+        elif method in COMPLAINTS:
+            self.complaints.append(message)
+
+    def _message(self) -> Dict[str, Any]:
+        end = time.monotonic() + PATIENCE
+        while b"\0" not in self._rest:
+            ready, _, _ = select.select([self._read], [], [], max(0.0, end - time.monotonic()))
+            some = os.read(self._read, 1 << 16) if ready else b""
+            if not some:
+                raise AssertionError("the browser does not answer")
+            self._rest += some
+        message, _, self._rest = self._rest.partition(b"\0")
+        return json.loads(message)

@@ -1,0 +1,131 @@
+"""tools/report as a command: what it prints, its exit statuses, and what it says of bad input."""
+from __future__ import annotations
+
+import os
+import subprocess
+import sys
+import tempfile
+import unittest
+from typing import Tuple
+from unittest import mock
+
+from reporting.progress import Progress
+from reporting.tests import REPORT
+from reporting.tests.support import RUN, offer, run, text_of
+
+
+class CommandTest(unittest.TestCase):
+    def setUp(self) -> None:
+        room = tempfile.TemporaryDirectory(prefix="rb-report-")
+        self.addCleanup(room.cleanup)
+        self.room = room.name
+        self.history = self.file("run.txt", RUN)
+
+    def file(self, name: str, text: str) -> str:
+        path = f"{self.room}/{name}"
+        with open(path, "w", encoding="utf-8") as file:
+            file.write(text)
+        return path
+
+    def refused(self, *words: str) -> Tuple[int, str]:
+        """The status of a run that prints nothing, and its last line on standard error, which is no traceback."""
+        ran = run(*words)
+        self.assertEqual(ran.stdout, "")
+        self.assertNotIn("Traceback", ran.stderr)
+        return ran.returncode, ran.stderr.splitlines()[-1]
+
+    def test_the_report(self) -> None:
+        ran = run(self.history)
+        self.assertEqual((ran.returncode, ran.stderr), (0, ""))
+        for line in (
+            f"{self.history}: history 3, 11 events, 2 seats, from 100 to 310 ns (210 ns)",
+            "2 elements at the start, 2 offered, 4 given, 0 left at the end",
+            "  poll         2         1              1",
+            "  elements in the queue         3    100 ns           0",
+            "  of these expired              2    100 ns           0",
+            "  median           20 ns  20 ns",
+            "        2                2      2",
+            "Jobs: 3; offered again: 1 (33.3 %)",
+            "     2      4        0      3              1            0               50 ns",
+        ):
+            self.assertIn(line, ran.stdout.splitlines())
+        self.assertEqual(ran.stdout.splitlines()[-2:], ["What looks wrong", "  nothing"])
+
+    def test_the_life_of_a_job(self) -> None:
+        ran = run(self.history, "--job", "3")
+        self.assertEqual(ran.stdout.splitlines(), [
+            "job 3: payload c, first expiry 100, 2 elements",
+            "  attempt  id  offered at  by seat  expiry  left at  to seat     by  late by",
+            "        1   3         100        1     100      120        2   take    20 ns",
+            "        2   4         160        1     300      310        1  drain    10 ns",
+        ])
+        before = run(self.history, "--job", "1").stdout.splitlines()
+        self.assertEqual(before[2].split(), ["2", "2", "before", "150", "170", "2", "pollfor", "20", "ns"])
+        left = run(self.file("left.txt", text_of(offer(0, 5))), "--job", "0").stdout
+        self.assertIn("still there", left)
+
+    def test_a_history_without_events(self) -> None:
+        empty = self.file("empty.txt", "history 1\nend 0\n")
+        page = f"{self.room}/page.html"
+        ran = run(empty, "--html", page)
+        self.assertEqual((ran.returncode, ran.stderr), (0, ""))
+        self.assertIn("nothing was given", ran.stdout)
+        self.assertTrue(os.path.getsize(page))
+
+    def test_a_history_that_comes_through_a_pipe(self) -> None:
+        ran = run("/dev/stdin", given=RUN)
+        self.assertEqual((ran.returncode, ran.stderr), (0, ""))
+
+    def test_a_damaged_history(self) -> None:
+        damaged = self.file("damaged.txt", RUN.replace("size 1", "size 2"))
+        page = f"{self.room}/page.html"
+        says = f"report: {damaged}: line 8: the queue holds 1, not 2"
+        self.assertEqual(self.refused(damaged, "--html", page), (1, says))
+        self.assertFalse(os.path.exists(page))
+
+    def test_a_job_that_is_not_there(self) -> None:
+        self.assertEqual(self.refused(self.history, "--job", "7"), (1, f"report: {self.history}: no job of origin 7"))
+
+    def test_files_that_can_not_be_used(self) -> None:
+        none = f"{self.room}/none.txt"
+        self.assertEqual(self.refused(none), (2, f"report: {none}: No such file or directory"))
+        self.assertEqual(self.refused(self.room), (2, f"report: {self.room}: Is a directory"))
+        page = f"{self.room}/none/page.html"
+        self.assertEqual(self.refused(self.history, "--html", page), (2, f"report: {page}: No such file or directory"))
+
+    def test_refused_words(self) -> None:
+        for words in ((), (self.history, "--job", "-1"), (self.history, "--job", "1_0"), (self.history, "--job", "٣"),
+                      (self.history, "--job", str(2**64)), (self.history, "--ht", "x"), (self.history, "more")):
+            self.assertEqual(self.refused(*words)[0], 2, words)
+
+    def test_the_page_is_not_the_history(self) -> None:
+        self.assertEqual(self.refused(self.history, "--html", self.history)[0], 2)
+        with open(self.history, encoding="utf-8") as file:
+            self.assertEqual(file.read(), RUN)
+
+    def test_a_reader_that_has_seen_enough(self) -> None:
+        words = [sys.executable, REPORT, self.history]
+        reading, writing = os.pipe()
+        os.close(reading)
+        ran = subprocess.run(words, stdout=writing, stderr=subprocess.PIPE, encoding="utf-8", timeout=60)
+        os.close(writing)
+        self.assertEqual((ran.returncode, ran.stderr), (2, "report: cannot write output\n"))
+
+
+class ProgressTest(unittest.TestCase):
+    def written(self, is_terminal: bool, seconds: float) -> str:
+        """What a report writes that says something after so many seconds."""
+        with mock.patch("sys.stderr") as stderr, mock.patch("time.monotonic", side_effect=[0.0, seconds]):
+            stderr.isatty.return_value = is_terminal
+            progress = Progress()
+            progress.say("reading: 40 %")
+            progress.end()
+            return "".join(call.args[0] for call in stderr.write.call_args_list)
+
+    def test_only_a_long_report_at_a_terminal_says_how_far_it_is(self) -> None:
+        self.assertIn("reading: 40 %", self.written(True, 2.5))
+        self.assertEqual(self.written(True, 1.5), "")
+        with mock.patch("sys.stderr") as stderr:
+            stderr.isatty.return_value = False
+            Progress().say("reading: 40 %")
+            self.assertFalse(stderr.write.called)

@@ -1,0 +1,155 @@
+"""What histories come to, counted by hand."""
+from __future__ import annotations
+
+import unittest
+from array import array
+from typing import List
+
+from reporting.attempts_plot import grouped
+from reporting.buckets import Buckets, thinned
+from reporting.depth import depth_of
+from reporting.faults import NoJob
+from reporting.jobs import Attempts, life
+from reporting.lateness import rank
+from reporting.lateness_plots import bins_of
+from reporting.seats import calls_over_time
+from reporting.tests.support import RUN, figures, offer, read, text_of
+from reporting.units import percent, span
+
+
+def attempts_of_one_job(*moments: int) -> List[str]:
+    """A job that is given at these moments, and is offered again each time."""
+    lines = []
+    for place, moment in enumerate(moments):
+        lines.append(f"1 {moment} {moment} offer {place} {moment} 0 {moments[0]} {place + 1} a")
+        lines.append(f"1 {moment} {moment} take {place}")
+    return lines
+
+
+class FiguresTest(unittest.TestCase):
+    def test_depth(self) -> None:
+        depth = depth_of(read(RUN))
+        # At 150 and 300 an element expires between two events.
+        self.assertEqual(list(depth.moments), [100, 100, 120, 120, 150, 160, 170, 300, 310, 310])
+        self.assertEqual(list(depth.standing), [2, 3, 2, 1, 1, 2, 1, 1, 0, 0])
+        self.assertEqual(list(depth.expired), [1, 2, 1, 0, 1, 1, 0, 1, 0, 0])
+        self.assertEqual((depth.deepest, depth.most_expired), ((3, 100), (2, 100)))
+
+    def test_removed_and_cleared_elements(self) -> None:
+        depth = depth_of(read(text_of(
+            offer(0, 5), offer(1, 7), offer(2, 99), "1 6 6 remove 0 yes", "1 6 6 remove 2 yes", "1 7 7 clear",
+        )))
+        self.assertEqual(list(depth.standing), [0, 1, 2, 3, 3, 2, 1, 1, 0])
+        self.assertEqual(list(depth.expired), [0, 0, 0, 0, 1, 0, 0, 1, 0])
+
+    def test_lateness(self) -> None:
+        lateness = figures(RUN).lateness
+        self.assertEqual(list(lateness.rising), [10, 20, 20, 30])
+        self.assertEqual((lateness.median, lateness.high, lateness.greatest), (20, 30, 30))
+
+    def test_rank(self) -> None:
+        self.assertEqual(rank(range(1, 11), 0.5), 5)
+        self.assertEqual(rank(range(1, 101), 0.99), 99)
+        self.assertEqual([rank([7], share) for share in (0.0, 0.5, 0.99, 1.0)], [7, 7, 7, 7])
+
+    def test_calls(self) -> None:
+        told = {it.keyword: (it.calls, it.elements, it.nothing) for it in figures(RUN).calls}
+        self.assertEqual(told, {
+            "offer": (2, 0, 0), "poll": (2, 1, 1), "take": (1, 1, 0), "pollfor": (1, 1, 0), "peek": (1, 1, 0),
+            "remove": (1, 0, 1), "drain": (1, 1, 0), "clear": (1, 0, 0), "size": (1, 0, 0),
+        })
+
+    def test_jobs_and_attempts(self) -> None:
+        jobs = figures(RUN).jobs
+        self.assertEqual(jobs.attempts, [Attempts(1, 2, 2), Attempts(2, 2, 2)])
+        self.assertEqual((jobs.roots, jobs.again), ([0, 1, 2], [2]))
+        self.assertEqual((list(jobs.elements), list(jobs.given)), ([1, 1, 2, 0], [1, 1, 2, 0]))
+
+    def test_the_rows_of_a_job(self) -> None:
+        history = read(RUN)
+        self.assertEqual([life(history, origin) for origin in (0, 1, 3)], [[0], [1], [2, 3]])
+        for origin in (2, 4, 5, 2**64 - 1):
+            self.assertRaises(NoJob, life, history, origin)
+
+    def test_seats(self) -> None:
+        one, two = figures(RUN).seats.busiest
+        self.assertEqual(one, (1, 7, 2, 1, 0, 4, 100, 310))
+        self.assertEqual(two, (2, 4, 0, 3, 1, 0, 120, 170))
+
+
+    def test_of_many_seats_the_busiest_are_told(self) -> None:
+        told = figures(text_of("7 0 0 size 0", *[f"{seat} 0 0 size 0" for seat in range(100)]))
+        self.assertEqual((told.seats.total, len(told.seats.busiest), told.seats.more), (100, 16, 84))
+        self.assertIn(7, [seat.number for seat in told.seats.busiest])
+        _, others = calls_over_time(told.history, Buckets.over(0, 0, 9), [seat.number for seat in told.seats.busiest])
+        self.assertEqual(others, [84])
+
+
+class FindingsTest(unittest.TestCase):
+    def says(self, *events: str) -> str:
+        return "; ".join(it.says for it in figures(text_of(*events)).findings)
+
+    def test_a_job_given_three_times_within_a_millisecond(self) -> None:
+        says = self.says(*attempts_of_one_job(0, 5, 1_000_000))
+        self.assertIn("1 job was given 3 times or more within 1.00 ms", says)
+        self.assertEqual(self.says(*attempts_of_one_job(0, 5, 1_000_001)), "")
+        self.assertEqual(self.says(*attempts_of_one_job(0, 5)), "")
+        self.assertIn("1 job", self.says(*attempts_of_one_job(0, 2_000_000, 2_000_001, 2_000_002)))
+
+    def test_elements_that_never_left(self) -> None:
+        says = self.says(offer(0, 5), offer(1, 10), offer(2, 11), "1 10 10 size 3")
+        self.assertIn("3 elements never left the queue; 2 of them had expired at the end", says)
+        self.assertIn("the earliest 5 ns before", says)
+
+    def test_discarded_elements(self) -> None:
+        self.assertEqual(self.says(offer(0, 5), offer(1, 9), "1 0 0 clear"), "2 elements were discarded by 1 clear")
+        self.assertEqual(self.says("1 0 0 clear"), "")
+
+    def test_polls_that_find_nothing(self) -> None:
+        self.assertIn("100.0 % of 100 polls found nothing", self.says(*["1 0 0 poll none"] * 100))
+        self.assertEqual(self.says(*["1 0 0 poll none"] * 99), "")
+
+    def test_a_queue_that_grows_to_the_end(self) -> None:
+        self.assertIn("more came than left", self.says(*[offer(id, 5) for id in range(100)]))
+        self.assertNotIn("more came", self.says(*[offer(id, 5) for id in range(99)]))
+
+
+class SeriesTest(unittest.TestCase):
+    def test_few_points_are_all_kept(self) -> None:
+        points = thinned(array("Q", [0, 0, 9]), array("l", [1, 2, 0]), Buckets.over(0, 9, 100))
+        self.assertEqual(points, [(0, 1), (0, 2), (9, 0)])
+
+    def test_peaks_and_valleys_of_a_long_series_are_kept(self) -> None:
+        moments, values = array("Q", range(10_000)), array("l", [5] * 10_000)
+        values[1234], values[7777] = 900, -3
+        points = thinned(moments, values, Buckets.over(0, 9_999, 10))
+        self.assertLessEqual(len(points), 40)
+        self.assertEqual(points, sorted(points))
+        for needed in ((0, 5), (1234, 900), (7777, -3), (9_999, 5)):
+            self.assertIn(needed, points)
+
+    def test_buckets_hold_each_moment_once(self) -> None:
+        for start, end, most in ((0, 0, 9), (5, 7, 9), (0, 99, 7), (2**64 - 3, 2**64 - 1, 2)):
+            buckets = Buckets.over(start, end, most)
+            self.assertEqual((buckets.edges[0], buckets.edges[-1]), (start, end + 1))
+            self.assertEqual(len(set(buckets.edges)), len(buckets) + 1)
+            self.assertLessEqual(len(buckets), most)
+
+    def test_ranges_of_lateness_hold_each_gift_once(self) -> None:
+        rising = [0, 0, 1, 9, 10, 11, 2**64 - 1]
+        bins = bins_of(rising)
+        self.assertEqual(sum(it.gifts for it in bins), len(rising))
+        self.assertEqual((bins[0].low, bins[0].gifts), (0, 2))
+        self.assertEqual(bins_of([]), [])
+
+    def test_many_attempts_are_grouped(self) -> None:
+        attempts = [Attempts(it, 2, 1) for it in range(1, 1001)]
+        groups = grouped(attempts, 40)
+        self.assertEqual((len(groups), groups[0], groups[-1]), (40, ("1–25", 50, 25), ("976–1000", 50, 25)))
+        self.assertEqual(grouped(attempts[:2], 40), [("1", 2, 1), ("2", 2, 1)])
+
+    def test_numbers_as_people_read_them(self) -> None:
+        told = [span(it) for it in (0, 999, 1_000, 20_500, 123_400_000, 2_000_000_000, 7200 * 10**9, 2**64 - 1)]
+        self.assertEqual(told, ["0 ns", "999 ns", "1.00 µs", "20.5 µs", "123 ms", "2.00 s", "2.00 h", "213,504 d"])
+        shares = [percent(1, 3), percent(1, 5000), percent(0, 9), percent(0, 0)]
+        self.assertEqual(shares, ["33.3 %", "< 0.1 %", "0.0 %", "0.0 %"])

@@ -1,0 +1,129 @@
+"""The page as a text: what a payload may spell, how many points the plots have, and which jobs it has."""
+from __future__ import annotations
+
+import json
+import re
+import unittest
+from html.parser import HTMLParser
+from typing import Dict, List, Optional, Tuple
+from unittest import mock
+
+from reporting.figures import figures_of
+from reporting.page import page
+from reporting.tests.support import RUN, figures, offer, read, text_of
+
+HOSTILE = [
+    "<script>alert(1)</script>", "</script><script>alert(2)</script>", "<!--<script>", "-->", "]]>",
+    '"><img/src=x/onerror=alert(3)>', "'onload='alert(4)", "&lt;b&gt;", "&amp;", "\\u003c/script\\u003e",
+    "</style>", "</title>",
+]
+
+
+class Outline(HTMLParser):
+    """The elements of a page, with their attributes and the text of each kind."""
+
+    def __init__(self, text: str) -> None:
+        super().__init__(convert_charrefs=True)
+        self.tags: List[Tuple[str, Dict[str, Optional[str]]]] = []
+        self.texts: Dict[str, List[str]] = {}
+        self._open = ""
+        self.feed(text)
+        self.close()
+
+    def handle_starttag(self, tag: str, attrs: List[Tuple[str, Optional[str]]]) -> None:
+        self.tags.append((tag, dict(attrs)))
+        self._open = tag
+        self.texts.setdefault(tag, []).append("")
+
+    def handle_data(self, data: str) -> None:
+        if self._open:
+            self.texts[self._open][-1] += data
+
+    def handle_endtag(self, tag: str) -> None:
+        self._open = ""
+
+    def count(self, tag: str) -> int:
+        return sum(name == tag for name, _ in self.tags)
+
+
+def lives_in(text: str) -> Dict[str, list]:
+    found = re.search(r'<script type="application/json" id="lives">(.*?)</script>', text, re.S)
+    return json.loads(found[1])["jobs"] if found else {}
+
+
+def hostile_text() -> str:
+    lines = [offer(place, 0, payload) for place, payload in enumerate(HOSTILE)]
+    return text_of(*lines, f"1 9 9 drain 64 {' '.join(str(it) for it in range(len(HOSTILE)))}")
+
+
+class PageTest(unittest.TestCase):
+    def test_payloads_stay_text(self) -> None:
+        text = page(figures(hostile_text()))
+        outline = Outline(text)
+        counts = {tag: outline.count(tag) for tag in ("script", "style", "title", "img", "b")}
+        # The page's title, and one for each bar; a figure in bold on each of nine cards.
+        self.assertEqual(counts, {"script": 2, "style": 1, "title": 1 + text.count("<rect"), "img": 0, "b": 9})
+        self.assertEqual(outline.texts["code"], HOSTILE)
+        self.assertEqual([job[0] for job in lives_in(text).values()], HOSTILE)
+        handlers = [name for _, attributes in outline.tags for name in attributes if name.startswith("on")]
+        self.assertEqual(handlers, [])
+
+    def test_a_first_expiry_behind_all_gifts(self) -> None:
+        text = page(figures(text_of(f"1 0 0 offer 0 0 0 {2**64 - 1} 1 a", "1 0 0 poll 0")))
+        self.assertIn("<td>–</td>", text)
+
+    def test_a_hostile_name_of_a_file_stays_text(self) -> None:
+        text = page(figures_of("</title><img src=x>\udcff&", read(RUN)))
+        self.assertEqual(Outline(text).count("img"), 0)
+
+    def test_no_script_but_its_own_may_run(self) -> None:
+        text = page(figures(RUN))
+        policy = next(told["content"] for tag, told in Outline(text).tags if tag == "meta" and "http-equiv" in told)
+        self.assertIn("default-src 'none'", policy or "")
+        self.assertNotIn("unsafe", policy or "")
+
+    def test_it_needs_nothing_else(self) -> None:
+        loads = [name for _, attributes in Outline(page(figures(RUN))).tags for name in attributes if name == "src"]
+        self.assertEqual(loads, [])
+
+    def test_the_plots_have_as_many_points_as_the_captions_say(self) -> None:
+        lines = [offer(id, 50 * id, at=id) for id in range(3000)]
+        for text in (page(figures(RUN)), page(figures(text_of(*lines)))):
+            standing, expired = re.findall(r"standing ([\d,]+) points?, expired ([\d,]+) points?", text)[0]
+            for kind, told in (("standing", standing), ("expired", expired)):
+                path = re.findall(f'<path class="line {kind}" d="([^"]*)"', text)[0]
+                self.assertEqual(1 + path.count("V"), int(told.replace(",", "")))
+
+    def test_all_changes_of_a_short_run_are_points(self) -> None:
+        self.assertIn("standing 10 points, expired 10 points, of 10 changes.", page(figures(RUN)))
+
+    def test_a_long_run_is_thinned_and_says_so(self) -> None:
+        text = page(figures(text_of(*[offer(id, 9_000_000, at=1000 * id) for id in range(3000)])))
+        points = int(re.findall(r"standing ([\d,]+) points", text)[0].replace(",", ""))
+        self.assertTrue(400 <= points <= 1600)
+        self.assertIn("Of each 7.50 µs the first, the least, the greatest and the last value are drawn", text)
+
+    def test_the_lives_of_jobs(self) -> None:
+        lives = lives_in(page(figures(RUN)))
+        self.assertEqual(set(lives), {"0", "1", "3"})
+        self.assertEqual(lives["3"], ["c", 100, [[3, 1, 100, 100, 1, 120, 2, 3], [4, 2, 300, 160, 1, 310, 1, 10]]])
+        self.assertEqual(lives["1"][2], [[2, 2, 150, None, None, 170, 2, 4]])
+
+    def test_numbers_that_a_browser_can_not_tell_exactly_are_text(self) -> None:
+        lives = lives_in(page(figures(text_of(offer(0, 2**64 - 1), offer(1, 2**53 - 1)))))
+        self.assertEqual([lives["0"][1], lives["1"][1]], [str(2**64 - 1), 2**53 - 1])
+
+    def test_of_many_jobs_it_has_some_and_says_which(self) -> None:
+        lines = [offer(id, 0) for id in range(50)] + ["1 9 9 poll 40", "1 9 9 offer 50 9 40 0 2 a"]
+        with mock.patch("reporting.lives.MOST_ELEMENTS", 10):
+            text = page(figures(text_of(*lines)))
+        lives = lives_in(text)
+        self.assertIn("40", lives)
+        self.assertLessEqual(sum(len(job[2]) for job in lives.values()), 10)
+        self.assertIn(f"the lives of {len(lives)} of 50 jobs", text)
+        self.assertIn("tools/report run.txt --job ORIGIN", text)
+
+    def test_a_job_of_too_many_elements_leaves_room_for_others(self) -> None:
+        lines = [f"1 0 0 offer {id} 0 0 0 1 a" for id in range(11)] + [offer(11, 0)]
+        with mock.patch("reporting.lives.MOST_ELEMENTS", 10):
+            self.assertEqual(list(lives_in(page(figures(text_of(*lines))))), ["11"])

@@ -1,0 +1,57 @@
+"""Histories that the program itself wrote, by the examples of the README, and the counts on which both agree."""
+from __future__ import annotations
+
+import json
+import subprocess
+import sys
+import tempfile
+import unittest
+
+from reporting import tests
+from reporting.tests.support import run
+
+
+class ProgramTest(unittest.TestCase):
+    def setUp(self) -> None:
+        if not tests.PROGRAM:
+            self.skipTest("no program was named or built")
+        room = tempfile.TemporaryDirectory(prefix="rb-report-")
+        self.addCleanup(room.cleanup)
+        self.room = room.name
+
+    def script(self, name: str, *options: str) -> str:
+        """Serves a script of examples/. The file with the run's history."""
+        path = f"{self.room}/{name}.history"
+        with open(f"{tests.TOP}/examples/{name}", "rb") as script:
+            words = [str(tests.PROGRAM), "script", "--history", path, *options]
+            subprocess.run(words, stdin=script, check=True, capture_output=True, timeout=60)
+        return path
+
+    def test_a_job_with_three_attempts(self) -> None:
+        lines = run(self.script("retries.txt"), "--job", "0").stdout.splitlines()
+        told = [line.split()[:3] + line.split()[4:6] + line.split()[7:8] for line in lines[2:]]
+        self.assertEqual(told, [
+            ["1", "0", "100", "100", "100", "poll"],
+            ["2", "1", "200", "1200", "1200", "poll"],
+            ["3", "2", "1200", "2200", "2200", "take"],
+        ])
+
+    def test_a_run_and_the_next(self) -> None:
+        first = self.script("held.txt")
+        self.assertIn("0 elements at the start, 2 offered, 1 given, 1 left at the end", run(first).stdout)
+        following = self.script("next.txt", "--from", first)
+        self.assertIn("1 element at the start, 0 offered, 1 given, 0 left at the end", run(following).stdout)
+
+    def test_a_made_history_is_counted_alike(self) -> None:
+        path = f"{self.room}/made.txt"
+        for version in ("1", "3"):
+            with open(path, "w", encoding="ascii") as file:
+                words = [sys.executable, tests.MAKE_HISTORY, "6000", "--version", version]
+                subprocess.run(words, stdout=file, check=True, timeout=60)
+            chains = ["--chains", "--delay", "50000000", "--attempts", "3"]
+            verdict = subprocess.run([str(tests.PROGRAM), "replay", path, *chains], capture_output=True, timeout=120)
+            self.assertEqual(verdict.returncode, 0, verdict.stdout)
+            told = json.loads(verdict.stdout)
+            line = (f"{told['opening']} elements at the start, {told['offered']:,} offered, {told['given']:,} given, "
+                    f"{told['left']:,} left at the end")
+            self.assertEqual(run(path).stdout.splitlines()[1], line)
