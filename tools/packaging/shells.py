@@ -1,0 +1,102 @@
+"""The completions as the shells have them: bash is asked to complete, and zsh for what it hands to _arguments."""
+from __future__ import annotations
+
+import re
+import shlex
+import shutil
+import subprocess
+
+from packaging.table import Command, Option, Table
+from serving.server import Tally
+
+BASH = """
+source "$1"
+ask() { COMP_WORDS=("$@") COMP_CWORD=$(($# - 1)); _rb_broker; echo "${COMPREPLY[*]}"; }
+cd "$2"
+"""
+
+# The words of each call of _arguments, one a line, and an empty line behind them.
+ZSH = """
+_arguments() { print -rl -- "$@" '' }
+_describe() { : }
+words=()
+source $1
+"""
+SPEC = re.compile(r"(?:\((--[a-z]+)\))?(--[a-z]+)(=?)\[(.*?)\](?::(\w+)(?: \((.*)\))?:(.*))?")
+
+
+def completed(file: str, folder: str, questions: list[list[str]]) -> list[list[str]]:
+    """What bash completes in a folder: for the words of each question the candidates for the last one."""
+    asked = "".join(f"ask rb_broker {' '.join(map(shlex.quote, it))}\n" for it in questions)
+    told = subprocess.run(
+        ["bash", "--norc", "-c", BASH + asked, "bash", file, folder], capture_output=True, encoding="utf-8", timeout=60
+    )
+    if told.stderr:
+        raise ValueError(told.stderr)
+    return [it.split() for it in told.stdout.splitlines()]
+
+
+def check_bash(tally: Tally, file: str, folder: str, table: Table) -> None:
+    """bash completes commands, options, values and files; the folder has the file `one.txt` alone."""
+    names = [it.name for it in table.commands]
+    rows = [([""], [*names, "help", "-h", "--help"]), (["s"], ["script", "serve"]), (["help", ""], names)]
+    for command in table.commands:
+        rows += bash_rows(command)
+    found = completed(file, folder, [asked for asked, _ in rows])
+    for (asked, wanted), candidates in zip(rows, found):
+        fault = None if candidates == wanted else f"{candidates}, not {wanted}"
+        tally.count(f"bash completes {' '.join(asked)!r}", fault)
+    tally.count("answers of bash", None if len(found) == len(rows) else f"{len(found)} of {len(rows)}")
+
+
+def bash_rows(command: Command) -> list[tuple[list[str], list[str]]]:
+    """Words of a command, and the candidates for the last one."""
+    options = [it.name for it in command.options] + ["--help"]
+    rows = [([command.name, "--"], options), ([command.name, ""], ["one.txt"] if command.argument else options)]
+    for option in command.options:
+        if option.value:
+            values = ["one.txt"] if option.is_file else candidates_of(option)
+            rows.append(([command.name, option.name, ""], values))
+            rows.append(([command.name, option.name, "="], values))
+            rows.append(([command.name, option.name, "=", values[0][:1]], [it for it in values if it[0] == values[0][0]]))
+        value = ["1"] if option.value else []
+        rest = [it for it in options if it not in (option.name, option.excludes)]
+        rows.append(([command.name, option.name, *value, "--"], rest))
+    return rows
+
+
+def candidates_of(option: Option) -> list[str]:
+    """The values that show the range: its ends, and the default between them."""
+    if option.choices:
+        return list(option.choices)
+    numbers = {option.least, option.greatest} | ({int(option.default)} if option.default else set())
+    return [str(it) for it in sorted(it for it in numbers if it is not None)]
+
+
+def check_zsh(tally: Tally, file: str, table: Table) -> None:
+    """zsh is told each option of a command, with its value, range, default and choices. Needs zsh."""
+    if not shutil.which("zsh"):
+        print("zsh is not installed: its completions are not tried")
+        return
+    asked = "".join(f"_rb_broker_{it.name}\n" for it in table.commands)
+    told = subprocess.run(
+        ["zsh", "-f", "-c", ZSH + asked, "zsh", file], capture_output=True, encoding="utf-8", timeout=60
+    )
+    tally.count("zsh reads its completions", told.stderr)
+    parts = told.stdout.split("\n\n")[1:]  # the first is of the words before the command
+    for command, part in zip(table.commands, parts):
+        specs = [SPEC.fullmatch(it) for it in part.splitlines() if "--help" not in it and "--" in it]
+        found = [it.groups(default="") if it else () for it in specs]
+        wanted = [zsh_row(it) for it in command.options]
+        tally.count(f"zsh's options of {command.name}", None if found == wanted else f"{found},\n    not {wanted}")
+        file = f":{command.argument.value}:_files" if command.argument else None
+        tally.count(f"zsh's file of {command.name}", None if not file or file in part.splitlines() else "it has none")
+
+
+def zsh_row(option: Option) -> tuple[str, ...]:
+    """What a spec has to have: what it excludes, name, `=`, help, value, range and default, and action."""
+    told = [f"{option.least} to {option.greatest}"] if option.is_number else []
+    told += [f"default {option.default}"] if option.default else []
+    action = "_files" if option.is_file else f"({' '.join(option.choices)})" if option.choices else " "
+    values = (option.value, ", ".join(told), action) if option.value else ("", "", "")
+    return (option.excludes or "", option.name, "=" if option.value else "", option.help, *map(str, values))
