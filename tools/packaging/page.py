@@ -3,9 +3,9 @@ from __future__ import annotations
 
 import re
 import shutil
-import subprocess
 
 from packaging import SOURCES
+from packaging.running import fault_unless, run
 from packaging.table import HELP_OPTIONS, Option, Table
 from serving.server import Tally
 
@@ -64,7 +64,7 @@ def check_page(tally: Tally, table: Table) -> None:
     uses = [it for it in synopsis.split(f".SY {table.program}\n") if options_in(it)]
     told = {it.split("\n")[0].split()[-1]: options_in(it) for it in uses}
     wanted = {command.name: {it.name for it in command.options} for command in table.commands}
-    tally.count("the page's synopsis", None if told == wanted else f"{told}, the table has {wanted}")
+    tally.count("the page's synopsis", fault_unless(told == wanted, f"{told}, the table has {wanted}"))
     entries = entries_of(page)
     for option in table.options:
         tally.count(f"the page's {option.name}", ", ".join(faults_of(option, entries.get(option.name, []))))
@@ -74,13 +74,12 @@ def check_page(tally: Tally, table: Table) -> None:
 
 def check_layout(tally: Tally, path: str) -> None:
     """The page in a file is set without a warning. mandoc looks at it too where it is installed."""
-    told = subprocess.run(
-        ["man", "--warnings", "-E", "UTF-8", "-l", path], capture_output=True, encoding="utf-8", errors="replace",
-        env={"PATH": "/usr/bin:/bin", "LC_ALL": "C.UTF-8", "MANWIDTH": "100"}, stdin=subprocess.DEVNULL,
-    )
-    heads = [it for it in ("NAME", "SCRIPT", "REPLAY", "SERVE", "EXIT STATUS", "FILES") if it not in told.stdout]
-    fault = told.stderr if told.returncode or told.stderr else f"it has no {heads}" if heads else None
-    tally.count("man of the page", fault)
+    told = run("man", "--warnings", "-E", "UTF-8", "-l", path)
+    heads = [it for it in ("NAME", "SCRIPT", "REPLAY", "SERVE", "EXIT STATUS", "FILES") if it not in told.said]
+    tally.count("man of the page", told.errors or fault_unless(told.status == 0, f"status {told.status}"))
+    tally.count("the page's sections", fault_unless(not heads, f"it has no {heads}"))
     if shutil.which("mandoc"):
-        told = subprocess.run(["mandoc", "-T", "lint", path], capture_output=True, encoding="utf-8")
-        tally.count("mandoc -T lint of the page", told.stdout + told.stderr)
+        told = run("mandoc", "-T", "lint", path)
+        tally.count("mandoc -T lint of the page", told.said + told.errors)
+    else:
+        print("mandoc is not installed: the page is not tried by it")

@@ -1,6 +1,7 @@
 """What a program needs of the machine that it runs on, read from its file by readelf."""
 from __future__ import annotations
 
+import os
 import re
 import shutil
 import subprocess
@@ -35,6 +36,8 @@ class Needs:
 
 def needs_of(program: str) -> Needs:
     """What the program in a file needs."""
+    if not os.path.isfile(program):
+        raise Fault(f"{program} is no file")
     if not shutil.which("readelf"):
         raise Fault("there is no command readelf, of the package binutils, on the path")
     told = subprocess.run(

@@ -4,14 +4,14 @@ from __future__ import annotations
 import os
 
 from packaging import SOURCES, TOP
-from packaging.trial import fault_unless, run
+from packaging.running import fault_unless, run
 from serving.server import Tally
 
 
 def check_refusals(tally: Tally, program: str, folder: str) -> None:
     """Runs the tools with what they can't work with. The folder is empty, and is as empty at the end."""
     package, stop, prepare = f"{TOP}/tools/package", f"{SOURCES}/stop_server", f"{SOURCES}/prepare_run"
-    refused(tally, 2, "is no ELF program", folder, package, "--program", f"{folder}/none")
+    refused(tally, 2, "is no file", folder, package, "--program", f"{folder}/none")
     refused(tally, 2, "is no ELF program", folder, package, "--program", f"{TOP}/README.md")
     refused(tally, 2, "is no folder", folder, package, "--program", program, "--output", f"{folder}/none")
     refused(tally, 2, "begins with a digit", folder, package, "--program", program, "--version", "next-1")
@@ -29,6 +29,6 @@ def check_refusals(tally: Tally, program: str, folder: str) -> None:
 
 def refused(tally: Tally, wanted: int, why: str, folder: str, *words: str) -> None:
     """Runs a tool, which has to end with this status and one line on standard error that says why."""
-    status, said, errors = run(*words, folder=folder)
-    is_right = status == wanted and not said and why in errors and errors.count("\n") == 1
-    tally.count(" ".join([os.path.basename(words[0]), *words[1:]]), fault_unless(is_right, (status, said, errors)))
+    told = run(*words, folder=folder)
+    is_right = told.status == wanted and not told.said and why in told.errors and told.errors.count("\n") == 1
+    tally.count(" ".join([os.path.basename(words[0]), *words[1:]]), fault_unless(is_right, told))

@@ -4,8 +4,8 @@ from __future__ import annotations
 import re
 import shlex
 import shutil
-import subprocess
 
+from packaging.running import fault_unless, run
 from packaging.table import Command, Option, Table
 from serving.server import Tally
 
@@ -25,28 +25,19 @@ source $1
 SPEC = re.compile(r"(?:\((--[a-z]+)\))?(--[a-z]+)(=?)\[(.*?)\](?::(\w+)(?: \((.*)\))?:(.*))?")
 
 
-def completed(file: str, folder: str, questions: list[list[str]]) -> list[list[str]]:
-    """What bash completes in a folder: for the words of each question the candidates for the last one."""
-    asked = "".join(f"ask rb_broker {' '.join(map(shlex.quote, it))}\n" for it in questions)
-    told = subprocess.run(
-        ["bash", "--norc", "-c", BASH + asked, "bash", file, folder], capture_output=True, encoding="utf-8", timeout=60
-    )
-    if told.stderr:
-        raise ValueError(told.stderr)
-    return [it.split() for it in told.stdout.splitlines()]
-
-
 def check_bash(tally: Tally, file: str, folder: str, table: Table) -> None:
     """bash completes commands, options, values and files; the folder has the file `one.txt` alone."""
     names = [it.name for it in table.commands]
     rows = [([""], [*names, "help", "-h", "--help"]), (["s"], ["script", "serve"]), (["help", ""], names)]
     for command in table.commands:
         rows += bash_rows(command)
-    found = completed(file, folder, [asked for asked, _ in rows])
-    for (asked, wanted), candidates in zip(rows, found):
-        fault = None if candidates == wanted else f"{candidates}, not {wanted}"
-        tally.count(f"bash completes {' '.join(asked)!r}", fault)
-    tally.count("answers of bash", None if len(found) == len(rows) else f"{len(found)} of {len(rows)}")
+    asked = "".join(f"ask rb_broker {' '.join(map(shlex.quote, words))}\n" for words, _ in rows)
+    told = run("bash", "--norc", "-c", BASH + asked, "bash", file, folder)
+    found = [it.split() for it in told.said.splitlines()]
+    tally.count("bash reads its completions", told.errors or fault_unless(len(found) == len(rows), told))
+    for (words, wanted), candidates in zip(rows, found):
+        fault = fault_unless(candidates == wanted, f"{candidates}, not {wanted}")
+        tally.count(f"bash completes {' '.join(words)!r}", fault)
 
 
 def bash_rows(command: Command) -> list[tuple[list[str], list[str]]]:
@@ -79,18 +70,18 @@ def check_zsh(tally: Tally, file: str, table: Table) -> None:
         print("zsh is not installed: its completions are not tried")
         return
     asked = "".join(f"_rb_broker_{it.name}\n" for it in table.commands)
-    told = subprocess.run(
-        ["zsh", "-f", "-c", ZSH + asked, "zsh", file], capture_output=True, encoding="utf-8", timeout=60
-    )
-    tally.count("zsh reads its completions", told.stderr)
-    parts = told.stdout.split("\n\n")[1:]  # the first is of the words before the command
+    told = run("zsh", "-f", "-c", ZSH + asked, "zsh", file)
+    parts = told.said.split("\n\n")[1:-1]  # the first is of the words before the command
+    tally.count("zsh reads its completions", told.errors or fault_unless(len(parts) == len(table.commands), told))
     for command, part in zip(table.commands, parts):
         specs = [SPEC.fullmatch(it) for it in part.splitlines() if "--help" not in it and "--" in it]
         found = [it.groups(default="") if it else () for it in specs]
         wanted = [zsh_row(it) for it in command.options]
-        tally.count(f"zsh's options of {command.name}", None if found == wanted else f"{found},\n    not {wanted}")
+        fault = fault_unless(found == wanted, f"{found},\n    not {wanted}")
+        tally.count(f"zsh's options of {command.name}", fault)
         file = f":{command.argument.value}:_files" if command.argument else None
-        tally.count(f"zsh's file of {command.name}", None if not file or file in part.splitlines() else "it has none")
+        fault = fault_unless(not file or file in part.splitlines(), "it has none")
+        tally.count(f"zsh's file of {command.name}", fault)
 
 
 def zsh_row(option: Option) -> tuple[str, ...]:

@@ -4,10 +4,10 @@ from __future__ import annotations
 import re
 import shlex
 import shutil
-import subprocess
 
 from packaging import SOURCES
 from packaging.page import PAGE, options_in, plain
+from packaging.running import fault_unless, run
 from packaging.table import Command, Option, Table
 from packaging.told import accepts
 from serving.server import Tally
@@ -40,10 +40,10 @@ def check_unit(tally: Tally, program: str, table: Table) -> None:
     unit, defaults = text_of(UNIT), text_of(DEFAULTS)
     start = re.search(r"^ExecStart=(.*)$", unit, re.M)
     own = options_in(start[1] if start else "")
-    tally.count("the unit's own options", None if own == {"--port", "--from", "--history"} else str(own))
+    tally.count("the unit's own options", fault_unless(own == {"--port", "--from", "--history"}, own))
     rows = dict(re.findall(r"^#   (--\S+) [A-Z] .*?: (.*)$", defaults, re.M))
     wanted = {it.name: comment_of(it) for it in serve.options if it.name not in own}
-    tally.count("the options of rb_broker.default", None if rows == wanted else f"{rows}, the table has {wanted}")
+    tally.count("the options of rb_broker.default", fault_unless(rows == wanted, f"{rows}, the table has {wanted}"))
     others = options_in(unit + defaults) - {it.name for it in serve.options}
     tally.count("other options of the unit", ", ".join(sorted(others)))
     check_settings(tally, program, serve, unit, defaults)
@@ -53,12 +53,14 @@ def check_settings(tally: Tally, program: str, serve: Command, unit: str, defaul
     """Both files give a variable the same value, which the program accepts and the page tells."""
     for name in ("RB_BROKER_OPTIONS", "RB_BROKER_STOP_SECONDS"):
         told = {setting_of(unit, name), setting_of(defaults, name)}
-        tally.count(f"{name} of unit and file", None if len(told) == 1 else str(told))
+        tally.count(f"{name} of unit and file", fault_unless(len(told) == 1, told))
     words = shlex.split(setting_of(defaults, "RB_BROKER_OPTIONS"))
-    tally.count("the words of RB_BROKER_OPTIONS", None if accepts(program, serve, words) else f"{words} are refused")
+    is_right = accepts(program, serve, words) is True
+    tally.count("the words of RB_BROKER_OPTIONS", fault_unless(is_right, f"{words} are refused"))
     stopping = plain(text_of(PAGE)).partition(".SH STOPPING")[2].partition("\n.SH")[0]
     wanted = f"is 1 to 3600 seconds, default {setting_of(defaults, 'RB_BROKER_STOP_SECONDS')}."
-    tally.count("the page's RB_BROKER_STOP_SECONDS", None if wanted in " ".join(stopping.split()) else f"not {wanted!r}")
+    is_right = wanted in " ".join(stopping.split())
+    tally.count("the page's RB_BROKER_STOP_SECONDS", fault_unless(is_right, f"it is not {wanted!r}"))
 
 
 def check_by_systemd(tally: Tally, root: str, folder: str) -> None:
@@ -70,9 +72,7 @@ def check_by_systemd(tally: Tally, root: str, folder: str) -> None:
     copy = f"{folder}/rb_broker@.service"
     with open(copy, "w", encoding="utf-8") as it:
         it.write(re.sub(r"^(Exec\w+=)/", rf"\1{root}/", unit, flags=re.M))
-    told = subprocess.run(
-        ["systemd-analyze", "verify", "--man=no", copy], capture_output=True, encoding="utf-8", timeout=60
-    )
-    faults = [it for it in told.stderr.splitlines() if "rb_broker" in it]
-    fault = "\n    ".join(faults) or (None if told.returncode == 0 else f"status {told.returncode}: {told.stderr}")
-    tally.count("systemd-analyze verify", fault)
+    told = run("systemd-analyze", "verify", "--man=no", copy)
+    # What it says of other units, those of this machine, is passed over.
+    faults = [it for it in told.errors.splitlines() if "rb_broker" in it]
+    tally.count("systemd-analyze verify", fault_unless(not faults and told.status == 0, told))
