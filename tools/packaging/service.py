@@ -104,7 +104,7 @@ def try_client(tally: Tally, server: Serving) -> None:
 
 
 def try_stops(tally: Tally, server: Serving) -> None:
-    """A stop of no process leaves the sessions alone, one with an open session gives up, and the next ends the server."""
+    """A stop of no process leaves the sessions alone, one with an open session gives up, the last one succeeds."""
     port, process = str(server.port), str(server.process.pid)
     told = run(server.stop, port, "", "9")
     tally.count("a stop of no process", fault_unless(told == Told(0, "", ""), told))

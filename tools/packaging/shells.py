@@ -49,7 +49,8 @@ def bash_rows(command: Command) -> list[tuple[list[str], list[str]]]:
             values = ["one.txt"] if option.is_file else candidates_of(option)
             rows.append(([command.name, option.name, ""], values))
             rows.append(([command.name, option.name, "="], values))
-            rows.append(([command.name, option.name, "=", values[0][:1]], [it for it in values if it[0] == values[0][0]]))
+            begun = values[0][0]
+            rows.append(([command.name, option.name, "=", begun], [it for it in values if it.startswith(begun)]))
         value = ["1"] if option.value else []
         rest = [it for it in options if it not in (option.name, option.excludes)]
         rows.append(([command.name, option.name, *value, "--"], rest))

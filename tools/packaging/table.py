@@ -16,7 +16,10 @@ HELP_COMMAND = "help"
 
 @dataclass(frozen=True)
 class Option:
-    """An option. A number has `least` and `greatest`, a word of few has `choices`, a file neither, a flag no `value`."""
+    """An option. A flag has no `value`.
+
+    A value is a number from `least` to `greatest`, one of `choices`, or the name of a file.
+    """
 
     name: str
     help: str

@@ -54,9 +54,10 @@ def check_help_of(tally: Tally, program: str, command: Command) -> None:
 
 
 def accepts(program: str, command: Command, words: list[str]) -> Optional[bool]:
-    """Whether the program accepts these words, with those that the command can't do without; nothing if that is not seen.
+    """Whether the program accepts these words, with those that the command can't do without.
 
-    It is given a file to begin with that is not there, so that it ends at once.
+    It is given a file to begin with that is not there, so that it ends at once. Nothing where it ends otherwise
+    than by that file, and refuses no word either.
     """
     given = {it.split("=")[0] for it in words}
     needed = [f"{it.name}={it.least}" for it in command.options if it.required and it.name not in given]
