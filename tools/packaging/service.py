@@ -80,8 +80,8 @@ def try_service(tally: Tally, root: str, state: str) -> None:
         try_stops(tally, server)
     with Serving(root, state, 40) as server:
         replies = server.talk("SIZE\nTAKE\nDONE 1\nQUIT\n")
-        is_right = re.fullmatch(r"SIZE 1\nITEM 1 \d+ 1 b\nDONE 1\nBYE\n", replies)
-        tally.count("a run that goes on", fault_unless(bool(is_right), replies))
+        is_right = re.fullmatch(r"SIZE 1\nITEM 1 \d+ 1 b\nDONE 1\nBYE\n", replies) is not None
+        tally.count("a run that goes on", fault_unless(is_right, replies))
         server.kill()
     with open(f"{state}/history.txt", "r+", encoding="utf-8") as it:
         tally.count("the history of a killed run", it.read())
@@ -99,8 +99,8 @@ def try_service(tally: Tally, root: str, state: str) -> None:
 def try_client(tally: Tally, server: Serving) -> None:
     """A client is served, and leaves a job in the queue."""
     replies = server.talk("OFFER 0 a\nTAKE\nDONE 0\nOFFER 0 b\nQUIT\n")
-    is_right = re.fullmatch(r"OFFERED 0 \d+\nITEM 0 \d+ 1 a\nDONE 0\nOFFERED 1 \d+\nBYE\n", replies)
-    tally.count("a client of the installed program", fault_unless(bool(is_right), replies))
+    is_right = re.fullmatch(r"OFFERED 0 \d+\nITEM 0 \d+ 1 a\nDONE 0\nOFFERED 1 \d+\nBYE\n", replies) is not None
+    tally.count("a client of the installed program", fault_unless(is_right, replies))
 
 
 def try_stops(tally: Tally, server: Serving) -> None:

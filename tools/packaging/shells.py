@@ -80,9 +80,9 @@ def check_zsh(tally: Tally, file: str, table: Table) -> None:
         wanted = [zsh_row(it) for it in command.options]
         fault = fault_unless(found == wanted, f"{found},\n    not {wanted}")
         tally.count(f"zsh's options of {command.name}", fault)
-        file = f":{command.argument.value}:_files" if command.argument else None
-        fault = fault_unless(not file or file in part.splitlines(), "it has none")
-        tally.count(f"zsh's file of {command.name}", fault)
+        files = [it for it in part.splitlines() if re.match(r":\w", it)]
+        wanted_files = [f":{command.argument.value}:_files"] if command.argument else []
+        tally.count(f"zsh's file of {command.name}", fault_unless(files == wanted_files, files))
 
 
 def zsh_row(option: Option) -> tuple[str, ...]:

@@ -96,7 +96,8 @@ def read_table(path: str = FILE) -> Table:
 
 def option_of(name: str, row: dict[str, Any]) -> Option:
     """The option of a row, whose keys are the fields of `Option`."""
-    return Option(name=name, **{**row, "choices": tuple(row.get("choices", ()))})
+    fields: dict[str, Any] = {**row, "choices": tuple(row.get("choices", ()))}
+    return Option(name=name, **fields)
 
 
 def command_of(name: str, row: dict[str, Any], options: dict[str, Option]) -> Command:
