@@ -5,7 +5,7 @@ from packaging.table import HELP_COMMAND, HELP_OPTIONS, Option, Table
 
 TEXT = r"""# Completions of @program@ for bash, made by tools/package from packaging/options.json.
 #
-# A number is completed by the least, the default and the greatest of its range, which so are seen.
+# For a number the least, the default and the greatest value are offered, so that its range is seen.
 
 # The options of a command.
 _@program@_options() {

@@ -18,7 +18,9 @@ class Told(NamedTuple):
 
 def run(*words: str, folder: str = ".") -> Told:
     """Runs a command in a folder, with no input."""
-    environment = {**os.environ, "LC_ALL": "C.UTF-8", "MANWIDTH": "100"}
+    # dpkg asks for commands of the administrator, which a user's path leaves out.
+    path = f"{os.environ.get('PATH', '/usr/bin:/bin')}:/usr/sbin:/sbin"
+    environment = {**os.environ, "PATH": path, "LC_ALL": "C.UTF-8", "MANWIDTH": "100"}
     try:
         done = subprocess.run(
             words, cwd=folder, env=environment, stdin=subprocess.DEVNULL, capture_output=True,
