@@ -1,0 +1,36 @@
+"""Commands that are run to their end."""
+from __future__ import annotations
+
+import os
+import subprocess
+from typing import NamedTuple
+
+PATIENCE = 300  # seconds, for anything that ends by itself
+
+
+class Told(NamedTuple):
+    """What a command came to: its exit status, and what it wrote to standard output and standard error."""
+
+    status: int
+    said: str
+    errors: str
+
+
+def run(*words: str, folder: str = ".") -> Told:
+    """Runs a command in a folder, with no input."""
+    # dpkg asks for commands of the administrator, which a user's path leaves out.
+    path = f"{os.environ.get('PATH', '/usr/bin:/bin')}:/usr/sbin:/sbin"
+    environment = {**os.environ, "PATH": path, "LC_ALL": "C.UTF-8", "MANWIDTH": "100"}
+    try:
+        done = subprocess.run(
+            words, cwd=folder, env=environment, stdin=subprocess.DEVNULL, capture_output=True,
+            encoding="utf-8", errors="replace", timeout=PATIENCE,
+        )
+    except subprocess.TimeoutExpired:
+        return Told(-1, "", f"{words[0]} does not end\n")
+    return Told(done.returncode, done.stdout, done.stderr)
+
+
+def fault_unless(is_right: bool, told: object) -> str | None:
+    """Nothing where all is right, and else what was told."""
+    return None if is_right else str(told)

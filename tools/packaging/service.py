@@ -1,0 +1,121 @@
+"""Runs of an installed server, each as the unit runs it: prepared, served, and stopped in good order or killed."""
+from __future__ import annotations
+
+import os
+import re
+import socket
+import subprocess
+from types import TracebackType
+from typing import Optional
+
+from packaging import Fault
+from packaging.running import PATIENCE, Told, fault_unless, run
+from serving.server import Tally
+
+
+def free_port() -> int:
+    """A port at which nobody listens."""
+    with socket.socket() as it:
+        it.bind(("127.0.0.1", 0))
+        return int(it.getsockname()[1])
+
+
+class Serving:
+    """A server of the program that is installed below a root, in the folder of its state. It is gone at the end."""
+
+    def __init__(self, root: str, state: str, sessions: int) -> None:
+        program = f"{root}/usr/bin/rb_broker"
+        self.stop = f"{root}/usr/lib/rb_broker/stop_server"
+        self.prepared = run(f"{root}/usr/lib/rb_broker/prepare_run", program, folder=state)
+        for _ in range(20):
+            self.port = free_port()
+            words = ["serve", "--port", self.port, "--from", "opening.txt", "--history", "history.txt"]
+            words += ["--workers", 4, "--sessions", sessions, "--calls", 1000]
+            pipe = subprocess.PIPE
+            self.process = subprocess.Popen(
+                [program, *map(str, words)], cwd=state, stdout=pipe, stderr=pipe, encoding="utf-8"
+            )
+            if self.process.stdout and self.process.stdout.readline() == f"listening 127.0.0.1:{self.port}\n":
+                return
+            self.kill()
+        raise Fault("no server could be started")
+
+    def __enter__(self) -> Serving:
+        return self
+
+    def __exit__(
+        self, kind: Optional[type[BaseException]], fault: Optional[BaseException], trace: Optional[TracebackType]
+    ) -> None:
+        if self.process.poll() is None:
+            self.kill()
+
+    def kill(self) -> None:
+        """Ends it by a signal."""
+        self.process.kill()
+        self.process.communicate()
+
+    def talk(self, requests: str) -> str:
+        """The replies to a client that sends all its requests, of which the last is QUIT."""
+        try:
+            with socket.create_connection(("127.0.0.1", self.port), timeout=PATIENCE) as it:
+                it.sendall(requests.encode())
+                with it.makefile(encoding="ascii") as replies:
+                    return replies.read()
+        except OSError as fault:
+            return repr(fault)
+
+    def end(self) -> Told:
+        """What it came to, once it has ended. Its first line was read before."""
+        try:
+            said, errors = self.process.communicate(timeout=PATIENCE)
+            return Told(self.process.returncode, said, errors)
+        except subprocess.TimeoutExpired:
+            return Told(-1, "", "the server does not end")
+
+
+def try_service(tally: Tally, root: str, state: str) -> None:
+    """Runs of one service: a good stop, a run that goes on and is killed, and one behind a damaged history."""
+    with Serving(root, state, 40) as server:
+        try_client(tally, server)
+        try_stops(tally, server)
+    with Serving(root, state, 40) as server:
+        replies = server.talk("SIZE\nTAKE\nDONE 1\nQUIT\n")
+        is_right = re.fullmatch(r"SIZE 1\nITEM 1 \d+ 1 b\nDONE 1\nBYE\n", replies) is not None
+        tally.count("a run that goes on", fault_unless(is_right, replies))
+        server.kill()
+    with open(f"{state}/history.txt", "r+", encoding="utf-8") as it:
+        tally.count("the history of a killed run", it.read())
+        it.write("history 3\nopen 0 0 0\n0 0 0 si")
+    with Serving(root, state, 1) as server:
+        wanted = "prepare_run: history.txt is no legal history, and is damaged.txt now\n"
+        is_right = server.prepared == Told(0, "", wanted) and os.path.exists(f"{state}/damaged.txt")
+        tally.count("a damaged history", fault_unless(is_right, server.prepared))
+        replies = server.talk("SIZE\nQUIT\n")
+        tally.count("a run behind a killed one", fault_unless(replies == "SIZE 1\nBYE\n", replies))
+        told = server.end()
+        tally.count("the end of the last run", fault_unless(told.status == 0, told))
+
+
+def try_client(tally: Tally, server: Serving) -> None:
+    """A client is served, and leaves a job in the queue."""
+    replies = server.talk("OFFER 0 a\nTAKE\nDONE 0\nOFFER 0 b\nQUIT\n")
+    is_right = re.fullmatch(r"OFFERED 0 \d+\nITEM 0 \d+ 1 a\nDONE 0\nOFFERED 1 \d+\nBYE\n", replies) is not None
+    tally.count("a client of the installed program", fault_unless(is_right, replies))
+
+
+def try_stops(tally: Tally, server: Serving) -> None:
+    """A stop of no process leaves the sessions alone, one with an open session gives up, the last one succeeds."""
+    port, process = str(server.port), str(server.process.pid)
+    told = run(server.stop, port, "", "9")
+    tally.count("a stop of no process", fault_unless(told == Told(0, "", ""), told))
+    with socket.create_connection(("127.0.0.1", server.port), timeout=PATIENCE):
+        told = run(server.stop, port, process, "1")
+        wanted = f"stop_server: the server at port {port} has not ended after 1 s\n"
+        tally.count("a stop with an open session", fault_unless(told == Told(1, "", wanted), told))
+    # Nobody else waits for the process, so it has to be waited for beside the stop.
+    stop = subprocess.Popen([server.stop, port, process, str(PATIENCE)])
+    told = server.end()
+    tally.count("the stop", fault_unless(stop.wait() == 0, stop.returncode))
+    audit = '{"calls":3,"cleared":0,"given":1,"left":1,"offered":2,"opening":0,"removed":0}'
+    wanted = f"sessions 40 faults 0 lost 0\n{audit}\n"
+    tally.count("the server's end", fault_unless(told == Told(0, wanted, ""), told))

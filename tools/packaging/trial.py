@@ -1,0 +1,85 @@
+"""The trial of a package: it is made, installed into an empty root, used from there, and removed."""
+from __future__ import annotations
+
+import os
+import shutil
+
+from packaging import TOP, Fault
+from packaging.page import check_layout
+from packaging.running import Told, fault_unless, run
+from packaging.service import try_service
+from packaging.shells import check_bash, check_zsh
+from packaging.table import Table
+from packaging.unit import check_by_systemd
+from serving.server import Tally
+
+
+def try_package(tally: Tally, program: str, table: Table, folder: str) -> None:
+    """Makes, installs, uses and removes the package, all below an empty folder."""
+    root = f"{folder}/root"
+    install(tally, made(tally, program, folder), root)
+    check_layout(tally, f"{root}/usr/share/man/man1/rb_broker.1.gz")
+    check_by_systemd(tally, root, folder)
+    os.mkdir(f"{folder}/files")
+    write_empty(f"{folder}/files/one.txt")
+    check_bash(tally, f"{root}/usr/share/bash-completion/completions/rb_broker", f"{folder}/files", table)
+    check_zsh(tally, f"{root}/usr/share/zsh/vendor-completions/_rb_broker", table)
+    os.mkdir(f"{folder}/state")
+    try_service(tally, root, f"{folder}/state")
+    remove(tally, root)
+
+
+def write_empty(path: str) -> None:
+    """Writes a file with nothing in it."""
+    with open(path, "w", encoding="utf-8"):
+        pass
+
+
+def made(tally: Tally, program: str, folder: str) -> str:
+    """The package that tools/package makes in a folder, twice with the same bytes."""
+    packages = []
+    for name in ("first", "second"):
+        os.mkdir(f"{folder}/{name}")
+        told = run(f"{TOP}/tools/package", "--program", program, "--output", f"{folder}/{name}")
+        if told.status != 0:
+            raise Fault(f"tools/package makes no package: {told.errors.strip()}")
+        packages.append(told.said.strip())
+    contents = []
+    for path in packages:
+        with open(path, "rb") as it:
+            contents.append(it.read())
+    tally.count("two packages of the same files", fault_unless(contents[0] == contents[1], "they differ"))
+    return packages[0]
+
+
+def dpkg(root: str, *words: str) -> Told:
+    """What dpkg does below a root that has nothing but what it puts there, as if it were run by root."""
+    force = ["--force-depends", "--force-script-chrootless"]
+    as_root = [] if os.geteuid() == 0 else ["fakeroot"]
+    return run(*as_root, "dpkg", f"--root={root}", f"--log={root}/log", *force, *words)
+
+
+def install(tally: Tally, package: str, root: str) -> None:
+    """Installs a package into an empty root."""
+    if os.geteuid() != 0 and not shutil.which("fakeroot"):
+        raise Fault("dpkg has to be run by root, or by fakeroot, which is not on the path")
+    for name in ("info", "updates", "triggers"):
+        os.makedirs(f"{root}/var/lib/dpkg/{name}")
+    write_empty(f"{root}/var/lib/dpkg/status")
+    told = dpkg(root, "--install", package)
+    tally.count("dpkg --install", fault_unless(told.status == 0, told))
+    form = "${Status};${Conffiles}"
+    told = run("dpkg-query", f"--admindir={root}/var/lib/dpkg", "-W", "-f", form, "rb-broker")
+    is_right = told.said.startswith("install ok installed;") and "/etc/default/rb_broker " in told.said
+    tally.count("what dpkg says of the package", fault_unless(is_right, told))
+    told = dpkg(root, "--verify", "rb-broker")
+    tally.count("dpkg --verify", fault_unless(told == Told(0, "", ""), told))
+
+
+def remove(tally: Tally, root: str) -> None:
+    """Purges the package: no file of it is left."""
+    told = dpkg(root, "--purge", "rb-broker")
+    tally.count("dpkg --purge", fault_unless(told.status == 0, told))
+    paths = [f"{folder}/{it}" for folder, _, names in os.walk(root) for it in names]
+    left = [it for it in paths if "rb_broker" in it or "rb-broker" in it]
+    tally.count("files that are left", fault_unless(not left, left))

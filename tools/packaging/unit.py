@@ -1,0 +1,78 @@
+"""The unit and its file of options: each option of `serve` can be set in one of them, and systemd can read both."""
+from __future__ import annotations
+
+import re
+import shlex
+import shutil
+
+from packaging import SOURCES
+from packaging.page import PAGE, options_in, plain
+from packaging.running import fault_unless, run
+from packaging.table import Command, Option, Table
+from packaging.told import accepts
+from serving.server import Tally
+
+UNIT = f"{SOURCES}/rb_broker@.service"
+DEFAULTS = f"{SOURCES}/rb_broker.default"
+
+
+def text_of(path: str) -> str:
+    """The text of a file."""
+    with open(path, encoding="utf-8") as it:
+        return it.read()
+
+
+def setting_of(text: str, name: str) -> str:
+    """The value that a variable is given in a text of either kind."""
+    found = re.search(rf'^(?:Environment=)?"?{name}=("?)([^"\n]*)', text, re.M)
+    return found[2] if found else f"no {name}"
+
+
+def comment_of(option: Option) -> str:
+    """How the comments of the file of options end that tell of an option."""
+    told = f"{option.least} to {option.greatest}" if option.is_number else ", ".join(option.choices)
+    return told + (f", default {option.default}" if option.default else "")
+
+
+def check_unit(tally: Tally, program: str, table: Table) -> None:
+    """The options of the unit and its file are those of `serve`, with their ranges, and the program accepts them."""
+    serve = next(it for it in table.commands if it.name == "serve")
+    unit, defaults = text_of(UNIT), text_of(DEFAULTS)
+    start = re.search(r"^ExecStart=(.*)$", unit, re.M)
+    own = options_in(start[1] if start else "")
+    tally.count("the unit's own options", fault_unless(own == {"--port", "--from", "--history"}, own))
+    rows = dict(re.findall(r"^#   (--\S+) [A-Z] .*?: (.*)$", defaults, re.M))
+    wanted = {it.name: comment_of(it) for it in serve.options if it.name not in own}
+    tally.count("the options of rb_broker.default", fault_unless(rows == wanted, f"{rows}, the table has {wanted}"))
+    others = options_in(unit + defaults) - {it.name for it in serve.options}
+    tally.count("other options of the unit", ", ".join(sorted(others)))
+    check_settings(tally, program, serve, unit, defaults)
+
+
+def check_settings(tally: Tally, program: str, serve: Command, unit: str, defaults: str) -> None:
+    """Both files give a variable the same value, which the program accepts and the page tells."""
+    for name in ("RB_BROKER_OPTIONS", "RB_BROKER_STOP_SECONDS"):
+        told = {setting_of(unit, name), setting_of(defaults, name)}
+        tally.count(f"{name} of unit and file", fault_unless(len(told) == 1, told))
+    words = shlex.split(setting_of(defaults, "RB_BROKER_OPTIONS"))
+    is_right = accepts(program, serve, words) is True
+    tally.count("the words of RB_BROKER_OPTIONS", fault_unless(is_right, f"{words} are refused"))
+    stopping = plain(text_of(PAGE)).partition(".SH STOPPING")[2].partition("\n.SH")[0]
+    wanted = f"is 1 to 3600 seconds, default {setting_of(defaults, 'RB_BROKER_STOP_SECONDS')}."
+    is_right = wanted in " ".join(stopping.split())
+    tally.count("the page's RB_BROKER_STOP_SECONDS", fault_unless(is_right, f"it is not {wanted!r}"))
+
+
+def check_by_systemd(tally: Tally, root: str, folder: str) -> None:
+    """systemd reads the unit that is installed below a root: a copy of it in a folder, whose commands are there too."""
+    if not shutil.which("systemd-analyze"):
+        print("systemd-analyze is not installed: the unit is not tried by it")
+        return
+    unit = text_of(f"{root}/usr/lib/systemd/system/rb_broker@.service")
+    copy = f"{folder}/rb_broker@.service"
+    with open(copy, "w", encoding="utf-8") as it:
+        it.write(re.sub(r"^(Exec\w+=)/", rf"\1{root}/", unit, flags=re.M))
+    told = run("systemd-analyze", "verify", "--man=no", copy)
+    # What it says of other units, those of this machine, is passed over.
+    faults = [it for it in told.errors.splitlines() if "rb_broker" in it]
+    tally.count("systemd-analyze verify", fault_unless(not faults and told.status == 0, told))
