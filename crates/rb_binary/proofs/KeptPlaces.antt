@@ -1,11 +1,11 @@
 -- The places still agree with the heap after a step, and the row is the same.
-use Rattle.std.proofs.Common.{◌≡◌, ℕ, ◌<◌, ◌≢◌, List, length, get_or, set, Option, Some, None, refl, sym, ap, subst, ◌∙◌, arith, ⊎_elim, get_or-set_same, get_or-set_other, length-set}
+use Rattle.std.proofs.Common.{◌≡◌, ℕ, ◌<◌, ◌≢◌, List, length, get_or, set, Option, Some, None, sym, ap, subst, ◌∙◌, arith, ⊎_elim, get_or-set_same, get_or-set_other, length-set}
 use Rattle.std.specs.Prelude.{is_some, option_map, count_by}
 use Rattle.std.proofs.lemmas.Bool.{cases_eq, cases_lt}
-use Rattle.std.proofs.lemmas.List.{get_or_past, set-get_or}
+use Rattle.std.proofs.lemmas.List.{get_or_past}
 use Rattle.std.proofs.lemmas.Option.{none-some, same_Some}
 use Rattle.rb_binary.specs.declared.heap.Entry.{Entry}
-use Rattle.rb_binary.specs.Layout.{no_entry, slot_at, expiry_at, place_of, expiries, note, Agrees, IsPutAt}
+use Rattle.rb_binary.specs.Layout.{no_entry, slot_at, expiry_at, place_of, expiries, Agrees}
 use Rattle.rb_binary.proofs.Exchange.{AreExchanged, exchanged, length-stepped, shown-set_same, shown-set_other}
 use Rattle.rb_binary.proofs.Expiries.{shown_at, each_slot, same_shown, same_rows, count_by-expiries}
 

@@ -6,3 +6,4 @@ pub mod KeptPlaces
 pub mod Exchange
 pub mod Order
 pub mod Expiries
+pub mod ForgottenPlaces

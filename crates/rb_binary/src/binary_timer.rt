@@ -2,13 +2,14 @@ ghost use Rattle.std.specs.Prelude.{◌≤◌, vec_len, vec_capacity};
 ghost use Rattle.std.proofs.Props.{props};
 ghost use Rattle.rb_binary.specs.Layout.{Agrees, IsOrdered};
 
-use crate::heap::{Entry, settle, sift_up};
+use crate::heap::{Entry, forget_all, settle, sift_up};
 use rb_timer::Timer;
 use std::alloc::{AllocError, Global};
 
 /// A binary heap of the entries, by expiry, that also knows where each slot's entry is.
 ///
-/// Whoever moves an entry in the heap notes its new place at its slot.
+/// Whoever moves an entry in the heap notes its new place at its slot. An insert and a removal cost a logarithm
+/// of the entries, a clear as many steps as there are entries, and each other call a constant.
 #[derive(Debug, Drop)]
 pub struct BinaryTimer {
     heap: Vec<Entry>,
@@ -84,7 +85,7 @@ impl Timer for BinaryTimer {
     }
 
     fn clear(&mut self) {
+        forget_all(&self.heap, &mut self.places);
         self.heap.clear();
-        self.places.fill(None);
     }
 }

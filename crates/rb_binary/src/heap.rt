@@ -1,5 +1,5 @@
-ghost use Rattle.std.specs.Prelude.{◌≡◌, ℕ, ◌+◌, ◌*◌, ◌-◌, ◌/◌, ◌<◌, ◌≤◌, Some, length, slice_set};
-ghost use Rattle.rb_binary.specs.Layout.{slot_at, IsPutAt, IsOrderedBut, MayRise, MaySink, IsLeastChild, Settles};
+ghost use Rattle.std.specs.Prelude.{◌≡◌, ℕ, ◌+◌, ◌*◌, ◌-◌, ◌/◌, ◌<◌, ◌≤◌, None, Some, length, replicate, slice_set};
+ghost use Rattle.rb_binary.specs.Layout.{Agrees, slot_at, IsPutAt, IsOrderedBut, MayRise, MaySink, IsLeastChild, Settles};
 
 /// A slot and its expiry, in nanoseconds.
 #[derive(Clone, Copy, Debug)]
@@ -81,5 +81,15 @@ pub(crate) fn settle(heap: &mut [Entry], places: &mut [Option<usize>], place: us
         sift_up(heap, places, place);
     } else {
         sift_down(heap, places, place);
+    }
+}
+
+/// Notes at each slot that it has no entry, at the cost of the entries and not of the room.
+pub(crate) fn forget_all(heap: &[Entry], places: &mut [Option<usize>])
+    requires { Agrees heap.now places.old }
+    ensures { places.new ≡ replicate (length places.old) None }
+{
+    for entry in heap {
+        places[entry.slot] = None;
     }
 }
