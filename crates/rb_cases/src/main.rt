@@ -52,13 +52,13 @@ fn run_all(rt: &HostRuntime) -> Result<Report, Stopped> {
 }
 
 fn words_of(rt: &HostRuntime) -> Result<Vec<String>, Stopped> {
-    match gathered_words(rt) {
+    match command_line(rt) {
         Ok(words) => Ok(words),
         Err(_) => Err(stop(rt, "the words of the command line can't be read")),
     }
 }
 
-fn gathered_words(rt: &HostRuntime) -> io::Result<Vec<String>> {
+fn command_line(rt: &HostRuntime) -> io::Result<Vec<String>> {
     Ok(env::args(rt)?.collect(rt.alloc())?)
 }
 

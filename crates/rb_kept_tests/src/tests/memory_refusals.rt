@@ -35,22 +35,22 @@ struct Caller<T: Timer> {
 }
 
 // The numbers that a refused call must leave.
-type Standing = (Audit, usize, u64, Totals);
+type Snapshot = (Audit, usize, u64, Totals);
 
-fn standing<T: Timer>(caller: &Caller<T>) -> Standing {
+fn snapshot<T: Timer>(caller: &Caller<T>) -> Snapshot {
     let events = caller.kept.history().len();
     let (audit, capacity) = (caller.kept.audit(), caller.kept.capacity());
     (audit, events, capacity, caller.tally.totals())
 }
 
-fn expect_standing(rt: &impl Abort, found: Standing, wanted: Standing) {
+fn expect_snapshot(rt: &impl Abort, found: Snapshot, wanted: Snapshot) {
     assert_eq!(rt; found, wanted);
 }
 
 // A refused call has left these numbers, the opening and each event. The elements are shown by the
 // calls after it, up to the last.
-fn expect_unchanged<T: Timer>(rt: &impl Abort, caller: &mut Caller<T>, before: Standing) {
-    expect_standing(rt, standing(caller), before);
+fn expect_unchanged<T: Timer>(rt: &impl Abort, caller: &mut Caller<T>, before: Snapshot) {
+    expect_snapshot(rt, snapshot(caller), before);
     expect_events(rt, caller.kept.opening(), caller.kept.history());
     caller.met = caller.met.saturating_add(1);
 }
@@ -141,7 +141,7 @@ fn asks<T: Timer>(caller: &mut Caller<T>, ask: Ask) -> Step {
 
 // Asks at 95, and once more where that was refused.
 fn answered<T: Timer>(rt: &impl Abort, caller: &mut Caller<T>, ask: Ask) -> Step {
-    let (before, again) = (standing(caller), ask);
+    let (before, again) = (snapshot(caller), ask);
     match asks(caller, ask) {
         Ok(outcome) => Ok(outcome),
         Err(fault) => {
@@ -223,7 +223,7 @@ fn has_run<T: Timer>(rt: &impl Abort, alloc: Global, caller: &mut Caller<T>) -> 
 }
 
 fn runs_once<T: Timer>(rt: &impl Abort, alloc: Global, caller: &mut Caller<T>) -> bool {
-    let before = standing(caller);
+    let before = snapshot(caller);
     let has_run = has_run(rt, alloc, caller);
     if !has_run {
         expect_unchanged(rt, caller, before);
