@@ -1,6 +1,7 @@
 use crate::command::{TimerAnswer, TimerCommand};
 use crate::large_trials::{
-    Expected, LEAST_EXPIRY, MANY, Scatter, drains, fills, first_large_failure_of, runs_long,
+    Expected, LEAST_EXPIRY, MANY, Scatter, drains, fills, first_large_failure_of, long_steps,
+    runs_long,
 };
 use crate::limited_timer::LimitedTimer;
 use crate::trials::{TRIALS, Trial, first_failure_of};
@@ -181,6 +182,69 @@ fn a_wrong_long_run_is_named(rt: HostRuntime) {
     }
 }
 
+// Eight commands for each of the 13 slots, of which the last is refused. A wrong answer to any of them is
+// named, so none is left out.
+#[test]
+fn a_wrong_answer_of_the_long_run_is_named(rt: HostRuntime) -> Result<(), Fail> {
+    let steps = long_steps(rt.alloc(), &FEW, LEAST_EXPIRY)?;
+    let trial = named("a run of many commands", 13, &steps);
+    for place in 0..104usize {
+        expect_failure(&rt, rt.alloc(), &trial, place)?;
+    }
+    expect_refused_last(&rt, &steps);
+    Ok(())
+}
+
+fn expect_refused_last(rt: &impl Abort, steps: &[(TimerCommand, TimerAnswer)]) {
+    let slot = FEW.slot_of(12);
+    let last = (TimerCommand::Remove(slot), TimerAnswer::Refused);
+    assert_eq!(rt; (steps.len(), steps.last().copied()), (104, Some(last)));
+}
+
+// Makes the timer's room this one, and puts the last entry of all at this slot, where there is none.
+fn make_other(timer: &mut ListTimer, room: usize, entry: Option<usize>) -> Result<(), AllocError> {
+    timer.reserve(room)?;
+    if let Some(slot) = entry
+        && slot < timer.room()
+        && timer.get(slot).is_none()
+    {
+        timer.insert(slot, u64::MAX);
+    }
+    Ok(())
+}
+
+fn fills_other(alloc: Global, room: usize, entry: Option<usize>) -> Result<bool, AllocError> {
+    let mut timer = ListTimer::new(alloc);
+    make_other(&mut timer, room, entry)?;
+    fills(&mut timer, &FEW, LEAST_EXPIRY)
+}
+
+fn drains_other(alloc: Global, room: usize, entry: Option<usize>) -> Result<bool, AllocError> {
+    let mut timer = ListTimer::new(alloc);
+    if !fills(&mut timer, &FEW, LEAST_EXPIRY)? {
+        return Ok(false);
+    }
+    make_other(&mut timer, room, entry)?;
+    Ok(drains(&mut timer, &FEW, LEAST_EXPIRY))
+}
+
+// A fill needs a timer with no entry and no room but the slots'.
+#[test]
+fn a_fill_of_another_timer_fails(rt: HostRuntime) {
+    expect_holds(&rt, fills_other(rt.alloc(), 0, None), true);
+    expect_holds(&rt, fills_other(rt.alloc(), 14, None), false);
+    expect_holds(&rt, fills_other(rt.alloc(), 13, Some(12)), false);
+    expect_holds(&rt, fills_other(rt.alloc(), 1, Some(0)), false);
+}
+
+// What is left when the slots are empty again is found: room that is not theirs, and an entry in it.
+#[test]
+fn what_a_drain_leaves_is_found(rt: HostRuntime) {
+    expect_holds(&rt, drains_other(rt.alloc(), 0, None), true);
+    expect_holds(&rt, drains_other(rt.alloc(), 14, None), false);
+    expect_holds(&rt, drains_other(rt.alloc(), 14, Some(13)), false);
+}
+
 fn few_failure<T: Timer>(alloc: Global) -> Result<Failure, AllocError> {
     first_large_failure_of::<T>(alloc, &FEW, &right())
 }
@@ -193,7 +257,7 @@ fn many_ran<T: Timer>(alloc: Global) -> Result<bool, AllocError> {
     runs_long::<T>(alloc, &MANY, LEAST_EXPIRY)
 }
 
-// Each trial is tried. The rooms of the small ones are 4, 3 and 12.
+// Each trial is tried. The rooms of the small ones are 4, 3, 12 and 4.
 #[test]
 fn a_timer_that_gives_up_fails(rt: HostRuntime) {
     let alloc = rt.alloc();
