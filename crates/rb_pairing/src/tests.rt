@@ -4,4 +4,5 @@ mod ample_memory;
 mod fixtures;
 mod many_entries;
 mod memory_refusals;
+mod refilled_slots;
 mod trials;

@@ -27,8 +27,8 @@ impl Scatter {
         self.remainder(slot.wrapping_mul(self.to_rank))
     }
 
-    // The slot before which so many expire.
-    fn slot_of(&self, rank: usize) -> usize {
+    /// The slot before which so many expire.
+    pub(crate) fn slot_of(&self, rank: usize) -> usize {
         self.remainder(rank.wrapping_mul(self.to_slot))
     }
 
@@ -149,6 +149,21 @@ pub(crate) fn runs_long<T: Timer>(
     scatter: &Scatter,
     least: u64,
 ) -> Result<bool, AllocError> {
+    let steps = long_steps(alloc, scatter, least)?;
+    let run = Trial {
+        name: "a run of many commands",
+        room: scatter.slots,
+        steps: &steps,
+    };
+    passes::<T>(alloc, &run)
+}
+
+/// The commands of the long run, each with its answer.
+pub(crate) fn long_steps(
+    alloc: Global,
+    scatter: &Scatter,
+    least: u64,
+) -> Result<Vec<(TimerCommand, TimerAnswer)>, AllocError> {
     let mut steps = Vec::new(alloc);
     for slot in 0..scatter.slots {
         let expiry = expiry_at(LEAST_EXPIRY, scatter.rank_of(slot));
@@ -158,12 +173,7 @@ pub(crate) fn runs_long<T: Timer>(
         let expiry = expiry_at(least, rank);
         steps.extend_from_slice(&emptying(scatter.slot_of(rank), expiry))?;
     }
-    let run = Trial {
-        name: "a run of many commands",
-        room: scatter.slots,
-        steps: &steps,
-    };
-    passes::<T>(alloc, &run)
+    Ok(steps)
 }
 
 // Fills a slot, empties it and fills it again. What is refused changes nothing.

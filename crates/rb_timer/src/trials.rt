@@ -18,7 +18,7 @@ pub(crate) struct Trial<'a> {
     pub(crate) steps: &'a [(TimerCommand, TimerAnswer)],
 }
 
-pub(crate) static TRIALS: [Trial<'static>; 3] = [
+pub(crate) static TRIALS: [Trial<'static>; 4] = [
     Trial {
         name: "each command, and each way to refuse one",
         room: 4,
@@ -33,6 +33,11 @@ pub(crate) static TRIALS: [Trial<'static>; 3] = [
             (Remove(0), Removed(9)),
             (Remove(0), Refused),
             (Clear, Cleared),
+            (Least, Entry(None)),
+            (Remove(3), Refused),
+            (Insert(3, 7), Inserted),
+            (Least, Entry(Some((3, 7)))),
+            (Remove(3), Removed(7)),
             (Least, Entry(None)),
         ],
     },
@@ -102,6 +107,24 @@ pub(crate) static TRIALS: [Trial<'static>; 3] = [
             (Least, Entry(Some((10, 160)))),
             (Remove(10), Removed(160)),
             (Least, Entry(None)),
+        ],
+    },
+    // In a binary heap the last entry moves to the top, over two that are then all there are. The
+    // one that has to rise is the last of the heap.
+    Trial {
+        name: "the least of the last three",
+        room: 4,
+        steps: &[
+            (Insert(0, 10), Inserted),
+            (Insert(1, 30), Inserted),
+            (Insert(2, 20), Inserted),
+            (Insert(3, 40), Inserted),
+            (Remove(0), Removed(10)),
+            (Least, Entry(Some((2, 20)))),
+            (Remove(2), Removed(20)),
+            (Least, Entry(Some((1, 30)))),
+            (Remove(1), Removed(30)),
+            (Least, Entry(Some((3, 40)))),
         ],
     },
 ];

@@ -4,7 +4,7 @@
 use crate::tests::fixtures::{expect_number, payload};
 use rb_binary::BinaryTimer;
 use rb_delayed::{Delayed, Element, Payload, add_capped, add_delay, is_expired};
-use rb_kept::{Kept, Outcome};
+use rb_kept::{CallFault, Kept, Outcome};
 use rb_ledger::{Books, Tally};
 use rb_pairing::PairingTimer;
 use rb_protocol::{LineReply, read_request, write_reply};
@@ -24,6 +24,14 @@ const ELEMENTS: u64 = 400;
 
 // A moment at which all of them have expired.
 const LATE: u64 = 1_000;
+
+// How many slots a timer has, all of which are filled. A call that asks for more behind the last entry
+// would have to get it.
+const ROOM: usize = 70;
+
+// How many calls a kept queue has room for, all of which are made: its offers, six in each round, and two
+// at the end.
+const CALLS: u64 = 1_002;
 
 #[test]
 fn none_of_the_calls(rt: HostRuntime) -> Result<(), Fail> {
@@ -48,7 +56,7 @@ fn expect_answers(rt: &impl Abort, alloc: Global, rounds: u64) -> Result<(), Fai
 }
 
 fn expect_over<T: Timer>(rt: &impl Abort, alloc: Global, rounds: u64) -> Result<(), Fail> {
-    expect_number(rt, timers::<T>(alloc, rounds)?, rounds.saturating_mul(7));
+    expect_number(rt, timers::<T>(alloc, rounds)?, rounds.saturating_mul(8));
     expect_number(
         rt,
         queues::<T>(rt, alloc, rounds)?,
@@ -152,7 +160,7 @@ fn events(alloc: Global, rounds: u64) -> Result<u64, Fail> {
 // A timer, but for its room.
 fn timers<T: Timer>(alloc: Global, rounds: u64) -> Result<u64, AllocError> {
     let mut timer = T::new(alloc);
-    timer.reserve(70)?;
+    timer.reserve(ROOM)?;
     let mut right = 0_u64;
     for round in 0..rounds {
         right = right.saturating_add(timer_round(alloc, &mut timer, round));
@@ -160,7 +168,7 @@ fn timers<T: Timer>(alloc: Global, rounds: u64) -> Result<u64, AllocError> {
     Ok(right)
 }
 
-// An entry near the round's moment and one far behind it.
+// An entry near the round's moment and one far behind it, and then one in each slot.
 fn timer_round<T: Timer>(alloc: Global, timer: &mut T, round: u64) -> u64 {
     let far = round.saturating_add(1_000_000);
     let answers = [
@@ -171,6 +179,7 @@ fn timer_round<T: Timer>(alloc: Global, timer: &mut T, round: u64) -> u64 {
         timer.due(round) == Some((1, round)),
         takes(timer, 1),
         timer.due(far) == Some((64, far)) && timer.len() == 1,
+        takes(timer, 64) && fills(timer, round),
     ];
     timer.clear();
     count(&answers)
@@ -190,6 +199,14 @@ fn takes<T: Timer>(timer: &mut T, slot: usize) -> bool {
     }
     timer.remove(slot);
     true
+}
+
+fn fills<T: Timer>(timer: &mut T, expiry: u64) -> bool {
+    let mut is_right = true;
+    for slot in 0..ROOM {
+        is_right = puts(timer, slot, expiry) && is_right;
+    }
+    is_right && timer.len() == ROOM && timer.room() == ROOM
 }
 
 fn draft(rt: &impl Abort, expiry: u64) -> Draft {
@@ -238,7 +255,7 @@ fn empty<T: Timer>(queue: &mut DelayQueue<T>, rounds: u64) {
 
 // A kept queue, but for its offers and drains.
 fn kept_queues<T: Timer>(rt: &impl Abort, alloc: Global, rounds: u64) -> Result<u64, Fail> {
-    let (mut kept, mut tally) = Kept::<T>::new_from(alloc, 10_000, Opening::empty(alloc))
+    let (mut kept, mut tally) = Kept::<T>::new_from(alloc, CALLS, Opening::empty(alloc))
         .ok()
         .expect(rt, "a kept queue");
     for expiry in 0..ELEMENTS {
@@ -269,7 +286,7 @@ fn kept_round<T: Timer>(kept: &mut Kept<T>, tally: &mut Tally, round: u64) -> u6
         answers(kept, tally, Ask::Remove(last)),
         answers(kept, tally, Ask::Size),
         kept.history().len() == before.saturating_add(6),
-        kept.capacity() == 10_000,
+        kept.capacity() == CALLS,
         kept.audit().calls == tally.calls(),
     ])
 }
@@ -284,16 +301,24 @@ fn answers<T: Timer>(kept: &mut Kept<T>, tally: &mut Tally, ask: Ask) -> bool {
     matches!(&step, Ok(Outcome::Done(_)))
 }
 
-// What is empty lets a take wait, which is no event.
+// What is empty lets a take wait, which is no event. What is full refuses each call.
 fn clears<T: Timer>(rt: &impl Abort, kept: &mut Kept<T>, tally: &mut Tally, rounds: u64) {
     if rounds > 0 {
         let cleared = kept.act(tally, 0, LATE, Ask::Clear);
         expect_done(rt, &cleared);
         let later = kept.act(tally, 0, LATE, Ask::Take);
         expect_later(rt, &later);
+        let last = kept.act(tally, 0, LATE, Ask::Size);
+        expect_done(rt, &last);
+        let refused = kept.act(tally, 0, LATE, Ask::Size);
+        expect_full(rt, &refused);
     }
 }
 
 fn expect_later(rt: &impl Abort, step: &rb_kept::Step) {
     assert!(rt; matches!(step, Ok(Outcome::Later(None))));
+}
+
+fn expect_full(rt: &impl Abort, step: &rb_kept::Step) {
+    assert!(rt; matches!(step, Err(CallFault::Full)));
 }

@@ -1,5 +1,5 @@
 use crate::PairingTimer;
-use crate::tests::fixtures::{Entry, expect_least, expect_size, insert, reserve};
+use crate::tests::fixtures::{Entry, expect_least, expect_size, insert, remove, reserve};
 use rb_timer::Timer;
 use std::process::Abort;
 
@@ -9,11 +9,6 @@ fn expect_due(rt: &impl Abort, timer: &mut PairingTimer, now: u64, wanted: Entry
 
 fn expect_at(rt: &impl Abort, timer: &PairingTimer, slot: usize, wanted: Option<u64>) {
     assert_eq!(rt; timer.get(slot), wanted);
-}
-
-fn remove(rt: &impl Abort, timer: &mut PairingTimer, slot: usize, wanted: u64) {
-    assert!(rt; timer.get(slot).is_some());
-    assert_eq!(rt; timer.remove(slot), wanted);
 }
 
 // With ample memory each call does its work, which no contract can say of `reserve`.

@@ -27,3 +27,8 @@ pub fn insert(rt: &impl Abort, timer: &mut PairingTimer, slot: usize, expiry: u6
     assert!(rt; slot < timer.room());
     timer.insert(slot, expiry);
 }
+
+pub fn remove(rt: &impl Abort, timer: &mut PairingTimer, slot: usize, wanted: u64) {
+    assert!(rt; timer.get(slot).is_some());
+    assert_eq!(rt; timer.remove(slot), wanted);
+}

@@ -26,7 +26,7 @@ fn many_ran<T: Timer>(alloc: Global) -> Result<bool, AllocError> {
     runs_long::<T>(alloc, &MANY, LEAST_EXPIRY)
 }
 
-// Each trial is tried. The rooms of the small ones are 4, 3 and 12.
+// Each trial is tried. The rooms of the small ones are 4, 3, 12 and 4.
 #[test]
 fn a_timer_that_gives_up_fails(rt: HostRuntime) {
     let alloc = rt.alloc();

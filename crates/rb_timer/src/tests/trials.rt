@@ -31,7 +31,7 @@ fn with_wrong_answer(
     Ok(wrong)
 }
 
-fn named<'a>(
+pub fn named<'a>(
     name: &'static str,
     room: usize,
     steps: &'a [(TimerCommand, TimerAnswer)],
@@ -58,7 +58,7 @@ fn expect_named<'a>(
 }
 
 // A right timer fails where a trial has a wrong answer, so a wrong timer fails where it has a right one.
-fn expect_failure(
+pub fn expect_failure(
     rt: &impl Abort,
     alloc: Global,
     trial: &Trial<'_>,
