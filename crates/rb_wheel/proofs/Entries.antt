@@ -13,7 +13,6 @@ use Rattle.rb_wheel.specs.Cells.{IsCellOf}
 use Rattle.rb_wheel.specs.Lists.{cell_at, slot_expiry}
 use Rattle.rb_wheel.specs.Wheel.{LiesRight, LieRight, SameInCells, IsFirst, early_of, IsWheel}
 use Rattle.rb_wheel.proofs.FirstEntries.{IsFirst-kept, IsFirst-more, IsFirst-less}
-use Rattle.rb_wheel.proofs.Linked.{cases_option}
 use Rattle.rb_wheel.proofs.Rooms.{get_or-padded}
 use Rattle.std.proofs.lemmas.List.{length-replicate, get_or_past}
 use Rattle.rb_wheel.proofs.Viewed.{is_some-none}
@@ -338,37 +337,6 @@ pub some_within : (expiries : List (Option ℕ)) (slot e : ℕ) → slot_expiry 
 some_within expiries slot e is = ⊎_elim (λ within. within)
     (λ past. absurd (none-some e (sym (get_or_past expiries slot None past) ∙ is)))
     (cases_lt slot (length expiries))
-
--- where none is counted there is none
-none_counted : (expiries : List (Option ℕ)) → count_by is_some expiries ≡ 0 → (slot : ℕ) → slot_expiry expiries slot ≡ None
-none_counted expiries none slot = cases_option (slot_expiry expiries slot ≡ None) (slot_expiry expiries slot) (λ is. is)
-    (λ e is. absurd (
-    let within = some_within expiries slot e is in
-    let counts = sum_by-set (λ x. cond (is_some x) 1 0) expiries slot None None within in
-    let zero : ℕ = 0 in
-    let one : ℕ = 1 in
-    let here : cond (is_some (slot_expiry expiries slot)) one zero ≡ one = ap (λ x. cond (is_some x) one zero) is in
-    omega (arith, counts, none, here)))
-
--- a wheel with no entry may have any base
-pub IsWheel-rest : (expiries cells : List (Option ℕ)) (early : Content) (room base len : ℕ) (first : Option (ℕ × ℕ)) → len ≡ 0
-    → IsWheel expiries cells early room base len first → IsWheel expiries cells early room 0 len first
-IsWheel-rest expiries cells early room base len first empty wheel =
-    let count : count_by is_some expiries ≡ 0 = sym wheel.counted ∙ empty in
-    record {
-      right = record {
-        each = λ slot.
-            let none = none_counted expiries count slot in
-            LiesRight-same 0 None (slot_expiry expiries slot) None (cell_at cells slot) none
-            (none_lies base (slot_expiry expiries slot) (cell_at cells slot) (wheel.right.each slot) none) refl;
-      };
-      moments = wheel.moments;
-      early_entries = wheel.early_entries;
-      in_lists = wheel.in_lists;
-      in_early = wheel.in_early;
-      counted = wheel.counted;
-      is_first = wheel.is_first;
-    }
 
 -- an entry that leaves is no longer counted
 pub count-less : (old new : List (Option ℕ)) (slot e : ℕ) → map.get (content_of old) slot ≡ Some e → content_of new ≡ map.remove (content_of old) slot

@@ -1,20 +1,14 @@
 -- Which entry in a cell is the first, as entries come and go and change their cells.
 use Rattle.std.proofs.Common.{◌≡◌, ◌≢◌, ℕ, ◌≤◌, List, Option, Some, None, IsSome, IfSome, is_some, sym, ap, ◌∙◌, refl, subst, arith, ⊎_elim, ◌⊎◌}
 use Rattle.std.proofs.lemmas.Bool.{cases_eq}
-use Rattle.std.proofs.lemmas.Option.{none-some, IfSome_then}
-use Rattle.rb_wheel.specs.Lists.{cell_at, slot_expiry, IsVacant}
-use Rattle.rb_wheel.specs.Wheel.{IsFirst, SameInCells}
-use Rattle.rb_wheel.proofs.Linked.{cases_option}
+use Rattle.std.proofs.lemmas.Option.{IfSome_then}
+use Rattle.rb_wheel.specs.Lists.{cell_at, slot_expiry}
+use Rattle.rb_wheel.specs.Wheel.{IsFirst}
 use Rattle.rb_wheel.proofs.Viewed.{is_some-none}
 
 none_where : (o : Option ℕ) → (IsSome o → ⊥) → o ≡ None
 none_where None not = refl
 none_where (Some k) not = absurd (not refl)
-
--- no slot lies in any cell
-pub first_none : (expiries cells : List (Option ℕ)) → ((at : ℕ) → IsVacant cells at) → IsFirst expiries cells None
-first_none expiries cells vacant slot =
-    cases_option (cell_at cells slot ≡ None) (cell_at cells slot) (λ none. none) (λ at lies. absurd (vacant at slot lies))
 
 -- the same slots lie in cells, and each of these has the same expiry
 pub IsFirst-kept : (expiries new_expiries cells new_cells : List (Option ℕ)) (first : Option (ℕ × ℕ))
@@ -30,12 +24,6 @@ IsFirst-kept expiries new_expiries cells new_cells (Some entry) same_in same_at 
       let lay : IsSome (cell_at cells other) = sym (same_in other) ∙ lies in
       subst (λ o. IfSome o (λ another. entry.1 ≤ another)) (sym (same_at other lay)) (first.least other lay);
 }
-
--- the slots were only moved to other cells
-pub IsFirst-moved : (expiries cells new_cells : List (Option ℕ)) (first : Option (ℕ × ℕ)) → SameInCells cells new_cells
-    → IsFirst expiries cells first → IsFirst expiries new_cells first
-IsFirst-moved expiries cells new_cells first moved =
-    IsFirst-kept expiries expiries cells new_cells first moved.each (λ slot lies. refl)
 
 -- all is the same but at one slot
 module _ (expiries new_expiries cells new_cells : List (Option ℕ)) (slot : ℕ)

@@ -4,9 +4,9 @@ use Rattle.std.specs.Prelude.{IsSomeAnd}
 use Rattle.std.proofs.lemmas.Bool.{cases_lt}
 use Rattle.std.proofs.lemmas.Option.{none-some, same_Some}
 use Rattle.rb_wheel.specs.Cells.{IsCellOf, level_of}
-use Rattle.rb_wheel.specs.Lists.{cell_at, slot_expiry, IsFirstCell, IsLeastIn, HasExpiries}
-use Rattle.rb_wheel.specs.Wheel.{LiesRight, LieRight, MaySpread, ExpireTogether, IsFirst}
-use Rattle.rb_wheel.proofs.Order.{earlier_from_cells, same_lowest, lower_from_one, IsCellOf-next}
+use Rattle.rb_wheel.specs.Lists.{cell_at, slot_expiry, IsFirstCell, IsLeastIn}
+use Rattle.rb_wheel.specs.Wheel.{LiesRight, LieRight, MaySpread, IsFirst}
+use Rattle.rb_wheel.proofs.Order.{earlier_from_cells, lower_from_one, IsCellOf-next}
 use Rattle.rb_wheel.proofs.Linked.{cases_option}
 use Rattle.rb_wheel.proofs.Viewed.{is_some-none}
 
@@ -43,15 +43,6 @@ lies_in base (Some expiry) (Some cell) e at is lies after in_cell =
 module _ (base : ℕ) (expiries cells : List (Option ℕ)) (right : LieRight base expiries cells) where
   entry : (slot at : ℕ) → cell_at cells slot ≡ Some at → IsEntryAt base (slot_expiry expiries slot) at
   entry slot at lies = entry_at base (slot_expiry expiries slot) (cell_at cells slot) at lies (right.each slot)
-
-  pub has_expiries : (cell : ℕ) → HasExpiries cells expiries cell
-  has_expiries cell slot lies = ap is_some (entry slot cell lies).is
-
-  pub expire_together : (cell : ℕ) → cell < 64 → ExpireTogether expiries cells cell
-  expire_together cell low slot other lies its =
-      let one = entry slot cell lies in
-      let another = entry other cell its in
-      one.is ∙ ap Some (same_lowest base one.at another.at cell one.in_cell another.in_cell (omega arith)) ∙ sym another.is
 
   -- the base moves to the least entry of the first cell
   module _ (cell : ℕ) (first : IsFirstCell cells cell) (least_slot next : ℕ) (least : IsLeastIn cells expiries cell least_slot next) where

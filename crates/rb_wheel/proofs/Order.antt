@@ -3,7 +3,6 @@ use Rattle.std.proofs.Common.{◌≡◌, ℕ, ◌+◌, ◌-◌, ◌*◌, ◌/◌
 use Rattle.std.proofs.Math.Pow.{shr_mono}
 use Rattle.std.proofs.lemmas.Bool.{cases_lt}
 use Rattle.std.proofs.lemmas.Nat.{shr-shr}
-use Rattle.std.proofs.Math.Nat.{div-one}
 use Rattle.rb_wheel.specs.Cells.{level_of, digit_of, units, digit, above, IsCellOf}
 use Rattle.rb_wheel.proofs.HighestBit.{above_is_units}
 
@@ -69,13 +68,7 @@ module _ (base one other cell : ℕ) (is_one : IsCellOf base one cell) (is_other
   same_units : units (level_of cell) other ≡ units (level_of cell) one
   same_units = sym (units_of_cell base other cell is_other) ∙ units_of_cell base one cell is_one
 
-  -- on the lowest level they expire at one moment
-  pub same_lowest : level_of cell ≡ 0 → one ≡ other
-  same_lowest lowest =
-      let units_are = λ (moment : ℕ). ap (λ l. units l moment) lowest ∙ div-one moment in
-      sym (units_are one) ∙ sym same_units ∙ units_are other
-
-  -- on a higher one each, seen from another of them, belongs on a lower level
+  -- above the lowest level each, seen from another of them, belongs on a lower level
   pub lower_from_one : (lower : ℕ) → 0 < level_of cell → IsCellOf one other lower → lower < cell
   lower_from_one lower up is_lower = ⊎_elim
       (λ down. omega arith)

@@ -1,5 +1,5 @@
 -- The cells of a wheel: where an expiry belongs, seen from a base.
-use Rattle.std.specs.Prelude.{◌≡◌, ℕ, ◌+◌, ◌*◌, ◌/◌, ◌%◌, ◌^◌, ◌<◌, ◌≢◌}
+use Rattle.std.specs.Prelude.{◌≡◌, ℕ, ◌*◌, ◌/◌, ◌%◌, ◌^◌, ◌<◌, ◌≢◌}
 
 -- the level of a cell, and its digit there
 abbrev pub level_of : ℕ → ℕ

@@ -1,4 +1,4 @@
-ghost use Rattle.std.specs.Prelude.{◌≡◌, ◌≢◌, ◌<◌, ◌≤◌, ℕ, Some, IfSome, MatchOption};
+ghost use Rattle.std.specs.Prelude.{◌≡◌, ◌≢◌, ◌<◌, Some, IfSome, MatchOption};
 ghost use Rattle.rb_wheel.specs.Lists.{IsVacant, IsLeastIn, HasExpiries};
 ghost use Rattle.rb_wheel.specs.Wheel.{LieRight, MaySpread, SameInCells, ExpireTogether, IsFirst};
 

@@ -1,5 +1,5 @@
 -- The entry leaves the row, and with it the content.
-use Rattle.std.proofs.Common.{◌≡◌, ◌<◌, ◌∙◌, IsSome, is_some, sym, ap}
+use Rattle.std.proofs.Common.{◌∙◌, is_some, sym, ap}
 use Rattle.rb_timer.specs.Slots.{get-content_of, in_range_of_content, content_of, content_of-remove}
 use Rattle.rb_wheel.proofs.wheel_timer.WheelAnyTimer.remove.Goals as goal
 
