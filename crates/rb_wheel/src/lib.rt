@@ -9,8 +9,6 @@ mod next_first;
 mod node;
 #[cfg(test)]
 mod tests;
-#[cfg(test)]
-mod tests_of_costs;
 mod wheel_timer;
 
 pub use wheel_timer::{Wheel, WheelTimer};
