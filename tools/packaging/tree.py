@@ -52,7 +52,7 @@ def lay_out(root: str, program: str) -> None:
     table = read_table()
     write(root, "usr/share/bash-completion/completions/rb_broker", bash_completion(table).encode())
     write(root, "usr/share/zsh/vendor-completions/_rb_broker", zsh_completion(table).encode())
-    for name in ("PROTOCOL.md", "HISTORY.md", "SERVING.md"):
+    for name in ("PROTOCOL.md", "HISTORY.md", "OPERATING.md"):
         write(root, f"{DOCUMENTS}/{name}", content_of(f"{TOP}/docs/{name}"))
     for path in sorted(glob.glob(f"{TOP}/examples/*.txt")):
         write(root, f"{DOCUMENTS}/examples/{os.path.basename(path)}", content_of(path))
