@@ -1,4 +1,4 @@
-"""The program that is tried, and its runs as a command."""
+"""The program under test, and its runs as a command."""
 from __future__ import annotations
 
 import contextlib
@@ -14,7 +14,7 @@ from conforming.inputs import BrokenOff, Halves, Pieces
 
 @dataclass
 class Ended:
-    """What a run came to. A run that had to be ended has no status."""
+    """How a run ended. A run that had to be killed has no status."""
 
     status: int | None
     output: bytes
@@ -22,7 +22,7 @@ class Ended:
 
 
 class Running:
-    """A process in a group of its own, so that all that it started ends with it."""
+    """A process in a group of its own, so that everything it started ends with it."""
 
     def __init__(self, command: list[str], descriptor: int):
         pipe = subprocess.PIPE
@@ -32,14 +32,14 @@ class Running:
         self.had_to_be_ended = False
 
     def end(self) -> None:
-        """Ends the process, and what it started, unless it has ended by itself."""
+        """Ends the process and what it started, unless it has ended by itself."""
         if self.process.poll() is None:
             self.had_to_be_ended = True
             with contextlib.suppress(ProcessLookupError):
                 os.killpg(self.process.pid, signal.SIGKILL)
 
     def ended(self, output: bytes, errors: bytes) -> Ended:
-        """What the process came to, once it has ended."""
+        """How the process ended, once it has."""
         status = self.process.wait()
         return Ended(None if self.had_to_be_ended else status, output, errors)
 
@@ -99,7 +99,7 @@ class Program:
 
 
 def read_lines(output: IO[bytes], count: int) -> bytes:
-    """Reads so many lines, or fewer where there are no more, and closes the output."""
+    """Reads this many lines, or fewer if there are no more, and closes the output."""
     with output:
         told = b""
         while told.count(b"\n") < count:
