@@ -13,7 +13,7 @@
 # Open sessions are never cut off. Clients have to leave by themselves, between two jobs, and connect again; every ten
 # seconds a line says that a run still waits for them. RB_BROKER names another program than ./broker.
 #
-# Printed is a line for each run, and at last `rollover: stopped in good order after run N, M left`. Status: 0; 1 if a
+# Printed is a line for each run, and finally `rollover: stopped in good order after run N, M left`. Status: 0; 1 if a
 # server ended otherwise, or a history is empty or not legal; 2 if a word is wrong. One line then says why.
 set -u
 
