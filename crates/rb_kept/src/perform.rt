@@ -162,7 +162,8 @@ fn drain<T: Timer>(alloc: Global, queue: &mut DelayQueue<T>, at: u64, max: u64) 
     })
 }
 
-// The ids of the elements, in a vector that has room for them.
+// The ids of the elements, in a vector that has room for them. The history keeps it, so it gives back the room
+// that is left over.
 fn ids_of(elements: &[Element], mut ids: Vec<u64>) -> Ids
     requires empty { ids.items ≡ [] }
     requires room { length elements.now ≤ vec_capacity ids }
@@ -171,6 +172,7 @@ fn ids_of(elements: &[Element], mut ids: Vec<u64>) -> Ids
     for element in elements {
         ids.push_reserved(element.id);
     }
+    ids.shrink_to_fit();
     Ids::new(ids)
 }
 

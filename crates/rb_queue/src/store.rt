@@ -11,6 +11,10 @@ use slab::Slab;
 use std::alloc::{AllocError, Global};
 use std::marker::Model;
 
+// How many slots of room there may be to an element before a pass over the room costs more than to take the
+// elements out one by one.
+const SLOTS_TO_AN_ELEMENT: usize = 8;
+
 /// The elements that stand in a queue, found by id and by expiry.
 ///
 /// Each element lies in a slot. The timer knows the expiry at each slot and the directory the slot of
@@ -115,8 +119,28 @@ impl<T: Timer> Store<T> {
         self.elements.len()
     }
 
-    /// Discards all elements.
+    /// Discards all elements, at the cost of those that stand: not of the room, nor of what once stood.
     pub(crate) fn clear(&mut self)
+        ensures { self.new ≡ map.empty }
+    {
+        if self.len() < self.timer.room() / SLOTS_TO_AN_ELEMENT {
+            self.discard_each();
+        } else {
+            self.discard_at_once();
+        }
+    }
+
+    // Takes out one element after the other.
+    fn discard_each(&mut self)
+        ensures { self.new ≡ map.empty }
+    {
+        while let Some(element) = self.least() {
+            self.remove(element.id);
+        }
+    }
+
+    // Goes over the whole room once.
+    fn discard_at_once(&mut self)
         ensures { self.new ≡ map.empty }
     {
         self.elements.clear();

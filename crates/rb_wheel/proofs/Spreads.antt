@@ -1,16 +1,11 @@
 -- The entries of a cell, spread over lower ones one after another.
-use Rattle.std.proofs.Common.{◌≡◌, ℕ, ◌<◌, Bool, false, cond, eqb, List, length, set, Option, Some, None, sym, ap, ◌∙◌, refl, arith, ⊎_elim, ◌⊎◌, get_or-set_same, length-set}
-use Rattle.std.specs.Prelude.{IsSomeAnd, count_by}
+use Rattle.std.proofs.Common.{◌≡◌, ℕ, ◌<◌, Bool, false, cond, eqb, List, length, set, Option, Some, None, sym, ap, ◌∙◌, refl, arith, ⊎_elim, get_or-set_same, length-set}
+use Rattle.std.specs.Prelude.{count_by}
 use Rattle.std.proofs.lemmas.Bool.{cases_lt, eq-eqb, ne_eqb}
 use Rattle.std.proofs.lemmas.List.{get_or_past}
 use Rattle.std.proofs.lemmas.List.Sums.{sum_by-set}
 use Rattle.std.proofs.lemmas.Option.{none-some}
 use Rattle.rb_wheel.specs.Lists.{cell_at}
-
--- the slots of the cell lie in it, or in cells before it
-abbrev pub LieLowerSoFar : ℕ → List (Option ℕ) → List (Option ℕ) → Type 0
-LieLowerSoFar cell cells now = (slot : ℕ) → cell_at cells slot ≡ Some cell
-    → (cell_at now slot ≡ Some cell) ⊎ IsSomeAnd (cell_at now slot) (λ lower. lower < cell)
 
 -- how many slots a cell holds
 abbrev pub is_in : ℕ → Option ℕ → Bool

@@ -1,5 +1,5 @@
 -- The cells of a wheel: where an expiry belongs, seen from a base.
-use Rattle.std.specs.Prelude.{◌≡◌, ℕ, ◌+◌, ◌*◌, ◌/◌, ◌%◌, ◌^◌, ◌<◌, ◌≢◌}
+use Rattle.std.specs.Prelude.{◌≡◌, ℕ, ◌*◌, ◌/◌, ◌%◌, ◌^◌, ◌<◌, ◌≢◌}
 
 -- the level of a cell, and its digit there
 abbrev pub level_of : ℕ → ℕ
@@ -25,7 +25,3 @@ pub record IsCellOf (base expiry cell : ℕ) : Type 0 where
   pub same_digit : digit (level_of cell) expiry ≡ digit_of cell
   pub same_above : above (level_of cell) expiry ≡ above (level_of cell) base
   pub differs : 0 < level_of cell → digit (level_of cell) expiry ≢ digit (level_of cell) base
-
--- the first moment that belongs in a cell
-abbrev pub start : ℕ → ℕ → ℕ
-start base cell = (above (level_of cell) base * 64 + digit_of cell) * 2 ^ (6 * level_of cell)

@@ -30,31 +30,34 @@ pub record SameInCells (cells new_cells : List (Option ℕ)) : Type 0 where
   pub room : length new_cells ≡ length cells
   pub each : (slot : ℕ) → is_some (cell_at new_cells slot) ≡ is_some (cell_at cells slot)
 
--- the slots of the cell now lie in cells before it
-abbrev pub LieLower : ℕ → List (Option ℕ) → List (Option ℕ) → Type 0
-LieLower cell cells new_cells = (slot : ℕ) → cell_at cells slot ≡ Some cell → IsSomeAnd (cell_at new_cells slot) (λ lower. lower < cell)
+-- the entries of the cell expire at one moment
+abbrev pub ExpireTogether : List (Option ℕ) → List (Option ℕ) → ℕ → Type 0
+ExpireTogether expiries cells cell = (slot other : ℕ) → cell_at cells slot ≡ Some cell → cell_at cells other ≡ Some cell
+    → slot_expiry expiries slot ≡ slot_expiry expiries other
 
--- no entry of the wheel is due
-abbrev pub IsNoneDue : ℕ → List (Option ℕ) → List (Option ℕ) → Type 0
-IsNoneDue now expiries cells = (slot : ℕ) → IsSome (cell_at cells slot) → IfSome (slot_expiry expiries slot) (λ expiry. now < expiry)
+-- the slot lies in a cell, and no entry that lies in one expires before its own
+pub record IsLeastInCells (expiries cells : List (Option ℕ)) (slot expiry : ℕ) : Type 0 where
+  pub lies : IsSome (cell_at cells slot)
+  pub expires : slot_expiry expiries slot ≡ Some expiry
+  pub least : (other : ℕ) → IsSome (cell_at cells other) → IfSome (slot_expiry expiries other) (λ another. expiry ≤ another)
 
--- the cell holds a slot, and its entries all expire at the base
-pub record IsDueCell (base now cell : ℕ) (expiries cells : List (Option ℕ)) : Type 0 where
-  pub due : base ≤ now
-  pub held : (slot : ℕ) × (cell_at cells slot ≡ Some cell)
-  pub expires : (slot : ℕ) → cell_at cells slot ≡ Some cell → slot_expiry expiries slot ≡ Some base
+-- an entry of least expiry among those that lie in cells, or none where no entry lies in a cell
+abbrev pub IsFirst : List (Option ℕ) → List (Option ℕ) → Option (ℕ × ℕ) → Type 0
+IsFirst expiries cells None = (slot : ℕ) → cell_at cells slot ≡ None
+IsFirst expiries cells (Some entry) = IsLeastInCells expiries cells entry.0 entry.1
 
 -- the expiry of an entry that lies in no cell
 abbrev pub early_of : Option ℕ → Option ℕ → Option ℕ
 early_of expiry None = expiry
 early_of expiry (Some cell) = None
 
--- the wheel's parts agree: each entry lies right, in its cell or among the early ones, and there
--- is room for each in both
-pub record IsWheel (expiries cells : List (Option ℕ)) (early : Content) (room base len : ℕ) : Type 0 where
+-- the wheel's parts agree: each entry lies right, in its cell or among the early ones, there is room
+-- for each in both, and the first entry is one of least expiry among those in cells
+pub record IsWheel (expiries cells : List (Option ℕ)) (early : Content) (room base len : ℕ) (first : Option (ℕ × ℕ)) : Type 0 where
   pub right : LieRight base expiries cells
   pub moments : AreMoments expiries
   pub early_entries : (slot : ℕ) → map.get early slot ≡ early_of (slot_expiry expiries slot) (cell_at cells slot)
   pub in_lists : length expiries ≤ length cells
   pub in_early : length expiries ≤ room
   pub counted : len ≡ count_by is_some expiries
+  pub is_first : IsFirst expiries cells first

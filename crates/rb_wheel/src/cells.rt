@@ -1,5 +1,5 @@
-ghost use Rattle.std.specs.Prelude.{◌≡◌, ◌+◌, ◌^◌, ◌<◌, ◌≤◌};
-ghost use Rattle.rb_wheel.specs.Cells.{IsCellOf, start};
+ghost use Rattle.std.specs.Prelude.{◌≡◌, ◌+◌, ◌<◌, ◌≤◌};
+ghost use Rattle.rb_wheel.specs.Cells.{IsCellOf};
 
 /// How many digits a moment has, in base 64. Each is a level of the wheel, the lowest first.
 pub(crate) const LEVELS: usize = 11;
@@ -22,15 +22,4 @@ pub(crate) fn cell_of(base: u64, expiry: u64) -> usize
     };
     let digit = (expiry >> (DIGIT_BITS * level)) % DIGITS as u64;
     level as usize * DIGITS + digit as usize
-}
-
-/// The first moment that belongs in the cell.
-pub(crate) fn start_of(base: u64, cell: usize) -> u64
-    requires in_wheel { cell < CELLS }
-    requires is_moment { start base cell < 2 ^ 64 }
-    ensures { result ≡ start base cell }
-{
-    let shift = DIGIT_BITS * (cell / DIGITS) as u32;
-    let above = (base >> shift) / DIGITS as u64 * DIGITS as u64;
-    (above + (cell % DIGITS) as u64) << shift
 }

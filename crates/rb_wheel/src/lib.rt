@@ -1,11 +1,11 @@
 //! The timer for far moments: a hierarchical wheel of cells, each a list of the slots in it.
 #![tactic(auto)]
 
-mod advance;
 mod cells;
 mod link;
 mod lists;
 mod marks;
+mod next_first;
 mod node;
 #[cfg(test)]
 mod tests;

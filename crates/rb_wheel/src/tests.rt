@@ -4,5 +4,6 @@ mod ample_memory;
 mod fixtures;
 mod kept_entries;
 mod level_boundaries;
+mod moved_base;
 mod plain_timer_agreement;
 mod trials;

@@ -1,6 +1,6 @@
-use crate::advance::advance;
 use crate::cells::cell_of;
-use crate::lists::Lists;
+use crate::lists::{Lists, earlier_of};
+use crate::next_first::first_without;
 use rb_pairing::PairingTimer;
 use rb_timer::Timer;
 use std::alloc::{AllocError, Global};
@@ -13,9 +13,14 @@ pub type WheelTimer = Wheel<PairingTimer>;
 /// a cell for each value of its digit. An entry lies in the cell of its digit on the highest level
 /// on which its expiry's digit differs from the base's, on the lowest level where none does.
 ///
-/// Only `due` moves the base, never past its `now` nor past the least entry of the wheel, and then
-/// spreads the cell that the base has entered over lower levels. An entry that expires before the
-/// base lies in a timer of its own.
+/// The base moves only when the first entry of the cells leaves: to the expiry of the next, whose cell is
+/// then spread over lower levels. What is put in later and expires before the base stands in a timer of
+/// its own, `E`. Where no entry is left the base is 0 again.
+///
+/// What calls cost, beside those of `E`: `least` and `due` look at the first entry of each part, and walk
+/// over nothing. `insert` puts one slot into a list. `remove` takes one out, and may move others to lower
+/// levels; from when it is put in until it is taken out an entry is moved so at most ten times. `clear`
+/// takes the entries out one by one where they are few beside the room, and else goes over the room.
 #[derive(Debug, Drop)]
 pub struct Wheel<E: Timer> {
     // The slots of the room, each with its entry's expiry, wherever that lies.
@@ -23,6 +28,8 @@ pub struct Wheel<E: Timer> {
     early: E,
     base: u64,
     len: usize,
+    // An entry of least expiry among those in cells.
+    first: Option<(usize, u64)>,
 }
 
 impl<E: Timer> Model for Wheel<E> {
@@ -34,7 +41,7 @@ impl<E: Timer> Model for Wheel<E> {
 
     ghost view = { λ wheel. wheel.lists.expiries };
 
-    ghost invariant = { λ wheel. IsWheel wheel.lists.expiries wheel.lists.cells (E.content wheel.early) (E.room wheel.early) wheel.base wheel.len };
+    ghost invariant = { λ wheel. IsWheel wheel.lists.expiries wheel.lists.cells (E.content wheel.early) (E.room wheel.early) wheel.base wheel.len wheel.first };
 }
 
 impl<E: Timer> Timer for Wheel<E> {
@@ -53,6 +60,7 @@ impl<E: Timer> Timer for Wheel<E> {
             early: E::new(alloc),
             base: 0,
             len: 0,
+            first: None,
         }
     }
 
@@ -83,17 +91,13 @@ impl<E: Timer> Timer for Wheel<E> {
             self.early.insert(slot, expiry);
         } else {
             self.lists.insert(slot, cell_of(self.base, expiry));
+            self.first = Some(earlier_of(self.first, (slot, expiry)));
         }
     }
 
     fn remove(&mut self, slot: usize) -> u64 {
-        let expiry = self.lists.vacate(slot);
-        self.len -= 1;
-        if expiry < self.base {
-            self.early.remove(slot);
-        } else {
-            self.lists.remove(slot);
-        }
+        let expiry = self.take_out(slot);
+        self.rest();
         expiry
     }
 
@@ -101,22 +105,72 @@ impl<E: Timer> Timer for Wheel<E> {
         if let Some(entry) = self.early.least() {
             return Some(entry);
         }
-        let cell = self.lists.first_cell()?;
-        self.lists.least_in(cell)
+        self.first
     }
 
     fn due(&mut self, now: u64) -> Option<(usize, u64)> {
-        if self.early.least().is_some() {
-            return self.early.due(now);
-        }
-        let cell = advance(&mut self.lists, &mut self.base, now)?;
-        let slot = self.lists.first_in(cell)?;
-        Some((slot, self.base))
+        self.least().filter(|&(_, expiry)| expiry <= now)
     }
 
     fn clear(&mut self) {
+        if self.len <= self.lists.room() / 8 {
+            self.take_each();
+        } else {
+            self.take_all();
+        }
+    }
+}
+
+impl<E: Timer> Wheel<E> {
+    ghost use Rattle.std.specs.Prelude.{◌≡◌, Some, None, IsSome, length, replicate, slice_set};
+    ghost use Rattle.std.specs.FinMap as map;
+    ghost use Rattle.rb_timer.specs.Slots.{content_of};
+    ghost use Rattle.rb_wheel.specs.Lists.{slot_expiry};
+
+    // Takes out the entry at a slot that has one, and gives its expiry.
+    fn take_out(&mut self, slot: usize) -> u64
+        requires { IsSome (slot_expiry self.old slot) }
+        ensures value { slot_expiry self.old slot ≡ Some result }
+        ensures left { self.new ≡ slice_set self.old slot None }
+    {
+        let expiry = self.lists.vacate(slot);
+        self.len -= 1;
+        if expiry < self.base {
+            self.early.remove(slot);
+        } else {
+            self.lists.remove(slot);
+            self.first = first_without(&mut self.lists, &mut self.base, self.first, slot);
+        }
+        expiry
+    }
+
+    // Where no entry is left the next one lies in a cell, whatever its expiry.
+    fn rest(&mut self)
+        ensures { self.new ≡ self.old }
+    {
+        if self.len == 0 {
+            self.base = 0;
+        }
+    }
+
+    // Takes out one entry after another.
+    fn take_each(&mut self)
+        ensures content { content_of self.new ≡ map.empty }
+        ensures room { length self.new ≡ length self.old }
+    {
+        while let Some((slot, _)) = self.least() {
+            self.remove(slot);
+        }
+    }
+
+    // Takes out all entries at once, by a walk over the room.
+    fn take_all(&mut self)
+        ensures { self.new ≡ replicate (length self.old) None }
+    {
         self.lists.clear();
         self.early.clear();
+        self.base = 0;
         self.len = 0;
+        self.first = None;
     }
 }

@@ -1,15 +1,8 @@
--- Rows of none have no entry.
+-- A row of none has no entry.
 use Rattle.std.proofs.Common.{length, ap, ◌∙◌}
 use Rattle.rb_timer.specs.Slots.{content_of, content_of-none}
-use Rattle.rb_wheel.proofs.Entries.{IsWheel-none}
 use Rattle.rb_wheel.proofs.wheel_timer.WheelAnyTimer.clear.Goals as goal
 
-pub invariant_of-self : goal.invariant_of-self
-invariant_of-self g c =
-    let wheel = c.self.inside in
-    IsWheel-none wheel.lists.expiries c.clear.new.self.expiries wheel.lists.cells c.clear.new.self.cells _ _ _ _ wheel.base wheel.len
-    c.clear.ensures.expiries c.clear.ensures.cells c.clear-2.ensures.content c.clear-2.ensures.room c.self.invariant
-
-pub returns-clause-content : goal.returns-clause-content
-returns-clause-content g c =
-    ap content_of c.clear.ensures.expiries ∙ content_of-none (length c.self.inside.lists.expiries)
+pub returns-else-self-room-clause-content : goal.returns-else-self-room-clause-content
+returns-else-self-room-clause-content g c =
+    ap content_of c.take_all.ensures ∙ content_of-none (length c.args.self.now)

@@ -17,7 +17,7 @@ within expiries value slot same low = subst (λ (es : List (Option ℕ)). slot <
 pub overflow_add-self : goal.overflow_add-self
 overflow_add-self g c =
     let wheel = c.self.inside in
-    let few = fewer wheel.lists.expiries wheel.lists.cells _ _ wheel.base wheel.len c.self.invariant c.args.slot
+    let few = fewer wheel.lists.expiries wheel.lists.cells _ _ wheel.base wheel.len _ c.self.invariant c.args.slot
     (within wheel.lists.expiries c.args.self.now c.args.slot c.self.view_is c.requires.in_room)
     (absent_in wheel.lists.expiries c.args.self.now c.args.slot c.self.view_is c.requires.absent) in
     let long = ap (λ (slots : Slots). length slots.expiries) c.occupy.ensures.noted ∙ length-set wheel.lists.expiries c.args.slot (Some c.args.expiry) in
@@ -27,14 +27,14 @@ overflow_add-self g c =
 pub insert-requires-clause-absent : goal.insert-requires-clause-absent
 insert-requires-clause-absent g c =
     let wheel = c.self.inside in
-    not_early wheel.lists.expiries wheel.lists.cells _ _ wheel.base wheel.len c.self.invariant c.args.slot
+    not_early wheel.lists.expiries wheel.lists.cells _ _ wheel.base wheel.len _ c.self.invariant c.args.slot
     (within wheel.lists.expiries c.args.self.now c.args.slot c.self.view_is c.requires.in_room)
     (absent_in wheel.lists.expiries c.args.self.now c.args.slot c.self.view_is c.requires.absent)
 
 pub invariant_of-self : goal.invariant_of-self
 invariant_of-self g c =
     let wheel = c.self.inside in
-    rw c.occupy.ensures.noted (insert_early wheel.lists.expiries wheel.lists.cells _ _ wheel.base wheel.len c.self.invariant c.args.slot
+    rw c.occupy.ensures.noted (insert_early wheel.lists.expiries wheel.lists.cells _ _ wheel.base wheel.len _ c.self.invariant c.args.slot
     (within wheel.lists.expiries c.args.self.now c.args.slot c.self.view_is c.requires.in_room)
     (absent_in wheel.lists.expiries c.args.self.now c.args.slot c.self.view_is c.requires.absent)
     c.args.expiry _ _ (omega arith) c.if-expiry-self.true c.insert.ensures.content c.insert.ensures.room)
@@ -42,18 +42,18 @@ invariant_of-self g c =
 pub insert-requires-else-expiry-self-clause-free : goal.insert-requires-else-expiry-self-clause-free
 insert-requires-else-expiry-self-clause-free g c =
     let wheel = c.self.inside in
-    rw c.occupy.ensures.noted (free wheel.lists.expiries wheel.lists.cells _ _ wheel.base wheel.len c.self.invariant c.args.slot
+    rw c.occupy.ensures.noted (free wheel.lists.expiries wheel.lists.cells _ _ wheel.base wheel.len _ c.self.invariant c.args.slot
     (within wheel.lists.expiries c.args.self.now c.args.slot c.self.view_is c.requires.in_room)
     (absent_in wheel.lists.expiries c.args.self.now c.args.slot c.self.view_is c.requires.absent))
 
 pub invariant_of-self-else-expiry-self : goal.invariant_of-self-else-expiry-self
 invariant_of-self-else-expiry-self g c =
     let wheel = c.self.inside in
-    rw (c.insert-else-expiry-self.ensures, c.occupy.ensures.noted) (insert_late wheel.lists.expiries wheel.lists.cells _ _ wheel.base wheel.len c.self.invariant c.args.slot
+    rw (c.insert-else-expiry-self.ensures, c.occupy.ensures.noted) (insert_late wheel.lists.expiries wheel.lists.cells _ _ wheel.base wheel.len _ c.self.invariant c.args.slot
     (within wheel.lists.expiries c.args.self.now c.args.slot c.self.view_is c.requires.in_room)
     (absent_in wheel.lists.expiries c.args.self.now c.args.slot c.self.view_is c.requires.absent)
-    c.args.expiry c.cell_of.result (set wheel.lists.cells c.args.slot (Some c.cell_of.result)) (omega arith) c.if-expiry-self.false
-    c.cell_of.ensures.cell refl)
+    c.args.expiry c.cell_of.result (set wheel.lists.cells c.args.slot (Some c.cell_of.result)) c.earlier_of.result (omega arith) c.if-expiry-self.false
+    c.cell_of.ensures.cell refl c.earlier_of.ensures.no_later c.earlier_of.ensures.no_worse c.earlier_of.ensures.either)
 
 -- the content has the entry
 added : (expiries value : List (Option ℕ)) (slot expiry : ℕ) → expiries ≡ value → slot < length value

@@ -1,15 +1,14 @@
--- What is left in the cell is still to be spread, and what was in it lies lower.
+-- What is left in the cell is still to be spread.
 use Rattle.std.proofs.Common.{◌≡◌}
 use Rattle.rb_wheel.specs.Wheel.{MaySpread, SameInCells}
-use Rattle.rb_wheel.proofs.Spreads.{LieLowerSoFar, count_in}
-use Rattle.rb_wheel.proofs.advance.spread.Given as goal
+use Rattle.rb_wheel.proofs.Spreads.{count_in}
+use Rattle.rb_wheel.proofs.next_first.spread.Given as goal
 
 abbrev pub invariant-loop-slot : goal.invariant-loop-slot
 invariant-loop-slot l = record {
   expiries : l.lists.expiries ≡ l.initial.lists.expiries;
   may : MaySpread l.base l.cell l.lists.expiries l.lists.cells;
   same : SameInCells l.initial.lists.cells l.lists.cells;
-  lower : LieLowerSoFar l.cell l.initial.lists.cells l.lists.cells;
 }
 
 abbrev pub decreases-loop-slot : goal.decreases-loop-slot

@@ -4,7 +4,7 @@ use Rattle.std.specs.Prelude.{IsSomeAnd}
 use Rattle.rb_wheel.specs.Lists.{Slots}
 use Rattle.rb_wheel.specs.Cells.{IsCellOf}
 use Rattle.rb_wheel.proofs.Spreads.{count_in, count_in-lower}
-use Rattle.rb_wheel.proofs.advance.spread.Goals as goal
+use Rattle.rb_wheel.proofs.next_first.spread.Goals as goal
 
 pub loop-slot-smaller : goal.loop-slot-smaller
 loop-slot-smaller c =
