@@ -1,4 +1,4 @@
-"""A case: a run, and what it must come to."""
+"""A case: a run and its expected result."""
 from __future__ import annotations
 
 from dataclasses import dataclass, field
@@ -69,7 +69,7 @@ ONCE: dict[str, Callable[[str], object]] = {"args": str, **OUTCOMES, **OF_DEVICE
 
 @dataclass
 class Case:
-    """A case as its file tells it: the values of the words that stand once, and its texts."""
+    """A case as its file describes it: the values of the words that occur once, and its texts."""
 
     file: str
     line: int
@@ -102,7 +102,7 @@ class Case:
         self.texts[mark] = self.text(mark) + appended(told, lines)
 
     def check(self) -> None:
-        """Whether all is there that a case has, and nothing beside it."""
+        """Checks that everything is there that a case needs, and nothing else."""
         is_replay = "verdict" in self.values or "status" in self.values
         if not self.is_script and not is_replay:
             raise Flaw("a case with neither `ends` nor `verdict`")
@@ -118,17 +118,17 @@ class Case:
 
     @property
     def is_script(self) -> bool:
-        """Whether a script is run, and not a history replayed."""
+        """Whether the case runs a script, rather than replaying a history."""
         return "ends" in self.values
 
     @property
     def words(self) -> list[str]:
-        """The words behind `script` or `replay`."""
+        """The words after `script` or `replay`."""
         return self.value("args").split()
 
     @property
     def fault(self) -> str | None:
-        """The text of the fault by which the script ends."""
+        """The text of the fault with which the script ends."""
         return self.value("ends") if self.value("ends") in FAULTS else None
 
     @property
@@ -137,13 +137,13 @@ class Case:
         return 0 if self.fault else number_of(self.value("ends").partition(" ")[2])
 
     def text(self, mark: str) -> bytes:
-        """The text of this mark. It is empty where the case has none."""
+        """The text of this mark, which is empty if the case has none."""
         return self.texts.get(mark, b"")
 
     def value(self, word: str) -> str:
-        """What stands behind this word, or nothing."""
+        """What follows this word, or nothing."""
         return str(self.values.get(word, ""))
 
     def number(self, word: str, default: int) -> int:
-        """The number behind this word."""
+        """The number after this word."""
         return int(str(self.values.get(word, default)))

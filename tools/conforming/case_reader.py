@@ -1,4 +1,4 @@
-"""The reading of a case file. crates/rb_cases/src/case_reader.rt says what stands in one."""
+"""The reading of a case file. crates/rb_cases/src/case_reader.rt describes its contents."""
 from __future__ import annotations
 
 import os
@@ -8,7 +8,7 @@ from conforming.malformed import Flaw, Malformed
 
 
 def read_cases(path: str) -> list[Case]:
-    """The cases of a file, of which there is one at least. An `OSError` says that it can't be read."""
+    """The cases of a file, at least one. Raises an `OSError` if it can't be read."""
     with open(path, "rb") as it:
         content = it.read()
     try:
@@ -29,7 +29,7 @@ def read_cases(path: str) -> list[Case]:
 
 
 def take(cases: list[Case], path: str, number: int, line: str) -> None:
-    """Takes a line: a remark, the begin of a case, or what belongs to the last one."""
+    """Takes a line: a remark, the start of a case, or a part of the current one."""
     if not line.strip() or line.startswith("#"):
         return
     word, _, told = line.partition(" ")
@@ -45,7 +45,7 @@ def take(cases: list[Case], path: str, number: int, line: str) -> None:
 
 
 def check_last(cases: list[Case], path: str) -> None:
-    """The case before, which gets no more lines, is whole."""
+    """Checks that the previous case, which gets no more lines, is complete."""
     try:
         if cases:
             cases[-1].check()

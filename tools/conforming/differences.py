@@ -1,4 +1,4 @@
-"""What came in place of what was wanted."""
+"""What came in place of what was expected."""
 from __future__ import annotations
 
 from itertools import takewhile
@@ -34,7 +34,7 @@ def of_ends(ended: Ended, what: str, wanted: bytes, status: int) -> str | None:
 
 
 def of_faults(errors: bytes, fault: str) -> str | None:
-    """Whether a line of standard error names the fault, behind the name of the program."""
+    """Whether a line of standard error names the fault, after the name of the program."""
     lines = errors.decode(errors="replace").splitlines()
     if any(line.endswith(f": {fault}") for line in lines):
         return None

@@ -69,6 +69,6 @@ class BrokenOff:
 
 
 def write_all(end: int, piece: bytes) -> None:
-    """Writes all of a piece, which a pipe may take by parts."""
+    """Writes all of a piece, which a pipe may accept in parts."""
     while piece:
         piece = piece[os.write(end, piece) :]

@@ -2,7 +2,7 @@
 
 
 class Flaw(Exception):
-    """Why a line, or a case, is none."""
+    """Why a line or a case is not valid."""
 
 
 class Malformed(Exception):

@@ -1,4 +1,4 @@
-"""Cases that can't be shown by what a command is given and what it prints."""
+"""Cases that can't be tested by what a command is given and what it prints."""
 from __future__ import annotations
 
 import os

@@ -1,4 +1,4 @@
-"""The program that is tried, and its runs as a command."""
+"""The program under test, and its runs as a command."""
 from __future__ import annotations
 
 import contextlib
@@ -12,9 +12,14 @@ from typing import IO, Iterator, Union
 from conforming.inputs import BrokenOff, Halves, Pieces
 
 
+# Held while a process starts and while an output is closed. A process that another thread starts has copies of all
+# descriptors until its command runs, so an output that is closed meanwhile would not look closed to its writer.
+STARTING = threading.Lock()
+
+
 @dataclass
 class Ended:
-    """What a run came to. A run that had to be ended has no status."""
+    """How a run ended. A run that had to be killed has no status."""
 
     status: int | None
     output: bytes
@@ -22,24 +27,25 @@ class Ended:
 
 
 class Running:
-    """A process in a group of its own, so that all that it started ends with it."""
+    """A process in a group of its own, so that everything it started ends with it."""
 
     def __init__(self, command: list[str], descriptor: int):
         pipe = subprocess.PIPE
-        self.process = subprocess.Popen(
-            command, stdin=descriptor, stdout=pipe, stderr=pipe, bufsize=0, start_new_session=True
-        )
+        with STARTING:
+            self.process = subprocess.Popen(
+                command, stdin=descriptor, stdout=pipe, stderr=pipe, bufsize=0, start_new_session=True
+            )
         self.had_to_be_ended = False
 
     def end(self) -> None:
-        """Ends the process, and what it started, unless it has ended by itself."""
+        """Ends the process and what it started, unless it has ended by itself."""
         if self.process.poll() is None:
             self.had_to_be_ended = True
             with contextlib.suppress(ProcessLookupError):
                 os.killpg(self.process.pid, signal.SIGKILL)
 
     def ended(self, output: bytes, errors: bytes) -> Ended:
-        """What the process came to, once it has ended."""
+        """How the process ended, once it has."""
         status = self.process.wait()
         return Ended(None if self.had_to_be_ended else status, output, errors)
 
@@ -99,12 +105,13 @@ class Program:
 
 
 def read_lines(output: IO[bytes], count: int) -> bytes:
-    """Reads so many lines, or fewer where there are no more, and closes the output."""
-    with output:
-        told = b""
-        while told.count(b"\n") < count:
-            piece = output.read(1)
-            if not piece:
-                break
-            told += piece
+    """Reads this many lines, or fewer if there are no more, and closes the output."""
+    told = b""
+    while told.count(b"\n") < count:
+        piece = output.read(1)
+        if not piece:
+            break
+        told += piece
+    with STARTING:
+        output.close()
     return told

@@ -11,7 +11,7 @@ from conforming.program import Program
 
 
 def replay_difference(program: Program, case: Case) -> str | None:
-    """What differs from the case where its history is replayed."""
+    """What differs from the case when its history is replayed."""
     with tempfile.TemporaryDirectory(prefix="rb-conform-") as room:
         history = os.path.join(room, "history")
         with open(history, "wb") as it:

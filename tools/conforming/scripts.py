@@ -55,7 +55,7 @@ def of_run(program: Program, case: Case, words: list[str], size: int | None) -> 
 
 
 def run(program: Program, case: Case, words: list[str], size: int | None) -> Ended:
-    """Runs the script with these words, over the devices that the case names."""
+    """Runs the script with these words, on the devices that the case names."""
     content = case.text(">")
     if "writer fails" in case.values:
         return program.run_until_closed(words, content, len(lines_of(case.text("<"))))
@@ -65,7 +65,7 @@ def run(program: Program, case: Case, words: list[str], size: int | None) -> End
 
 
 class Files:
-    """The files of a run: the history that it goes on behind, and the one that it writes."""
+    """The files of a run: the history that it continues, and the one that it writes."""
 
     def __init__(self, case: Case, room: str):
         self.words: list[str] = []

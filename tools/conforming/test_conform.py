@@ -1,7 +1,7 @@
 #!/usr/bin/env python3
 """Tests tools/conform: python3 tools/conforming/test_conform.py [--program PATH], from any folder.
 
-The tool has to pass the program, and to find each flaw of wrong_broker.py, which changes what the program prints. Each
+The tool must pass the program, and find each flaw of wrong_broker.py, which changes what the program prints. Each
 flaw is tried with one case or a few. The program is the one that ./broker builds, unless --program names another.
 """
 from __future__ import annotations
@@ -25,7 +25,7 @@ PATIENCE = 600  # seconds after which a run of the tool has failed
 
 
 class Options:
-    """What the words of the command line say."""
+    """The options of the command line."""
 
     program = f"{TOP}/crates/rb_broker/out/rb_broker"
 
@@ -93,7 +93,7 @@ class ProgramTest(unittest.TestCase):
         return conform(*words, "--only", only, *WRONG, flaw, Options.program)
 
     def expect(self, flaw: str, only: str, told: str, *words: str) -> None:
-        """The flaw is found, and told so."""
+        """The flaw is found, and reported like this."""
         with self.subTest(flaw=flaw, only=only):
             status, lines, errors = self.run_flaw(flaw, only, *words)
             self.assertEqual((status, errors), (1, ""), lines)
@@ -191,7 +191,7 @@ class CaseReaderTest(unittest.TestCase):
 
 
 def names_in(path: str) -> list[str]:
-    """The names of a file's cases, as the lines that begin with `case` tell them."""
+    """The names of a file's cases, from the lines that begin with `case`."""
     with open(path, encoding="utf-8") as it:
         return [line[5:] for line in it if line.startswith("case ")]
 

@@ -13,14 +13,14 @@ MARKS = {"\\": b"\\", "r": b"\r", "n": b"\n"}
 
 
 def number_of(word: str) -> int:
-    """The number that a word of decimal digits tells."""
+    """The number that a word of decimal digits spells."""
     if not re.fullmatch("[0-9]+", word):
         raise Flaw("no number")
     return int(word)
 
 
 def bytes_of(told: str, index: int) -> bytes:
-    """The bytes that a line tells, where it is the one with this index among its lines."""
+    """The bytes that a line describes, if it is the one with this index among its lines."""
     told_bytes, at = bytearray(), 0
     while at < len(told):
         piece = PIECE.match(told, at)
@@ -47,7 +47,7 @@ def bytes_of_piece(piece: re.Match[str], index: int) -> bytes:
 
 
 def split_form(word: str) -> tuple[str, int | None]:
-    """The mark of a text, and how many lines are told behind it, or None for a part of a line without its end."""
+    """The mark of a text and how many lines follow it, or None for a part of a line without its end."""
     if word.endswith("~"):
         return word[:-1], None
     mark, star, times = word.partition("*")

@@ -1,7 +1,7 @@
-"""A program that speaks the protocol nearly right: python3 wrong_broker.py FLAW PROGRAM WORD ..
+"""A program that speaks the protocol almost correctly: python3 wrong_broker.py FLAW PROGRAM WORD ..
 
-It runs `PROGRAM WORD ..` on its own standard input and hands on what that prints and its exit status, changed as the
-flaw says. tools/conforming/test_conform.py has to find each flaw but `no flaw`. Exit status: the program's, or 2 if a
+It runs `PROGRAM WORD ..` on its own standard input and passes on its output and its exit status, changed as the
+flaw says. tools/conforming/test_conform.py must find each flaw except `no flaw`. Exit status: the program's, or 2 if a
 word is wrong.
 """
 from __future__ import annotations
@@ -29,7 +29,7 @@ ENDS = {"the status is 0", "the fault is not told", "the history is empty", "a h
 
 
 def hand_on(process: subprocess.Popen[bytes], flaw: str) -> None:
-    """Hands on each line as it comes, and closes the program's output when its own is closed."""
+    """Passes on each line as it comes, and closes the program's output when its own is closed."""
     change = LINES.get(flaw, LINES["no flaw"])
     try:
         for line in process.stdout:
@@ -52,7 +52,7 @@ def spoil_history(flaw: str, words: list[str]) -> None:
 
 
 def main() -> int:
-    """Runs the program, and answers the status to end with."""
+    """Runs the program, and returns the status to end with."""
     flaw, command = " ".join(sys.argv[1:2]), sys.argv[2:]
     if flaw not in LINES and flaw not in ENDS or not command:
         print("wrong_broker: the words are a flaw and a command", file=sys.stderr)

@@ -1,1 +1,1 @@
-"""What tools/load is made of: clients that offer and take jobs, what they count, and what is printed of it."""
+"""The parts of tools/load: clients that offer and take jobs, their counts, and what is printed."""

@@ -1,4 +1,4 @@
-"""The server's clock, as far as its replies tell it."""
+"""The server's clock, as far as its replies show it."""
 from __future__ import annotations
 
 

@@ -18,7 +18,7 @@ class Lateness:
 
 @dataclass
 class Counts:
-    """How many elements were offered and taken, what became of the jobs, and how many calls the server made of it."""
+    """How many elements were offered and taken, what became of the jobs, and how many calls that was."""
 
     calls: int = 0
     offered: int = 0

@@ -1,4 +1,4 @@
-"""What is printed of a run."""
+"""What is printed about a run."""
 from __future__ import annotations
 
 from loading.counts import Counts

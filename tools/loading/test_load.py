@@ -1,8 +1,8 @@
 #!/usr/bin/env python3
 """Tests tools/load: python3 tools/loading/test_load.py [--program PATH], from any folder.
 
-Servers are put under load for a second or two, and what the tool counted is compared with their audit. Some have too
-few workers, too few calls or no turns; some are no brokers; at one port there is nobody. The program is the one that
+Servers are put under load for a second or two, and the tool's counts are compared with their audit. Some have too
+few workers, too few calls or no turns; some are not brokers; on one port nothing listens. The program is the one that
 ./broker builds, unless --program names another.
 """
 from __future__ import annotations
@@ -28,7 +28,7 @@ PATIENCE = 60  # seconds after which a run of the tool has failed
 
 
 class Options:
-    """What the words of the command line say."""
+    """The options of the command line."""
 
     program = PROGRAM
 
@@ -52,7 +52,7 @@ def rows_in(lines: list[str]) -> list[list[str]]:
 
 
 class ServedTest(unittest.TestCase):
-    """Loads on the program as a server."""
+    """The program as a server under load."""
 
     def serve(self, *options: object) -> Server:
         """A server with these options. It is ended after the test if it has not ended by itself."""
@@ -62,7 +62,7 @@ class ServedTest(unittest.TestCase):
         return server
 
     def expect_audit(self, server: Server, counts: dict[str, int], sessions: int) -> dict[str, int]:
-        """The server's last lines say what the tool counted. Gives the audit."""
+        """Checks that the server's last lines agree with the tool's counts. Returns the audit."""
         status, lines, errors = server.end()
         self.assertEqual((status, errors, lines[0]), (0, "", f"sessions {sessions} faults 0 lost 0"))
         audit = json.loads(lines[1])
@@ -135,7 +135,7 @@ class ServedTest(unittest.TestCase):
 
 
 class StrangeServerTest(unittest.TestCase):
-    """Ports at which no broker is."""
+    """Ports with no broker."""
 
     def listen(self, answer: bytes | None) -> int:
         """A port at which the first request gets this answer and the end of the connection, or no answer at all."""
@@ -186,7 +186,7 @@ class StrangeServerTest(unittest.TestCase):
 
 
 class CountsTest(unittest.TestCase):
-    """What is made of moments."""
+    """How moments are evaluated."""
 
     def test_the_clock_is_known_by_its_closest_bounds(self):
         clock = ServerClock()

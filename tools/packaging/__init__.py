@@ -1,4 +1,4 @@
-"""What tools/package and tools/check_package are made of: the table of options, the completions, the package."""
+"""The parts of tools/package and tools/check_package: the table of options, the completions, the package."""
 import os
 
 TOP = os.path.dirname(os.path.dirname(os.path.dirname(os.path.realpath(__file__))))

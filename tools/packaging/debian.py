@@ -18,7 +18,7 @@ SCRIPTS = ("postinst", "prerm", "postrm")
 
 
 def make_package(program: str, version: Version, folder: str) -> str:
-    """Makes the package of a program in a folder, and answers its path."""
+    """Makes the package of a program in a folder, and returns its path."""
     if not shutil.which("dpkg-deb"):
         raise Fault("there is no command dpkg-deb, of the package dpkg, on the path")
     if not os.path.isdir(folder):
@@ -37,7 +37,7 @@ def make_package(program: str, version: Version, folder: str) -> str:
 
 
 def pack(root: str, version: Version, path: str) -> str:
-    """Packs the tree, with its folder DEBIAN, and answers the package's path."""
+    """Packs the tree, with its folder DEBIAN, and returns the package's path."""
     made = subprocess.run(
         ["dpkg-deb", "--root-owner-group", "-Zxz", "--build", root, path],
         env={**os.environ, "SOURCE_DATE_EPOCH": str(version.moment)}, capture_output=True, encoding="utf-8",
@@ -48,7 +48,7 @@ def pack(root: str, version: Version, path: str) -> str:
 
 
 def changelog(version: Version) -> str:
-    """The one entry that Debian's form asks for."""
+    """The one entry that Debian's format requires."""
     date = email.utils.formatdate(version.moment)
     owner = "Nixerba maintainers <maintainers@users.noreply.nixerba.example>"
     what = "  * Built from the repository; its history says what changed."
@@ -56,7 +56,7 @@ def changelog(version: Version) -> str:
 
 
 def write_control(root: str, version: Version, needs: Needs) -> None:
-    """Writes the folder DEBIAN: what dpkg has to know of the package."""
+    """Writes the folder DEBIAN: what dpkg must know about the package."""
     parts = {
         "version": version.text,
         "architecture": needs.architecture,

@@ -1,4 +1,4 @@
-"""The manual page: its options, ranges and defaults are those of the table, and roff has nothing against it."""
+"""The manual page: its options, ranges and defaults are those of the table, and roff does not complain."""
 from __future__ import annotations
 
 import re
@@ -18,7 +18,7 @@ def plain(text: str) -> str:
 
 
 def options_in(text: str) -> set[str]:
-    """The options that a text names, but for those of help."""
+    """The options that a text names, except those of help."""
     return set(re.findall(r"--[a-z]+", text)) - set(HELP_OPTIONS)
 
 

@@ -1,4 +1,4 @@
-"""What a program needs of the machine that it runs on, read from its file by readelf."""
+"""What a program needs from the machine that it runs on, read from its file by readelf."""
 from __future__ import annotations
 
 import os
@@ -53,7 +53,7 @@ def needs_of(program: str) -> Needs:
 
 
 def packages_of(program: str, told: str) -> dict[str, str]:
-    """The packages of the libraries that readelf told of: none for a program that is linked statically."""
+    """The packages of the libraries that readelf listed: none for a program that is linked statically."""
     versions = dict.fromkeys(re.findall(r"\(NEEDED\) +Shared library: \[(.+)\]", told), "")
     loader = re.search(r"Requesting program interpreter: (?:.*/)?([^/]+)\]", told)
     if loader:

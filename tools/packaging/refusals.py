@@ -28,7 +28,7 @@ def check_refusals(tally: Tally, program: str, folder: str) -> None:
 
 
 def refused(tally: Tally, wanted: int, why: str, folder: str, *words: str) -> None:
-    """Runs a tool, which has to end with this status and one line on standard error that says why."""
+    """Runs a tool, which must end with this status and one line on standard error that says why."""
     told = run(*words, folder=folder)
     is_right = told.status == wanted and not told.said and why in told.errors and told.errors.count("\n") == 1
     tally.count(" ".join([os.path.basename(words[0]), *words[1:]]), fault_unless(is_right, told))

@@ -1,4 +1,4 @@
-"""Commands that are run to their end."""
+"""Runs commands to their end."""
 from __future__ import annotations
 
 import os
@@ -9,7 +9,7 @@ PATIENCE = 300  # seconds, for anything that ends by itself
 
 
 class Told(NamedTuple):
-    """What a command came to: its exit status, and what it wrote to standard output and standard error."""
+    """The result of a command: its exit status, and what it wrote to standard output and standard error."""
 
     status: int
     said: str
@@ -32,5 +32,5 @@ def run(*words: str, folder: str = ".") -> Told:
 
 
 def fault_unless(is_right: bool, told: object) -> str | None:
-    """Nothing where all is right, and else what was told."""
+    """Nothing if all is right, otherwise what was printed."""
     return None if is_right else str(told)

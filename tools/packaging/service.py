@@ -14,7 +14,7 @@ from serving.server import Tally
 
 
 def free_port() -> int:
-    """A port at which nobody listens."""
+    """A port on which nothing listens."""
     with socket.socket() as it:
         it.bind(("127.0.0.1", 0))
         return int(it.getsockname()[1])
@@ -65,7 +65,7 @@ class Serving:
             return repr(fault)
 
     def end(self) -> Told:
-        """What it came to, once it has ended. Its first line was read before."""
+        """Its result, once it has ended. Its first line was read before."""
         try:
             said, errors = self.process.communicate(timeout=PATIENCE)
             return Told(self.process.returncode, said, errors)

@@ -1,4 +1,4 @@
-"""The completions as the shells have them: bash is asked to complete, and zsh for what it hands to _arguments."""
+"""The completions as the shells see them: bash is asked to complete, and zsh for what it passes to _arguments."""
 from __future__ import annotations
 
 import re
@@ -26,7 +26,7 @@ SPEC = re.compile(r"(?:\((--[a-z]+)\))?(--[a-z]+)(=?)\[(.*?)\](?::(\w+)(?: \((.*
 
 
 def check_bash(tally: Tally, file: str, folder: str, table: Table) -> None:
-    """bash completes commands, options, values and files; the folder has the file `one.txt` alone."""
+    """bash completes commands, options, values and files; the folder contains only the file `one.txt`."""
     names = [it.name for it in table.commands]
     rows = [([""], [*names, "help", "-h", "--help"]), (["s"], ["script", "serve"]), (["help", ""], names)]
     for command in table.commands:
@@ -86,7 +86,7 @@ def check_zsh(tally: Tally, file: str, table: Table) -> None:
 
 
 def zsh_row(option: Option) -> tuple[str, ...]:
-    """What a spec has to have: what it excludes, name, `=`, help, value, range and default, and action."""
+    """What a spec must have: what it excludes, name, `=`, help, value, range and default, and action."""
     told = [f"{option.least} to {option.greatest}"] if option.is_number else []
     told += [f"default {option.default}"] if option.default else []
     action = "_files" if option.is_file else f"({' '.join(option.choices)})" if option.choices else " "

@@ -1,4 +1,4 @@
-"""What a program says of its own options: by its --help, and by what it accepts and refuses."""
+"""What a program says about its own options: in its --help, and by what it accepts and refuses."""
 from __future__ import annotations
 
 import re
@@ -24,7 +24,7 @@ def option_told(name: str, value: str, text: str) -> Option:
 
 
 def without_range(option: Option) -> Option:
-    """The option as help tells of it."""
+    """The option as help describes it."""
     return replace(option, least=None, greatest=None, required=False, excludes=None)
 
 
@@ -69,14 +69,14 @@ def accepts(program: str, command: Command, words: list[str]) -> Optional[bool]:
 
 
 def values_of(option: Option) -> tuple[list[str], list[str]]:
-    """Values that have to be accepted, and such as have to be refused: those at both ends of a range."""
+    """Values that must be accepted, and values that must be refused: those at both ends of a range."""
     if option.least is not None and option.greatest is not None:
         return [str(option.least), str(option.greatest)], [str(option.least - 1), str(option.greatest + 1), "", "x"]
     return list(option.choices), ["", "x"] if option.choices else []
 
 
 def check_ranges(tally: Tally, program: str, table: Table) -> None:
-    """The program accepts just what the table says, tried at both ends of each range."""
+    """The program accepts exactly what the table says, tested at both ends of each range."""
     for command in table.commands:
         for option in command.options:
             tally.count(f"{command.name} {option.name}", ", ".join(range_faults(program, command, option)))

@@ -43,7 +43,7 @@ def content_of(path: str) -> bytes:
 
 
 def lay_out(root: str, program: str) -> None:
-    """Lays out all files but the changelog below an empty folder."""
+    """Lays out all files except the changelog below an empty folder."""
     os.umask(0o022)
     write(root, "usr/bin/rb_broker", content_of(program), is_command=True)
     for name, (place, is_command) in COPIED.items():
@@ -52,14 +52,14 @@ def lay_out(root: str, program: str) -> None:
     table = read_table()
     write(root, "usr/share/bash-completion/completions/rb_broker", bash_completion(table).encode())
     write(root, "usr/share/zsh/vendor-completions/_rb_broker", zsh_completion(table).encode())
-    for name in ("PROTOCOL.md", "HISTORY.md", "SERVING.md"):
+    for name in ("PROTOCOL.md", "HISTORY.md", "OPERATING.md"):
         write(root, f"{DOCUMENTS}/{name}", content_of(f"{TOP}/docs/{name}"))
     for path in sorted(glob.glob(f"{TOP}/examples/*.txt")):
         write(root, f"{DOCUMENTS}/examples/{os.path.basename(path)}", content_of(path))
 
 
 def settle(root: str, moment: int) -> None:
-    """Gives every file and folder this moment, so that the same files make the same package."""
+    """Gives every file and folder this time, so that the same files make the same package."""
     for folder, _, names in os.walk(root):
         for path in [folder, *(f"{folder}/{it}" for it in names)]:
             os.utime(path, (moment, moment))

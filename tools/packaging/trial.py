@@ -1,4 +1,4 @@
-"""The trial of a package: it is made, installed into an empty root, used from there, and removed."""
+"""Tests a package: it is made, installed into an empty root, used from there, and removed."""
 from __future__ import annotations
 
 import os
@@ -30,7 +30,7 @@ def try_package(tally: Tally, program: str, table: Table, folder: str) -> None:
 
 
 def write_empty(path: str) -> None:
-    """Writes a file with nothing in it."""
+    """Writes an empty file."""
     with open(path, "w", encoding="utf-8"):
         pass
 

@@ -18,7 +18,7 @@ class Version:
 
 
 def git(*words: str) -> str:
-    """What git says of the repository, or nothing where it fails."""
+    """What git says about the repository, or nothing if it fails."""
     try:
         told = subprocess.run(["git", "-C", TOP, *words], capture_output=True, encoding="utf-8")
     except OSError:
@@ -46,7 +46,7 @@ def version_of_repository() -> Version:
 
 
 def version_named(text: str) -> Version:
-    """The version that the user named, with the moment of the last commit where there is one, and else now."""
+    """The version that the user named, with the time of the last commit if there is one, otherwise now."""
     if not re.fullmatch(r"[0-9][0-9A-Za-z.+~]*", text):
         raise Fault(f"a version begins with a digit and has letters, digits, '.', '+' and '~' alone, not {text!r}")
     moment = git("log", "-1", "--format=%ct")

@@ -1,8 +1,8 @@
-"""What tools/report is made of: the reading of a history, its figures, and how they are told on a terminal and on
+"""The parts of tools/report: the reading of a history, its figures, and how they are shown on a terminal and on
 a page. The columns of a history are `array`s, so that 1,000,000 events take tens of megabytes and no object each.
 
     acts.py, grammar.py, history.py               what a text says, and its columns
-    reader.py, events.py, standing.py, faults.py  the reading, with the queue that the text tells of
+    reader.py, events.py, standing.py, faults.py  the reading, with the queue that the text describes
     depth.py, lateness.py, jobs.py, seats.py      figures
     findings.py, figures.py                       what looks wrong, and all figures of a history
     buckets.py, units.py                          long series made short, and numbers as people read them

@@ -14,7 +14,7 @@ MOST_GROUPS = 40
 
 
 def grouped(attempts: Sequence[Attempts], most: int) -> List[Tuple[str, int, int]]:
-    """Attempts, or where they are many equal ranges of them, from 1 on: a label, how many were offered, and given."""
+    """Attempts, or equal ranges of them if there are many, from 1 on: a label, how many were offered, and given."""
     last = attempts[-1].attempt if attempts else 0
     width = -(-last // most) or 1
     groups = [[0, 0] for _ in range(-(-last // width))]

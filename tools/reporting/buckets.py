@@ -1,6 +1,6 @@
 """Long series made short enough to draw: a stretch of time is cut into equal parts, the buckets.
 
-Nothing that a reader looks for is lost on the way: of a series each bucket keeps its first and last value, its least
+Nothing that a reader looks for is lost: each bucket of a series keeps its first and last value, its least
 and its greatest, in their order. So no peak is cut off and no valley filled.
 """
 from __future__ import annotations
@@ -38,7 +38,7 @@ class Buckets(NamedTuple):
 
 
 def thinned(moments: array, values: array, buckets: Buckets) -> List[Point]:
-    """The points of a series: all of them where they are few, and else up to four of each bucket."""
+    """The points of a series: all of them if they are few, otherwise up to four of each bucket."""
     if len(moments) <= 4 * len(buckets):
         return list(zip(moments, values))
     points: List[Point] = []

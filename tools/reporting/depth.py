@@ -1,4 +1,4 @@
-"""How many elements stood in the queue over time, and how many of them had expired."""
+"""How many elements were in the queue over time, and how many of them had expired."""
 from __future__ import annotations
 
 from array import array
@@ -39,7 +39,7 @@ class Depth:
 
 
 def _expiries_on_the_way(history: History) -> array:
-    """When elements expired that had been offered before, and stood, in rising order."""
+    """When elements in the queue that had been offered before expired, in rising order."""
     elements, moments, end = history.elements, history.events.moments, history.end
     found = array("Q")
     for expiry, offered, left in zip(elements.expiries, elements.offered_in, elements.left_in):

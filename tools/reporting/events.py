@@ -1,4 +1,4 @@
-"""Reads the lines of events: what a matched line tells goes to the queue, and into the columns of the events."""
+"""Reads the lines of events: what a matched line says goes to the queue, and into the columns of the events."""
 from __future__ import annotations
 
 from typing import Callable, Dict, Match, Tuple
@@ -14,7 +14,7 @@ Told = Tuple[int, int]
 
 
 class EventReader:
-    """Adds one event after the other. A `Wrong` or an `OverflowError` says that a line tells what can't be."""
+    """Adds one event after the other. Raises a `Wrong` or an `OverflowError` if a line says what can't be."""
 
     def __init__(self, history: History, standing: Standing) -> None:
         self.history, self._standing = history, standing

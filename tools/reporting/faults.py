@@ -1,4 +1,4 @@
-"""Why there is no report: what is wrong with the history that was read, or with what was asked for."""
+"""Why there is no report: a fault of the history that was read, or of what was asked for."""
 from __future__ import annotations
 
 
@@ -7,7 +7,7 @@ class Wrong(Exception):
 
 
 class Damaged(Exception):
-    """The line of this number, from 1, is not as a history's is, or says what no queue does."""
+    """The line of this number, from 1, is not one of a history, or says what no queue does."""
 
     def __init__(self, line: int, what: str) -> None:
         super().__init__(line, what)

@@ -1,4 +1,4 @@
-"""All figures of a history, as the terminal and the page tell them."""
+"""All figures of a history, as the terminal and the page show them."""
 from __future__ import annotations
 
 from dataclasses import dataclass
@@ -24,7 +24,7 @@ class Calls(NamedTuple):
 
 @dataclass(frozen=True)
 class Figures:
-    """A history with what it comes to."""
+    """A history with its figures."""
 
     name: str
     history: History
@@ -56,7 +56,7 @@ def _calls(history: History, keyword: str) -> Calls:
 
 
 def figures_of(name: str, history: History, look: Callable[[], None] = lambda: None) -> Figures:
-    """Counts all. `look` is called now and then, for whoever shows how far it is."""
+    """Counts everything. `look` is called now and then, so that progress can be shown."""
     depth = depth_of(history)
     look()
     jobs = jobs_of(history)

@@ -40,7 +40,7 @@ END: Pattern[bytes] = re.compile(rb"end " + _NUMBER + rb"\n")
 
 
 def _element(name: bytes, tells_first: bool) -> bytes:
-    """The words of an element. Where the version leaves the first expiry out, its group is empty."""
+    """The words of an element. If the version leaves the first expiry out, its group is empty."""
     first = _NUMBER + rb" " if tells_first else rb"()"
     return b" ".join([_NUMBER] * 3) + rb" " + first + _ATTEMPT + rb" " + _PAYLOAD % name
 

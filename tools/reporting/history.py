@@ -16,7 +16,7 @@ NONE = -1
 
 @dataclass
 class Elements:
-    """The columns of the elements. How an element left is told by the act of the event in which it did."""
+    """The columns of the elements. The act of the event in which an element left shows how it left."""
 
     ids: array = field(default_factory=lambda: array("Q"))
     expiries: array = field(default_factory=lambda: array("Q"))
@@ -53,7 +53,7 @@ class Events:
 
 @dataclass
 class History:
-    """A history as its text tells it, and how its elements form jobs."""
+    """A history as its text describes it, and how its elements form jobs."""
 
     version: int = 3
     next_id: int = 0  # the opening's
@@ -65,16 +65,16 @@ class History:
 
     @property
     def start(self) -> int:
-        """The moment of the first event, or where there is none the opening's."""
+        """The moment of the first event, or the opening's if there is none."""
         return self.events.moments[0] if self.events.moments else self.opened_at
 
     @property
     def end(self) -> int:
-        """The moment of the last event, or where there is none the opening's."""
+        """The moment of the last event, or the opening's if there is none."""
         return self.events.moments[-1] if self.events.moments else self.opened_at
 
     def row_of(self, id: int) -> Optional[int]:
-        """The row of the element of this id, whether it stands or has left."""
+        """The row of the element of this id, whether it is in the queue or has left."""
         if id >= self.next_id:
             row = self.kept + id - self.next_id
             return row if row < len(self.elements.ids) else None

@@ -14,7 +14,7 @@ from reporting.lateness import GIVES
 
 
 class Attempts(NamedTuple):
-    """How many elements of one attempt were offered, or stood at the start, and how many were given."""
+    """How many elements of one attempt were offered or there at the start, and how many were given."""
 
     attempt: int
     offered: int

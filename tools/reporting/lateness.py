@@ -1,4 +1,4 @@
-"""How late elements were given: the moment at which one was given less its expiry."""
+"""How late elements were given: the moment at which one was given, minus its expiry."""
 from __future__ import annotations
 
 from array import array

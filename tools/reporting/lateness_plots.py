@@ -39,7 +39,7 @@ def lateness_plot(figures: Figures) -> Plot:
 
 
 def _level_ticks(scale: Scale, top: int) -> List[Tick]:
-    """Zero, and the powers of ten up to a span; where they are many, each third: 1 µs, 1 ms, 1 s."""
+    """Zero, and the powers of ten up to a span, or every third if there are many: 1 µs, 1 ms, 1 s."""
     powers = range(1, 21) if top < 10**10 else range(3, 21, 3)
     return [Tick(scale.at(svg.level(it)), mark(it)) for it in (0, *(10**power for power in powers)) if it <= top]
 

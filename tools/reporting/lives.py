@@ -26,7 +26,7 @@ class Chosen(NamedTuple):
 
 
 def chosen_jobs(figures: Figures) -> Chosen:
-    """All jobs where they are few. Else those that look wrong first, then those with the most elements, then the
+    """All jobs if they are few. Otherwise those that look wrong first, then those with the most elements, then the
     earliest ones."""
     history, jobs = figures.history, figures.jobs
     named = [history.root_of(origin) for finding in figures.findings for origin in finding.origins]

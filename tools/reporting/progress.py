@@ -1,4 +1,4 @@
-"""A line on standard error that says how far a long report is."""
+"""A line on standard error that shows the progress of a long report."""
 from __future__ import annotations
 
 import sys
@@ -9,7 +9,7 @@ PATIENCE, BETWEEN = 2.0, 0.2  # seconds before the first line, and between two
 
 
 class Progress:
-    """Says nothing where standard error is no terminal, nor in the first two seconds."""
+    """Says nothing in the first two seconds, or if standard error is not a terminal."""
 
     def __init__(self) -> None:
         self._is_shown = sys.stderr.isatty()
@@ -26,7 +26,7 @@ class Progress:
         self._width = len(text)
 
     def say_read(self, file: BinaryIO, size: Optional[int]) -> None:
-        """Says how much of a file was read, where its size is known."""
+        """Says how much of a file has been read, if its size is known."""
         if self._is_shown and size:
             self.say(f"reading: {100 * file.tell() // size} %")
 

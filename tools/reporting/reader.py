@@ -1,8 +1,8 @@
 """Reads the text of a history, in any of its versions, into columns.
 
-A text is refused for its first line that is not as docs/HISTORY.md says, or that tells what no queue does: an id out
-of turn, an element that leaves and does not stand, one that is given before its expiry, a moment that goes back, a
-wrong size. A figure would mean nothing then. Whether an element of an earlier expiry was passed over is not tested:
+A text is refused at its first line that is not as docs/HISTORY.md says, or that says what no queue does: an id out
+of order, an element that leaves without being there, one that is given before its expiry, a moment that goes back, a
+wrong size. Figures would mean nothing then. Whether an element of an earlier expiry was passed over is not tested:
 `rb_broker replay` does that.
 """
 from __future__ import annotations
@@ -26,7 +26,7 @@ TOO_LARGE = "a number passes 2^64 - 1"
 
 
 def read_history(file: BinaryIO, look: Callable[[], None] = lambda: None) -> History:
-    """The history that a file's text tells. `look` is called now and then, for whoever shows how far it is."""
+    """The history in a file. `look` is called now and then, so that progress can be shown."""
     lines = iter(partial(file.readline, LONGEST_LINE), b"")
     version = HEADERS.get(file.readline(len(b"history 3\n")))
     if version is None:
@@ -45,7 +45,7 @@ def _whole(line: bytes, number: int) -> bytes:
 
 
 def _read_opening(lines: Iterator[bytes], history: History, standing: Standing) -> int:
-    """Reads the opening. The number of its last line."""
+    """Reads the opening. Returns the number of its last line."""
     numbers = OPEN.fullmatch(_whole(next(lines, b""), 2))
     if numbers is None:
         raise Damaged(2, "no `open` line")
@@ -86,7 +86,7 @@ def _read_events(lines: Iterator[bytes], first: int, reader: EventReader, look: 
 
 
 def _read_end(line: bytes, lines: Iterator[bytes], number: int, count: int) -> None:
-    """Reads the last line, behind so many events."""
+    """Reads the last line, which follows this many events."""
     match = END.fullmatch(line)
     if match is None or int(match[1]) > GREATEST:
         raise Damaged(number, "neither an event nor the last line")

@@ -12,7 +12,7 @@ MOST_SEATS = 16  # that are told one by one
 
 
 class Seat(NamedTuple):
-    """The calls of a seat, and what came of them."""
+    """The calls of a seat, and their results."""
 
     number: int
     calls: int

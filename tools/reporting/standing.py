@@ -1,4 +1,4 @@
-"""The queue of a history while it is read: which elements stand, and what may happen to them."""
+"""The queue of a history while it is read: which elements are in it, and what may happen to them."""
 from __future__ import annotations
 
 from typing import Optional, Tuple
@@ -11,7 +11,7 @@ ElementWords = Tuple[bytes, ...]
 
 
 class Standing:
-    """Fills the columns of a history's elements. Each method raises a `Wrong` where no queue does so.
+    """Fills the columns of a history's elements. Each method raises a `Wrong` if no queue does that.
 
     A number above 2^64 - 1 is refused by its column with an `OverflowError`; the history is of no use then. The
     methods run once for each event, so they reach for what they need in few steps.
@@ -25,7 +25,7 @@ class Standing:
         self._cleared = 0  # all rows before this one have left
 
     def keep(self, words: ElementWords) -> None:
-        """Adds an element of the opening. The ids rise, below the next one."""
+        """Adds an element of the opening. The ids rise, and are below the next one."""
         ids, id = self._elements.ids, int(words[0])
         if id >= self._history.next_id or (ids and id <= ids[-1]):
             raise Wrong("the id of a `keep` line is above the one before, and below the next")
@@ -33,14 +33,14 @@ class Standing:
         self._add(id, words, NONE)
 
     def offer(self, words: ElementWords, event: int) -> int:
-        """Adds an element that was offered. Its row."""
+        """Adds an element that was offered. Returns its row."""
         id, due = int(words[0]), self._history.next_id + self._rows - self._history.kept
         if id != due:
             raise Wrong(f"element {id} is offered, and the next id is {due}")
         return self._add(id, words, event)
 
     def give(self, id: int, moment: int, event: int) -> int:
-        """An element leaves, since it has expired. Its row."""
+        """An element leaves because it has expired. Returns its row."""
         row = self.stands(id)
         if self._expiries[row] > moment:
             raise Wrong(f"element {id} is given at {moment}, and expires at {self._expiries[row]}")
@@ -49,7 +49,7 @@ class Standing:
         return row
 
     def remove(self, id: int, found: bool, event: int) -> int:
-        """An element is taken out, or was not there. Its row, or NONE where there never was one."""
+        """An element is taken out, or was not there. Returns its row, or NONE if there never was one."""
         row = self._history.row_of(id)
         if found != (row is not None and self._left_in[row] == NONE):
             raise Wrong(f"element {id} was {'not ' if found else ''}in the queue")
@@ -59,7 +59,7 @@ class Standing:
         return NONE if row is None else row
 
     def clear(self, event: int) -> int:
-        """All elements leave. How many there were."""
+        """All elements leave. Returns how many there were."""
         for row in range(self._cleared, self._rows):
             if self._left_in[row] == NONE:
                 self._left_in[row] = event
@@ -68,12 +68,12 @@ class Standing:
         return were
 
     def count(self, size: int) -> None:
-        """So many elements stand, which may be none."""
+        """Checks that this many elements are in the queue, possibly none."""
         if size != self._number:
             raise Wrong(f"the queue holds {self._number}, not {size}")
 
     def stands(self, id: int) -> int:
-        """An element stands. Its row."""
+        """Checks that an element is in the queue. Returns its row."""
         row = self._history.row_of(id)
         if row is None or self._left_in[row] != NONE:
             raise Wrong(f"element {id} is not in the queue")

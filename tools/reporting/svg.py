@@ -28,7 +28,7 @@ class Scale(NamedTuple):
 
 
 class Tick(NamedTuple):
-    """A mark on an axis: its pixel, and what stands there."""
+    """A mark on an axis: its pixel and its label."""
 
     place: float
     label: str

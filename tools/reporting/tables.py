@@ -1,4 +1,4 @@
-"""Tables of plain text: a heading, and rows whose columns stand below each other."""
+"""Tables of plain text: a heading, and rows with aligned columns."""
 from __future__ import annotations
 
 from typing import Iterable, List, Sequence

@@ -13,7 +13,7 @@ UNITS: Tuple[Tuple[int, str, int], ...] = (
 
 
 def unit_of(nanoseconds: int) -> Tuple[int, str]:
-    """The unit in which a span is told: its nanoseconds, and its name."""
+    """The unit in which a span is shown: its nanoseconds and its name."""
     fitting = [(size, name) for size, name, least in UNITS if nanoseconds >= size * least]
     return fitting[-1]
 
@@ -27,7 +27,7 @@ def span(nanoseconds: int) -> str:
 
 
 def mark(nanoseconds: int) -> str:
-    """A power of ten as it stands at an axis, so not in minutes, hours or days."""
+    """A power of ten as a label of an axis, so not in minutes, hours or days."""
     size, name = unit_of(min(nanoseconds, SECOND))
     return f"{nanoseconds // size:,} {name}"
 
@@ -42,6 +42,6 @@ def counted(value: int, one: str, many: str = "") -> str:
 
 
 def percent(part: int, whole: int) -> str:
-    """A share, of which little is never shown as nothing."""
+    """A share. A small one is never shown as nothing."""
     share = 100 * part / whole if whole else 0.0
     return "< 0.1 %" if 0 < share < 0.1 else f"{share:.1f} %"

@@ -1,4 +1,4 @@
-"""What tools/check_server is made of: the clients, and what their replies say of the history. And the servers of a
+"""The parts of tools/check_server: the clients, and what their replies say about the history. And the servers with a
 few clients that tools/check_program tries."""
 
 # What the server is told: nanoseconds after which a failed job comes back, a job's attempts, and turns of a wait.

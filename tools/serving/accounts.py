@@ -1,4 +1,4 @@
-"""What the replies that a client saw say of its events, and what a history says of elements and jobs."""
+"""What the replies that a client saw say about its events, and what a history says about elements and jobs."""
 import collections
 
 from serving import ATTEMPTS, DELAY, FIRST_MARK
@@ -10,7 +10,7 @@ Element = collections.namedtuple("Element", "id expiry origin first attempt payl
 
 
 def read_history(path):
-    """The events of a history that began with nothing. An act is its words."""
+    """The events of a history that began with an empty queue. An act is given by its words."""
     with open(path, encoding="ascii") as it:
         lines = it.read().splitlines()
     if lines[:2] != ["history 3", "open 0 0 0"]:
@@ -31,7 +31,7 @@ def gifts_of(act):
 
 
 class Expected:
-    """What an act must be: its words, of which None is any, and for an offer its delay, if that is known."""
+    """What an act must be: its words, where None stands for any, and for an offer its delay, if that is known."""
 
     def __init__(self, *words, delay=None):
         self.words, self.delay = [it if it is None else str(it) for it in words], delay
@@ -46,7 +46,7 @@ class Expected:
 
 
 class Account:
-    """What a client's answers say of its events, one answer after the other."""
+    """What a client's answers say about its events, one answer after the other."""
 
     def __init__(self, elements):
         self.elements, self.held, self.expected = elements, {}, []
@@ -105,7 +105,7 @@ class Account:
                 raise AssertionError(f"{request!r} was answered {replies[0]!r}")
 
     def may_be_so(self, reply, asked):
-        """Whether a reply that belongs to no event may be given."""
+        """Whether a reply without an event may be given."""
         match reply:
             case "STOPPED":
                 return asked[0] in ("TAKE", "POLLFOR")
@@ -118,7 +118,7 @@ class Account:
         return reply in ("ERR 1 syntax", "ERR 8 line")
 
     def end(self):
-        """What is still held fails, in the order of the fetches, where it has another attempt."""
+        """What is still held fails, in the order of the fetches, if it has another attempt."""
         for id, element in list(self.held.items()):
             if element.attempt < ATTEMPTS:
                 self.fails(id)

@@ -31,7 +31,7 @@ class Client:
         self.socket.sendall(b"".join(it + b"\n" for it in requests))
 
     def read(self):
-        """Reads the reply to the first request that has none yet. The words of its first line."""
+        """Reads the reply to the first request that has none yet. Returns the words of its first line."""
         replies = [self.line()]
         words = replies[0].split(" ")
         if words[0] == "DRAINED":
@@ -69,7 +69,7 @@ class Client:
         return self.offer(self.rng.choice([0, 10**6, 10**7, 10**8]) * self.rng.randrange(1, 5))
 
     def fetch(self):
-        """Asks for a job in some way. Its id, if there was one."""
+        """Asks for a job in some way. Returns its id, if there was one."""
         request = self.rng.choice([b"TAKE", b"TAKE", b"POLL", b"POLLFOR 20000000", b"DRAIN 1"])
         words = self.ask(request)
         if words[0] == "DRAINED" and words[1] == "1":
@@ -85,7 +85,7 @@ class Client:
         self.expect_end()
 
     def end_input(self):
-        """Ends its side, and reads to the end of the other's."""
+        """Closes its side, and reads to the end of the other's."""
         self.socket.shutdown(socket.SHUT_WR)
         self.read_all()
         self.expect_end()
@@ -176,7 +176,7 @@ def dribbles(client):
 
 
 def hangs_up(client):
-    """It holds jobs, all its replies are read, and it sends no more."""
+    """It holds jobs, has read all its replies, and sends nothing more."""
     client.send(*[client.offer(0) for _ in range(5)], b"TAKE", b"POLL", b"DRAIN 3")
     client.read_all()
     client.hang_up()
@@ -226,7 +226,7 @@ def sends_noise(client):
 
 
 def reads_no_more(client):
-    """It sends until the server reads no more, since what that writes is not taken."""
+    """It sends until the server stops reading, because nobody reads what the server writes."""
     client.is_heard = False
     client.send(client.offer(0), b"TAKE")
     noise = b"x\n" * 10_000
@@ -247,7 +247,7 @@ KINDS = [
 
 
 def run_client(number, port, seed):
-    """Runs a client to its end. The client, and what went wrong, if something did."""
+    """Runs a client to its end. Returns the client, and what went wrong, if anything did."""
     kind = reads_no_more if number % 50 == 25 else KINDS[number % len(KINDS)]
     client = Client(number, kind, seed)
     try:
@@ -262,7 +262,7 @@ def run_client(number, port, seed):
 
 
 def early(clients):
-    """Which payloads were got before their delay had passed, by the machine's clock."""
+    """Which payloads came before their delay had passed, by the machine's clock."""
     sent = {payload: it for client in clients for payload, it in client.sent_at.items()}
     for client in clients:
         for payload, got in client.got_at.items():

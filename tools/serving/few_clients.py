@@ -1,9 +1,9 @@
-"""Servers of a few clients, each of which shows something that a server hands on to its workers: the address, how
+"""Servers with a few clients, each of which shows something that a server passes on to its workers: the address, how
 many they are, when a wait is given up, when a failed job comes back, the clock, the bell, and what is written last.
 
 tools/check_program runs it from the folder tools, as `python3 -m serving.few_clients`, and counts its checks among
-its own. Where a time must be short, the quickest of some or the one in their middle counts, so that a machine that
-does other work too changes nothing. Printed is what differs, and at last `N as they must be, M not`.
+its own. If a time must be short, the quickest of several or the one in the middle counts, so that a machine that
+does other work too changes nothing. Printed is what differs, and finally `N as they must be, M not`.
 """
 import contextlib
 import functools
@@ -27,7 +27,7 @@ FAR = 10**6 * SECOND  # a delay after which nobody takes any more
 
 @contextlib.contextmanager
 def serving(*options, sessions=1, status=0, errors=""):
-    """A server with these options, which has to end so when its sessions have ended."""
+    """A server with these options, which must end like this when its sessions have ended."""
     server = Server([*map(str, options), "--sessions", str(sessions)])
     watch = threading.Timer(LONGEST, server.process.kill)
     watch.start()
@@ -51,12 +51,12 @@ def visitor(server):
 
 
 def replies(client, *requests):
-    """What each of the requests is answered, one after the other."""
+    """The replies to these requests, one after the other."""
     return [" ".join(client.ask(it)) for it in requests]
 
 
 def hears(client, seconds):
-    """Whether something is sent to the client within so many seconds."""
+    """Whether something is sent to the client within this many seconds."""
     return bool(select.select([client.socket], [], [], seconds)[0])
 
 
@@ -161,7 +161,7 @@ def has_one_attempt():
 
 
 def goes_on_as_the_machine():
-    """The moment goes on as the machine's clock does, from the last one of the history before."""
+    """The moment advances with the machine's clock, from the last one of the history before."""
     last = 5000 * SECOND
     with tempfile.NamedTemporaryFile("w") as history:
         history.write(f"history 3\nopen 0 {last} 0\nend 0\n")
@@ -216,7 +216,7 @@ def writes_its_history_first():
 
 
 def writes_its_history_at_least():
-    """Nobody reads its last lines, and it is written all the same."""
+    """Nobody reads the server's last lines, and the history is written all the same."""
     fault = "rb_broker: cannot write output\n"
     with tempfile.TemporaryDirectory() as room:
         with serving("--history", f"{room}/history", status=3, errors=fault) as server:

@@ -1,4 +1,4 @@
-"""The program as a server, and a count of what is as it must be."""
+"""The program as a server, and a count of what is as expected."""
 import os
 import random
 import subprocess
@@ -11,7 +11,7 @@ PROGRAM = f"{TOP}/crates/rb_broker/out/rb_broker"
 
 
 class Server:
-    """The program as a server, at a port of our own choice. Another program may take its place."""
+    """The program as a server, at a port that is chosen here. Another program may take its place."""
 
     def __init__(self, options, program=PROGRAM):
         for _ in range(20):
@@ -26,7 +26,7 @@ class Server:
         sys.exit("no server could be started")
 
     def end(self):
-        """Waits for its end. Its status, the lines that it wrote then, and what it wrote to standard error."""
+        """Waits for its end. Returns its status, the lines that it wrote then, and what it wrote to standard error."""
         try:
             said, errors = self.process.communicate(timeout=PATIENCE)
             return self.process.returncode, said.splitlines() or [""], errors
@@ -37,7 +37,7 @@ class Server:
 
 
 class Tally:
-    """Counts what is as it must be, and tells what is not."""
+    """Counts what is as it must be, and prints what is not."""
 
     def __init__(self):
         self.passed = self.failed = 0
@@ -50,6 +50,6 @@ class Tally:
             self.passed += 1
 
     def end(self):
-        """Prints the count. Whether all is as it must be."""
+        """Prints the count, and returns whether everything is as it must be."""
         print(f"{self.passed} as they must be, {self.failed} not")
         return self.failed == 0

@@ -1,4 +1,4 @@
-"""A browser without a window, driven over two pipes by the protocol of Chromium's developer tools."""
+"""A headless browser, driven over two pipes by the protocol of Chromium's developer tools."""
 from __future__ import annotations
 
 import base64
@@ -18,7 +18,7 @@ COMPLAINTS = ("Runtime.exceptionThrown", "Runtime.consoleAPICalled", "Log.entryA
 
 
 class Browser:
-    """A browser with one page. It has a folder of its own for all that it keeps."""
+    """A browser with one page, and a folder of its own for everything that it stores."""
 
     def __init__(self, command: str, room: str) -> None:
         to_browser, self._write = os.pipe()
@@ -72,12 +72,12 @@ class Browser:
             self._ask("Input.dispatchKeyEvent", type=kind, **enter)
 
     def picture(self, width: int, height: int) -> bytes:
-        """The upper part of the page as a PNG."""
+        """The top of the page as a PNG."""
         self._ask("Emulation.setDeviceMetricsOverride", width=width, height=height, deviceScaleFactor=1, mobile=False)
         return base64.b64decode(self._ask("Page.captureScreenshot", format="png")["data"])
 
     def end(self) -> None:
-        """Ends the browser, and all processes that it started."""
+        """Ends the browser and all processes that it started."""
         for descriptor in (self._write, self._read):
             os.close(descriptor)
         try:
@@ -105,7 +105,7 @@ class Browser:
             self._take(message)
 
     def _take(self, message: Dict[str, Any]) -> None:
-        """Notes what the page tells unasked."""
+        """Notes what the page reports by itself."""
         method = message.get("method")
         if method == "Page.loadEventFired":
             self._is_loaded = True

@@ -1,13 +1,13 @@
 #!/usr/bin/env python3
-"""Makes the text of a history as a busy server leaves it: tools/reporting/tests/make_history.py EVENTS > FILE
+"""Makes the text of a history such as a busy server leaves: tools/reporting/tests/make_history.py EVENTS > FILE
 
 Seats offer jobs, take, poll, drain and remove them, look, and fail some, which are offered again after a delay. The
-seats of small numbers call more than others. For a tenth of the run they offer more than they take, so that jobs wait.
-Time goes on by some microseconds from event to event; one call in four was asked a little before the one that took
-effect first. Everything follows from the seed, so that a run can be made again.
+seats with small numbers call more often than others. For a tenth of the run they offer more than they take, so that
+jobs wait. Time advances by some microseconds from event to event; one call in four was asked a little before the one
+that took effect first. Everything follows from the seed, so that a run can be made again.
 
 The text is one that a single queue could have had: `rb_broker replay --chains --delay 50000000 --attempts 3` accepts
-it. Status: 0; 2 where a word is wrong.
+it. Status: 0; 2 if a word is wrong.
 """
 from __future__ import annotations
 
@@ -95,7 +95,7 @@ class Maker:
         return self.standing[self.heap[0][1]] if self.heap else None
 
     def give(self, seat: int) -> Element | None:
-        """Takes out the least element, where it has expired."""
+        """Takes out the least element, if it has expired."""
         least = self.least()
         if least is None or least.expiry > self.moment:
             return None

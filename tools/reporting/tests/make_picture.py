@@ -2,7 +2,7 @@
 """Makes the picture of a report's page that docs/HISTORY.md shows: tools/reporting/tests/make_picture.py PICTURE
 
 The history is one of tools/reporting/tests/make_history.py, and the life of a job with three attempts is shown. It
-needs chromium on the path. pngquant makes the picture a third as large. Status: 0; 1 where it can't be made.
+needs chromium on the path. pngquant makes the picture a third as large. Status: 0; 1 if it can't be made.
 """
 from __future__ import annotations
 

@@ -33,7 +33,7 @@ end 11
 
 
 def text_of(*events: str) -> str:
-    """The text of a run that began with nothing, third version."""
+    """The text, in the third version, of a run that began with an empty queue."""
     return "\n".join(["history 3", "open 0 0 0", *events, f"end {len(events)}", ""])
 
 

@@ -1,4 +1,4 @@
-"""The page in a browser: it opens with no complaint, its plots have the points that they say, a job is found, and
+"""The page in a browser: it opens without complaint, its plots have the points that they say, a job is found, and
 payloads are text."""
 from __future__ import annotations
 

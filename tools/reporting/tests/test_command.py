@@ -1,4 +1,4 @@
-"""tools/report as a command: what it prints, its exit statuses, and what it says of bad input."""
+"""tools/report as a command: what it prints, its exit statuses, and what it says about bad input."""
 from __future__ import annotations
 
 import os
@@ -28,7 +28,7 @@ class CommandTest(unittest.TestCase):
         return path
 
     def refused(self, *words: str) -> Tuple[int, str]:
-        """The status of a run that prints nothing, and its last line on standard error, which is no traceback."""
+        """The status of a run that prints nothing, and its last line on standard error, which is not a traceback."""
         ran = run(*words)
         self.assertEqual(ran.stdout, "")
         self.assertNotIn("Traceback", ran.stderr)

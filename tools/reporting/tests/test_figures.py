@@ -1,4 +1,4 @@
-"""What histories come to, counted by hand."""
+"""The figures of histories, counted by hand."""
 from __future__ import annotations
 
 import unittest

@@ -1,4 +1,4 @@
-"""A report on a large history, with its page: 1,000,000 events within 20 seconds of a processor and 1 GB."""
+"""A report on a large history, with its page: 1,000,000 events within 20 seconds of processor time and 1 GB."""
 from __future__ import annotations
 
 import os

@@ -1,4 +1,4 @@
-"""Which texts are read, what the columns hold, and which line is named where a text is damaged."""
+"""Which texts are read, what the columns hold, and which line is named if a text is damaged."""
 from __future__ import annotations
 
 import unittest

@@ -54,7 +54,8 @@ class Broker:
         return self.ask(requests.poll_for(timeout))
 
     def take(self) -> Item:
-        """Takes a job, and waits until there is one."""
+        """Takes a job, and waits until there is one. Nothing cancels the wait, and a program that is killed meanwhile
+        may cost the next job an attempt, so a loop of `poll_for(SECOND)` is better in a service."""
         return self.ask(requests.take())
 
     def peek(self) -> Optional[Item]:
