@@ -177,14 +177,14 @@ fn head_of(heads: &[Link], cell: usize) -> Option<usize>
     heads.get(cell)?.slot()
 }
 
-/// The entry that expires first, of the best so far and another.
+/// The entry that expires first, of the best so far and another, which is given of two equals.
 pub(crate) fn earlier_of(best: Option<(usize, u64)>, entry: (usize, u64)) -> (usize, u64)
     ensures no_later { result.1 ≤ entry.1 }
     ensures no_worse { IfSome best (λ best. result.1 ≤ best.1) }
     ensures either { (result ≡ entry) ⊎ (best ≡ Some result) }
 {
     match best {
-        Some(best) if best.1 <= entry.1 => best,
+        Some(best) if best.1 < entry.1 => best,
         _ => entry,
     }
 }
