@@ -7,7 +7,7 @@ use Rattle.std.specs.FinMap as map
 use Rattle.std.specs.Prelude.{count_by}
 use Rattle.std.proofs.lemmas.List.{length-map, get_or_read}
 use Rattle.rb_timer.specs.Content.{IsLeastSlot}
-use Rattle.rb_timer.specs.Slots.{content_of, get-content_of, content_empty, content_of-insert, content_of-remove}
+use Rattle.rb_timer.specs.Slots.{content_of, get-content_of, content_empty, content_of-insert, content_of-remove, len-content_of}
 use Rattle.rb_pairing.specs.declared.node.Node.{Node}
 use Rattle.rb_pairing.specs.Nodes.{vacant, expiry_of, previous_of, expiries, moment_of}
 use Rattle.rb_pairing.specs.Forest.{IsTop, IsTree}
@@ -66,14 +66,14 @@ module _ (nodes new : List Node) (slot : ℕ) where
         ∙ count_added (expiries nodes) slot expiry row_within (get_or-expiries nodes slot ∙ free)
 
   -- none written there is an entry taken out
-  module _ (present : IsSome (expiry_of nodes slot)) (row : expiries new ≡ set (expiries nodes) slot None) where
-    present_within : slot < length (expiries nodes)
-    present_within =
-        let within = in_room-expiry nodes slot present in
-        omega (arith, length-map nodes (λ (node : Node). node.expiry))
+  present_within : IsSome (expiry_of nodes slot) → slot < length (expiries nodes)
+  present_within present =
+      let within = in_room-expiry nodes slot present in
+      omega (arith, length-map nodes (λ (node : Node). node.expiry))
 
+  module _ (present : IsSome (expiry_of nodes slot)) (row : expiries new ≡ set (expiries nodes) slot None) where
     pub content-removed : content_of (expiries new) ≡ map.remove (content_of (expiries nodes)) slot
-    content-removed = ap content_of row ∙ content_of-remove (expiries nodes) slot present_within
+    content-removed = ap content_of row ∙ content_of-remove (expiries nodes) slot (present_within present)
 
     -- another entry stays
     pub expiry_kept : (other : ℕ) → other ≢ slot → expiry_of new other ≡ expiry_of nodes other
@@ -84,8 +84,24 @@ module _ (nodes new : List Node) (slot : ℕ) where
     pub count-removed : count_by is_some (expiries new) + 1 ≡ count_by is_some (expiries nodes)
     count-removed =
         ap (λ row. count_by is_some row + 1) row
-        ∙ count_removed (expiries nodes) slot (moment_of nodes slot) present_within
+        ∙ count_removed (expiries nodes) slot (moment_of nodes slot) (present_within present)
         (get_or-expiries nodes slot ∙ expiry_is nodes slot present)
+
+  -- there is one entry less where the content has one less
+  pub count-less : IsSome (expiry_of nodes slot)
+      → content_of (expiries new) ≡ map.remove (content_of (expiries nodes)) slot
+      → count_by is_some (expiries new) < count_by is_some (expiries nodes)
+  count-less present is =
+      let within : slot < length (expiries nodes) = present_within present in
+      let same : count_by is_some (expiries new) ≡ count_by is_some (set (expiries nodes) slot None) =
+      sym (len-content_of (expiries new)) ∙ ap map.len (is ∙ sym (content_of-remove (expiries nodes) slot within))
+      ∙ len-content_of (set (expiries nodes) slot None) in
+      omega (
+        arith,
+        same,
+        count_removed (expiries nodes) slot (moment_of nodes slot) within
+            (get_or-expiries nodes slot ∙ expiry_is nodes slot present),
+      )
 
 module _ (nodes : List Node) (root : Option ℕ) (tree : IsTree nodes root) where
   none_above : root ≡ None → (slot : ℕ) → expiry_of nodes slot ≢ None → ⊥

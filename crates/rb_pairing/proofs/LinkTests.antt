@@ -1,6 +1,6 @@
 -- Whether a link is to a slot.
 use Rattle.std.proofs.Common.{◌≡◌, ℕ, ◌≢◌, ◌⊎◌, true, false, eqb, Option, Some, None, is_some, refl, ap, inl, inr, ⊎_elim}
-use Rattle.std.specs.Option.{option_eq}
+use Rattle.std.specs.Option.{option_eq, option_or}
 use Rattle.std.proofs.lemmas.Bool.{cases_eq, eqb-true, eq-eqb}
 
 -- a link is to the slot, or it is not
@@ -30,3 +30,8 @@ is_some-unless (Some other) not_none = refl
 pub none_as : (link other : Option ℕ) → is_some link ≡ is_some other → other ≡ None → link ≡ None
 none_as None other same none = refl
 none_as (Some slot) other same none = let also = ap is_some none in absurd (cc)
+
+-- where neither of two links is to a slot the second is none
+pub none_of_or : (one other : Option ℕ) → option_or one other ≡ None → other ≡ None
+none_of_or None other none = none
+none_of_or (Some slot) other none = absurd (cc)

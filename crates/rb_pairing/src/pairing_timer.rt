@@ -4,15 +4,21 @@ ghost use Rattle.rb_pairing.specs.Nodes.{expiries};
 ghost use Rattle.rb_pairing.specs.Forest.{IsTree, IsEntry};
 
 use crate::node::Node;
-use crate::tree::{add, newest_but, take_out};
+use crate::tree::{add, leaf_under, newest_but, take_out};
 use rb_timer::Timer;
 use std::alloc::{AllocError, Global};
 
+// How many slots of room there may be to an entry before a pass over the room costs more than to take the
+// entries out one by one.
+const SLOTS_TO_AN_ENTRY: usize = 8;
+
 /// A pairing heap of the entries, by expiry, whose links are slots.
 ///
-/// In the long run an insert costs no more than a logarithm, though no proof says so: a leaf below
-/// k entries raises the usual potential, the sum of the logarithms of the entries' sizes, by a sum
-/// of log(1 + 1/size) over k sizes that differ, which is at most log(k + 1).
+/// In the long run an insert and a removal cost no more than a logarithm of the entries, though no proof
+/// says so: a leaf below k entries raises the usual potential, the sum of the logarithms of the entries'
+/// sizes, by a sum of log(1 + 1/size) over k sizes that differ, which is at most log(k + 1). A single
+/// removal may join as many entries as there are. A clear costs a constant for each entry that it takes
+/// out, whatever the room, and every other call but `reserve` a constant.
 #[derive(Debug, Drop)]
 pub struct PairingTimer {
     // At each slot of the room its node.
@@ -94,6 +100,39 @@ impl Timer for PairingTimer {
     }
 
     fn clear(&mut self) {
+        if self.len < self.nodes.len() / SLOTS_TO_AN_ENTRY {
+            self.take_each();
+        } else {
+            self.take_all();
+        }
+    }
+}
+
+impl PairingTimer {
+    ghost use Rattle.std.specs.Prelude.{◌≡◌, length};
+    ghost use Rattle.std.specs.FinMap as map;
+    ghost use Rattle.rb_timer.specs.Slots.{content_of};
+    ghost use Rattle.rb_pairing.specs.Nodes.{expiries};
+
+    // Takes out one entry after another, each when none is under it, so that nothing is ever joined.
+    //
+    // The newest is the entry to go on from: once it is removed that is the one that was before it.
+    fn take_each(&mut self)
+        ensures content { content_of (expiries self.new.nodes.items) ≡ map.empty }
+        ensures room { length self.new.nodes.items ≡ length self.old.nodes.items }
+    {
+        while let Some(slot) = self.newest.or(self.root) {
+            let leaf = leaf_under(&self.nodes, slot);
+            self.newest = Some(leaf);
+            self.remove(leaf);
+        }
+    }
+
+    // Takes out all entries at once, by a walk over the room.
+    fn take_all(&mut self)
+        ensures content { content_of (expiries self.new.nodes.items) ≡ map.empty }
+        ensures room { length self.new.nodes.items ≡ length self.old.nodes.items }
+    {
         self.nodes.fill(Node::vacant());
         self.root = None;
         self.newest = None;

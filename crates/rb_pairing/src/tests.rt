@@ -1,6 +1,7 @@
 //! The trials that every timer has to pass, and room and order of the pairing heap.
 
 mod ample_memory;
+mod few_entries;
 mod fixtures;
 mod many_entries;
 mod memory_refusals;

@@ -3,7 +3,7 @@ ghost use Rattle.rb_pairing.specs.Nodes.{expiry_of, expiries};
 ghost use Rattle.rb_pairing.specs.Forest.{LieAsTrees, IsTree, IsEntry};
 
 use crate::links::{adopt, is_earlier, meld, unlink};
-use crate::node::{Node, occupy, previous_at, vacate};
+use crate::node::{Node, child_at, occupy, previous_at, vacate};
 
 /// Adds an entry to the tree at a slot that has none, and gives the root then.
 ///
@@ -58,4 +58,21 @@ pub(crate) fn take_out(nodes: &mut [Node], root: Option<usize>, slot: usize) -> 
     let heir = unlink(nodes, slot);
     vacate(nodes, slot);
     if root == Some(slot) { heir } else { root }
+}
+
+/// The entry with none under it to which the first of each row leads, from that entry on.
+///
+/// No entry is reached twice, so the loop is left before its range ends.
+pub(crate) fn leaf_under(nodes: &[Node], mut slot: usize) -> usize
+    requires linked { LieAsTrees nodes.now }
+    requires present { IsSome (expiry_of nodes.now slot) }
+    ensures { IsSome (expiry_of nodes.now result) }
+{
+    'down: for _ in 0..nodes.len() {
+        let Some(child) = child_at(nodes, slot) else {
+            return slot;
+        };
+        slot = child;
+    }
+    slot
 }

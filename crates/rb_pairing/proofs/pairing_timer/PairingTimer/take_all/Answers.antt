@@ -1,7 +1,7 @@
 -- Vacant slots have no entry.
 use Rattle.std.proofs.Common.{vec_len, rules, sym}
 use Rattle.rb_pairing.proofs.Rooms.{vacant_tree, count-vacant, content-vacant}
-use Rattle.rb_pairing.proofs.pairing_timer.PairingTimerTimer.clear.Goals as goal
+use Rattle.rb_pairing.proofs.pairing_timer.PairingTimer.take_all.Goals as goal
 
 pub invariant_of-self-clause-tree : goal.invariant_of-self-clause-tree
 invariant_of-self-clause-tree c =
