@@ -14,6 +14,7 @@ pub mod Children
 pub mod Roots
 pub mod Leaves
 pub mod Ancestors
+pub mod Linked
 pub mod Entries
 pub mod Contents
 pub mod Additions

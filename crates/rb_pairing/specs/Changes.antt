@@ -50,6 +50,20 @@ pub record ClearsLinks (old new : List Node) (slot : ℕ) : Type 0 where
   pub next : (other : ℕ) → other ≢ slot → next_of new other ≡ next_of old other
   pub previous : (other : ℕ) → other ≢ slot → previous_of new other ≡ previous_of old other
 
+-- what is around the slot in its row links past it: what linked to it links to what was beyond it
+pub record Bypasses (old new : List Node) (slot : ℕ) : Type 0 where
+  pub expiries : expiries new ≡ expiries old
+  pub child : (other : ℕ) → child_of old other ≡ Some slot → child_of new other ≡ next_of old slot
+  pub child_stays : (other : ℕ) → child_of old other ≢ Some slot
+      → child_of new other ≡ child_of old other
+  pub next : (other : ℕ) → next_of old other ≡ Some slot → next_of new other ≡ next_of old slot
+  pub next_stays : (other : ℕ) → next_of old other ≢ Some slot
+      → next_of new other ≡ next_of old other
+  pub previous : (other : ℕ) → next_of old slot ≡ Some other
+      → previous_of new other ≡ previous_of old slot
+  pub previous_stays : (other : ℕ) → next_of old slot ≢ Some other
+      → previous_of new other ≡ previous_of old other
+
 -- the slot is taken out of its row: what linked to it links to what was beyond it
 pub record Cuts (old new : List Node) (slot : ℕ) : Type 0 where
   pub expiries : expiries new ≡ expiries old

@@ -1,12 +1,24 @@
 ghost use Rattle.std.specs.Prelude.{◌≡◌, ℕ, ◌<◌, ◌≢◌, ◌↔◌, Some, None, IsTrue, IsSome, IfSome, IfNone, length};
 ghost use Rattle.rb_pairing.specs.Nodes.{expiry_of, child_of, next_of, previous_of, moment_of};
 ghost use Rattle.rb_pairing.specs.Forest.{LieAsTrees, IsTop, IsInRow};
-ghost use Rattle.rb_pairing.specs.Changes.{Cuts, Replaces, Adopts, Joins, Relinks, JoinsChildren, Unlinks, Melds};
+ghost use Rattle.rb_pairing.specs.Changes.{Bypasses, Cuts, Replaces, Adopts, Joins, Relinks, JoinsChildren, Unlinks, Melds};
 
 use crate::node::{
     Node, child_at, clear_links, expiry_at, next_at, previous_at, set_child, set_link, set_place,
     set_previous,
 };
+
+// Links what is around the entry in its row, if it is in one, past it. Its own place stays.
+fn bypass(nodes: &mut [Node], slot: usize)
+    requires linked { LieAsTrees nodes.old }
+    requires in_room { slot < length nodes.old }
+    ensures { Bypasses nodes.old nodes.new slot }
+{
+    let next = next_at(nodes, slot);
+    let previous = previous_at(nodes, slot);
+    set_previous(nodes, next, previous);
+    set_link(nodes, previous, slot, next);
+}
 
 // Takes the entry, with all that hang under it, out of its row, if it is in one.
 fn cut(nodes: &mut [Node], slot: usize)
@@ -14,10 +26,7 @@ fn cut(nodes: &mut [Node], slot: usize)
     requires in_room { slot < length nodes.old }
     ensures { Cuts nodes.old nodes.new slot }
 {
-    let next = next_at(nodes, slot);
-    let previous = previous_at(nodes, slot);
-    set_previous(nodes, next, previous);
-    set_link(nodes, previous, slot, next);
+    bypass(nodes, slot);
     set_place(nodes, slot, None, None);
 }
 
@@ -36,12 +45,12 @@ fn replace(nodes: &mut [Node], slot: usize, by: usize)
     clear_links(nodes, slot);
 }
 
-/// Puts the entry, which is in no row, first into the row under `parent`.
+/// Puts the entry first into the row under `parent`, whatever its own place was.
 pub(crate) fn adopt(nodes: &mut [Node], parent: usize, slot: usize)
-    requires linked { LieAsTrees nodes.old }
     requires in_room { slot < length nodes.old }
     requires present { IsSome (expiry_of nodes.old parent) }
-    requires alone { previous_of nodes.old slot ≡ None }
+    requires first { (other : ℕ) → child_of nodes.old parent ≡ Some other → other < length nodes.old }
+    requires apart { child_of nodes.old parent ≢ Some slot }
     ensures { Adopts nodes.old nodes.new parent slot }
 {
     let first = child_at(nodes, parent);
@@ -59,18 +68,19 @@ pub(crate) fn is_earlier(nodes: &[Node], right: usize, left: usize) -> bool
     expiry_at(nodes, right).unwrap() < expiry_at(nodes, left).unwrap()
 }
 
-// Hangs the later of two neighbours under the other, which keeps their place in the row.
+// Hangs the later of two neighbours under the other, which keeps their place in the row. Each link is
+// written once: the later one's own place is not emptied before it is set.
 fn join(nodes: &mut [Node], left: usize, right: usize) -> usize
     requires linked { LieAsTrees nodes.old }
     requires neighbours { next_of nodes.old left ≡ Some right }
     ensures { Joins nodes.old nodes.new left right result }
 {
     if is_earlier(nodes, right, left) {
-        cut(nodes, left);
+        bypass(nodes, left);
         adopt(nodes, right, left);
         right
     } else {
-        cut(nodes, right);
+        bypass(nodes, right);
         adopt(nodes, left, right);
         left
     }

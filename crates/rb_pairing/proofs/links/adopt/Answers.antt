@@ -1,9 +1,7 @@
 -- What was first under the parent comes behind the slot.
 use Rattle.std.proofs.Common.{◌<◌, ◌∙◌, is_some, length, sym, ap, arith}
-use Rattle.std.proofs.Math.Logic.{∥∥₁_elim}
-use Rattle.std.proofs.Props.{props}
 use Rattle.rb_pairing.proofs.Expiries.{same_expiry}
-use Rattle.rb_pairing.proofs.InRoom.{in_room-expiry, child_in_room}
+use Rattle.rb_pairing.proofs.InRoom.{in_room-expiry}
 use Rattle.rb_pairing.proofs.Steps.{adopts}
 use Rattle.rb_pairing.proofs.links.adopt.Goals as goal
 
@@ -11,10 +9,7 @@ pub child_at-first-requires : goal.child_at-first-requires
 child_at-first-requires c = in_room-expiry _ _ c.requires.present
 
 pub set_previous-requires-clause-slot : goal.set_previous-requires-clause-slot
-set_previous-requires-clause-slot c other is =
-    ∥∥₁_elim c.requires.linked (hlevel props)
-    (λ forest. child_in_room c.args.nodes.now forest.parent forest.rank forest.is_forest c.args.parent other
-    (sym c.child_at-first.ensures ∙ is))
+set_previous-requires-clause-slot c other is = c.requires.first other (sym c.child_at-first.ensures ∙ is)
 
 pub set_place-requires-clause-previous : goal.set_place-requires-clause-previous
 set_place-requires-clause-previous c other is =
@@ -23,11 +18,8 @@ set_place-requires-clause-previous c other is =
 
 pub set_place-requires-clause-next : goal.set_place-requires-clause-next
 set_place-requires-clause-next c other is =
-    ∥∥₁_elim c.requires.linked (hlevel props)
-    (λ forest. let within : other < length c.args.nodes.now =
-    child_in_room c.args.nodes.now forest.parent forest.rank forest.is_forest c.args.parent other
-    (sym c.child_at-first.ensures ∙ is) in
-    omega arith)
+    let within : other < length c.args.nodes.now = c.requires.first other (sym c.child_at-first.ensures ∙ is) in
+    omega arith
 
 pub set_child-requires-clause-slot : goal.set_child-requires-clause-slot
 set_child-requires-clause-slot c =
@@ -42,9 +34,8 @@ set_child-requires-clause-present c =
 
 pub returns : goal.returns
 returns c =
-    ∥∥₁_elim c.requires.linked (hlevel props)
-    (λ forest. adopts c.args.nodes.now c.set_previous.new.nodes c.set_place.new.nodes c.set_child.new.nodes
-    c.args.parent c.args.slot forest.parent forest.rank forest.is_forest c.requires.alone
+    adopts c.args.nodes.now c.set_previous.new.nodes c.set_place.new.nodes c.set_child.new.nodes c.args.parent
+    c.args.slot c.requires.apart
     (rw c.child_at-first.ensures at c.set_previous.ensures)
     (rw c.child_at-first.ensures at c.set_place.ensures)
-    c.set_child.ensures)
+    c.set_child.ensures

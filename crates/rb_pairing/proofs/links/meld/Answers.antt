@@ -1,8 +1,26 @@
 -- The later of the two is put under the other.
 use Rattle.std.proofs.Common.{◌<◌, ◌≤◌, ◌≢◌, Some, sym, ap, ◌∙◌, arith}
 use Rattle.rb_pairing.specs.Nodes.{moment_of}
+use Rattle.rb_pairing.proofs.Linked.{child_within, not_child}
 use Rattle.rb_pairing.proofs.Roots.{melds_one, melds_other}
 use Rattle.rb_pairing.proofs.links.meld.Goals as goal
+
+pub adopt-requires-clause-first : goal.adopt-requires-clause-first
+adopt-requires-clause-first c = child_within c.args.nodes.now c.requires.linked c.in-Some-Some.second
+
+pub adopt-requires-clause-apart : goal.adopt-requires-clause-apart
+adopt-requires-clause-apart c =
+    not_child c.args.nodes.now c.requires.linked c.in-Some-Some.second c.in-Some-Some.first
+    (c.requires.one c.in-Some-Some.first c.in-Some-Some.is-0).alone
+
+pub adopt-requires-else-is_earlier-clause-first : goal.adopt-requires-else-is_earlier-clause-first
+adopt-requires-else-is_earlier-clause-first c =
+    child_within c.args.nodes.now c.requires.linked c.in-Some-Some.first
+
+pub adopt-requires-else-is_earlier-clause-apart : goal.adopt-requires-else-is_earlier-clause-apart
+adopt-requires-else-is_earlier-clause-apart c =
+    not_child c.args.nodes.now c.requires.linked c.in-Some-Some.first c.in-Some-Some.second
+    (c.requires.other c.in-Some-Some.second c.in-Some-Some.is-1).alone
 
 pub returns-then-is_earlier : goal.returns-then-is_earlier
 returns-then-is_earlier c =

@@ -4,6 +4,7 @@ use Rattle.rb_pairing.specs.Nodes.{moment_of}
 use Rattle.rb_pairing.proofs.Additions.{free, added_linked, root_apart, root_top, slot_top, none_else, above_present, hung_tree}
 use Rattle.rb_pairing.proofs.Contents.{melded_tree}
 use Rattle.rb_pairing.proofs.Entries.{expiries-written}
+use Rattle.rb_pairing.proofs.Linked.{child_within, not_child}
 use Rattle.rb_pairing.proofs.tree.add.Goals as goal
 
 pub occupy-requires-clause-child : goal.occupy-requires-clause-child
@@ -23,17 +24,22 @@ is_earlier-requires-clause-left c =
     (above_present c.args.nodes.now c.args.slot c.args.expiry c.args.root c.requires.tree c.requires.in_room
     c.requires.absent c.in-Some.above (c.requires.newest c.in-Some.above c.in-Some.is))
 
-pub adopt-requires-clause-linked : goal.adopt-requires-clause-linked
-adopt-requires-clause-linked c =
-    rw c.occupy.ensures
+pub adopt-requires-clause-first : goal.adopt-requires-clause-first
+adopt-requires-clause-first c =
+    child_within c.occupy.new.nodes
+    (rw c.occupy.ensures
     (added_linked c.args.nodes.now c.args.slot c.args.expiry c.args.root c.requires.tree c.requires.in_room
-    c.requires.absent)
+    c.requires.absent)) c.in-Some.above
 
-pub adopt-requires-clause-alone : goal.adopt-requires-clause-alone
-adopt-requires-clause-alone c =
-    rw c.occupy.ensures
+pub adopt-requires-clause-apart : goal.adopt-requires-clause-apart
+adopt-requires-clause-apart c =
+    not_child c.occupy.new.nodes
+    (rw c.occupy.ensures
+    (added_linked c.args.nodes.now c.args.slot c.args.expiry c.args.root c.requires.tree c.requires.in_room
+    c.requires.absent)) c.in-Some.above c.args.slot
+    (rw c.occupy.ensures
     ((slot_top c.args.nodes.now c.args.slot c.args.expiry c.args.root c.requires.tree c.requires.in_room
-    c.requires.absent) c.args.slot refl).alone
+    c.requires.absent) c.args.slot refl).alone)
 
 pub returns-clause-tree : goal.returns-clause-tree
 returns-clause-tree c =

@@ -2,16 +2,14 @@
 use Rattle.std.proofs.Common.{refl, sym, ◌∙◌}
 use Rattle.std.proofs.Math.Logic.{∥∥₁_elim}
 use Rattle.std.proofs.Props.{props}
-use Rattle.rb_pairing.proofs.Ancestors.{present_before}
 use Rattle.rb_pairing.proofs.LinkTests.{link_is_not}
+use Rattle.rb_pairing.proofs.Linked.{previous_present}
 use Rattle.rb_pairing.proofs.Steps.{not_before_itself}
 use Rattle.rb_pairing.proofs.tree.newest_but.Goals as goal
 
 pub returns-then-eq-clause-entry : goal.returns-then-eq-clause-entry
 returns-then-eq-clause-entry c other is =
-    ∥∥₁_elim c.requires.linked (hlevel props)
-    (λ forest. present_before c.args.nodes.now forest.parent forest.rank forest.is_forest c.args.slot other
-    (sym c.previous_at.ensures ∙ is))
+    previous_present c.args.nodes.now c.requires.linked c.args.slot other (sym c.previous_at.ensures ∙ is)
 
 pub returns-then-eq-clause-apart : goal.returns-then-eq-clause-apart
 returns-then-eq-clause-apart c is =
