@@ -1,10 +1,9 @@
 -- Lines in lists of bytes: where they end, and what is left.
-use Rattle.std.proofs.Common.{◌≡◌, ◌≢◌, ℕ, suc, ◌+◌, ◌-◌, ◌<◌, ◌≤◌, List, [], ◌∷◌, ◌++◌, refl, sym, ap, ◌∙◌, arith, length, get_or, take, drop, cond, Bool, true, false, nat_eq, Option, Some, None, length-append, length-take-le, length-drop, append_assoc}
+use Rattle.std.proofs.Common.{◌≡◌, ◌≢◌, ℕ, suc, ◌+◌, ◌-◌, ◌<◌, ◌≤◌, List, [], ◌∷◌, ◌++◌, refl, sym, ap, ◌∙◌, arith, length, get_or, take, drop, cond, Bool, true, false, nat_eq, length-append, length-take-le, length-drop, append_assoc}
 use Rattle.std.proofs.lemmas.List.{take-append-drop, drop-take, drop-drop, take-append-le, drop-append-le, append-nil}
 use Rattle.std.proofs.lemmas.Bool.Decides.{nat_tests}
 use Rattle.std.proofs.Math.Seq.{drop-cons, take-append-add}
-use Rattle.std.specs.Prelude.{slice_range, MatchBool, Ok, Err}
-use Rattle.std.specs.Io.KnownBytes.{ReadConsumes}
+use Rattle.std.specs.Prelude.{slice_range, MatchBool}
 use Rattle.rb_session.specs.Lines.{HasNoLineFeed, line_of}
 
 -- two parts with no line feed have none together
@@ -69,18 +68,6 @@ range_more xs buf post start end count before within fits =
     ∙ take-append-add (drop start (take end xs)) (buf ++ post) count
     ∙ ap (λ bytes. drop start (take end xs) ++ bytes) (take-append-le count buf post fits)
     ∙ ap (λ bytes. bytes ++ take count buf) (ap (drop start) cut ∙ drop-take start (end - start) xs)
-
--- what a read that gave bytes did to the stream
-pub read_ok : (E : Type 0) (stream buf : List ℕ) (left : Option (List ℕ)) (count : ℕ) → ReadConsumes {E = E} (Some stream) left (Ok count) buf → 0 < length buf
-    → (rest : List ℕ) × (stream ≡ take count buf ++ rest) × (left ≡ Some rest) × (count ≡ 0 → stream ≡ [])
-read_ok E stream buf None count consumes room = absurd consumes.0
-read_ok E stream buf (Some rest) count consumes room =
-    (rest, consumes.0, refl, λ none. consumes.0 ∙ ap (λ n. take n buf ++ rest) none ∙ consumes.1 none room)
-
--- a read that failed left it
-pub read_err : {E : Type 0} (stream buf : List ℕ) (left : Option (List ℕ)) (error : E) → ReadConsumes (Some stream) left (Err error) buf → left ≡ Some stream
-read_err stream buf None error keeps = absurd keeps
-read_err stream buf (Some rest) error keeps = ap Some keeps
 
 -- what is to be served grows with what is held
 pub unserved_more : (is_long : Bool) (most : ℕ) (held more held' bytes : List ℕ) → held' ≡ held ++ more

@@ -1,140 +1,96 @@
 -- What a writer has got of a session whose replies are gathered.
-use Rattle.std.proofs.Common.{◌≡◌, ℕ, List, [], ◌∷◌, ◌++◌, Option, Some, None, Result, Ok, Err, refl, sym, ap, subst, ◌∙◌, inl, inr, append_assoc, length, take, take_all, arith}
+use Rattle.std.proofs.Common.{◌≡◌, ◌≤◌, ℕ, List, [], ◌∷◌, ◌++◌, Option, Some, None, Result, Ok, Err, refl, sym, ap, subst, ◌∙◌, append_assoc, length, arith}
 use Rattle.std.proofs.lemmas.List.{append-nil, append_cancel_left}
-use Rattle.std.proofs.lemmas.Option.{same_Some}
-use Rattle.std.specs.Prelude.{MatchResult}
-use Rattle.std.specs.Io.KnownBytes.{append_known, Keeps}
+use Rattle.std.specs.Io.KnownBytes.{Appends, Consumes, append_known, Keeps}
+use Rattle.std.proofs.KnownBytes.{append_known-passed}
 use Rattle.rb_queue.specs.declared.ask.Ask.{Ask}
 use Rattle.rb_queue.specs.declared.reply.Reply.{Reply}
 use Rattle.rb_retry.specs.declared.desk_fault.DeskFault.{DeskFault}
 use Rattle.rb_retry.specs.declared.policy.Policy.{Policy}
 use Rattle.rb_session.specs.Turn.{Point, point}
-use Rattle.rb_session.specs.Session.{answers_of, texts_of}
-use Rattle.rb_session.specs.Ran.{IsWhole, BreaksOff}
+use Rattle.rb_session.specs.Exchange.{Exchanges, Sends}
 use Rattle.rb_session.specs.Outlet.{FailsToSend, RanThrough, HandedOn}
 use Rattle.rb_session.specs.declared.ended.Ended.{Ended}
 use Rattle.rb_session.specs.declared.ended.Ended.TheVariants.{Quit, EndOfInput}
+use Rattle.rb_session.specs.declared.gathering.TheConstants.{GATHERED_BYTES}
+use Rattle.rb_session.specs.declared.send.WriteFault.{WriteFault}
 use Rattle.rb_session.specs.declared.session_fault.SessionFault.{SessionFault}
 use Rattle.rb_session.specs.declared.session_fault.SessionFault.TheVariants.{Memory, Read, Write, ReadTurns}
 use Rattle.rb_session.specs.Growth.{KeepsFront}
 use Rattle.rb_session.specs.Gathered.{LosesReplies, RanGathered}
 
--- known bytes that are kept stay known
-pub kept_known : (old new : Option (List ℕ)) (bytes : List ℕ) → Keeps old new → old ≡ Some bytes → new ≡ Some bytes
-kept_known old new bytes keeps known = of_known new (subst (λ o. Keeps o new) known keeps)
-  where
-    of_known : (o : Option (List ℕ)) → Keeps (Some bytes) o → o ≡ Some bytes
-    of_known None keeps = absurd keeps
-    of_known (Some found) same = ap Some same
-
--- where nothing is gathered the writer has got all
-pub all_written : (written : Option (List ℕ)) (gathered bytes : List ℕ) → gathered ≡ [] → append_known written gathered ≡ Some bytes → written ≡ Some bytes
-all_written None gathered bytes none is = absurd (cc)
-all_written (Some got) gathered bytes none is = ap Some (sym (append-nil got) ∙ ap (λ b. got ++ b) (sym none) ∙ same_Some _ _ is)
-
--- and what was sent to it is all that there is
-pub all_known : (written : Option (List ℕ)) (gathered bytes : List ℕ) → gathered ≡ [] → written ≡ Some bytes → append_known written gathered ≡ Some bytes
-all_known written gathered bytes none is =
-    ap (λ o. append_known o gathered) is ∙ ap (λ b. Some (bytes ++ b)) none ∙ ap Some (append-nil bytes)
-
--- what a send of these bytes comes to
-abbrev pub Sends : {T E : Type 0} → Result T E → Option (List ℕ) → List ℕ → List ℕ → Type 0
-Sends result new before line = MatchResult result (λ _. new ≡ Some (before ++ line)) (λ _. (taken : ℕ) × (new ≡ Some (before ++ take taken line)))
-
--- all was sent, and then something failed or not
-pub sends_all : {T E : Type 0} (result : Result T E) (new : Option (List ℕ)) (before line : List ℕ) → new ≡ Some (before ++ line) → Sends result new before line
-sends_all (Ok done) new before line is = is
-sends_all (Err fault) new before line is = (length line, is ∙ ap (λ b. Some (before ++ b)) (sym (take_all (length line) line (omega arith))))
+-- what is sent past an empty gathering goes behind what was sent before
+passed : (old mid new : Option (List ℕ)) (before gathered bytes : List ℕ) → Keeps (append_known old before) (append_known mid gathered) → gathered ≡ [] → Appends mid new bytes
+    → Appends (append_known old before) (append_known new gathered) bytes
+passed old mid new before gathered bytes kept none more =
+    subst (Appends (append_known old before) (append_known new gathered)) (append-nil bytes)
+    (append_known-passed (append_known old before) mid new gathered gathered bytes [] kept none more (sym (append-nil gathered)))
 
 -- a send to the writer, where nothing was gathered
-pub sends_past : {T E : Type 0} (result : Result T E) (old new : Option (List ℕ)) (gathered before line : List ℕ) → gathered ≡ []
-    → ((bytes : List ℕ) → old ≡ Some bytes → Sends result new bytes line) → append_known old gathered ≡ Some before → Sends result (append_known new gathered) before line
-sends_past (Ok done) old new gathered before line none sends is = all_known new gathered _ none (sends before (all_written old gathered before none is))
-sends_past (Err fault) old new gathered before line none sends is =
-    let some = sends before (all_written old gathered before none is) in
-    (some.0, all_known new gathered _ none some.1)
+pub sends_past : {T : Type 0} (result : Result T WriteFault) (old mid new : Option (List ℕ)) (before gathered line : List ℕ) → Keeps (append_known old before) (append_known mid gathered) → gathered ≡ []
+    → Sends result mid line new → Sends result (append_known old before) line (append_known new gathered)
+sends_past (Ok done) old mid new before gathered line kept none all = passed old mid new before gathered line kept none all
+sends_past (Err fault) old mid new before gathered line kept none (sent, unsent, parts, some) =
+    (sent, unsent, parts, passed old mid new before gathered sent kept none some)
 
--- what was sent is behind what there was
-pub sends_grow : {T E : Type 0} (result : Result T E) (old new : Option (List ℕ)) (line : List ℕ)
-    → ((bytes : List ℕ) → old ≡ Some bytes → Sends result new bytes line) → KeepsFront old new
-sends_grow (Ok done) old new line sends bytes is = (line, sends bytes is)
-sends_grow (Err fault) old new line sends bytes is = let some = sends bytes is in (take some.0 line, some.1)
-
--- else it has got a first part
-first_part : (written : Option (List ℕ)) (gathered before text : List ℕ) → KeepsFront (Some before) written → append_known written gathered ≡ Some (before ++ text)
-    → (sent : List ℕ) × (unsent : List ℕ) × (text ≡ sent ++ unsent) × (written ≡ Some (before ++ sent))
-first_part written gathered before text grows is = part (grows before refl)
-  where
-    part : (more : List ℕ) × (written ≡ Some (before ++ more)) → (sent : List ℕ) × (unsent : List ℕ) × (text ≡ sent ++ unsent) × (written ≡ Some (before ++ sent))
-    part (sent, wrote) =
-        let known : append_known (Some (before ++ sent)) gathered ≡ Some (before ++ text) = subst (λ o. append_known o gathered ≡ Some (before ++ text)) wrote is in
-        (sent, gathered, append_cancel_left before text (sent ++ gathered) (sym (same_Some _ _ known) ∙ append_assoc before sent gathered), wrote)
+-- what is sent to a gathering that is empty at first and at last goes to its writer
+pub all_sent : (old new : Option (List ℕ)) (before gathered sent : List ℕ) → before ≡ [] → gathered ≡ [] → Appends (append_known old before) (append_known new gathered) sent → Appends old new sent
+all_sent None new before gathered sent empty none all = tt
+all_sent (Some xs) None before gathered sent empty none all = absurd all
+all_sent (Some xs) (Some ys) before gathered sent empty none all =
+    sym (append-nil ys) ∙ ap (λ b. ys ++ b) (sym none) ∙ all ∙ ap (λ b. (xs ++ b) ++ sent) empty ∙ ap (λ b. b ++ sent) (append-nil xs)
 
 -- nothing was sent of nothing
 nothing_sent : (sent unsent : List ℕ) → [] ≡ sent ++ unsent → sent ≡ []
 nothing_sent [] unsent is = refl
 nothing_sent (byte ∷ sent) unsent is = absurd (cc)
 
+-- Of what was sent to a gathering that was empty at first, the writer got a first part, and the rest is gathered.
+pub record IsShared (old new : Option (List ℕ)) (passed : List ℕ) : Type 0 where
+  pub sent : List ℕ
+  pub rest : List ℕ
+  pub parts : passed ≡ sent ++ rest
+  pub few : length rest ≤ GATHERED_BYTES
+  pub got : Appends old new sent
+
+pub is_shared : (old new : Option (List ℕ)) (before gathered passed : List ℕ) → before ≡ [] → length gathered ≤ GATHERED_BYTES → KeepsFront old new
+    → Appends (append_known old before) (append_known new gathered) passed → IsShared old new passed
+is_shared None new before gathered passed empty few grows all = record { sent = passed; rest = []; parts = sym (append-nil passed); few = omega arith; got = tt }
+is_shared (Some xs) None before gathered passed empty few (more, grown) all = absurd grown
+is_shared (Some xs) (Some ys) before gathered passed empty few (more, grown) all = record {
+  sent = more;
+  rest = gathered;
+  parts = append_cancel_left xs passed (more ++ gathered)
+      (sym (all ∙ ap (λ b. (xs ++ b) ++ passed) empty ∙ ap (λ b. b ++ passed) (append-nil xs)) ∙ ap (λ b. b ++ gathered) grown ∙ append_assoc xs more gathered);
+  few = few;
+  got = grown;
+}
+
 module _ {S : Type 0} (gives : S → ℕ → Type 0) (Sets : S → ℕ → Option ℕ → S → Type 0)
     (Steps : S → ℕ → Ask → Result Reply DeskFault → S → Type 0) (policy : Policy)
-    (from to : S) (stream before : List ℕ) (left written : Option (List ℕ)) (gathered : List ℕ) (grows : KeepsFront (Some before) written) where
-  whole : (Session : List ℕ → Point S → Type 0) (last : Point S) → gathered ≡ [] → IsWhole gives Sets Steps policy Session before last (append_known written gathered)
-      → IsWhole gives Sets Steps policy Session before last written
-  whole Session last clear is = record { text = is.text; session = is.session; wrote = all_written written gathered _ clear is.wrote }
+    (Over : Type 0) (from to : S) (came : List ℕ) (left left' : Option (List ℕ)) (old new : Option (List ℕ)) (read : Consumes left left' came) where
+  -- what was sent to the writer, where nothing is held back
+  whole : (ended : Result Ended SessionFault) (sent : List ℕ) → Appends old new sent → RanGathered gives Sets Steps policy Over from came sent ended to
+      → Exchanges left left' old new (λ came sent. RanGathered gives Sets Steps policy Over from came sent ended to)
+  whole ended sent got ran = record { came = came; sent = sent; consumed = read; appended = got; holds = ran }
 
-  breaks : (last : Point S) → gathered ≡ [] → BreaksOff gives Sets Steps policy (point from []) stream before last left (append_known written gathered)
-      → BreaksOff gives Sets Steps policy (point from []) stream before last left written
-  breaks last clear is = record {
-    turns = is.turns;
-    unserved = is.unserved;
-    rest = is.rest;
-    split = is.split;
-    no_line = is.no_line;
-    left_is = is.left_is;
-    serves = is.serves;
-    wrote = all_written written gathered _ clear is.wrote;
-  }
+  module _ (before gathered passed : List ℕ) (empty : before ≡ []) (few : length gathered ≤ GATHERED_BYTES) (grows : KeepsFront old new)
+      (all : Appends (append_known old before) (append_known new gathered) passed) where
+    loses : (last : Point S) → FailsToSend gives Sets Steps policy (Unit {0}) Over (point from []) came passed last
+        → (shared : IsShared old new passed) → LosesReplies gives Sets Steps policy Over (point from []) came shared.sent last
+    loses last fails shared = record { passed = passed; fails = fails; gathered = shared.rest; few = shared.few; parts = shared.parts }
 
-  loses : (HoldsBack : Type 0) (last : Point S) → FailsToSend gives Sets Steps policy HoldsBack (point from []) stream before last (append_known written gathered)
-      → LosesReplies gives Sets Steps policy (point from []) stream before last written
-  loses HoldsBack last (inl fails) =
-      let part = first_part written gathered before (answers_of fails.turns ++ fails.sent) grows fails.wrote in record {
-        text = answers_of fails.turns ++ texts_of fails.replies;
-        serves = inr (inr (record {
-          turns = fails.turns;
-          unserved = fails.unserved;
-          split = fails.split;
-          before_last = fails.before_last;
-          serves = fails.serves;
-          replies = fails.replies;
-          last = inr (fails.reading, fails.begins, fails.turn);
-          answers = refl;
-        }));
-        sent = part.0;
-        unsent = part.1 ++ fails.unsent;
-        parts = ap (λ t. answers_of fails.turns ++ t) fails.parts ∙ sym (append_assoc (answers_of fails.turns) fails.sent fails.unsent)
-            ∙ ap (λ t. t ++ fails.unsent) part.2 ∙ append_assoc part.0 part.1 fails.unsent;
-        wrote = part.3;
-      }
-  loses HoldsBack last (inr (late, is)) =
-      let part = first_part written gathered before is.text grows is.wrote in record {
-        text = is.text;
-        serves = is.session;
-        sent = part.0;
-        unsent = part.1;
-        parts = part.2;
-        wrote = part.3;
-      }
-
-  -- a run through an outlet that gathers
-  pub ran_gathered : (HoldsBack : Type 0) (ended : Result Ended SessionFault) → HandedOn (gathered ≡ []) ended
-      → RanThrough gives Sets Steps policy HoldsBack from stream before ended to left (append_known written gathered)
-      → RanGathered gives Sets Steps policy from stream before ended to left written
-  ran_gathered HoldsBack (Ok (Quit lost)) clear (last, is, closes) = (last, whole _ last clear is, closes)
-  ran_gathered HoldsBack (Ok (EndOfInput lost)) clear (last, is, closes) = (last, whole _ last clear is, closes)
-  ran_gathered HoldsBack (Err (Read lost)) clear (last, is, closes) = (last, breaks last clear is, closes)
-  ran_gathered HoldsBack (Err (ReadTurns lost)) clear (last, is, closes) = (last, breaks last clear is, closes)
-  ran_gathered HoldsBack (Err (Write lost)) clear (last, is, closes) = (last, loses HoldsBack last is, closes)
-  ran_gathered HoldsBack (Err Memory) clear (same, unread, is) =
-      let part = first_part written gathered before [] grows (is ∙ ap Some (sym (append-nil before))) in
-      (same, unread, part.3 ∙ ap (λ s. Some (before ++ s)) (nothing_sent part.0 part.1 part.2) ∙ ap Some (append-nil before))
+    -- a run through an outlet that gathers
+    pub ran_gathered : (ended : Result Ended SessionFault) → HandedOn (gathered ≡ []) ended
+        → RanThrough gives Sets Steps policy (Unit {0}) Over from came passed ended to
+        → Exchanges left left' old new (λ came sent. RanGathered gives Sets Steps policy Over from came sent ended to)
+    ran_gathered (Ok (Quit lost)) clear ran = whole (Ok (Quit lost)) passed (all_sent old new before gathered passed empty clear all) ran
+    ran_gathered (Ok (EndOfInput lost)) clear ran = whole (Ok (EndOfInput lost)) passed (all_sent old new before gathered passed empty clear all) ran
+    ran_gathered (Err (Read lost)) clear ran = whole (Err (Read lost)) passed (all_sent old new before gathered passed empty clear all) ran
+    ran_gathered (Err (ReadTurns lost)) clear ran = whole (Err (ReadTurns lost)) passed (all_sent old new before gathered passed empty clear all) ran
+    ran_gathered (Err (Write lost)) clear (last, fails, closes) =
+        let shared = is_shared old new before gathered passed empty few grows all in
+        whole (Err (Write lost)) shared.sent shared.got (last, loses last fails shared, closes)
+    ran_gathered (Err Memory) clear (same, unread, unsent) =
+        let shared = is_shared old new before gathered passed empty few grows all in
+        whole (Err Memory) shared.sent shared.got (same, unread, nothing_sent shared.sent shared.rest (sym unsent ∙ shared.parts))

@@ -1,8 +1,13 @@
--- What a writer has got of bytes that are written piece by piece.
-use Rattle.std.proofs.Common.{◌≡◌, ℕ, ◌+◌, ◌-◌, ◌≤◌, List, ◌++◌, Option, Some, None, length, take, drop, ap, sym, subst, arith, length-drop, take_all}
-use Rattle.std.specs.Io.KnownBytes.{Appends}
-use Rattle.std.proofs.KnownBytes.{Appends-trans}
+-- What a writer has got of texts that are sent piece by piece.
+use Rattle.std.proofs.Common.{◌≡◌, ℕ, ◌+◌, ◌-◌, ◌≤◌, List, [], ◌++◌, Option, Result, Ok, Err, length, take, drop, refl, ap, sym, subst, ◌∙◌, arith, length-drop, take_all, append_assoc}
+use Rattle.std.proofs.lemmas.List.{append-nil}
+use Rattle.std.specs.Prelude.{IsErr, true, false, is_err}
+use Rattle.std.specs.Io.KnownBytes.{Appends, Keeps}
+use Rattle.std.proofs.KnownBytes.{Appends-nil, Appends-trans, Appends-kept}
 use Rattle.std.proofs.Math.Seq.{take-add}
+use Rattle.rb_session.specs.Exchange.{Sends}
+use Rattle.rb_session.specs.Growth.{KeepsFront}
+use Rattle.rb_session.specs.declared.send.WriteFault.{WriteFault}
 
 -- the writer got the first bytes
 pub record HasTaken (old new : Option (List ℕ)) (bytes : List ℕ) (taken : ℕ) : Type 0 where
@@ -17,10 +22,41 @@ appends_more old mid new bytes taken n before more =
     subst (Appends old new) (sym (take-add taken n bytes))
     (Appends-trans old mid new _ _ before (subst (λ r. Appends mid new (take n r)) rest more))
 
--- what a writer has that got bytes
-pub appended : (old new : Option (List ℕ)) (before bytes : List ℕ) → old ≡ Some before → Appends old new bytes → new ≡ Some (before ++ bytes)
-appended old new before bytes known appends = of_known new (subst (λ o. Appends o new bytes) known appends)
-  where
-    of_known : (o : Option (List ℕ)) → Appends (Some before) o bytes → o ≡ Some (before ++ bytes)
-    of_known None appends = absurd appends
-    of_known (Some found) is = ap Some is
+-- a text behind another
+pub sends_then : {T : Type 0} (result : Result T WriteFault) (old mid new : Option (List ℕ)) (one two : List ℕ) → Appends old mid one → Sends result mid two new → Sends result old (one ++ two) new
+sends_then (Ok done) old mid new one two first second = Appends-trans old mid new one two first second
+sends_then (Err fault) old mid new one two first (sent, unsent, parts, more) =
+    (one ++ sent, unsent, ap (λ t. one ++ t) parts ∙ sym (append_assoc one sent unsent), Appends-trans old mid new one sent first more)
+
+-- a text whose first part could not be sent
+pub sends_part : {T : Type 0} (result : Result T WriteFault) (old new : Option (List ℕ)) (one two : List ℕ) → IsErr result
+    → (sent : List ℕ) × (unsent : List ℕ) × (one ≡ sent ++ unsent) × Appends old new sent → Sends result old (one ++ two) new
+sends_part (Ok done) old new one two failed sends = absurd (cc)
+sends_part (Err other) old new one two failed (sent, unsent, parts, some) =
+    (sent, unsent ++ two, ap (λ t. t ++ two) parts ∙ append_assoc sent unsent two, some)
+
+-- all of a text was sent, and then something failed or not
+pub sends_all : {T : Type 0} (result : Result T WriteFault) (old mid new : Option (List ℕ)) (text : List ℕ) → Appends old mid text → Keeps mid new → Sends result old text new
+sends_all (Ok done) old mid new text all kept = Appends-kept old mid new text all kept
+sends_all (Err fault) old mid new text all kept = (text, [], sym (append-nil text), Appends-kept old mid new text all kept)
+
+-- nothing of a text was sent
+pub sends_nothing : {T : Type 0} (result : Result T WriteFault) (old new : Option (List ℕ)) (text : List ℕ) → IsErr result → Keeps old new → Sends result old text new
+sends_nothing (Ok done) old new text failed kept = absurd (cc)
+sends_nothing (Err other) old new text failed kept = ([], text, refl, Appends-kept old old new [] (Appends-nil old) kept)
+
+-- a text that was not sent whole
+pub sends_failed : {T : Type 0} (result : Result T WriteFault) (old new : Option (List ℕ)) (text : List ℕ) → is_err result ≡ true → Sends result old text new
+    → (sent : List ℕ) × (unsent : List ℕ) × (text ≡ sent ++ unsent) × Appends old new sent
+sends_failed (Ok done) old new text failed all = absurd (cc)
+sends_failed (Err fault) old new text failed sends = sends
+
+-- a text that was
+pub sends_done : {T : Type 0} (result : Result T WriteFault) (old new : Option (List ℕ)) (text : List ℕ) → is_err result ≡ false → Sends result old text new → Appends old new text
+sends_done (Ok done) old new text went all = all
+sends_done (Err fault) old new text went sends = absurd (cc)
+
+-- what was sent is behind what there was
+pub sends_grow : {T : Type 0} (result : Result T WriteFault) (old new : Option (List ℕ)) (text : List ℕ) → Sends result old text new → KeepsFront old new
+sends_grow (Ok done) old new text all = (text, all)
+sends_grow (Err fault) old new text (sent, unsent, parts, some) = (sent, some)

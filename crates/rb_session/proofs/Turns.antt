@@ -1,5 +1,5 @@
 -- Lines that are served one after the other, and the line at which that ends.
-use Rattle.std.proofs.Common.{◌≡◌, ◌≢◌, ℕ, List, [], ◌∷◌, ◌++◌, Option, Some, Result, Ok, refl, sym, ap, subst, ◌∙◌, append_assoc}
+use Rattle.std.proofs.Common.{◌≡◌, ◌≢◌, ℕ, List, [], ◌∷◌, ◌++◌, Option, Result, Ok, refl, sym, ap, subst, ◌∙◌, append_assoc}
 use Rattle.std.proofs.lemmas.List.{append-nil}
 use Rattle.rb_queue.specs.declared.ask.Ask.{Ask}
 use Rattle.rb_queue.specs.declared.reply.Reply.{Reply}
@@ -14,7 +14,6 @@ use Rattle.rb_protocol.specs.declared.line_reply.LineReply.{LineReply}
 use Rattle.rb_protocol.specs.declared.line_reply.LineReply.TheVariants as lines
 use Rattle.rb_session.specs.Turn.{Point, IsTurn}
 use Rattle.rb_session.specs.Session.{Turn, IsLine, Serves, ServesToQuit, bytes_of, answers_of, texts_of}
-use Rattle.rb_session.specs.Ran.{IsWhole}
 use Rattle.rb_session.specs.Progress.{Stands, FailsAtLine}
 
 -- the bytes of lines, one behind the other
@@ -49,67 +48,58 @@ module _ {S : Type 0} (gives : S → ℕ → Type 0) (Sets : S → ℕ → Optio
       (between, line, goes, is_turn, serves_on between mid new one two rest serves)
 
   -- nothing was served yet
-  unfoldable pub stands_first : (from : Point S) (bytes before : List ℕ) (written : Option (List ℕ)) → written ≡ Some before → Stands gives Sets Steps policy from bytes before from written
-  stands_first from bytes before written is = record {
+  unfoldable pub stands_first : (from : Point S) (bytes : List ℕ) → Stands gives Sets Steps policy from bytes [] from
+  stands_first from bytes = record {
     turns = [];
     rest = bytes;
     split = refl;
     serves = refl;
-    wrote = is ∙ ap Some (sym (append-nil before));
+    answers = refl;
   }
 
-  module _ (from here after : Point S) (bytes before raw rest : List ℕ) (written written' : Option (List ℕ)) (stands : Stands gives Sets Steps policy from bytes before here written)
+  module _ (from here after : Point S) (bytes sent raw rest : List ℕ) (stands : Stands gives Sets Steps policy from bytes sent here)
       (reading : Result Request LineFault) (replies : List LineReply)
       (split : stands.rest ≡ raw ++ LINE_FEED ∷ rest) (line : IsLine raw reading) (is_turn : IsTurn gives Sets Steps policy here reading replies after) where
     -- a line that was answered
-    unfoldable pub stands_turn : reading ≢ Ok Quit → ((sent : List ℕ) → written ≡ Some sent → written' ≡ Some (sent ++ texts_of replies)) → Stands gives Sets Steps policy from bytes before after written'
-    stands_turn goes wrote =
+    unfoldable pub stands_turn : reading ≢ Ok Quit → Stands gives Sets Steps policy from bytes (sent ++ texts_of replies) after
+    stands_turn goes =
         let turn : Turn = record { raw = raw; reading = reading; replies = replies } in record {
           turns = stands.turns ++ turn ∷ [];
           rest = rest;
           split = stands.split ∙ ap (λ b. bytes_of stands.turns ++ b) split ∙ bytes_more stands.turns turn rest;
           serves = serves_on from here after stands.turns (turn ∷ []) stands.serves (after, line, goes, is_turn, refl);
-          wrote = wrote (before ++ answers_of stands.turns) stands.wrote
-              ∙ ap Some (append_assoc before (answers_of stands.turns) (texts_of replies) ∙ ap (λ t. before ++ t) (answers_more stands.turns turn));
+          answers = ap (λ t. t ++ texts_of replies) stands.answers ∙ answers_more stands.turns turn;
         }
 
     -- the line that ends the session
-    pub quits : reading ≡ Ok Quit → ((sent : List ℕ) → written ≡ Some sent → written' ≡ Some (sent ++ texts_of replies))
-        → IsWhole gives Sets Steps policy (ServesToQuit gives Sets Steps policy from bytes) before after written'
-    quits quit wrote =
+    pub quits : reading ≡ Ok Quit → ServesToQuit gives Sets Steps policy from bytes (sent ++ texts_of replies) after
+    quits quit =
         let bye = subst (λ r. IsTurn gives Sets Steps policy here r replies after) quit is_turn in record {
-          text = answers_of stands.turns ++ text_of lines.Bye;
-          session = record {
-            turns = stands.turns;
-            raw = raw;
-            unserved = rest;
-            split = stands.split ∙ ap (λ b. bytes_of stands.turns ++ b) split;
-            quit = subst (IsLine raw) quit line;
-            serves = subst (λ p. Serves gives Sets Steps policy from stands.turns p) (sym bye.2.1) stands.serves;
-            answers = refl;
-          };
-          wrote = wrote (before ++ answers_of stands.turns) stands.wrote
-              ∙ ap Some (append_assoc before (answers_of stands.turns) (texts_of replies)
-              ∙ ap (λ t. before ++ (answers_of stands.turns ++ t)) (ap texts_of bye.2.0 ∙ append-nil (text_of lines.Bye)));
-        }
-
-    -- a line whose reply could not be written whole
-    pub fails : ((sent : List ℕ) → written ≡ Some sent → (out : List ℕ) × (unsent : List ℕ) × (texts_of replies ≡ out ++ unsent) × (written' ≡ Some (sent ++ out)))
-        → FailsAtLine gives Sets Steps policy from bytes before after written'
-    fails wrote =
-        let sends = wrote (before ++ answers_of stands.turns) stands.wrote in record {
           turns = stands.turns;
           raw = raw;
-          rest = rest;
+          unserved = rest;
           split = stands.split ∙ ap (λ b. bytes_of stands.turns ++ b) split;
-          before_last = here;
-          serves = stands.serves;
-          reading = reading;
-          line = line;
-          replies = replies;
-          turn = is_turn;
-          sent = sends.0;
-          unsent = sends.1;
-          parts = sends.2;
-          wrote = sends.3 ∙ ap Some (append_assoc before (answers_of stands.turns) sends.0);
+          quit = subst (IsLine raw) quit line;
+          serves = subst (λ p. Serves gives Sets Steps policy from stands.turns p) (sym bye.2.1) stands.serves;
+          answers = ap (λ t. t ++ texts_of replies) stands.answers
+              ∙ ap (λ t. answers_of stands.turns ++ t) (ap texts_of bye.2.0 ∙ append-nil (text_of lines.Bye));
         }
+
+    -- a line whose reply could not be sent whole
+    pub fails : (first unsent : List ℕ) → texts_of replies ≡ first ++ unsent → FailsAtLine gives Sets Steps policy from bytes (sent ++ first) after
+    fails first unsent parts = record {
+      turns = stands.turns;
+      raw = raw;
+      rest = rest;
+      split = stands.split ∙ ap (λ b. bytes_of stands.turns ++ b) split;
+      before_last = here;
+      serves = stands.serves;
+      reading = reading;
+      line = line;
+      replies = replies;
+      turn = is_turn;
+      first = first;
+      unsent = unsent;
+      parts = parts;
+      answers = ap (λ t. t ++ first) stands.answers;
+    }

@@ -1,5 +1,6 @@
 -- Which bytes a buffer still has to serve, and what taking a line and reading more do to them.
-use Rattle.std.specs.Prelude.{◌≡◌, ℕ, ◌<◌, List, [], ◌∷◌, ◌++◌, length, slice_range, Option, Some, None, Result, Ok, Err, MatchBool}
+use Rattle.std.specs.Prelude.{◌≡◌, ℕ, ◌<◌, List, ◌∷◌, ◌++◌, length, slice_range, Option, Some, None, Result, Ok, Err, MatchBool}
+use Rattle.std.specs.Io.KnownBytes.{Consumes, Keeps, IsAtEnd}
 use Rattle.std.specs.declared.io.Error.{Error}
 use Rattle.rb_session.specs.Lines.{HasNoLineFeed, line_of}
 use Rattle.rb_protocol.specs.Reading.{IsReading}
@@ -25,10 +26,8 @@ TakesLine bytes None new = HasNoLineFeed bytes × IsUnserved new bytes
 TakesLine bytes (Some reading) new = (raw rest : List ℕ)
     × (bytes ≡ raw ++ 10 ∷ rest) × HasNoLineFeed raw × IsReading (line_of raw) reading × IsUnserved new rest
 
--- so many of the first bytes of the stream come behind those that are not served, none of them only at
--- its end
-abbrev pub TakesMore : List ℕ → List ℕ → Result ℕ Error → LineBuffer → Option (List ℕ) → Type 0
-TakesMore bytes stream (Ok count) new left = (more rest : List ℕ)
-    × (stream ≡ more ++ rest) × (left ≡ Some rest) × IsUnserved new (bytes ++ more) × (count ≡ 0 → stream ≡ [])
-    × (length more ≡ count)
-TakesMore bytes stream (Err error) new left = (left ≡ Some stream) × IsUnserved new bytes
+-- so many bytes came and stand behind those that are not served, none only where the input is over
+abbrev pub TakesMore : List ℕ → Option (List ℕ) → Result ℕ Error → LineBuffer → Option (List ℕ) → Type 0
+TakesMore bytes left (Ok count) new left' = (more : List ℕ)
+    × Consumes left left' more × IsUnserved new (bytes ++ more) × (length more ≡ count) × (count ≡ 0 → IsAtEnd left')
+TakesMore bytes left (Err error) new left' = Keeps left left' × IsUnserved new bytes

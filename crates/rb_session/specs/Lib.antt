@@ -8,6 +8,7 @@ pub mod Lines
 pub mod Held
 pub mod Turn
 pub mod Session
+pub mod Exchange
 pub mod Closing
 pub mod Ran
 pub mod Outlet

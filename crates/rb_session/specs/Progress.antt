@@ -2,7 +2,6 @@
 use Rattle.std.specs.Prelude.{◌≡◌, ℕ, ◌-◌, ◌<◌, ◌⊎◌, List, [], ◌∷◌, ◌++◌, length, map, drop, Option, Some, None, Result, Ok, Err}
 use Rattle.rb_delayed.specs.declared.element.Element.{Element}
 use Rattle.rb_queue.specs.declared.ask.Ask.{Ask}
-use Rattle.rb_queue.specs.declared.ask.Ask.TheVariants as asks
 use Rattle.rb_queue.specs.declared.reply.Reply.{Reply}
 use Rattle.rb_retry.specs.declared.desk_fault.DeskFault.{DeskFault}
 use Rattle.rb_retry.specs.declared.policy.Policy.{Policy}
@@ -15,14 +14,13 @@ use Rattle.rb_protocol.specs.declared.request.Request.{Request}
 use Rattle.rb_protocol.specs.declared.line_fault.LineFault.{LineFault}
 use Rattle.rb_session.specs.Turn.{Point, IsTurn, fault_line, reply_line, lines_for, fetched_by}
 use Rattle.rb_session.specs.Session.{Turn, IsLine, Serves, ServesToEnd, ServesToQuit, bytes_of, answers_of, texts_of, rest_text}
-use Rattle.rb_session.specs.Ran.{IsWhole, BreaksOff}
+use Rattle.rb_session.specs.Ran.{BreaksOff}
 use Rattle.rb_session.specs.Outlet.{FailsToSend}
 use Rattle.rb_session.specs.declared.line_buffer.LineBuffer.{LineBuffer}
 use Rattle.rb_session.specs.declared.ended.Ended.{Ended}
 use Rattle.rb_session.specs.declared.ended.Ended.TheVariants as ends
 use Rattle.rb_session.specs.declared.session_fault.SessionFault.{SessionFault}
 use Rattle.rb_session.specs.declared.session_fault.SessionFault.TheVariants as faults
-use Rattle.rb_session.specs.declared.send.WriteFault.{WriteFault}
 use Rattle.rb_session.specs.declared.stop.Stop.{Stop}
 use Rattle.rb_session.specs.declared.stop.Stop.TheVariants.{Quit, EndOfInput, Read, Write, ReadTurns}
 
@@ -41,18 +39,11 @@ pub record IsHolding (old : List Element) (answer : Result Reply DeskFault) (rep
   pub lines : replies_of reply new ≡ lines_for answer
   pub held : new ≡ old ++ fetched_by answer
 
--- a text is written whole, or its first part
-abbrev pub Sends : {T : Type 0} → Result T WriteFault → List ℕ → List ℕ → Option (List ℕ) → Type 0
-Sends (Ok _) before text written = written ≡ Some (before ++ text)
-Sends (Err fault) before text written =
-    (sent : List ℕ) × (unsent : List ℕ) × (text ≡ sent ++ unsent) × (written ≡ Some (before ++ sent))
-
--- the end of the input is answered, or its answer could not be written whole
-abbrev pub AnswersEnd : Stop → List ℕ → List ℕ → Option (List ℕ) → Type 0
-AnswersEnd EndOfInput before bytes written = written ≡ Some (before ++ rest_text bytes)
-AnswersEnd Write before bytes written =
-    (0 < length bytes) × (sent : List ℕ) × (unsent : List ℕ) × (rest_text bytes ≡ sent ++ unsent) × (written ≡ Some (before ++ sent))
-AnswersEnd _ before bytes written = ⊥
+-- the end of the input is answered, or its answer could not be sent whole
+abbrev pub AnswersEnd : Stop → List ℕ → List ℕ → Type 0
+AnswersEnd EndOfInput bytes sent = sent ≡ rest_text bytes
+AnswersEnd Write bytes sent = (0 < length bytes) × (unsent : List ℕ) × (rest_text bytes ≡ sent ++ unsent)
+AnswersEnd _ bytes sent = ⊥
 
 -- nothing is held back, unless a write failed
 abbrev pub IsClearAt : Type 0 → Stop → Type 0
@@ -75,15 +66,15 @@ end_of ReadTurns lost = Err (faults.ReadTurns lost)
 module _ {S : Type 0} (gives : S → ℕ → Type 0) (Sets : S → ℕ → Option ℕ → S → Type 0)
     (Steps : S → ℕ → Ask → Result Reply DeskFault → S → Type 0) (policy : Policy) where
   -- of these bytes some lines are served and answered, and the rest is not
-  pub record Stands (from : Point S) (bytes before : List ℕ) (to : Point S) (written : Option (List ℕ)) : Type 0 where
+  pub record Stands (from : Point S) (bytes sent : List ℕ) (to : Point S) : Type 0 where
     pub turns : List Turn
     pub rest : List ℕ
     pub split : bytes ≡ bytes_of turns ++ rest
     pub serves : Serves gives Sets Steps policy from turns to
-    pub wrote : written ≡ Some (before ++ answers_of turns)
+    pub answers : sent ≡ answers_of turns
 
-  -- the reply of a whole line could not be written
-  pub record FailsAtLine (from : Point S) (bytes before : List ℕ) (to : Point S) (written : Option (List ℕ)) : Type 0 where
+  -- the reply of a whole line could not be sent
+  pub record FailsAtLine (from : Point S) (bytes sent : List ℕ) (to : Point S) : Type 0 where
     pub turns : List Turn
     pub raw : List ℕ
     pub rest : List ℕ
@@ -94,28 +85,25 @@ module _ {S : Type 0} (gives : S → ℕ → Type 0) (Sets : S → ℕ → Optio
     pub line : IsLine raw reading
     pub replies : List LineReply
     pub turn : IsTurn gives Sets Steps policy before_last reading replies to
-    pub sent : List ℕ
+    pub first : List ℕ
     pub unsent : List ℕ
-    pub parts : texts_of replies ≡ sent ++ unsent
-    pub wrote : written ≡ Some (before ++ (answers_of turns ++ sent))
+    pub parts : texts_of replies ≡ first ++ unsent
+    pub answers : sent ≡ answers_of turns ++ first
 
   -- What serving the whole lines of a buffer comes to. Where a write failed a reply could not be sent,
   -- or what answers the lines so far could not be handed on before a request that may wait.
-  abbrev pub ServesLines : Type 0 → Point S → List ℕ → List ℕ → Option Stop → LineBuffer → Point S → Option (List ℕ) → Type 0
-  ServesLines HoldsBack from bytes before None buffer to written =
-      (stands : Stands from bytes before to written) × HasNoLineFeed stands.rest × IsUnserved buffer stands.rest
-  ServesLines HoldsBack from bytes before (Some Quit) buffer to written =
-      IsWhole gives Sets Steps policy (ServesToQuit gives Sets Steps policy from bytes) before to written
-  ServesLines HoldsBack from bytes before (Some Write) buffer to written =
-      FailsAtLine from bytes before to written ⊎ (HoldsBack × Stands from bytes before to written)
-  ServesLines HoldsBack from bytes before (Some _) buffer to written = ⊥
+  abbrev pub ServesLines : Type 0 → Point S → List ℕ → List ℕ → Option Stop → LineBuffer → Point S → Type 0
+  ServesLines HoldsBack from bytes sent None buffer to =
+      (stands : Stands from bytes sent to) × HasNoLineFeed stands.rest × IsUnserved buffer stands.rest
+  ServesLines HoldsBack from bytes sent (Some Quit) buffer to = ServesToQuit gives Sets Steps policy from bytes sent to
+  ServesLines HoldsBack from bytes sent (Some Write) buffer to =
+      FailsAtLine from bytes sent to ⊎ (HoldsBack × Stands from bytes sent to)
+  ServesLines HoldsBack from bytes sent (Some _) buffer to = ⊥
 
-  -- what serving a stream comes to
-  abbrev pub Stops : Type 0 → Point S → List ℕ → List ℕ → Stop → Point S → Option (List ℕ) → Option (List ℕ) → Type 0
-  Stops HoldsBack from stream before Quit to left written =
-      IsWhole gives Sets Steps policy (ServesToQuit gives Sets Steps policy from stream) before to written
-  Stops HoldsBack from stream before EndOfInput to left written =
-      IsWhole gives Sets Steps policy (ServesToEnd gives Sets Steps policy from stream) before to written
-  Stops HoldsBack from stream before Read to left written = BreaksOff gives Sets Steps policy from stream before to left written
-  Stops HoldsBack from stream before ReadTurns to left written = BreaksOff gives Sets Steps policy from stream before to left written
-  Stops HoldsBack from stream before Write to left written = FailsToSend gives Sets Steps policy HoldsBack from stream before to written
+  -- what serving what comes leads to
+  abbrev pub Stops : Type 0 → Type 0 → Point S → List ℕ → List ℕ → Stop → Point S → Type 0
+  Stops HoldsBack Over from came sent Quit to = ServesToQuit gives Sets Steps policy from came sent to
+  Stops HoldsBack Over from came sent EndOfInput to = ServesToEnd gives Sets Steps policy Over from came sent to
+  Stops HoldsBack Over from came sent Read to = BreaksOff gives Sets Steps policy from came sent to
+  Stops HoldsBack Over from came sent ReadTurns to = BreaksOff gives Sets Steps policy from came sent to
+  Stops HoldsBack Over from came sent Write to = FailsToSend gives Sets Steps policy HoldsBack Over from came sent to

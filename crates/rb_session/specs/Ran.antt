@@ -1,5 +1,5 @@
--- What a run of a session over a stream comes to.
-use Rattle.std.specs.Prelude.{◌≡◌, ℕ, ◌<◌, ◌⊎◌, List, [], ◌∷◌, ◌++◌, length, Option, Some, Result, Ok, Err}
+-- What a run of a session comes to: what came, what was sent, and the desk's way between them.
+use Rattle.std.specs.Prelude.{◌≡◌, ℕ, ◌<◌, ◌⊎◌, List, [], ◌∷◌, ◌++◌, length, Option, Result, Ok, Err}
 use Rattle.rb_queue.specs.declared.ask.Ask.{Ask}
 use Rattle.rb_queue.specs.declared.reply.Reply.{Reply}
 use Rattle.rb_retry.specs.declared.desk_fault.DeskFault.{DeskFault}
@@ -18,65 +18,56 @@ use Rattle.rb_session.specs.declared.ended.Ended.TheVariants.{Quit, EndOfInput}
 use Rattle.rb_session.specs.declared.session_fault.SessionFault.{SessionFault}
 use Rattle.rb_session.specs.declared.session_fault.SessionFault.TheVariants.{Memory, Read, Write, ReadTurns}
 
--- the bytes begin with a line that is read so, or are a truncated one
-abbrev pub BeginsWith : List ℕ → Result Request LineFault → Type 0
-BeginsWith bytes reading =
+-- the bytes begin with a line that is read so, or the input is over and they are a truncated line
+abbrev pub BeginsWith : Type 0 → List ℕ → Result Request LineFault → Type 0
+BeginsWith Over bytes reading =
     ((raw : List ℕ) × (rest : List ℕ) × (bytes ≡ raw ++ LINE_FEED ∷ rest) × IsLine raw reading)
-    ⊎ ((0 < length bytes) × HasNoLineFeed bytes × (reading ≡ Err Line))
+    ⊎ (Over × (0 < length bytes) × HasNoLineFeed bytes × (reading ≡ Err Line))
 
 module _ {S : Type 0} (gives : S → ℕ → Type 0) (Sets : S → ℕ → Option ℕ → S → Type 0)
     (Steps : S → ℕ → Ask → Result Reply DeskFault → S → Type 0) (policy : Policy) where
-  -- the text of the session was written behind what there was
-  pub record IsWhole (Session : List ℕ → Point S → Type 0) (before : List ℕ) (to : Point S) (written : Option (List ℕ)) : Type 0 where
-    pub text : List ℕ
-    pub session : Session text to
-    pub wrote : written ≡ Some (before ++ text)
-
-  -- The input broke off. The whole lines of what was read were served; the bytes behind them were read
-  -- and not answered.
-  pub record BreaksOff (from : Point S) (stream before : List ℕ) (to : Point S) (left written : Option (List ℕ)) : Type 0 where
+  -- The input broke off. The whole lines of what came were served and answered; the bytes behind them
+  -- were not.
+  pub record BreaksOff (from : Point S) (came sent : List ℕ) (to : Point S) : Type 0 where
     pub turns : List Turn
     pub unserved : List ℕ
-    pub rest : List ℕ
-    pub split : stream ≡ bytes_of turns ++ (unserved ++ rest)
+    pub split : came ≡ bytes_of turns ++ unserved
     pub no_line : HasNoLineFeed unserved
-    pub left_is : left ≡ Some rest
     pub serves : Serves gives Sets Steps policy from turns to
-    pub wrote : written ≡ Some (before ++ answers_of turns)
+    pub answers : sent ≡ answers_of turns
 
   -- A write failed. The lines before were answered whole; the line whose reply failed was the last that
-  -- was served, and a first part of its own text was written.
-  pub record FailsToWrite (from : Point S) (stream before : List ℕ) (to : Point S) (written : Option (List ℕ)) : Type 0 where
+  -- was served, and a first part of its own text was sent.
+  pub record FailsToWrite (Over : Type 0) (from : Point S) (came sent : List ℕ) (to : Point S) : Type 0 where
     pub turns : List Turn
     pub unserved : List ℕ
-    pub split : stream ≡ bytes_of turns ++ unserved
+    pub split : came ≡ bytes_of turns ++ unserved
     pub before_last : Point S
     pub serves : Serves gives Sets Steps policy from turns before_last
     pub reading : Result Request LineFault
-    pub begins : BeginsWith unserved reading
+    pub begins : BeginsWith Over unserved reading
     pub replies : List LineReply
     pub turn : IsTurn gives Sets Steps policy before_last reading replies to
-    pub sent : List ℕ
+    pub first : List ℕ
     pub unsent : List ℕ
-    pub parts : texts_of replies ≡ sent ++ unsent
-    pub wrote : written ≡ Some (before ++ (answers_of turns ++ sent))
+    pub parts : texts_of replies ≡ first ++ unsent
+    pub answers : sent ≡ answers_of turns ++ first
 
   -- where serving the lines stopped, what is still held fails
   abbrev pub ThenCloses : (Point S → Type 0) → ℕ → S → Type 0
   ThenCloses stopped lost to = (last : Point S) × stopped last × Closes gives Steps policy last.desk last.held lost to
 
-  -- From one state of the desk to another: how the session ended, what the reader has left, and what
-  -- was written. Nothing is held at the start.
-  abbrev pub Ran : S → List ℕ → List ℕ → Result Ended SessionFault → S → Option (List ℕ) → Option (List ℕ) → Type 0
-  Ran from stream before (Ok (Quit lost)) to left written = ThenCloses
-      (λ last. IsWhole (ServesToQuit gives Sets Steps policy (point from []) stream) before last written) lost to
-  Ran from stream before (Ok (EndOfInput lost)) to left written = ThenCloses
-      (λ last. IsWhole (ServesToEnd gives Sets Steps policy (point from []) stream) before last written) lost to
-  Ran from stream before (Err (Read lost)) to left written = ThenCloses
-      (λ last. BreaksOff (point from []) stream before last left written) lost to
-  Ran from stream before (Err (ReadTurns lost)) to left written = ThenCloses
-      (λ last. BreaksOff (point from []) stream before last left written) lost to
-  Ran from stream before (Err (Write lost)) to left written = ThenCloses
-      (λ last. FailsToWrite (point from []) stream before last written) lost to
-  Ran from stream before (Err Memory) to left written =
-      (to ≡ from) × (left ≡ Some stream) × (written ≡ Some before)
+  -- From one state of the desk to another: what came, what was sent, and how the session ended. Nothing is
+  -- held at the start.
+  abbrev pub Ran : Type 0 → S → List ℕ → List ℕ → Result Ended SessionFault → S → Type 0
+  Ran Over from came sent (Ok (Quit lost)) to = ThenCloses
+      (λ last. ServesToQuit gives Sets Steps policy (point from []) came sent last) lost to
+  Ran Over from came sent (Ok (EndOfInput lost)) to = ThenCloses
+      (λ last. ServesToEnd gives Sets Steps policy Over (point from []) came sent last) lost to
+  Ran Over from came sent (Err (Read lost)) to = ThenCloses
+      (λ last. BreaksOff (point from []) came sent last) lost to
+  Ran Over from came sent (Err (ReadTurns lost)) to = ThenCloses
+      (λ last. BreaksOff (point from []) came sent last) lost to
+  Ran Over from came sent (Err (Write lost)) to = ThenCloses
+      (λ last. FailsToWrite Over (point from []) came sent last) lost to
+  Ran Over from came sent (Err Memory) to = (to ≡ from) × (came ≡ []) × (sent ≡ [])

@@ -55,21 +55,23 @@ module _ {S : Type 0} (gives : S → ℕ → Type 0) (Sets : S → ℕ → Optio
       (between : Point S) × IsLine turn.raw turn.reading × (turn.reading ≢ Ok Quit)
       × IsTurn gives Sets Steps policy old turn.reading turn.replies between × Serves between turns new
 
-  -- The stream is served to its end. What stands behind its last line feed is a truncated line.
-  pub record ServesToEnd (from : Point S) (stream text : List ℕ) (to : Point S) : Type 0 where
+  -- What came is served to its end, and the input is over. What stands behind its last line feed is a
+  -- truncated line.
+  pub record ServesToEnd (Over : Type 0) (from : Point S) (came sent : List ℕ) (to : Point S) : Type 0 where
+    pub over : Over
     pub turns : List Turn
     pub rest : List ℕ
-    pub split : stream ≡ bytes_of turns ++ rest
+    pub split : came ≡ bytes_of turns ++ rest
     pub no_line : HasNoLineFeed rest
     pub serves : Serves from turns to
-    pub answers : text ≡ answers_of turns ++ rest_text rest
+    pub answers : sent ≡ answers_of turns ++ rest_text rest
 
-  -- The stream is served to a line that ends the session. What stands behind that one is not served.
-  pub record ServesToQuit (from : Point S) (stream text : List ℕ) (to : Point S) : Type 0 where
+  -- What came is served to a line that ends the session. What came behind that one is not served.
+  pub record ServesToQuit (from : Point S) (came sent : List ℕ) (to : Point S) : Type 0 where
     pub turns : List Turn
     pub raw : List ℕ
     pub unserved : List ℕ
-    pub split : stream ≡ bytes_of turns ++ (raw ++ LINE_FEED ∷ unserved)
+    pub split : came ≡ bytes_of turns ++ (raw ++ LINE_FEED ∷ unserved)
     pub quit : IsLine raw (Ok Quit)
     pub serves : Serves from turns to
-    pub answers : text ≡ answers_of turns ++ text_of lines.Bye
+    pub answers : sent ≡ answers_of turns ++ text_of lines.Bye

@@ -1,17 +1,16 @@
-ghost use Rattle.std.specs.Prelude.{◌≡◌, ℕ, List, Some};
+ghost use Rattle.std.specs.Prelude.{◌≡◌};
+ghost use Rattle.std.specs.Io.KnownBytes.{IsAtEnd};
+ghost use Rattle.rb_session.specs.Exchange.{Exchanges};
 ghost use Rattle.rb_session.specs.Gathered.{RanGathered};
 
 use crate::ended::Ended;
-use crate::gathering::Gathering;
+use crate::gathering::{GATHERED_BYTES, Gathering};
 use crate::hands_on::HandsOn;
 use crate::session::run_session_through;
 use crate::session_fault::SessionFault;
 use rb_retry::{Desk, Policy};
 use std::alloc::Global;
 use std::io::{Read, Write};
-
-/// How many bytes are gathered at most.
-const GATHERED_BYTES: usize = 64 * 1024;
 
 /// Runs a session whose replies are gathered: the writer gets them before each read, where `hands_on`
 /// says so also before each request that may wait, and at the end. So a batch of requests costs one
@@ -28,8 +27,8 @@ pub fn run_gathered<R: Read, W: Write, D: Desk>(
     policy: &Policy,
     hands_on: HandsOn,
 ) -> Result<Ended, SessionFault>
-    ensures ran { (stream before : List ℕ) → R.remaining reader.old ≡ Some stream → W.contents writer.old ≡ Some before
-        → RanGathered D.gives D.Sets D.Steps policy.now (D.state desk.old) stream before result (D.state desk.new) (R.remaining reader.new) (W.contents writer.new) }
+    ensures ran { Exchanges (R.remaining reader.old) (R.remaining reader.new) (W.contents writer.old) (W.contents writer.new) (λ came sent.
+        RanGathered D.gives D.Sets D.Steps policy.now (IsAtEnd (R.remaining reader.new)) (D.state desk.old) came sent result (D.state desk.new)) }
     ensures name { D.name (D.state desk.new) ≡ D.name (D.state desk.old) }
 {
     let Ok(room) = Vec::with_capacity(alloc, GATHERED_BYTES) else {

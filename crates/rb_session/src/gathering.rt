@@ -1,4 +1,5 @@
 ghost use Rattle.std.specs.Prelude.{◌≡◌, ◌≤◌, ◌+◌, [], OnOk, drop, vec_len, vec_capacity};
+ghost use Rattle.rb_session.specs.declared.gathering.TheConstants.{GATHERED_BYTES};
 ghost use Rattle.std.specs.Io.KnownBytes.{append_known, Keeps};
 ghost use Rattle.std.proofs.Common.{refl, ◌∙◌};
 ghost use Rattle.rb_session.specs.Growth.{KeepsFront, grows_same, grows_on};
@@ -9,6 +10,9 @@ use crate::outlet::Outlet;
 use crate::send::{WriteFault, flush, send_at_once, write_out};
 use std::io::Write;
 
+/// How many bytes are gathered at most.
+pub(crate) const GATHERED_BYTES: usize = 64 * 1024;
+
 /// An outlet that gathers what is sent to it. The writer gets that when there is no room for another
 /// line, and when it has to be handed on.
 ///
@@ -18,6 +22,7 @@ pub struct Gathering<'a, W: Write> {
     writer: &'a mut W,
     gathered: Vec<u8>,
     hands_on: HandsOn,
+    ghost few: { vec_len gathered ≤ GATHERED_BYTES },
 }
 
 impl<'a, W: Write> Gathering<'a, W> {
@@ -47,9 +52,10 @@ impl<'a, W: Write> Gathering<'a, W> {
 
     // How many bytes can still be gathered.
     fn room(&self) -> usize
-        ensures { vec_len self.now.gathered + result ≤ vec_capacity self.now.gathered }
+        ensures taken { vec_len self.now.gathered + result ≤ vec_capacity self.now.gathered }
+        ensures few { vec_len self.now.gathered + result ≤ GATHERED_BYTES }
     {
-        self.gathered.capacity() - self.gathered.len()
+        self.gathered.capacity().min(GATHERED_BYTES) - self.gathered.len()
     }
 
     // Hands on what is gathered. What the writer did not take before a failing write stays gathered.

@@ -1,4 +1,4 @@
-ghost use Rattle.std.specs.Prelude.{◌≡◌, ℕ, ◌+◌, ◌<◌, ◌≤◌, List, [], ◌∷◌, ◌++◌, ◌↔◌, length, take, slice_index, ◌-◌, Some, IfOk, IfSome, IsTrue, MatchOption, vec_len};
+ghost use Rattle.std.specs.Prelude.{◌≡◌, ℕ, ◌+◌, ◌<◌, ◌≤◌, List, [], ◌∷◌, ◌++◌, ◌↔◌, length, take, slice_index, ◌-◌, IfOk, IfSome, IsTrue, MatchOption, vec_len};
 ghost use Rattle.rb_session.specs.Lines.{HasNoLineFeed, line_of};
 ghost use Rattle.rb_protocol.specs.Reading.{IsReading};
 ghost use Rattle.rb_session.specs.declared.line_buffer.TheConstants.{MOST_RAW_BYTES};
@@ -65,8 +65,8 @@ impl LineBuffer {
 
     /// Reads once, after the bytes that are held. The number of bytes is 0 at the end of the input.
     pub fn read_from<R: Read>(&mut self, reader: &mut R) -> io::Result<usize>
-        ensures { (bytes stream : List ℕ) → IsUnserved self.old bytes → HasNoLineFeed bytes → R.remaining reader.old ≡ Some stream
-            → TakesMore bytes stream result self.new (R.remaining reader.new) }
+        ensures { (bytes : List ℕ) → IsUnserved self.old bytes → HasNoLineFeed bytes
+            → TakesMore bytes (R.remaining reader.old) result self.new (R.remaining reader.new) }
     {
         self.make_room();
         let end = self.end;

@@ -1,4 +1,6 @@
-ghost use Rattle.std.specs.Prelude.{◌≡◌, ℕ, List, ◌++◌, take, Option, Some, MatchResult, OnOk, OnErr};
+ghost use Rattle.std.specs.Prelude.{ℕ, List, Option, OnOk, OnErr};
+ghost use Rattle.std.specs.Io.KnownBytes.{Keeps};
+ghost use Rattle.rb_session.specs.Exchange.{Sends};
 
 use crate::send::WriteFault;
 
@@ -29,26 +31,24 @@ pub trait Outlet {
     ///
     /// After an `Err` it has taken the first bytes of the line, perhaps none.
     fn send(&mut self, line: &[u8]) -> Result<(), WriteFault>
-        ensures sent { (before : List ℕ) → contents self.old ≡ Some before → MatchResult result
-            (λ _. contents self.new ≡ Some (before ++ line.now))
-            (λ _. (taken : ℕ) × (contents self.new ≡ Some (before ++ take taken line.now))) }
+        ensures sent { Sends result (contents self.old) line.now (contents self.new) }
         ensures becomes { Becomes self.old self.new };
 
     /// The replies to a request are sent. What that means to what is held back is the outlet's own.
     fn flush(&mut self) -> Result<(), WriteFault>
-        ensures kept { (before : List ℕ) → contents self.old ≡ Some before → contents self.new ≡ Some before }
+        ensures kept { Keeps (contents self.old) (contents self.new) }
         ensures becomes { Becomes self.old self.new };
 
     /// Hands on all that is held back.
     fn hand_on(&mut self) -> Result<(), WriteFault>
-        ensures kept { (before : List ℕ) → contents self.old ≡ Some before → contents self.new ≡ Some before }
+        ensures kept { Keeps (contents self.old) (contents self.new) }
         ensures clear { OnOk result (IsClear self.new) }
         ensures late { OnErr result HoldsBack }
         ensures becomes { Becomes self.old self.new };
 
     /// A request that may wait is served next: hands on what a client may need until that is answered.
     fn before_wait(&mut self) -> Result<(), WriteFault>
-        ensures kept { (before : List ℕ) → contents self.old ≡ Some before → contents self.new ≡ Some before }
+        ensures kept { Keeps (contents self.old) (contents self.new) }
         ensures clear { OnOk result (IsClearForWait self.new) }
         ensures late { OnErr result HoldsBack }
         ensures becomes { Becomes self.old self.new };

@@ -1,8 +1,9 @@
-ghost use Rattle.std.specs.Prelude.{◌≡◌, ◌≤◌, ℕ, List, ◌++◌, map, Some, Ok, vec_capacity};
+ghost use Rattle.std.specs.Prelude.{◌≤◌, map, vec_capacity};
 ghost use Rattle.rb_protocol.specs.ReplyText.{text_of};
 ghost use Rattle.rb_protocol.specs.declared.line_reply.LineReply.TheVariants as lines;
 ghost use Rattle.rb_session.specs.Session.{texts_of};
-ghost use Rattle.rb_session.specs.Progress.{Sends, replies_of};
+ghost use Rattle.rb_session.specs.Exchange.{Sends};
+ghost use Rattle.rb_session.specs.Progress.{replies_of};
 
 use crate::held_jobs::HeldJobs;
 use crate::outlet::Outlet;
@@ -21,8 +22,7 @@ pub(crate) fn send_replies<O: Outlet>(
     held: &HeldJobs,
 ) -> Result<(), WriteFault>
     requires { REPLY_ROOM ≤ vec_capacity text.old }
-    ensures sent { (before : List ℕ) → O.contents outlet.old ≡ Some before
-        → Sends result before (texts_of (replies_of reply.now held.now)) (O.contents outlet.new) }
+    ensures sent { Sends result (O.contents outlet.old) (texts_of (replies_of reply.now held.now)) (O.contents outlet.new) }
     ensures room { REPLY_ROOM ≤ vec_capacity text.new }
     ensures becomes { O.Becomes outlet.old outlet.new }
 {
@@ -38,8 +38,7 @@ fn send_lines<O: Outlet>(
     held: &HeldJobs,
 ) -> Result<(), WriteFault>
     requires { REPLY_ROOM ≤ vec_capacity text.old }
-    ensures sent { (before : List ℕ) → O.contents outlet.old ≡ Some before
-        → Sends result before (texts_of (replies_of reply.now held.now)) (O.contents outlet.new) }
+    ensures sent { Sends result (O.contents outlet.old) (texts_of (replies_of reply.now held.now)) (O.contents outlet.new) }
     ensures room { REPLY_ROOM ≤ vec_capacity text.new }
     ensures becomes { O.Becomes outlet.old outlet.new }
 {
@@ -53,8 +52,7 @@ fn send_lines<O: Outlet>(
 // Sends a line for each job.
 fn send_items<O: Outlet>(outlet: &mut O, text: &mut Vec<u8>, jobs: &[Job]) -> Result<(), WriteFault>
     requires { REPLY_ROOM ≤ vec_capacity text.old }
-    ensures sent { (before : List ℕ) → O.contents outlet.old ≡ Some before
-        → Sends result before (texts_of (map lines.Item jobs.now)) (O.contents outlet.new) }
+    ensures sent { Sends result (O.contents outlet.old) (texts_of (map lines.Item jobs.now)) (O.contents outlet.new) }
     ensures room { REPLY_ROOM ≤ vec_capacity text.new }
     ensures becomes { O.Becomes outlet.old outlet.new }
 {
@@ -71,8 +69,7 @@ fn send_reply<O: Outlet>(
     reply: &LineReply,
 ) -> Result<(), WriteFault>
     requires { REPLY_ROOM ≤ vec_capacity text.old }
-    ensures sent { (before : List ℕ) → O.contents outlet.old ≡ Some before
-        → Sends result before (text_of reply.now) (O.contents outlet.new) }
+    ensures sent { Sends result (O.contents outlet.old) (text_of reply.now) (O.contents outlet.new) }
     ensures room { REPLY_ROOM ≤ vec_capacity text.new }
     ensures becomes { O.Becomes outlet.old outlet.new }
 {

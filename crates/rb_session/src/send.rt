@@ -1,5 +1,6 @@
-ghost use Rattle.std.specs.Prelude.{◌≡◌, ◌≤◌, ℕ, List, ◌++◌, take, length, Some, MatchResult};
-ghost use Rattle.std.specs.Io.KnownBytes.{Appends};
+ghost use Rattle.std.specs.Prelude.{◌≤◌, take, length};
+ghost use Rattle.std.specs.Io.KnownBytes.{Appends, Keeps};
+ghost use Rattle.rb_session.specs.Exchange.{Sends};
 
 use std::io::{ErrorKind, Write};
 
@@ -12,9 +13,7 @@ pub struct WriteFault;
 ///
 /// After an `Err` the writer has got the first bytes of the line, perhaps none.
 pub fn send_line<W: Write>(writer: &mut W, line: &[u8]) -> Result<(), WriteFault>
-    ensures { (before : List ℕ) → W.contents writer.old ≡ Some before → MatchResult result
-        (λ _. W.contents writer.new ≡ Some (before ++ line.now))
-        (λ _. (taken : ℕ) × (W.contents writer.new ≡ Some (before ++ take taken line.now))) }
+    ensures { Sends result (W.contents writer.old) line.now (W.contents writer.new) }
 {
     if write_out(writer, line) < line.len() {
         return Err(WriteFault);
@@ -24,9 +23,7 @@ pub fn send_line<W: Write>(writer: &mut W, line: &[u8]) -> Result<(), WriteFault
 
 /// Writes a line and flushes. After an `Err` the writer has got the first bytes of it, perhaps none or all.
 pub fn send_at_once<W: Write>(writer: &mut W, line: &[u8]) -> Result<(), WriteFault>
-    ensures { (before : List ℕ) → W.contents writer.old ≡ Some before → MatchResult result
-        (λ _. W.contents writer.new ≡ Some (before ++ line.now))
-        (λ _. (taken : ℕ) × (W.contents writer.new ≡ Some (before ++ take taken line.now))) }
+    ensures { Sends result (W.contents writer.old) line.now (W.contents writer.new) }
 {
     send_line(writer, line)?;
     flush(writer)
@@ -58,7 +55,7 @@ pub fn write_out<W: Write>(writer: &mut W, bytes: &[u8]) -> usize
 
 /// Hands on what was written.
 pub fn flush<W: Write>(writer: &mut W) -> Result<(), WriteFault>
-    ensures { (before : List ℕ) → W.contents writer.old ≡ Some before → W.contents writer.new ≡ Some before }
+    ensures { Keeps (W.contents writer.old) (W.contents writer.new) }
 {
     match writer.flush() {
         Ok(()) => Ok(()),

@@ -1,8 +1,10 @@
-ghost use Rattle.std.specs.Prelude.{◌≡◌, ◌≤◌, ◌↔◌, ℕ, List, [], Some, None, Option, Ok, OnOk, OnErr, IsTrue, vec_capacity};
+ghost use Rattle.std.specs.Prelude.{◌≡◌, ◌≤◌, ◌↔◌, ℕ, List, [], Ok, OnOk, OnErr, IsTrue, vec_capacity};
+ghost use Rattle.std.specs.Io.KnownBytes.{Appends, IsAtEnd, Keeps};
 ghost use Rattle.rb_protocol.specs.declared.request.Request.TheVariants.{Quit};
 ghost use Rattle.rb_session.specs.Buffer.{IsUnserved, TakesMore};
 ghost use Rattle.rb_session.specs.Lines.{HasNoLineFeed};
 ghost use Rattle.rb_session.specs.Turn.{point, AsksToWait};
+ghost use Rattle.rb_session.specs.Exchange.{Exchanges};
 ghost use Rattle.rb_session.specs.Ran.{Ran};
 ghost use Rattle.rb_session.specs.Outlet.{RanThrough, HandedOn};
 ghost use Rattle.rb_session.specs.Progress.{ServesLines, AnswersEnd, Stops, IsClearAt, IsClearAtRead, end_of};
@@ -38,8 +40,8 @@ pub fn run_session<R: Read, W: Write, D: Desk>(
     desk: &mut D,
     policy: &Policy,
 ) -> Result<Ended, SessionFault>
-    ensures ran { (stream before : List ℕ) → R.remaining reader.old ≡ Some stream → W.contents writer.old ≡ Some before
-        → Ran D.gives D.Sets D.Steps policy.now (D.state desk.old) stream before result (D.state desk.new) (R.remaining reader.new) (W.contents writer.new) }
+    ensures ran { Exchanges (R.remaining reader.old) (R.remaining reader.new) (W.contents writer.old) (W.contents writer.new) (λ came sent.
+        Ran D.gives D.Sets D.Steps policy.now (IsAtEnd (R.remaining reader.new)) (D.state desk.old) came sent result (D.state desk.new)) }
     ensures name { D.name (D.state desk.new) ≡ D.name (D.state desk.old) }
 {
     let mut outlet = Direct { writer };
@@ -58,10 +60,9 @@ pub fn run_session_through<R: Read, O: Outlet, D: Desk>(
     desk: &mut D,
     policy: &Policy,
 ) -> Result<Ended, SessionFault>
-    ensures ran { (stream before : List ℕ) → R.remaining reader.old ≡ Some stream → O.contents outlet.old ≡ Some before
-        → RanThrough D.gives D.Sets D.Steps policy.now O.HoldsBack (D.state desk.old) stream before result (D.state desk.new) (R.remaining reader.new) (O.contents outlet.new) }
-    ensures handed_on { (stream before : List ℕ) → R.remaining reader.old ≡ Some stream → O.contents outlet.old ≡ Some before
-        → HandedOn (O.IsClear outlet.new) result }
+    ensures ran { Exchanges (R.remaining reader.old) (R.remaining reader.new) (O.contents outlet.old) (O.contents outlet.new) (λ came sent.
+        RanThrough D.gives D.Sets D.Steps policy.now O.HoldsBack (IsAtEnd (R.remaining reader.new)) (D.state desk.old) came sent result (D.state desk.new)) }
+    ensures handed_on { HandedOn (O.IsClear outlet.new) result }
     ensures becomes { O.Becomes outlet.old outlet.new }
     ensures name { D.name (D.state desk.new) ≡ D.name (D.state desk.old) }
 {
@@ -100,10 +101,9 @@ fn serve<R: Read, O: Outlet, D: Desk>(
 ) -> Stop
     requires room { REPLY_ROOM ≤ vec_capacity text.old }
     requires fresh { IsUnserved buffer.old [] }
-    ensures stops { (stream before : List ℕ) → R.remaining reader.old ≡ Some stream → O.contents outlet.old ≡ Some before
-        → Stops D.gives D.Sets D.Steps policy.now O.HoldsBack (point (D.state desk.old) held.old) stream before result (point (D.state desk.new) held.new) (R.remaining reader.new) (O.contents outlet.new) }
-    ensures clear { (stream before : List ℕ) → R.remaining reader.old ≡ Some stream → O.contents outlet.old ≡ Some before
-        → IsClearAt (O.IsClear outlet.new) result }
+    ensures stops { Exchanges (R.remaining reader.old) (R.remaining reader.new) (O.contents outlet.old) (O.contents outlet.new) (λ came sent.
+        Stops D.gives D.Sets D.Steps policy.now O.HoldsBack (IsAtEnd (R.remaining reader.new)) (point (D.state desk.old) held.old) came sent result (point (D.state desk.new) held.new)) }
+    ensures clear { IsClearAt (O.IsClear outlet.new) result }
     ensures becomes { O.Becomes outlet.old outlet.new }
     ensures name { D.name (D.state desk.new) ≡ D.name (D.state desk.old) }
 {
@@ -129,10 +129,9 @@ fn serve_reads<R: Read, O: Outlet, D: Desk>(
 ) -> Stop
     requires room { REPLY_ROOM ≤ vec_capacity text.old }
     requires fresh { IsUnserved buffer.old [] }
-    ensures stops { (stream before : List ℕ) → R.remaining reader.old ≡ Some stream → O.contents outlet.old ≡ Some before
-        → Stops D.gives D.Sets D.Steps policy.now O.HoldsBack (point (D.state desk.old) held.old) stream before result (point (D.state desk.new) held.new) (R.remaining reader.new) (O.contents outlet.new) }
-    ensures clear { (stream before : List ℕ) → R.remaining reader.old ≡ Some stream → O.contents outlet.old ≡ Some before
-        → IsClearAtRead (O.IsClear outlet.new) result }
+    ensures stops { Exchanges (R.remaining reader.old) (R.remaining reader.new) (O.contents outlet.old) (O.contents outlet.new) (λ came sent.
+        Stops D.gives D.Sets D.Steps policy.now O.HoldsBack (IsAtEnd (R.remaining reader.new)) (point (D.state desk.old) held.old) came sent result (point (D.state desk.new) held.new)) }
+    ensures clear { IsClearAtRead (O.IsClear outlet.new) result }
     ensures becomes { O.Becomes outlet.old outlet.new }
     ensures name { D.name (D.state desk.new) ≡ D.name (D.state desk.old) }
 {
@@ -160,8 +159,8 @@ fn read_more<R: Read, O: Outlet>(
     buffer: &mut LineBuffer,
 ) -> io::Result<usize>
     requires { O.IsClear _outlet.now }
-    ensures { (bytes stream : List ℕ) → IsUnserved buffer.old bytes → HasNoLineFeed bytes → R.remaining reader.old ≡ Some stream
-        → TakesMore bytes stream result buffer.new (R.remaining reader.new) }
+    ensures { (bytes : List ℕ) → IsUnserved buffer.old bytes → HasNoLineFeed bytes
+        → TakesMore bytes (R.remaining reader.old) result buffer.new (R.remaining reader.new) }
 {
     buffer.read_from(reader)
 }
@@ -176,8 +175,8 @@ fn serve_lines<O: Outlet, D: Desk>(
     held: &mut HeldJobs,
 ) -> Option<Stop>
     requires { REPLY_ROOM ≤ vec_capacity text.old }
-    ensures served { (bytes before : List ℕ) → IsUnserved buffer.old bytes → O.contents outlet.old ≡ Some before
-        → ServesLines D.gives D.Sets D.Steps policy.now O.HoldsBack (point (D.state desk.old) held.old) bytes before result buffer.new (point (D.state desk.new) held.new) (O.contents outlet.new) }
+    ensures served { (bytes : List ℕ) → IsUnserved buffer.old bytes → (sent : List ℕ) × Appends (O.contents outlet.old) (O.contents outlet.new) sent
+        × ServesLines D.gives D.Sets D.Steps policy.now O.HoldsBack (point (D.state desk.old) held.old) bytes sent result buffer.new (point (D.state desk.new) held.new) }
     ensures room { REPLY_ROOM ≤ vec_capacity text.new }
     ensures becomes { O.Becomes outlet.old outlet.new }
     ensures name { D.name (D.state desk.new) ≡ D.name (D.state desk.old) }
@@ -203,7 +202,7 @@ fn clear_for_wait<O: Outlet>(
     outlet: &mut O,
     reading: &Result<Request, LineFault>,
 ) -> Result<(), WriteFault>
-    ensures kept { (before : List ℕ) → O.contents outlet.old ≡ Some before → O.contents outlet.new ≡ Some before }
+    ensures kept { Keeps (O.contents outlet.old) (O.contents outlet.new) }
     ensures clear { OnOk result (AsksToWait reading.now → O.IsClearForWait outlet.new) }
     ensures late { OnErr result O.HoldsBack }
     ensures becomes { O.Becomes outlet.old outlet.new }
@@ -229,8 +228,8 @@ fn finish<O: Outlet>(
     held: &HeldJobs,
 ) -> Stop
     requires { REPLY_ROOM ≤ vec_capacity text.old }
-    ensures ends { (bytes before : List ℕ) → IsUnserved buffer.now bytes → O.contents outlet.old ≡ Some before
-        → AnswersEnd result before bytes (O.contents outlet.new) }
+    ensures ends { (bytes : List ℕ) → IsUnserved buffer.now bytes
+        → (sent : List ℕ) × Appends (O.contents outlet.old) (O.contents outlet.new) sent × AnswersEnd result bytes sent }
     ensures becomes { O.Becomes outlet.old outlet.new }
 {
     if buffer.has_rest() {

@@ -1,11 +1,14 @@
 -- The text of the jobs is put together line by line, and a failed write cuts it at some byte.
-use Rattle.std.proofs.Common.{◌≡◌, ℕ, ◌+◌, ◌<◌, List, [], ◌∷◌, ◌++◌, Some, sym, ap, subst, ◌∙◌, map, take, drop, length, get_or, append_assoc}
+use Rattle.std.proofs.Common.{◌≡◌, ℕ, ◌+◌, ◌<◌, List, [], ◌∷◌, ◌++◌, sym, ap, subst, ◌∙◌, map, take, drop, length, get_or, append_assoc}
 use Rattle.std.proofs.lemmas.List.{take_more, take-append-drop, map-append, append-nil}
 use Rattle.rb_delayed.specs.declared.element.Element.{Element}
 use Rattle.rb_protocol.specs.ReplyText.{text_of}
 use Rattle.rb_protocol.specs.declared.line_reply.LineReply.TheVariants as lines
 use Rattle.rb_session.specs.Session.{texts_of}
-use Rattle.rb_session.proofs.ReplyTexts.{sends_then, sends_part, texts_of-append}
+use Rattle.std.specs.Io.KnownBytes.{Appends}
+use Rattle.std.proofs.KnownBytes.{Appends-trans}
+use Rattle.rb_session.proofs.Sending.{sends_then, sends_part}
+use Rattle.rb_session.proofs.ReplyTexts.{texts_of-append}
 use Rattle.rb_session.proofs.replies.send_items.Goals as goal
 
 abbrev items_text : List Element → List ℕ
@@ -32,25 +35,22 @@ text_split elements place element within is =
     ∙ append_assoc (items_text (take place elements)) (text_of (lines.Item element)) (items_text (drop (place + 1) elements))
 
 pub returns-in_err-send_reply-clause-sent : goal.returns-in_err-send_reply-clause-sent
-returns-in_err-send_reply-clause-sent g c before known =
+returns-in_err-send_reply-clause-sent g c =
     let elements = c.args.jobs.now in
     let place = c.loop-job.job-index in
-    let sent = c.loop-job.invariant.wrote before known in
-    let failed = subst (λ (e : Element). (some : List ℕ) × (unsent : List ℕ) × (text_of (lines.Item e) ≡ some ++ unsent) × (g.O.Outlet.contents c.send_reply.new.outlet ≡ Some ((before ++ items_text (take place elements)) ++ some)))
-    c.element.ensures (c.in_err-send_reply.ensures.sent (before ++ items_text (take place elements)) sent) in
+    let failed = subst (λ (e : Element). (some : List ℕ) × (unsent : List ℕ) × (text_of (lines.Item e) ≡ some ++ unsent) × Appends (g.O.Outlet.contents c.loop-job.outlet) (g.O.Outlet.contents c.send_reply.new.outlet) some)
+    c.element.ensures c.in_err-send_reply.ensures.sent in
     rw (text_split elements place c.job-item.result c.loop-job-test.true c.job-item.is)
-    (sends_then c.from_residual.result before (items_text (take place elements)) _ _
-    (sends_part c.from_residual.result (before ++ items_text (take place elements)) (text_of (lines.Item c.job-item.result)) _ _ c.from_residual.ensures.0 failed))
+    (sends_then c.from_residual.result _ _ _ (items_text (take place elements)) _ c.loop-job.invariant.sent
+    (sends_part c.from_residual.result _ _ (text_of (lines.Item c.job-item.result)) _ c.from_residual.ensures.0 failed))
 
 pub loop-job-preserved : goal.loop-job-preserved
 loop-job-preserved g c = record {
-  wrote = λ before known.
+  sent =
       let elements = c.args.jobs.now in
       let place = c.loop-job.job-index in
-      let sent = c.loop-job.invariant.wrote before known in
-      let more = c.in_ok-send_reply.ensures.sent (before ++ items_text (take place elements)) sent in
-      more ∙ ap (λ (e : Element). Some ((before ++ items_text (take place elements)) ++ text_of (lines.Item e))) c.element.ensures
-      ∙ ap Some (append_assoc before (items_text (take place elements)) (text_of (lines.Item c.job-item.result)) ∙ ap (λ t. before ++ t) (sym (text_more elements place c.job-item.result c.loop-job-test.true c.job-item.is)));
+      let more = subst (λ (e : Element). Appends (g.O.Outlet.contents c.loop-job.outlet) (g.O.Outlet.contents c.send_reply.new.outlet) (text_of (lines.Item e))) c.element.ensures c.in_ok-send_reply.ensures.sent in
+      subst (Appends _ _) (sym (text_more elements place c.job-item.result c.loop-job-test.true c.job-item.is)) (Appends-trans _ _ _ _ _ c.loop-job.invariant.sent more);
   room = c.in_ok-send_reply.ensures.room;
   becomes = g.met.O.Outlet.goes_on _ _ _ c.loop-job.invariant.becomes c.in_ok-send_reply.ensures.becomes;
 }

@@ -1,12 +1,14 @@
 -- The reply's first line is sent, and only behind a drain's come others: the last jobs held.
-use Rattle.std.proofs.Common.{◌≡◌, ℕ, ◌-◌, List, [], ◌++◌, Some, refl, ap, subst, ◌∙◌, map, drop, length}
+use Rattle.std.proofs.Common.{◌≡◌, ℕ, ◌-◌, List, [], ◌++◌, refl, subst, map, drop, length}
 use Rattle.rb_delayed.specs.declared.element.Element.{Element}
 use Rattle.rb_protocol.specs.ReplyText.{text_of}
 use Rattle.rb_protocol.specs.declared.line_reply.LineReply.{LineReply}
 use Rattle.rb_protocol.specs.declared.line_reply.LineReply.TheVariants as lines
 use Rattle.rb_session.specs.Session.{texts_of}
-use Rattle.rb_session.specs.Progress.{Sends, replies_of}
-use Rattle.rb_session.proofs.ReplyTexts.{sends_then, sends_part}
+use Rattle.std.specs.Io.KnownBytes.{Appends}
+use Rattle.rb_session.specs.Exchange.{Sends}
+use Rattle.rb_session.specs.Progress.{replies_of}
+use Rattle.rb_session.proofs.Sending.{sends_then, sends_part}
 use Rattle.rb_session.proofs.replies.send_lines.Goals as goal
 
 -- what comes behind the first line of a reply
@@ -28,14 +30,13 @@ rest_of lines.Bye held = ([], refl)
 rest_of (lines.Error word) held = ([], refl)
 
 pub returns-in_err-send_reply-clause-sent : goal.returns-in_err-send_reply-clause-sent
-returns-in_err-send_reply-clause-sent g c before known =
+returns-in_err-send_reply-clause-sent g c =
     let rest = rest_of c.args.reply.now c.args.held.now in
-    rw rest.1 (sends_part c.from_residual.result before (text_of c.args.reply.now) rest.0 _ c.from_residual.ensures.0 (c.in_err-send_reply.ensures.sent before known))
+    rw rest.1 (sends_part c.from_residual.result _ _ (text_of c.args.reply.now) rest.0 c.from_residual.ensures.0 c.in_err-send_reply.ensures.sent)
 
 pub returns-in-Drained-clause-sent : goal.returns-in-Drained-clause-sent
-returns-in-Drained-clause-sent g c before known =
-    let first = text_of (lines.Drained c.in-Drained.count) in
-    let sent = c.in_ok-send_reply.ensures.sent before known ∙ ap (λ (reply : LineReply). Some (before ++ text_of reply)) c.in-Drained.is in
-    let items = subst (λ (held : List Element). Sends c.send_items.result (before ++ first) (texts_of (map lines.Item held)) (g.O.Outlet.contents c.send_items.new.outlet))
-    c.last.ensures (c.send_items.ensures.sent (before ++ first) sent) in
-    rw c.in-Drained.is (sends_then c.send_items.result before first _ _ items)
+returns-in-Drained-clause-sent g c =
+    let first = subst (λ (reply : LineReply). Appends (g.O.Outlet.contents c.args.outlet.now) (g.O.Outlet.contents c.send_reply.new.outlet) (text_of reply)) c.in-Drained.is c.in_ok-send_reply.ensures.sent in
+    let items = subst (λ (held : List Element). Sends c.send_items.result (g.O.Outlet.contents c.send_reply.new.outlet) (texts_of (map lines.Item held)) (g.O.Outlet.contents c.send_items.new.outlet))
+    c.last.ensures c.send_items.ensures.sent in
+    rw c.in-Drained.is (sends_then c.send_items.result _ _ _ (text_of (lines.Drained c.in-Drained.count)) _ first items)

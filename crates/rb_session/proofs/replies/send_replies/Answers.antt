@@ -1,7 +1,6 @@
 -- All lines were sent, and the flush keeps what was sent, whether it succeeds or not.
-use Rattle.rb_session.proofs.ReplyTexts.{sends_all}
+use Rattle.rb_session.proofs.Sending.{sends_all}
 use Rattle.rb_session.proofs.replies.send_replies.Goals as goal
 
 pub returns-clause-sent : goal.returns-clause-sent
-returns-clause-sent g c before known =
-    sends_all c.flush.result before _ _ (c.flush.ensures.kept _ (c.in_ok-send_lines.ensures.sent before known))
+returns-clause-sent g c = sends_all c.flush.result _ _ _ _ c.in_ok-send_lines.ensures.sent c.flush.ensures.kept

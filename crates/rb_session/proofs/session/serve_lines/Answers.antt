@@ -1,16 +1,17 @@
 -- Each line served adds its turn to those before it; a failed write or a quit ends them there.
-use Rattle.std.proofs.Common.{◌≡◌, inl, inr, refl, sym, ◌∙◌, true, false}
+use Rattle.std.proofs.Common.{◌≡◌, [], inl, inr, refl, sym, ◌∙◌, true, false}
+use Rattle.std.proofs.KnownBytes.{Appends-nil, Appends-trans, Appends-kept}
 use Rattle.rb_session.specs.Turn.{point}
-use Rattle.rb_session.proofs.ReplyTexts.{sends_failed, sends_done}
+use Rattle.rb_session.proofs.Sending.{sends_failed, sends_done}
 use Rattle.rb_session.proofs.Turns.{stands_first, stands_turn, quits, fails}
-use Rattle.rb_session.proofs.Outlets.{failed, went, stands_kept}
+use Rattle.rb_session.proofs.Outlets.{failed}
 use Rattle.rb_session.proofs.session.serve_lines.Goals as goal
 
 pub loop-reading-init : goal.loop-reading-init
 unfolding stands_first
 loop-reading-init g c = record {
-  stands = λ bytes before unserved known.
-      (stands_first g.D.Desk.gives g.D.Desk.Sets g.D.Desk.Steps c.args.policy.now (point (g.D.Desk.state c.args.desk.now) c.args.held.now) bytes before _ known, unserved);
+  stands = λ bytes unserved.
+      ([], Appends-nil _, stands_first g.D.Desk.gives g.D.Desk.Sets g.D.Desk.Steps c.args.policy.now (point (g.D.Desk.state c.args.desk.now) c.args.held.now) bytes, unserved);
   room = c.requires;
   becomes = g.met.O.Outlet.stays c.args.outlet.now;
   name = refl;
@@ -18,50 +19,45 @@ loop-reading-init g c = record {
 
 -- what answers the lines so far could not be handed on
 pub returns-then-is_err-clause-served : goal.returns-then-is_err-clause-served
-returns-then-is_err-clause-served g c bytes before unserved known =
-    let at = c.loop-reading.invariant.stands bytes before unserved known in
-    let now = stands_kept g.D.Desk.gives g.D.Desk.Sets g.D.Desk.Steps c.args.policy.now (g.O.Outlet.contents c.loop-reading.outlet) (g.O.Outlet.contents c.clear_for_wait.new.outlet) c.clear_for_wait.ensures.kept _ (point (g.D.Desk.state c.loop-reading.desk) c.loop-reading.held) bytes before at.0 in
-    inr (failed c.clear_for_wait.result g.O.Outlet.HoldsBack (sym c.is_err.ensures.value ∙ c.if-is_err.true) c.clear_for_wait.ensures.late, now)
+returns-then-is_err-clause-served g c bytes unserved =
+    let at = c.loop-reading.invariant.stands bytes unserved in
+    (at.0, Appends-kept _ _ _ _ at.1 c.clear_for_wait.ensures.kept,
+    inr (failed c.clear_for_wait.result g.O.Outlet.HoldsBack (sym c.is_err.ensures.value ∙ c.if-is_err.true) c.clear_for_wait.ensures.late, at.2))
 
 pub returns-then-is_err-clause-becomes : goal.returns-then-is_err-clause-becomes
 returns-then-is_err-clause-becomes g c = g.met.O.Outlet.goes_on _ _ _ c.loop-reading.invariant.becomes c.clear_for_wait.ensures.becomes
 
--- nothing is held back while the request waits
-pub answer-reply-requires : goal.answer-reply-requires
-answer-reply-requires g c = went c.clear_for_wait.result _ (sym c.is_err.ensures.value ∙ c.if-is_err.false) c.clear_for_wait.ensures.clear
-
 pub returns-then-is_err-2-clause-served : goal.returns-then-is_err-2-clause-served
-unfolding stands_kept
-returns-then-is_err-2-clause-served g c bytes before unserved known =
-    let at = c.loop-reading.invariant.stands bytes before unserved known in
-    let now = stands_kept g.D.Desk.gives g.D.Desk.Sets g.D.Desk.Steps c.args.policy.now (g.O.Outlet.contents c.loop-reading.outlet) (g.O.Outlet.contents c.clear_for_wait.new.outlet) c.clear_for_wait.ensures.kept _ (point (g.D.Desk.state c.loop-reading.desk) c.loop-reading.held) bytes before at.0 in
-    let line = c.in-Some.ensures.line now.rest at.1 in
-    inl (fails g.D.Desk.gives g.D.Desk.Sets g.D.Desk.Steps c.args.policy.now _ _ (point (g.D.Desk.state c.answer-reply.new.desk) c.answer-reply.new.held) bytes before line.0 line.1 _ _ now
-    c.in-Some.reading _ line.2 (line.3, line.4) c.answer-reply.ensures.turn
-    (λ sent is. sends_failed c.send_replies.result sent _ _ (sym c.is_err-in-Some.ensures.value ∙ c.if-is_err-2.true) (c.send_replies.ensures.sent sent is)))
+returns-then-is_err-2-clause-served g c bytes unserved =
+    let at = c.loop-reading.invariant.stands bytes unserved in
+    let line = c.in-Some.ensures.line at.2.rest at.3 in
+    let part = sends_failed c.send_replies.result _ _ _ (sym c.is_err-in-Some.ensures.value ∙ c.if-is_err-2.true) c.send_replies.ensures.sent in
+    (_, Appends-trans _ _ _ _ _ (Appends-kept _ _ _ _ at.1 c.clear_for_wait.ensures.kept) part.3,
+    inl (fails g.D.Desk.gives g.D.Desk.Sets g.D.Desk.Steps c.args.policy.now _ _ (point (g.D.Desk.state c.answer-reply.new.desk) c.answer-reply.new.held) bytes at.0 line.0 line.1 at.2
+    c.in-Some.reading _ line.2 (line.3, line.4) c.answer-reply.ensures.turn part.0 part.1 part.2))
 
 pub returns-then-quits-clause-served : goal.returns-then-quits-clause-served
-unfolding stands_kept
-returns-then-quits-clause-served g c bytes before unserved known =
-    let at = c.loop-reading.invariant.stands bytes before unserved known in
-    let now = stands_kept g.D.Desk.gives g.D.Desk.Sets g.D.Desk.Steps c.args.policy.now (g.O.Outlet.contents c.loop-reading.outlet) (g.O.Outlet.contents c.clear_for_wait.new.outlet) c.clear_for_wait.ensures.kept _ (point (g.D.Desk.state c.loop-reading.desk) c.loop-reading.held) bytes before at.0 in
-    let line = c.in-Some.ensures.line now.rest at.1 in
-    quits g.D.Desk.gives g.D.Desk.Sets g.D.Desk.Steps c.args.policy.now _ _ (point (g.D.Desk.state c.answer-reply.new.desk) c.answer-reply.new.held) bytes before line.0 line.1 _ _ now
+returns-then-quits-clause-served g c bytes unserved =
+    let at = c.loop-reading.invariant.stands bytes unserved in
+    let line = c.in-Some.ensures.line at.2.rest at.3 in
+    let all = sends_done c.send_replies.result _ _ _ (sym c.is_err-in-Some.ensures.value ∙ c.if-is_err-2.false) c.send_replies.ensures.sent in
+    (_, Appends-trans _ _ _ _ _ (Appends-kept _ _ _ _ at.1 c.clear_for_wait.ensures.kept) all,
+    quits g.D.Desk.gives g.D.Desk.Sets g.D.Desk.Steps c.args.policy.now _ _ (point (g.D.Desk.state c.answer-reply.new.desk) c.answer-reply.new.held) bytes at.0 line.0 line.1 at.2
     c.in-Some.reading _ line.2 (line.3, line.4) c.answer-reply.ensures.turn
-    (c.is_quit-quits.ensures.0 c.if-quits.true)
-    (λ sent is. sends_done c.send_replies.result sent _ _ (sym c.is_err-in-Some.ensures.value ∙ c.if-is_err-2.false) (c.send_replies.ensures.sent sent is))
+    (c.is_quit-quits.ensures.0 c.if-quits.true))
 
 pub loop-reading-preserved : goal.loop-reading-preserved
-unfolding stands_turn stands_kept
+unfolding stands_turn
 loop-reading-preserved g c = record {
-  stands = λ bytes before unserved known.
-      let at = c.loop-reading.invariant.stands bytes before unserved known in
-      let now = stands_kept g.D.Desk.gives g.D.Desk.Sets g.D.Desk.Steps c.args.policy.now (g.O.Outlet.contents c.loop-reading.outlet) (g.O.Outlet.contents c.clear_for_wait.new.outlet) c.clear_for_wait.ensures.kept _ (point (g.D.Desk.state c.loop-reading.desk) c.loop-reading.held) bytes before at.0 in
-      let line = c.in-Some.ensures.line now.rest at.1 in (
-        stands_turn g.D.Desk.gives g.D.Desk.Sets g.D.Desk.Steps c.args.policy.now _ _ (point (g.D.Desk.state c.answer-reply.new.desk) c.answer-reply.new.held) bytes before line.0 line.1 _ _ now
+  stands = λ bytes unserved.
+      let at = c.loop-reading.invariant.stands bytes unserved in
+      let line = c.in-Some.ensures.line at.2.rest at.3 in
+      let all = sends_done c.send_replies.result _ _ _ (sym c.is_err-in-Some.ensures.value ∙ c.if-is_err-2.false) c.send_replies.ensures.sent in (
+        _,
+        Appends-trans _ _ _ _ _ (Appends-kept _ _ _ _ at.1 c.clear_for_wait.ensures.kept) all,
+        stands_turn g.D.Desk.gives g.D.Desk.Sets g.D.Desk.Steps c.args.policy.now _ _ (point (g.D.Desk.state c.answer-reply.new.desk) c.answer-reply.new.held) bytes at.0 line.0 line.1 at.2
             c.in-Some.reading _ line.2 (line.3, line.4) c.answer-reply.ensures.turn
-            (λ quit. let clash : true ≡ false = sym (c.is_quit-quits.ensures.1 quit) ∙ c.if-quits.false in absurd (cc))
-            (λ sent is. sends_done c.send_replies.result sent _ _ (sym c.is_err-in-Some.ensures.value ∙ c.if-is_err-2.false) (c.send_replies.ensures.sent sent is)),
+            (λ quit. let clash : true ≡ false = sym (c.is_quit-quits.ensures.1 quit) ∙ c.if-quits.false in absurd (cc)),
         line.5,
       );
   room = c.send_replies.ensures.room;
@@ -70,7 +66,7 @@ loop-reading-preserved g c = record {
 }
 
 pub returns-clause-served : goal.returns-clause-served
-returns-clause-served g c bytes before unserved known =
-    let now = c.loop-reading.invariant.stands bytes before unserved known in
-    let none = c.in_default.ensures.line now.0.rest now.1 in
-    (now.0, none.0, none.1)
+returns-clause-served g c bytes unserved =
+    let at = c.loop-reading.invariant.stands bytes unserved in
+    let none = c.in_default.ensures.line at.2.rest at.3 in
+    (at.0, at.1, (at.2, none.0, none.1))

@@ -1,6 +1,7 @@
 -- The lines that were taken out of the buffer are served, and each made what is left in it shorter.
-use Rattle.std.proofs.Common.{◌≡◌, ℕ, ◌-◌, ◌≤◌, List, Some}
+use Rattle.std.proofs.Common.{◌≡◌, ℕ, ◌-◌, ◌≤◌, List}
 use Rattle.std.specs.Prelude.{vec_capacity}
+use Rattle.std.specs.Io.KnownBytes.{Appends}
 use Rattle.rb_protocol.specs.declared.line_reply.TheConstants.{REPLY_ROOM}
 use Rattle.rb_session.specs.Buffer.{IsUnserved}
 use Rattle.rb_session.specs.Turn.{point}
@@ -9,8 +10,8 @@ use Rattle.rb_session.proofs.session.serve_lines.Given as goal
 
 abbrev pub invariant-loop-reading : goal.invariant-loop-reading
 invariant-loop-reading g l = record {
-  stands : (bytes before : List ℕ) → IsUnserved l.fn.buffer bytes → g.O.Outlet.contents l.fn.outlet ≡ Some before
-      → (stands : Stands g.D.Desk.gives g.D.Desk.Sets g.D.Desk.Steps l.policy (point (g.D.Desk.state l.fn.desk) l.fn.held) bytes before (point (g.D.Desk.state l.desk) l.held) (g.O.Outlet.contents l.outlet))
+  stands : (bytes : List ℕ) → IsUnserved l.fn.buffer bytes → (sent : List ℕ) × Appends (g.O.Outlet.contents l.fn.outlet) (g.O.Outlet.contents l.outlet) sent
+      × (stands : Stands g.D.Desk.gives g.D.Desk.Sets g.D.Desk.Steps l.policy (point (g.D.Desk.state l.fn.desk) l.fn.held) bytes sent (point (g.D.Desk.state l.desk) l.held))
       × IsUnserved l.buffer stands.rest;
   room : REPLY_ROOM ≤ vec_capacity l.text;
   becomes : g.O.Outlet.Becomes l.fn.outlet l.outlet;

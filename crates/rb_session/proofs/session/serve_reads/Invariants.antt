@@ -1,7 +1,8 @@
--- Of what was read the whole lines are served, and the buffer has the rest.
-use Rattle.std.proofs.Common.{◌≡◌, ℕ, ◌≤◌, List, ◌++◌, Some}
+-- Of what came the whole lines are served, and the buffer has the rest.
+use Rattle.std.proofs.Common.{◌≡◌, ◌≤◌}
 use Rattle.std.specs.Prelude.{vec_capacity}
 use Rattle.rb_protocol.specs.declared.line_reply.TheConstants.{REPLY_ROOM}
+use Rattle.rb_session.specs.Exchange.{Exchanges}
 use Rattle.rb_session.specs.Buffer.{IsUnserved}
 use Rattle.rb_session.specs.Lines.{HasNoLineFeed}
 use Rattle.rb_session.specs.Turn.{point}
@@ -10,10 +11,9 @@ use Rattle.rb_session.proofs.session.serve_reads.Given as goal
 
 abbrev pub invariant-loop : goal.invariant-loop
 invariant-loop g l = record {
-  stands : (stream before : List ℕ) → g.R.Read.remaining l.fn.reader ≡ Some stream → g.O.Outlet.contents l.fn.outlet ≡ Some before
-      → (left : List ℕ) × (bytes : List ℕ) × (g.R.Read.remaining l.reader ≡ Some left) × (stream ≡ bytes ++ left)
-      × (stands : Stands g.D.Desk.gives g.D.Desk.Sets g.D.Desk.Steps l.policy (point (g.D.Desk.state l.fn.desk) l.fn.held) bytes before (point (g.D.Desk.state l.desk) l.held) (g.O.Outlet.contents l.outlet))
-      × HasNoLineFeed stands.rest × IsUnserved l.buffer stands.rest;
+  stands : Exchanges (g.R.Read.remaining l.fn.reader) (g.R.Read.remaining l.reader) (g.O.Outlet.contents l.fn.outlet) (g.O.Outlet.contents l.outlet) (λ came sent.
+      (stands : Stands g.D.Desk.gives g.D.Desk.Sets g.D.Desk.Steps l.policy (point (g.D.Desk.state l.fn.desk) l.fn.held) came sent (point (g.D.Desk.state l.desk) l.held))
+      × HasNoLineFeed stands.rest × IsUnserved l.buffer stands.rest);
   room : REPLY_ROOM ≤ vec_capacity l.text;
   becomes : g.O.Outlet.Becomes l.fn.outlet l.outlet;
   name : g.D.Desk.name (g.D.Desk.state l.desk) ≡ g.D.Desk.name (g.D.Desk.state l.fn.desk);
