@@ -1,5 +1,6 @@
--- What is read of a file, and printed.
-use Rattle.std.specs.Prelude.{◌≡◌, ℕ, List, [], ◌++◌, Option, Some, Result, Ok, Err, Vec}
+-- What is read of a file.
+use Rattle.std.specs.Prelude.{ℕ, List, Option, Result, Ok, Err, Vec}
+use Rattle.std.specs.Io.KnownBytes.{Consumes, IsAtEnd}
 use Rattle.std.specs.declared.alloc.Global.{Global}
 use Rattle.rb_ending.specs.declared.broker_fault.BrokerFault.{BrokerFault}
 use Rattle.rb_ending.specs.declared.broker_fault.BrokerFault.TheVariants as Broker
@@ -11,8 +12,7 @@ IsReadFault Broker.ReadTurns = Unit {0}
 IsReadFault Broker.Memory = Unit {0}
 IsReadFault _ = ⊥
 
--- all of the stream was read; or a first part of it was, and is lost
-abbrev pub ReadsAll : List ℕ → Result (Vec ℕ Global) BrokerFault → Option (List ℕ) → Type 0
-ReadsAll stream (Ok text) left = (text.items ≡ stream) × (left ≡ Some [])
-ReadsAll stream (Err fault) left =
-    IsReadFault fault × ((taken : List ℕ) × (rest : List ℕ) × (stream ≡ taken ++ rest) × (left ≡ Some rest))
+-- The text is all that came, and the reader is at its end; or what came is lost.
+abbrev pub ReadsAll : Option (List ℕ) → Result (Vec ℕ Global) BrokerFault → Option (List ℕ) → Type 0
+ReadsAll left (Ok text) left' = Consumes left left' text.items × IsAtEnd left'
+ReadsAll left (Err fault) left' = IsReadFault fault × ((lost : List ℕ) × Consumes left left' lost)

@@ -2,6 +2,7 @@ pub use Rattle.rb_retry.specs.Retry
 pub use Rattle.rb_retry.specs.KeptSteps
 pub use Rattle.rb_session.specs.Turn
 pub use Rattle.rb_session.specs.Session
+pub use Rattle.rb_session.specs.Exchange
 pub use Rattle.rb_session.specs.Ran
 pub use Rattle.rb_session.specs.Outlet
 pub use Rattle.rb_session.specs.Gathered

@@ -1,5 +1,5 @@
 -- What a run of a script is: one session at a desk over the queue of an opening, and then its history.
-use Rattle.std.specs.Prelude.{◌≡◌, ◌≢◌, ℕ, List, [], Option, None, Some, Result, Ok, Err}
+use Rattle.std.specs.Prelude.{◌≡◌, ◌≢◌, ℕ, List, [], Option, Result, Ok, Err}
 use Rattle.rb_ledger.specs.Totals.{nothing}
 use Rattle.rb_queue.specs.declared.opening.Opening.{Opening}
 use Rattle.rb_kept.specs.Log.{Log}
@@ -45,12 +45,12 @@ Finishes contents log (Err fault) result device left =
 Finishes contents log (Ok ended) result device left =
     (wrote : Result (Unit {0}) HistoryFault) × RecordsRun contents log wrote device left × (result ≡ ends_as ended wrote)
 
--- The run went from a new desk to some other, whose log has its history, and read and wrote what a
--- session does on this way whose replies are gathered.
-pub record RanScript {H : Type 0} (contents : H → Option (List ℕ)) (policy : Policy) (calls : ℕ) (opening : Opening) (stream before : List ℕ) (result : Result Ended BrokerFault) (rest written : Option (List ℕ)) (device left : Option H) : Type 0 where
+-- The run went from a new desk to some other, whose log has its history. What came and what was sent are
+-- those of a session on this way whose replies are gathered.
+pub record RanScript {H : Type 0} (contents : H → Option (List ℕ)) (policy : Policy) (calls : ℕ) (Over : Type 0) (opening : Opening) (came sent : List ℕ) (result : Result Ended BrokerFault) (device left : Option H) : Type 0 where
   pub from : KeptState
   pub new : IsNew from opening calls
   pub to : KeptState
   pub ended : Result Ended SessionFault
-  pub ran : RanGathered (λ desk moment. moment ≡ desk.moment) SetsKept KeptSteps policy from stream before ended to rest written
+  pub ran : RanGathered (λ desk moment. moment ≡ desk.moment) SetsKept KeptSteps policy Over from came sent ended to
   pub finishes : Finishes contents to.log ended result device left

@@ -1,4 +1,4 @@
-ghost use Rattle.std.specs.Prelude.{◌≡◌, ℕ, ◌<◌, List, Some, IfOk, vec_len};
+ghost use Rattle.std.specs.Prelude.{◌<◌, IfOk, vec_len};
 ghost use Rattle.rb_runs.specs.FileText.{ReadsAll};
 
 use rb_ending::BrokerFault;
@@ -16,8 +16,7 @@ const PIECE_BYTES: usize = 64 * 1024;
 /// The faults are `ReadHistory` where a read failed, `ReadTurns` where there was no end within
 /// 10,000,000 reads, and `Memory`. Memory is taken for what is read, and for one piece of 64 KiB.
 pub fn read_all<R: Read>(alloc: Global, reader: &mut R) -> Result<Vec<u8>, BrokerFault>
-    ensures { (stream : List ℕ) → R.remaining reader.old ≡ Some stream
-        → ReadsAll stream result (R.remaining reader.new) }
+    ensures { ReadsAll (R.remaining reader.old) result (R.remaining reader.new) }
 {
     let mut piece = empty_piece(alloc)?;
     let mut text = Vec::new(alloc);

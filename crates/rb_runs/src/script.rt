@@ -1,5 +1,7 @@
-ghost use Rattle.std.specs.Prelude.{◌≡◌, ◌≤◌, ℕ, List, Some};
+ghost use Rattle.std.specs.Prelude.{◌≤◌};
+ghost use Rattle.std.specs.Io.KnownBytes.{IsAtEnd};
 ghost use Rattle.rb_kept.specs.declared.kept.TheConstants.{MOST_CALLS};
+ghost use Rattle.rb_session.specs.Exchange.{Exchanges};
 ghost use Rattle.rb_runs.specs.Script.{Finishes, RanScript, RecordsBroken};
 
 use crate::over_timer;
@@ -27,8 +29,8 @@ pub fn run_script<R: Read, W: Write, H: Write>(
     writer: &mut W,
     history: &mut Option<H>,
 ) -> Result<Ended, BrokerFault>
-    ensures { (stream before : List ℕ) → R.remaining reader.old ≡ Some stream → W.contents writer.old ≡ Some before
-        → RanScript H.contents options.now.policy options.now.calls opening stream before result (R.remaining reader.new) (W.contents writer.new) history.old history.new }
+    ensures { Exchanges (R.remaining reader.old) (R.remaining reader.new) (W.contents writer.old) (W.contents writer.new) (λ came sent.
+        RanScript H.contents options.now.policy options.now.calls (IsAtEnd (R.remaining reader.new)) opening came sent result history.old history.new) }
 {
     let calls = options.calls;
     let policy = &options.policy;
@@ -49,8 +51,8 @@ fn run_on<T: Timer, R: Read, W: Write, H: Write>(
 ) -> Result<Ended, BrokerFault>
     requires from_one { 1 ≤ calls }
     requires in_range { calls ≤ MOST_CALLS }
-    ensures { (stream before : List ℕ) → R.remaining reader.old ≡ Some stream → W.contents writer.old ≡ Some before
-        → RanScript H.contents policy.now calls opening stream before result (R.remaining reader.new) (W.contents writer.new) history.old history.new }
+    ensures { Exchanges (R.remaining reader.old) (R.remaining reader.new) (W.contents writer.old) (W.contents writer.new) (λ came sent.
+        RanScript H.contents policy.now calls (IsAtEnd (R.remaining reader.new)) opening came sent result history.old history.new) }
 {
     // The number of calls is in range, so that memory alone can be missing.
     let Ok((mut kept, mut tally)) = Kept::<T>::new_from(alloc, calls, opening) else {
