@@ -1,2 +1,3 @@
--- The lemmas of this crate: passes of workers that are folded into the first.
+-- The lemmas of this crate: visits that were served, and passes of workers that are folded into the first.
+pub mod ServedVisits
 pub mod FoldedWorkers

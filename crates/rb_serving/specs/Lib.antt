@@ -7,4 +7,5 @@ pub use Rattle.rb_ending.specs.AuditText
 pub use Rattle.rb_ending.specs.Recording
 pub mod ServeText
 pub mod VisitCounts
+pub mod Visits
 pub mod Serving

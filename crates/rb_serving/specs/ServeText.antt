@@ -1,5 +1,6 @@
 -- What a server prints, and what it leaves at its end.
-use Rattle.std.specs.Prelude.{◌≡◌, ℕ, List, ◌++◌, take, Option, Some, Result, Ok, Err, codes, decimal}
+use Rattle.std.specs.Prelude.{◌≡◌, ℕ, List, ◌++◌, Option, Result, Ok, Err, codes, decimal}
+use Rattle.std.specs.Io.KnownBytes.{Appends, Keeps}
 use Rattle.rb_queue.specs.declared.audit.Audit.{Audit}
 use Rattle.rb_kept.specs.Log.{Log}
 use Rattle.rb_replay.specs.declared.history_fault.HistoryFault.{HistoryFault}
@@ -23,10 +24,11 @@ abbrev pub report_text : ℕ → ℕ → ℕ → Audit → List ℕ
 report_text sessions faults lost audit = visits_text sessions faults lost ++ audit_text audit
 
 -- The text was printed; or nothing, for want of memory; or a first part of it.
-abbrev pub Prints : List ℕ → List ℕ → Result (Unit {0}) BrokerFault → Option (List ℕ) → Type 0
-Prints before text (Ok done) written = written ≡ Some (before ++ text)
-Prints before text (Err Memory) written = written ≡ Some before
-Prints before text (Err fault) written = (fault ≡ Write) × ((taken : ℕ) × (written ≡ Some (before ++ take taken text)))
+abbrev pub Prints : Result (Unit {0}) BrokerFault → Option (List ℕ) → List ℕ → Option (List ℕ) → Type 0
+Prints (Ok done) got text got' = Appends got got' text
+Prints (Err Memory) got text got' = Keeps got got'
+Prints (Err fault) got text got' =
+    (fault ≡ Write) × ((sent : List ℕ) × (unsent : List ℕ) × (text ≡ sent ++ unsent) × Appends got got' sent)
 
 -- the fault of the history is answered, where there is one, and else that of printing
 abbrev pub first_fault : Result (Unit {0}) HistoryFault → Result (Unit {0}) BrokerFault → Result (Unit {0}) BrokerFault
@@ -34,7 +36,7 @@ first_fault (Ok done) printed = printed
 first_fault (Err fault) printed = Err (fault_of_history fault)
 
 -- The history was written, where something is to have it, and the text printed, whatever came of that.
-abbrev pub EndsServer : {H : Type 0} → (H → Option (List ℕ)) → Log → List ℕ → List ℕ → Result (Unit {0}) BrokerFault → Option (List ℕ) → Option H → Option H → Type 0
-EndsServer contents log text before result written device left =
+abbrev pub EndsServer : {H : Type 0} → (H → Option (List ℕ)) → Log → List ℕ → Option (List ℕ) → Result (Unit {0}) BrokerFault → Option (List ℕ) → Option H → Option H → Type 0
+EndsServer contents log text got result got' device left =
     (wrote : Result (Unit {0}) HistoryFault) × (printed : Result (Unit {0}) BrokerFault)
-    × RecordsRun contents log wrote device left × Prints before text printed written × (result ≡ first_fault wrote printed)
+    × RecordsRun contents log wrote device left × Prints printed got text got' × (result ≡ first_fault wrote printed)

@@ -1,4 +1,3 @@
-ghost use Rattle.std.specs.Prelude.{◌≡◌, ℕ, List, Some};
 ghost use Rattle.rb_serving.specs.ServeText.{EndsServer, report_text};
 
 use crate::serve_report::ServeReport;
@@ -18,9 +17,8 @@ pub fn end_server<T: Timer, W: Write, H: Write>(
     writer: &mut W,
     history: &mut Option<H>,
 ) -> Result<(), BrokerFault>
-    ensures { (before : List ℕ) → W.contents writer.old ≡ Some before
-        → EndsServer H.contents report.now.kept (report_text report.now.sessions report.now.faults report.now.lost report.now.audit)
-        before result (W.contents writer.new) history.old history.new }
+    ensures { EndsServer H.contents report.now.kept (report_text report.now.sessions report.now.faults report.now.lost report.now.audit)
+        (W.contents writer.old) result (W.contents writer.new) history.old history.new }
 {
     let recorded = record(alloc, &report.kept, history);
     let printed = print_report(alloc, writer, report);

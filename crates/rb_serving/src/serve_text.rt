@@ -1,4 +1,4 @@
-ghost use Rattle.std.specs.Prelude.{◌≡◌, ℕ, List, Some, IfOk, IfErr, string_bytes};
+ghost use Rattle.std.specs.Prelude.{◌≡◌, IfOk, IfErr, string_bytes};
 ghost use Rattle.rb_serving.specs.ServeText.{Prints, listening_text, report_text, visits_text};
 
 use crate::serve_report::ServeReport;
@@ -16,8 +16,7 @@ pub fn print_listening<W: Write>(
     writer: &mut W,
     port: u16,
 ) -> Result<(), BrokerFault>
-    ensures { (before : List ℕ) → W.contents writer.old ≡ Some before
-        → Prints before (listening_text port) result (W.contents writer.new) }
+    ensures { Prints result (W.contents writer.old) (listening_text port) (W.contents writer.new) }
 {
     let line = listening_line(alloc, port)?;
     print(writer, &line)
@@ -31,8 +30,7 @@ pub fn print_report<T: Timer, W: Write>(
     writer: &mut W,
     report: &ServeReport<T>,
 ) -> Result<(), BrokerFault>
-    ensures { (before : List ℕ) → W.contents writer.old ≡ Some before
-        → Prints before (report_text report.now.sessions report.now.faults report.now.lost report.now.audit) result (W.contents writer.new) }
+    ensures { Prints result (W.contents writer.old) (report_text report.now.sessions report.now.faults report.now.lost report.now.audit) (W.contents writer.new) }
 {
     let text = report_lines(alloc, report)?;
     print(writer, &text)
@@ -65,7 +63,7 @@ fn visits_line(alloc: Global, sessions: u64, faults: u64, lost: u64) -> Result<S
 
 // Writes a text and flushes.
 fn print<W: Write>(writer: &mut W, text: &str) -> Result<(), BrokerFault>
-    ensures { (before : List ℕ) → W.contents writer.old ≡ Some before → Prints before text.now result (W.contents writer.new) }
+    ensures { Prints result (W.contents writer.old) text.now (W.contents writer.new) }
 {
     match send_at_once(writer, text.as_bytes()) {
         Ok(()) => Ok(()),

@@ -1,5 +1,5 @@
-ghost use Rattle.std.specs.Prelude.{◌≡◌, [], length, IfOk, IfErr};
-ghost use Rattle.rb_serving.specs.Serving.{EndsServing, IsServersRun};
+ghost use Rattle.std.specs.Prelude.{◌≡◌, IfOk, IfErr};
+ghost use Rattle.rb_serving.specs.Serving.{EndsServing, IsReport, IsServersRun};
 ghost use Rattle.rb_ending.specs.declared.broker_fault.BrokerFault.TheVariants.{NotGathered};
 
 use crate::door::Door;
@@ -22,7 +22,8 @@ use std::time;
 /// Serves the visits of a door over one queue, until it has no more: each worker one visit after the other,
 /// through a pass of its own.
 ///
-/// All waits read the one clock. The history that comes back is legal and has exactly the workers' calls.
+/// All waits read the one clock. The history that comes back is legal and has exactly the workers' calls, and
+/// these are the calls of the sessions that each served; the counts are those of all visits.
 /// Memory is taken for the history at the start, and then for each session as it begins and for what is
 /// offered and drained.
 pub fn serve_door<
@@ -38,7 +39,7 @@ pub fn serve_door<
     options: &RunOptions,
     opening: Opening,
 ) -> Result<ServeReport<T>, BrokerFault>
-    ensures served { IfOk result (λ report. IsServersRun opening options.now.calls options.now.workers report.kept report.audit) }
+    ensures served { IfOk result (λ report. IsServersRun D.Reader.remaining D.Writer.contents C.gives D.Gate.stops options.now.policy clock.now opening options.now.calls options.now.workers report.kept report.audit (record { sessions = report.sessions; faults = report.faults; lost = report.lost })) }
     ensures fault { IfErr result EndsServing }
 {
     // The number of calls is in range, so that memory alone can be missing.
@@ -69,8 +70,7 @@ fn report_of<T: Timer, R: Wait>(
     visits: VisitCounts,
 ) -> Result<ServeReport<T>, BrokerFault>
     requires pass { pass.table ≡ shared }
-    requires idle { pass.mine ≡ [] }
-    ensures served { IfOk result (λ report. IsServersRun pass.opening pass.capacity (length pass.folded) report.kept report.audit) }
+    ensures report { IfOk result (λ report. IsReport pass visits report.kept report.audit (record { sessions = report.sessions; faults = report.faults; lost = report.lost })) }
     ensures fault { IfErr result (λ fault. fault ≡ NotGathered) }
 {
     match shared.close(rt, pass) {

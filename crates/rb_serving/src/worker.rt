@@ -1,5 +1,8 @@
-ghost use Rattle.std.specs.Prelude.{◌≡◌, ℕ, List, Some};
-ghost use Rattle.rb_serving.specs.Serving.{IsWorked, RanVisit};
+ghost use Rattle.std.specs.Prelude.{◌≡◌};
+ghost use Rattle.std.specs.Io.KnownBytes.{IsAtEnd};
+ghost use Rattle.rb_session.specs.Exchange.{Exchanges};
+ghost use Rattle.rb_serving.specs.Serving.{IsWorked, WorksOff};
+ghost use Rattle.rb_serving.specs.Visits.{RanVisit};
 
 use crate::door::{Door, DoorFault};
 use crate::service::Service;
@@ -16,8 +19,8 @@ use std::time;
 
 /// Serves one visit after the other, until the door has no more.
 ///
-/// The pass makes all their calls, and what was folded into it stays. It waits for visits, and while
-/// another pass calls.
+/// The pass makes all their calls and no other, and what was folded into it stays. It waits for visits, and
+/// while another pass calls.
 pub(crate) fn work<T: Timer, D: Door, C: Clock, R: Wait + time::Clock>(
     rt: &R,
     service: &Service<'_, T, D, C>,
@@ -25,6 +28,7 @@ pub(crate) fn work<T: Timer, D: Door, C: Clock, R: Wait + time::Clock>(
 ) -> (Pass<T>, VisitCounts)
     requires pass { pass.table ≡ service.now.shared.now }
     ensures worked { IsWorked pass result.0 }
+    ensures visits { WorksOff D.Reader.remaining D.Writer.contents C.gives D.Gate.stops service.now.policy.now service.now.clock.now pass result.0 result.1 }
 {
     let mut counts = VisitCounts::none();
     for _ in rt.forever() {
@@ -32,7 +36,8 @@ pub(crate) fn work<T: Timer, D: Door, C: Clock, R: Wait + time::Clock>(
             None => break,
             Some(Err(DoorFault)) => VisitCounts::of_refusal(),
             Some(Ok(visit)) => {
-                VisitCounts::of_session(&serve_visit(rt, service, &mut pass, visit))
+                let (ended, _, _) = serve_visit(rt, service, &mut pass, visit);
+                VisitCounts::of_session(&ended)
             }
         };
         counts = counts.with(visit);
@@ -41,7 +46,8 @@ pub(crate) fn work<T: Timer, D: Door, C: Clock, R: Wait + time::Clock>(
 }
 
 // Serves a visit to its end: one session at a desk of the pass, whose waits the visit's gate may end.
-// Its replies are gathered, but while a request waits none lies here.
+// Its replies are gathered, but while a request waits none is held back. The reader and the writer come back
+// with how it ended: what was sent went to this writer.
 fn serve_visit<
     T: Timer,
     D: Door,
@@ -55,11 +61,11 @@ fn serve_visit<
     service: &Service<'_, T, D, C>,
     pass: &mut Pass<T>,
     visit: Visit<I, O, G>,
-) -> Result<Ended, SessionFault>
+) -> (Result<Ended, SessionFault>, I, O)
     requires pass { pass.old.table ≡ service.now.shared.now }
     ensures worked { IsWorked pass.old pass.new }
-    ensures ran { (stream before : List ℕ) → I.remaining visit.reader ≡ Some stream → O.contents visit.writer ≡ Some before
-        → RanVisit C.gives G.stops service.now.policy.now service.now.clock.now visit.gate pass.old stream before result pass.new }
+    ensures ran { Exchanges (I.remaining visit.reader) (I.remaining result.1) (O.contents visit.writer) (O.contents result.2) (λ came sent.
+        RanVisit C.gives G.stops service.now.policy.now service.now.clock.now visit.gate (IsAtEnd (I.remaining result.1)) pass.old came sent result.0 pass.new) }
 {
     let Visit {
         mut reader,
@@ -74,12 +80,13 @@ fn serve_visit<
         &mut gate,
         service.bell,
     );
-    run_gathered(
+    let ended = run_gathered(
         service.alloc,
         &mut reader,
         &mut writer,
         &mut desk,
         service.policy,
         HandsOn::BeforeReadsAndWaits,
-    )
+    );
+    (ended, reader, writer)
 }

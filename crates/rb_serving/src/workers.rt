@@ -1,5 +1,5 @@
 ghost use Rattle.std.specs.Prelude.{◌≡◌, [], IfOk, IfErr};
-ghost use Rattle.rb_serving.specs.Serving.{FoldsWorkers};
+ghost use Rattle.rb_serving.specs.Serving.{FoldsWorkers, IsDone};
 ghost use Rattle.rb_ending.specs.declared.broker_fault.BrokerFault.TheVariants.{Worker};
 
 use crate::door::Door;
@@ -8,18 +8,19 @@ use crate::visit_counts::VisitCounts;
 use crate::worker::work;
 use rb_blocking::Clock;
 use rb_ending::BrokerFault;
-use rb_lock::{Pass, Shared};
+use rb_lock::Pass;
 use rb_timer::Timer;
 use std::sync::Wait;
 use std::thread::{Promise, PromisedHandle, Scope, Threads};
 use std::{thread, time};
 
-// What a worker's thread gives: its pass, which is of this queue and has nothing folded into it.
+// What a worker's thread gives: its pass, which served visits of this service and nothing else, and their
+// counts.
 #[derive(Drop)]
-struct OfShared<'a, T: Timer>(&'a Shared<T>);
+struct OfService<'a, T: Timer, D: Door, C: Clock>(&'a Service<'a, T, D, C>);
 
-impl<'a, T: Timer> Promise<(Pass<T>, VisitCounts)> for OfShared<'a, T> {
-    ghost kept_by = { λ promise worked. (worked.0.table ≡ promise.0.now) × (worked.0.folded ≡ []) };
+impl<'a, T: Timer, D: Door, C: Clock> Promise<(Pass<T>, VisitCounts)> for OfService<'a, T, D, C> {
+    ghost kept_by = { λ promise worked. (worked.0.table ≡ promise.0.now.shared.now) × IsDone D.Reader.remaining D.Writer.contents C.gives D.Gate.stops promise.0.now.policy.now promise.0.now.clock.now worked.0 worked.1 };
 }
 
 /// Runs so many workers at once, and folds the pass of each into this one.
@@ -38,7 +39,7 @@ pub(crate) fn serve_all<
     count: u64,
 ) -> Result<(Pass<T>, VisitCounts), BrokerFault>
     requires pass { pass.table ≡ service.now.shared.now }
-    ensures folds { IfOk result (λ served. FoldsWorkers count pass served.0) }
+    ensures folds { IfOk result (λ served. FoldsWorkers D.Reader.remaining D.Writer.contents C.gives D.Gate.stops service.now.policy.now service.now.clock.now count pass served.0 served.1) }
     ensures fault { IfErr result (λ fault. fault ≡ Worker) }
 {
     thread::scope(
@@ -46,7 +47,7 @@ pub(crate) fn serve_all<
         rt,
         move |scope| -> Result<(Pass<T>, VisitCounts), BrokerFault>
             requires { pass.table ≡ service.now.shared.now }
-            ensures { IfOk result (λ served. FoldsWorkers count pass served.0) × IfErr result (λ fault. fault ≡ Worker) }
+            ensures { IfOk result (λ served. FoldsWorkers D.Reader.remaining D.Writer.contents C.gives D.Gate.stops service.entry.now.policy.now service.entry.now.clock.now count pass served.0 served.1) × IfErr result (λ fault. fault ≡ Worker) }
         { start_all(rt, scope, service, pass, count) },
     )
 }
@@ -68,7 +69,7 @@ fn start_all<
     count: u64,
 ) -> Result<(Pass<T>, VisitCounts), BrokerFault>
     requires pass { pass.table ≡ service.now.shared.now }
-    ensures folds { IfOk result (λ served. FoldsWorkers count pass served.0) }
+    ensures folds { IfOk result (λ served. FoldsWorkers D.Reader.remaining D.Writer.contents C.gives D.Gate.stops service.now.policy.now service.now.clock.now count pass served.0 served.1) }
     ensures fault { IfErr result (λ fault. fault ≡ Worker) }
 {
     if count == 0 {
@@ -82,7 +83,7 @@ fn start_all<
     let (done, counts) = worker.join(rt);
     let (mut pass, more) = others?;
     service.shared.fold(&mut pass, done);
-    Ok((pass, counts.with(more)))
+    Ok((pass, more.with(counts)))
 }
 
 // Starts one worker with this pass.
@@ -98,17 +99,18 @@ fn start<
     scope: &'s Scope<'s, E>,
     service: &'s Service<'s, T, D, C>,
     pass: Pass<T>,
-) -> Result<PromisedHandle<(Pass<T>, VisitCounts), OfShared<'s, T>>, BrokerFault>
+) -> Result<PromisedHandle<(Pass<T>, VisitCounts), OfService<'s, T, D, C>>, BrokerFault>
     requires pass { pass.table ≡ service.now.shared.now }
     requires alone { pass.folded ≡ [] }
-    ensures of { IfOk result (λ worker. worker.promise.0.now ≡ service.now.shared.now) }
+    requires idle { pass.mine ≡ [] }
+    ensures of { IfOk result (λ worker. worker.promise.0.now ≡ service.now) }
     ensures fault { IfErr result (λ fault. fault ≡ Worker) }
 {
     match scope.spawn_with(
-        OfShared(service.shared),
+        OfService(service),
         move || -> (Pass<T>, VisitCounts)
-            requires { (pass.table ≡ service.now.shared.now) × (pass.folded ≡ []) }
-            ensures { (result.0.table ≡ service.entry.now.shared.now) × (result.0.folded ≡ []) }
+            requires { (pass.table ≡ service.now.shared.now) × (pass.folded ≡ []) × (pass.mine ≡ []) }
+            ensures { (result.0.table ≡ service.entry.now.shared.now) × IsDone D.Reader.remaining D.Writer.contents C.gives D.Gate.stops service.entry.now.policy.now service.entry.now.clock.now result.0 result.1 }
         { work(rt, service, pass) },
     ) {
         Ok(worker) => Ok(worker),

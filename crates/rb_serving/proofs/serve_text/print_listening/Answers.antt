@@ -4,6 +4,6 @@ use Rattle.rb_serving.specs.ServeText.{Prints, listening_text}
 use Rattle.rb_serving.proofs.serve_text.print_listening.Goals as goal
 
 pub returns : goal.returns
-returns g c before known =
+returns g c =
     let line : c.deref.result.now ≡ listening_text c.args.port = c.deref.ensures ∙ c.in_ok-line.ensures in
-    subst (λ text. Prints before text c.print.result (g.W.Write.contents c.print.new.writer)) line (c.print.ensures before known)
+    subst (λ text. Prints c.print.result (g.W.Write.contents c.args.writer.now) text (g.W.Write.contents c.print.new.writer)) line c.print.ensures

@@ -1,6 +1,9 @@
--- The pass has called for visitors alone.
-use Rattle.rb_serving.specs.Serving.{IsWorked}
+-- The pass has served those who came so far, and these are counted.
+use Rattle.rb_serving.specs.Serving.{IsWorked, WorksOff}
 use Rattle.rb_serving.proofs.worker.work.Given as goal
 
 abbrev pub invariant-loop : goal.invariant-loop
-invariant-loop g l = IsWorked l.initial.pass l.pass
+invariant-loop g l = record {
+  worked : IsWorked l.initial.pass l.pass;
+  visits : WorksOff g.D.Reader.Read.remaining g.D.Writer.Write.contents g.C.Clock.gives g.D.Gate.Gate.stops l.service.policy.now l.service.clock.now l.initial.pass l.pass l.counts;
+}

@@ -1,0 +1,105 @@
+-- Visits that were served, one after the other, and their counts.
+use Rattle.std.proofs.Common.{◌≡◌, ℕ, ◌+◌, min, List, [], ◌∷◌, ◌++◌, Option, None, Some, refl, sym, subst, ap, ap₂, ◌∙◌, arith, length, length-append, append_assoc}
+use Rattle.std.proofs.lemmas.List.{append-nil}
+use Rattle.rb_ledger.specs.Totals.{capped_sum}
+use Rattle.rb_ledger.specs.declared.totals.TheConstants.{GREATEST_COUNT}
+use Rattle.rb_lock.specs.Passes.{Seen, record_of}
+use Rattle.rb_lock.specs.declared.record.Record.{Record}
+use Rattle.std.specs.Prelude.{Result}
+use Rattle.std.specs.Io.KnownBytes.{IsAtEnd}
+use Rattle.rb_retry.specs.declared.policy.Policy.{Policy}
+use Rattle.rb_session.specs.Exchange.{Exchanges}
+use Rattle.rb_session.specs.declared.ended.Ended.{Ended}
+use Rattle.rb_session.specs.declared.session_fault.SessionFault.{SessionFault}
+use Rattle.rb_serving.specs.VisitCounts.{both_counts, ended_visit, refused_visit, lost_in, faults_in}
+use Rattle.rb_serving.specs.Serving.{WorksOff}
+use Rattle.rb_serving.specs.Visits.{Served, RanVisit, AreVisits, IsVisit, IsWorker, AreWorkers, all_visits, counts_of, faults_of, lost_of}
+use Rattle.rb_serving.specs.declared.visit_counts.VisitCounts.{VisitCounts}
+
+-- what is counted of some visits, and then of others
+faults_of-append : (one other : List (Option Served)) → faults_of (one ++ other) ≡ faults_of one + faults_of other
+faults_of-append [] other = omega arith
+faults_of-append (None ∷ one) other = omega (arith, faults_of-append one other)
+faults_of-append (Some visit ∷ one) other = omega (arith, faults_of-append one other)
+
+lost_of-append : (one other : List (Option Served)) → lost_of (one ++ other) ≡ lost_of one + lost_of other
+lost_of-append [] other = omega arith
+lost_of-append (None ∷ one) other = lost_of-append one other
+lost_of-append (Some visit ∷ one) other = omega (arith, lost_of-append one other)
+
+-- a sum of two numbers that stop at the greatest, with one that need not
+capped_more : (one other : ℕ) → capped_sum (min one GREATEST_COUNT) other ≡ min (one + other) GREATEST_COUNT
+capped_more one other = omega arith
+
+capped_both : (one other : ℕ) → capped_sum (min one GREATEST_COUNT) (min other GREATEST_COUNT) ≡ min (one + other) GREATEST_COUNT
+capped_both one other = omega arith
+
+-- the counts of the visits of two workers
+pub counts_both : (one other : List (Option Served)) → both_counts (counts_of one) (counts_of other) ≡ counts_of (one ++ other)
+counts_both one other = rw (length-append one other, faults_of-append one other, lost_of-append one other)
+    (rw (capped_both (length one) (length other), capped_both (faults_of one) (faults_of other), capped_both (lost_of one) (lost_of other)) refl)
+
+-- and of one visit more
+faults_of-more : (visits : List (Option Served)) (visit : Served) → faults_of (visits ++ Some visit ∷ []) ≡ faults_of visits + faults_in visit.ended
+faults_of-more visits visit = omega (arith, faults_of-append visits (Some visit ∷ []))
+
+lost_of-more : (visits : List (Option Served)) (visit : Served) → lost_of (visits ++ Some visit ∷ []) ≡ lost_of visits + lost_in visit.ended
+lost_of-more visits visit = omega (arith, lost_of-append visits (Some visit ∷ []))
+
+pub counts_served : (visits : List (Option Served)) (visit : Served) → both_counts (counts_of visits) (ended_visit visit.ended) ≡ counts_of (visits ++ Some visit ∷ [])
+counts_served visits visit = rw (length-append visits (Some visit ∷ []), faults_of-more visits visit, lost_of-more visits visit)
+    (rw (capped_more (length visits) 1, capped_more (faults_of visits) (faults_in visit.ended), capped_more (lost_of visits) (lost_in visit.ended)) refl)
+
+pub counts_refused : (visits : List (Option Served)) → both_counts (counts_of visits) refused_visit ≡ counts_of (visits ++ None ∷ [])
+counts_refused visits = rw (length-append visits (None ∷ []), faults_of-append visits (None ∷ []), lost_of-append visits (None ∷ []))
+    (rw (capped_more (length visits) 1, capped_more (faults_of visits) 1, capped_more (lost_of visits) 0) refl)
+
+-- the visits of one worker more
+pub all_visits-more : (visits : List (List (Option Served))) (own : List (Option Served)) → all_visits (visits ++ own ∷ []) ≡ all_visits visits ++ own
+all_visits-more [] own = append-nil own
+all_visits-more (first ∷ visits) own = ap (λ v. first ++ v) (all_visits-more visits own) ∙ sym (append_assoc first (all_visits visits) own)
+
+module _ {I O G C : Type 0} (remaining : I → Option (List ℕ)) (contents : O → Option (List ℕ)) (gives : C → ℕ → Type 0) (stops : G → ℕ → Type 0) (policy : Policy) (clock : C) where
+  -- one visit more was served
+  pub visits_served : (old mid new : Seen) (visits : List (Option Served)) (visit : Served) → AreVisits remaining contents gives stops policy clock old visits mid
+      → IsVisit remaining contents gives stops policy clock mid visit new → AreVisits remaining contents gives stops policy clock old (visits ++ Some visit ∷ []) new
+  visits_served old mid new [] visit same one = (new, subst (λ pass. IsVisit remaining contents gives stops policy clock pass visit new) same one, refl)
+  visits_served old mid new (None ∷ visits) visit are one = visits_served old mid new visits visit are one
+  visits_served old mid new (Some first ∷ visits) visit (between, is, are) one = (between, is, visits_served between mid new visits visit are one)
+
+  -- one visitor more was refused
+  pub visits_refused : (old new : Seen) (visits : List (Option Served)) → AreVisits remaining contents gives stops policy clock old visits new
+      → AreVisits remaining contents gives stops policy clock old (visits ++ None ∷ []) new
+  visits_refused old new [] same = same
+  visits_refused old new (None ∷ visits) are = visits_refused old new visits are
+  visits_refused old new (Some first ∷ visits) (between, is, are) = (between, is, visits_refused between new visits are)
+
+  -- one worker more
+  pub workers_more : (visits : List (List (Option Served))) (records : List Record) (own : List (Option Served)) (pass : Seen) → AreWorkers remaining contents gives stops policy clock visits records
+      → IsWorker remaining contents gives stops policy clock own pass → AreWorkers remaining contents gives stops policy clock (visits ++ own ∷ []) (records ++ record_of pass ∷ [])
+  workers_more [] [] own pass are worker = ((pass, worker, refl), tt)
+  workers_more [] (one ∷ records) own pass are worker = absurd are
+  workers_more (first ∷ visits) [] own pass are worker = absurd are
+  workers_more (first ∷ visits) (one ∷ records) own pass (is, are) worker = (is, workers_more visits records own pass are worker)
+
+  -- one visitor more was refused, and is counted
+  pub works_refused : (old new : Seen) (counts visit next : VisitCounts) → WorksOff remaining contents gives stops policy clock old new counts
+      → visit ≡ refused_visit → next ≡ both_counts counts visit → WorksOff remaining contents gives stops policy clock old new next
+  works_refused old new counts visit next works refused is = record {
+    visits = works.visits ++ None ∷ [];
+    served = visits_refused old new works.visits works.served;
+    counted = is ∙ ap₂ both_counts works.counted refused ∙ counts_refused works.visits;
+  }
+
+  -- one visit more was served, and is counted
+  pub works_served : (old mid new : Seen) (counts visit next : VisitCounts) (ended : Result Ended SessionFault) (reader reader_left : I) (writer writer_left : O) (gate : G)
+      → WorksOff remaining contents gives stops policy clock old mid counts
+      → Exchanges (remaining reader) (remaining reader_left) (contents writer) (contents writer_left) (λ came sent. RanVisit gives stops policy clock gate (IsAtEnd (remaining reader_left)) mid came sent ended new)
+      → visit ≡ ended_visit ended → next ≡ both_counts counts visit → WorksOff remaining contents gives stops policy clock old new next
+  works_served old mid new counts visit next ended reader reader_left writer writer_left gate works ran ends is =
+      let served : Served = record { came = ran.came; sent = ran.sent; ended = ended } in record {
+        visits = works.visits ++ Some served ∷ [];
+        served = visits_served old mid new works.visits served works.served
+            (record { reader = reader; reader_left = reader_left; writer = writer; writer_left = writer_left; gate = gate; consumed = ran.consumed; appended = ran.appended; ran = ran.holds });
+        counted = is ∙ ap₂ both_counts works.counted ends ∙ counts_served works.visits served;
+      }

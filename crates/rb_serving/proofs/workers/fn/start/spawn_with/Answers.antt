@@ -1,0 +1,15 @@
+-- The worker began with a pass that had made no call, and gives what it served.
+use Rattle.std.proofs.Common.{◌∙◌}
+use Rattle.rb_serving.proofs.workers.fn.start.spawn_with.Goals as goal
+
+pub returns : goal.returns
+returns g c =
+    let done = c.work.ensures in (
+      done.worked.table ∙ c.requires.0,
+      record {
+        alone = done.worked.folded ∙ c.requires.1;
+        visits = done.visits.visits;
+        worker = record { first = c.captures.pass; idle = c.requires.2; served = done.visits.served };
+        counted = done.visits.counted;
+      },
+    )
