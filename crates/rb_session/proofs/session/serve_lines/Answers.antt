@@ -20,9 +20,11 @@ loop-reading-init g c = record {
 -- what answers the lines so far could not be handed on
 pub returns-then-is_err-clause-served : goal.returns-then-is_err-clause-served
 returns-then-is_err-clause-served g c bytes unserved =
-    let at = c.loop-reading.invariant.stands bytes unserved in
-    (at.0, Appends-kept _ _ _ _ at.1 c.clear_for_wait.ensures.kept,
-    inr (failed c.clear_for_wait.result g.O.Outlet.HoldsBack (sym c.is_err.ensures.value ∙ c.if-is_err.true) c.clear_for_wait.ensures.late, at.2))
+    let at = c.loop-reading.invariant.stands bytes unserved in (
+      at.0,
+      Appends-kept _ _ _ _ at.1 c.clear_for_wait.ensures.kept,
+      inr (failed c.clear_for_wait.result g.O.Outlet.HoldsBack (sym c.is_err.ensures.value ∙ c.if-is_err.true) c.clear_for_wait.ensures.late, at.2),
+    )
 
 pub returns-then-is_err-clause-becomes : goal.returns-then-is_err-clause-becomes
 returns-then-is_err-clause-becomes g c = g.met.O.Outlet.goes_on _ _ _ c.loop-reading.invariant.becomes c.clear_for_wait.ensures.becomes
@@ -31,20 +33,24 @@ pub returns-then-is_err-2-clause-served : goal.returns-then-is_err-2-clause-serv
 returns-then-is_err-2-clause-served g c bytes unserved =
     let at = c.loop-reading.invariant.stands bytes unserved in
     let line = c.in-Some.ensures.line at.2.rest at.3 in
-    let part = sends_failed c.send_replies.result _ _ _ (sym c.is_err-in-Some.ensures.value ∙ c.if-is_err-2.true) c.send_replies.ensures.sent in
-    (_, Appends-trans _ _ _ _ _ (Appends-kept _ _ _ _ at.1 c.clear_for_wait.ensures.kept) part.3,
-    inl (fails g.D.Desk.gives g.D.Desk.Sets g.D.Desk.Steps c.args.policy.now _ _ (point (g.D.Desk.state c.answer-reply.new.desk) c.answer-reply.new.held) bytes at.0 line.0 line.1 at.2
-    c.in-Some.reading _ line.2 (line.3, line.4) c.answer-reply.ensures.turn part.0 part.1 part.2))
+    let part = sends_failed c.send_replies.result _ _ _ (sym c.is_err-in-Some.ensures.value ∙ c.if-is_err-2.true) c.send_replies.ensures.sent in (
+      _,
+      Appends-trans _ _ _ _ _ (Appends-kept _ _ _ _ at.1 c.clear_for_wait.ensures.kept) part.3,
+      inl (fails g.D.Desk.gives g.D.Desk.Sets g.D.Desk.Steps c.args.policy.now _ _ (point (g.D.Desk.state c.answer-reply.new.desk) c.answer-reply.new.held) bytes at.0 line.0 line.1 at.2
+          c.in-Some.reading _ line.2 (line.3, line.4) c.answer-reply.ensures.turn part.0 part.1 part.2),
+    )
 
 pub returns-then-quits-clause-served : goal.returns-then-quits-clause-served
 returns-then-quits-clause-served g c bytes unserved =
     let at = c.loop-reading.invariant.stands bytes unserved in
     let line = c.in-Some.ensures.line at.2.rest at.3 in
-    let all = sends_done c.send_replies.result _ _ _ (sym c.is_err-in-Some.ensures.value ∙ c.if-is_err-2.false) c.send_replies.ensures.sent in
-    (_, Appends-trans _ _ _ _ _ (Appends-kept _ _ _ _ at.1 c.clear_for_wait.ensures.kept) all,
-    quits g.D.Desk.gives g.D.Desk.Sets g.D.Desk.Steps c.args.policy.now _ _ (point (g.D.Desk.state c.answer-reply.new.desk) c.answer-reply.new.held) bytes at.0 line.0 line.1 at.2
-    c.in-Some.reading _ line.2 (line.3, line.4) c.answer-reply.ensures.turn
-    (c.is_quit-quits.ensures.0 c.if-quits.true))
+    let all = sends_done c.send_replies.result _ _ _ (sym c.is_err-in-Some.ensures.value ∙ c.if-is_err-2.false) c.send_replies.ensures.sent in (
+      _,
+      Appends-trans _ _ _ _ _ (Appends-kept _ _ _ _ at.1 c.clear_for_wait.ensures.kept) all,
+      quits g.D.Desk.gives g.D.Desk.Sets g.D.Desk.Steps c.args.policy.now _ _ (point (g.D.Desk.state c.answer-reply.new.desk) c.answer-reply.new.held) bytes at.0 line.0 line.1 at.2
+          c.in-Some.reading _ line.2 (line.3, line.4) c.answer-reply.ensures.turn
+          (c.is_quit-quits.ensures.0 c.if-quits.true),
+    )
 
 pub loop-reading-preserved : goal.loop-reading-preserved
 unfolding stands_turn
