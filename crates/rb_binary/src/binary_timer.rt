@@ -4,6 +4,7 @@ ghost use Rattle.rb_binary.specs.Layout.{Agrees, IsOrdered};
 
 use crate::heap::{Entry, forget_all, settle, sift_up};
 use rb_timer::Timer;
+use rb_timer::link::Link;
 use std::alloc::{AllocError, Global};
 
 /// A binary heap of the entries, by expiry, that also knows where each slot's entry is.
@@ -14,7 +15,7 @@ use std::alloc::{AllocError, Global};
 pub struct BinaryTimer {
     heap: Vec<Entry>,
     // At each slot of the room the place of its entry in the heap.
-    places: Vec<Option<usize>>,
+    places: Vec<Link>,
     ghost agrees: { Agrees heap.items places.items } by { Prim.hlevel props },
     ghost ordered: { IsOrdered heap.items } by { Prim.hlevel props },
     ghost reserved: { vec_len places ≤ vec_capacity heap },
@@ -48,14 +49,14 @@ impl Timer for BinaryTimer {
     }
 
     fn get(&self, slot: usize) -> Option<u64> {
-        let place = self.places.get(slot).copied().flatten()?;
+        let place = self.places.get(slot)?.slot()?;
         Some(self.heap[place].expiry)
     }
 
     fn reserve(&mut self, wanted: usize) -> Result<(), AllocError> {
         if wanted > self.places.len() {
             self.heap.reserve(wanted - self.heap.len())?;
-            self.places.resize(wanted, None)?;
+            self.places.resize(wanted, Link::none())?;
         }
         Ok(())
     }

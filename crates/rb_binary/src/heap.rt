@@ -1,6 +1,8 @@
 ghost use Rattle.std.specs.Prelude.{◌≡◌, ℕ, ◌+◌, ◌*◌, ◌-◌, ◌/◌, ◌<◌, ◌≤◌, None, Some, length, replicate, slice_set};
 ghost use Rattle.rb_binary.specs.Layout.{Agrees, slot_at, IsPutAt, IsOrderedBut, MayRise, MaySink, IsLeastChild, Settles};
 
+use rb_timer::link::Link;
+
 /// A slot and its expiry, in nanoseconds.
 #[derive(Clone, Copy, Debug)]
 pub(crate) struct Entry {
@@ -9,20 +11,20 @@ pub(crate) struct Entry {
 }
 
 // Puts the entry there, and notes its place.
-fn put(heap: &mut [Entry], places: &mut [Option<usize>], place: usize, entry: Entry)
+fn put(heap: &mut [Entry], places: &mut [Link], place: usize, entry: Entry)
     requires in_heap { place < length heap.old }
     requires in_room { entry.slot < length places.old }
     ensures heap { heap.new ≡ slice_set heap.old place entry }
     ensures places { places.new ≡ slice_set places.old entry.slot (Some place) }
 {
     heap[place] = entry;
-    places[entry.slot] = Some(place);
+    places[entry.slot] = Link::to(place);
 }
 
 /// Moves the entry up to where it does not expire before its parent.
 ///
 /// Its place need not be noted yet.
-pub(crate) fn sift_up(heap: &mut [Entry], places: &mut [Option<usize>], mut place: usize)
+pub(crate) fn sift_up(heap: &mut [Entry], places: &mut [Link], mut place: usize)
     requires put { IsPutAt heap.old places.old place }
     requires ordered { MayRise heap.old place }
     ensures { Settles heap.old places.old place heap.new places.new }
@@ -41,7 +43,7 @@ pub(crate) fn sift_up(heap: &mut [Entry], places: &mut [Option<usize>], mut plac
 }
 
 // Moves the entry down to where no child expires before it. Its place need not be noted yet.
-fn sift_down(heap: &mut [Entry], places: &mut [Option<usize>], mut place: usize)
+fn sift_down(heap: &mut [Entry], places: &mut [Link], mut place: usize)
     requires put { IsPutAt heap.old places.old place }
     requires ordered { MaySink heap.old place }
     ensures { Settles heap.old places.old place heap.new places.new }
@@ -72,7 +74,7 @@ fn least_child(heap: &[Entry], place: usize) -> usize
 }
 
 /// Moves the entry up or down to where it belongs. Its place need not be noted yet.
-pub(crate) fn settle(heap: &mut [Entry], places: &mut [Option<usize>], place: usize)
+pub(crate) fn settle(heap: &mut [Entry], places: &mut [Link], place: usize)
     requires put { IsPutAt heap.old places.old place }
     requires ordered { IsOrderedBut heap.old place }
     ensures { Settles heap.old places.old place heap.new places.new }
@@ -85,11 +87,11 @@ pub(crate) fn settle(heap: &mut [Entry], places: &mut [Option<usize>], place: us
 }
 
 /// Notes at each slot that it has no entry, at the cost of the entries and not of the room.
-pub(crate) fn forget_all(heap: &[Entry], places: &mut [Option<usize>])
+pub(crate) fn forget_all(heap: &[Entry], places: &mut [Link])
     requires { Agrees heap.now places.old }
     ensures { places.new ≡ replicate (length places.old) None }
 {
     for entry in heap {
-        places[entry.slot] = None;
+        places[entry.slot] = Link::none();
     }
 }

@@ -1,3 +1,4 @@
 pub mod Content
+pub mod LinkWords
 pub mod Run
 pub mod Slots

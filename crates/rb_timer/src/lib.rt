@@ -3,11 +3,13 @@
 //!
 //! A timer is seen as a finite map from slot to expiry, with a room that every slot is below. A
 //! slot is a number that the timer's owner chose, and an expiry a moment in nanoseconds. `reserve`
-//! alone may fail for want of memory, so whoever has made room cannot fail later.
+//! alone may fail for want of memory, so whoever has made room cannot fail later. `link` has what
+//! timers store slots in.
 #![tactic(auto)]
 
 mod command;
 mod large_trials;
+pub mod link;
 mod list_timer;
 mod run;
 #[cfg(test)]

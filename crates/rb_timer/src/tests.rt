@@ -5,5 +5,6 @@ mod fills_and_drains;
 mod fixtures;
 mod large_trials;
 mod limited_timer;
+mod links;
 mod long_run;
 mod trials;

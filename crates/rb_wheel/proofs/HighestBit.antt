@@ -5,6 +5,7 @@ use Rattle.std.specs.Int.RustNames.{bit_xor}
 use Rattle.std.proofs.lemmas.Nat.{shr-shr, pow-add, pow_pos, le-div, div_below}
 use Rattle.std.proofs.lemmas.Nat.Bits.{bit_at_xor, bit_at_above, bit_at-lt, bit_at-zero, same_from_bits}
 use Rattle.rb_wheel.specs.Cells.{units, digit, above, IsCellOf}
+use Rattle.rb_wheel.specs.declared.cells.TheConstants.{DIGITS, DIGIT_BITS}
 
 -- a bit of a number that was shifted is a higher bit
 bit_at_shr : (n j i : ℕ) → bit_at (n / 2 ^ j) i ≡ bit_at n (j + i)
@@ -46,41 +47,41 @@ module _ (a b bit : ℕ) (low : 2 ^ bit ≤ bit_xor a b) (high : bit_xor a b < 2
 -- the digits above a level, as the units of the next
 pub above_is_units : (level moment : ℕ) → above level moment ≡ units (level + 1) moment
 above_is_units level moment =
-    let next : 6 * level + 6 ≡ 6 * (level + 1) = omega arith in
-    shr-shr moment (6 * level) 6 ∙ ap (λ k. moment / 2 ^ k) next
+    let next : DIGIT_BITS * level + DIGIT_BITS ≡ DIGIT_BITS * (level + 1) = omega arith in
+    shr-shr moment (DIGIT_BITS * level) DIGIT_BITS ∙ ap (λ k. moment / 2 ^ k) next
 
-same_parts : (x y : ℕ) → x / 64 ≡ y / 64 → x % 64 ≡ y % 64 → x ≡ y
+same_parts : (x y : ℕ) → x / DIGITS ≡ y / DIGITS → x % DIGITS ≡ y % DIGITS → x ≡ y
 same_parts x y = omega arith
 
 module _ (base expiry bit : ℕ) (low : 2 ^ bit ≤ bit_xor base expiry)
     (high : bit_xor base expiry < 2 * 2 ^ bit) where
-  same_above_bit : above (bit / 6) expiry ≡ above (bit / 6) base
+  same_above_bit : above (bit / DIGIT_BITS) expiry ≡ above (bit / DIGIT_BITS) base
   same_above_bit =
-      above_is_units (bit / 6) expiry
-      ∙ sym (same_from base expiry bit low high (6 * (bit / 6 + 1)) (omega arith))
-      ∙ sym (above_is_units (bit / 6) base)
+      above_is_units (bit / DIGIT_BITS) expiry
+      ∙ sym (same_from base expiry bit low high (DIGIT_BITS * (bit / DIGIT_BITS + 1)) (omega arith))
+      ∙ sym (above_is_units (bit / DIGIT_BITS) base)
 
   -- the level of the highest bit that differs is the highest on which the digits differ
-  pub IsCellOf-from_bit : (cell : ℕ) → cell / 64 ≡ bit / 6 → cell % 64 ≡ digit (bit / 6) expiry
+  pub IsCellOf-from_bit : (cell : ℕ) → cell / DIGITS ≡ bit / DIGIT_BITS → cell % DIGITS ≡ digit (bit / DIGIT_BITS) expiry
       → IsCellOf base expiry cell
   IsCellOf-from_bit cell level at_digit = record {
     same_digit = ap (λ l. digit l expiry) level ∙ sym at_digit;
     same_above =
         ap (λ l. above l expiry) level ∙ same_above_bit ∙ sym (ap (λ l. above l base) level);
     differs = λ some same.
-        differs_from base expiry bit low high (6 * (bit / 6)) (omega arith)
-        (same_parts (units (bit / 6) base) (units (bit / 6) expiry) (sym same_above_bit)
+        differs_from base expiry bit low high (DIGIT_BITS * (bit / DIGIT_BITS)) (omega arith)
+        (same_parts (units (bit / DIGIT_BITS) base) (units (bit / DIGIT_BITS) expiry) (sym same_above_bit)
         (sym (sym (ap (λ l. digit l expiry) level) ∙ same ∙ ap (λ l. digit l base) level)));
   }
 
 -- where no bit differs, the cell is on the lowest level
-pub IsCellOf-from_none : (base expiry cell : ℕ) → bit_xor base expiry ≡ 0 → cell / 64 ≡ 0
-    → cell % 64 ≡ digit 0 expiry → IsCellOf base expiry cell
+pub IsCellOf-from_none : (base expiry cell : ℕ) → bit_xor base expiry ≡ 0 → cell / DIGITS ≡ 0
+    → cell % DIGITS ≡ digit 0 expiry → IsCellOf base expiry cell
 IsCellOf-from_none base expiry cell none level at_digit =
     let same : expiry ≡ base = same_from_bits expiry base (λ i. sym (bits_agree (bit_at base i) (bit_at expiry i) (bit_at-lt base i) (bit_at-lt expiry i)
     (sym (bit_at_xor base expiry i) ∙ ap (λ n. bit_at n i) none ∙ bit_at-zero i))) in
     record {
       same_digit = ap (λ l. digit l expiry) level ∙ sym at_digit;
-      same_above = ap (above (cell / 64)) same;
+      same_above = ap (above (cell / DIGITS)) same;
       differs = λ some. absurd (omega arith);
     }

@@ -9,6 +9,7 @@ use Rattle.rb_wheel.specs.Wheel.{LiesRight, LieRight, MaySpread, IsFirst}
 use Rattle.rb_wheel.proofs.Order.{earlier_from_cells, lower_from_one, IsCellOf-next}
 use Rattle.rb_wheel.proofs.Linked.{cases_option}
 use Rattle.rb_wheel.proofs.Viewed.{is_some-none}
+use Rattle.rb_wheel.specs.declared.cells.TheConstants.{DIGITS}
 
 -- an entry that lies in a cell: its expiry is in that cell, and no earlier than the base
 pub record IsEntryAt (base : ℕ) (expiry : Option ℕ) (cell : ℕ) : Type 0 where
@@ -84,7 +85,7 @@ module _ (base : ℕ) (expiries cells : List (Option ℕ)) (right : LieRight bas
         (IsCellOf-next base next cell own.1 it.at at it.in_cell (not_before slot at lies) (either at lies)))
 
     -- on the lowest level all then lies right
-    pub right_lowest : cell < 64 → LieRight next expiries cells
+    pub right_lowest : cell < DIGITS → LieRight next expiries cells
     right_lowest low = record {
       each = λ slot. moved slot
           (λ at lies. let from = not_before slot at lies in
@@ -92,7 +93,7 @@ module _ (base : ℕ) (expiries cells : List (Option ℕ)) (right : LieRight bas
     }
 
     -- on a higher level the cell's entries are then to be spread
-    pub may_spread : 64 ≤ cell → MaySpread next cell expiries cells
+    pub may_spread : DIGITS ≤ cell → MaySpread next cell expiries cells
     may_spread high = record {
       others = λ slot apart. moved slot
           (λ at lies. ⊎_elim (λ later. inl later)

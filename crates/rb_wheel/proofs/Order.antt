@@ -5,10 +5,11 @@ use Rattle.std.proofs.lemmas.Bool.{cases_lt}
 use Rattle.std.proofs.lemmas.Nat.{shr-shr}
 use Rattle.rb_wheel.specs.Cells.{level_of, digit_of, units, digit, above, IsCellOf}
 use Rattle.rb_wheel.proofs.HighestBit.{above_is_units}
+use Rattle.rb_wheel.specs.declared.cells.TheConstants.{DIGITS, DIGIT_BITS}
 
 -- a later moment has no fewer units
 units_rise : (level a b : ℕ) → a ≤ b → units level a ≤ units level b
-units_rise level a b le = shr_mono (6 * level) le
+units_rise level a b le = shr_mono (DIGIT_BITS * level) le
 
 -- fewer units are an earlier moment
 earlier_from_units : (level a b : ℕ) → units level a < units level b → a < b
@@ -21,10 +22,10 @@ earlier_from_units level a b fewer = ⊎_elim
 same_units_up : (level higher a b : ℕ) → level < higher → above level a ≡ above level b
     → units higher a ≡ units higher b
 same_units_up level higher a b up same =
-    let from : 6 * (level + 1) + 6 * (higher - (level + 1)) ≡ 6 * higher = omega arith in
-    let shifted = λ (moment : ℕ). shr-shr moment (6 * (level + 1)) (6 * (higher - (level + 1))) ∙ ap (λ k. moment / 2 ^ k) from in
+    let from : DIGIT_BITS * (level + 1) + DIGIT_BITS * (higher - (level + 1)) ≡ DIGIT_BITS * higher = omega arith in
+    let shifted = λ (moment : ℕ). shr-shr moment (DIGIT_BITS * (level + 1)) (DIGIT_BITS * (higher - (level + 1))) ∙ ap (λ k. moment / 2 ^ k) from in
     sym (shifted a)
-    ∙ ap (λ n. n / 2 ^ (6 * (higher - (level + 1)))) (sym (above_is_units level a) ∙ same ∙ above_is_units level b)
+    ∙ ap (λ n. n / 2 ^ (DIGIT_BITS * (higher - (level + 1)))) (sym (above_is_units level a) ∙ same ∙ above_is_units level b)
     ∙ shifted b
 
 module _ (base : ℕ) where
@@ -34,7 +35,7 @@ module _ (base : ℕ) where
   more_units expiry cell after is up =
       let level = level_of cell in
       let rise = units_rise level base expiry after in
-      let apart : units level expiry ≢ units level base = λ same. is.differs up (ap (λ n. n % 64) same) in
+      let apart : units level expiry ≢ units level base = λ same. is.differs up (ap (λ n. n % DIGITS) same) in
       omega arith
 
   -- what lies in an earlier cell expires earlier: each entry of a lower level before those of the
@@ -58,7 +59,7 @@ module _ (base : ℕ) where
       (cases_lt (level_of cell) (level_of another))
 
 -- all entries of a cell have the same units there
-units_of_cell : (base expiry cell : ℕ) → IsCellOf base expiry cell → above (level_of cell) base * 64 + digit_of cell ≡ units (level_of cell) expiry
+units_of_cell : (base expiry cell : ℕ) → IsCellOf base expiry cell → above (level_of cell) base * DIGITS + digit_of cell ≡ units (level_of cell) expiry
 units_of_cell base expiry cell is =
     let digits = is.same_digit in
     let aboves = is.same_above in
@@ -76,11 +77,11 @@ module _ (base one other cell : ℕ) (is_one : IsCellOf base one cell) (is_other
       let there = same_units in
       let level = level_of lower in
       let same : units level other ≡ units level one = ⊎_elim
-      (λ higher. same_units_up (level_of cell) level other one higher (ap (λ n. n / 64) there))
+      (λ higher. same_units_up (level_of cell) level other one higher (ap (λ n. n / DIGITS) there))
       (λ not_higher. let equal : level_of cell ≡ level = omega arith in
       subst (λ l. units l other ≡ units l one) equal there)
       (cases_lt (level_of cell) level) in
-      absurd (is_lower.differs (omega arith) (ap (λ n. n % 64) same)))
+      absurd (is_lower.differs (omega arith) (ap (λ n. n % DIGITS) same)))
       (cases_lt (level_of lower) (level_of cell))
 
 -- the base moves to `next`, an entry of the first cell, and another cell comes no earlier
@@ -91,7 +92,7 @@ module _ (base next cell : ℕ) (is_next : IsCellOf base next cell)
 
   next_above : cell ≤ another → above (level_of another) next ≡ above (level_of another) base
   next_above not_before = ⊎_elim
-      (λ higher. ap (λ n. n / 64) (next_units_higher higher))
+      (λ higher. ap (λ n. n / DIGITS) (next_units_higher higher))
       (λ not_higher. let equal : level_of cell ≡ level_of another = omega arith in
       subst (λ l. above l next ≡ above l base) equal is_next.same_above)
       (cases_lt (level_of cell) (level_of another))
@@ -99,7 +100,7 @@ module _ (base next cell : ℕ) (is_next : IsCellOf base next cell)
   -- an entry of another cell has a digit that still differs
   digits_differ : cell < another → 0 < level_of another → digit (level_of another) expiry ≢ digit (level_of another) next
   digits_differ later some = ⊎_elim
-      (λ higher same. is.differs some (same ∙ ap (λ n. n % 64) (next_units_higher higher)))
+      (λ higher same. is.differs some (same ∙ ap (λ n. n % DIGITS) (next_units_higher higher)))
       (λ not_higher same.
       let equal : level_of cell ≡ level_of another = omega arith in
       let first_digit : digit (level_of another) next ≡ digit_of cell = subst (λ l. digit l next ≡ digit_of cell) equal is_next.same_digit in

@@ -3,5 +3,4 @@ pub mod WheelLinks
 pub mod Lists
 pub mod Marks
 pub mod Wheel
-pub mod LinkWords
 pub mod Nodes

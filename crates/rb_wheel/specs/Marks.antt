@@ -1,11 +1,12 @@
--- A set of cells, as one word of 64 bits for each level.
+-- A set of cells, as one word for each level with a bit for each digit.
 use Rattle.std.specs.Prelude.{◌≡◌, ℕ, ◌/◌, ◌%◌, ◌≤◌, Option, Some, None, slice_index}
 use Rattle.std.specs.Int.{bit_at}
 use Rattle.rb_wheel.specs.declared.marks.Marks.{Marks}
+use Rattle.rb_wheel.specs.declared.cells.TheConstants.{DIGITS}
 
 -- 1 where the cell is marked, otherwise 0
 abbrev pub mark_at : Marks → ℕ → ℕ
-mark_at marks cell = bit_at (slice_index marks.words (cell / 64)) (cell % 64)
+mark_at marks cell = bit_at (slice_index marks.words (cell / DIGITS)) (cell % DIGITS)
 
 -- the first marked cell, or none where none is marked
 abbrev pub IsFirstMarked : Marks → Option ℕ → Type 0

@@ -2,7 +2,6 @@
 #![tactic(auto)]
 
 mod cells;
-mod link;
 mod lists;
 mod marks;
 mod next_first;

@@ -4,9 +4,9 @@ ghost use Rattle.rb_wheel.specs.Marks.{mark_at, mark_of, mark_with_first};
 ghost use Rattle.rb_wheel.specs.Lists.{cell_at, slot_expiry, IsVacant, IsFirstCell, IsLeastIn, HasExpiries};
 
 use crate::cells::CELLS;
-use crate::link::Link;
 use crate::marks::Marks;
 use crate::node::{Node, set_next, set_previous};
+use rb_timer::link::Link;
 use std::alloc::{AllocError, Global};
 use std::marker::Model;
 

@@ -2,7 +2,7 @@ ghost use Rattle.std.specs.Prelude.{◌≡◌, ◌<◌, Some, None, IfSome, leng
 ghost use Rattle.rb_wheel.specs.Nodes.{vacant, expiry_of, with_next, with_previous};
 
 use crate::cells::CELLS;
-use crate::link::Link;
+use rb_timer::link::Link;
 
 /// What a slot of the room holds: its entry's expiry, if it has one, and where the slot lies.
 #[derive(Clone, Copy, Debug)]

@@ -6,6 +6,12 @@ use Rattle.rb_binary.specs.Layout.{place_of}
 use Rattle.rb_binary.proofs.Contents.{get-content, get-content_read}
 use Rattle.rb_binary.proofs.binary_timer.BinaryTimerTimer.get.Goals as goal
 
+pub returns-in_err-get : goal.returns-in_err-get
+returns-in_err-get c =
+    let timer = c.args.self.now in
+    let at_slot = get-content timer.heap.items timer.places.items c.args.slot in
+    grind (arith, common_steps, gets, at_slot, c.in_err-get.was)
+
 pub returns-in_err-place : goal.returns-in_err-place
 returns-in_err-place c =
     let timer = c.args.self.now in

@@ -8,5 +8,5 @@ pub returns-in_ok-resize-clause-content : goal.returns-in_ok-resize-clause-conte
 returns-in_ok-resize-clause-content c =
     let places = c.args.self.now.places.items in
     let all : take c.args.wanted places ≡ places = take_all c.args.wanted places (omega arith) in
-    rw (c.in_ok-reserve.ensures.items, c.in_ok-resize.ensures.items, all)
+    rw (c.in_ok-reserve.ensures.items, c.in_ok-resize.ensures.items, all, c.none.ensures)
     (content_of-reserved c.args.self.now.heap.items places _)

@@ -8,11 +8,12 @@ use Rattle.rb_wheel.proofs.Rooms.{AreSoundLists-reserved, get_or-padded, cells_o
 use Rattle.rb_wheel.proofs.Viewed.{length-viewed, length-expiries, cells_viewed, expiries_viewed}
 use Rattle.rb_wheel.proofs.lists.Lists.reserve.Goals as goal
 use Rattle.rb_wheel.proofs.lists.Lists.reserve.Goals.{In_ok-resize, In_ok-resize-2}
+use Rattle.rb_wheel.specs.declared.cells.TheConstants.{CELLS}
 
-heads_are : (c : In_ok-resize) → c.resize.new.self.items ≡ take 704 c.self.inside.heads.items ++ replicate (704 - c.self.inside.heads.len) None
+heads_are : (c : In_ok-resize) → c.resize.new.self.items ≡ take CELLS c.self.inside.heads.items ++ replicate (CELLS - c.self.inside.heads.len) None
 heads_are c =
     let heads = c.self.inside.heads in
-    c.in_ok-resize.ensures.items ∙ ap (λ (o : Option ℕ). take 704 heads.items ++ replicate (704 - heads.len) o) c.none.ensures
+    c.in_ok-resize.ensures.items ∙ ap (λ (o : Option ℕ). take CELLS heads.items ++ replicate (CELLS - heads.len) o) c.none.ensures
 
 nodes_are : (c : In_ok-resize-2) → c.resize-then-wanted-len.new.self.items ≡ c.self.inside.nodes.items ++ replicate (c.args.wanted - c.self.inside.nodes.len) vacant
 nodes_are c =
@@ -27,7 +28,7 @@ invariant_of-self-in-Continue-branch-2 c =
     let lists = c.self.inside in
     let nodes = lists.nodes.items in
     let few = c.self.invariant.few_heads in
-    AreSoundLists-reserved lists.heads.items c.resize.new.self.items lists.marks nodes c.resize-then-wanted-len.new.self.items (704 - lists.heads.len)
+    AreSoundLists-reserved lists.heads.items c.resize.new.self.items lists.marks nodes c.resize-then-wanted-len.new.self.items (CELLS - lists.heads.len)
     (omega arith) (heads_are (goal.at.invariant_of-self-in-Continue-branch-2 c).In_ok-resize)
     (λ slot. ap (λ ns. node_at ns slot) (nodes_are (goal.at.invariant_of-self-in-Continue-branch-2 c).In_ok-resize-2)
     ∙ get_or-padded nodes (c.args.wanted - lists.nodes.len) slot vacant)
@@ -37,7 +38,7 @@ pub invariant_of-self-in_err-resize-2 : goal.invariant_of-self-in_err-resize-2
 invariant_of-self-in_err-resize-2 c =
     let lists = c.self.inside in
     let few = c.self.invariant.few_heads in
-    AreSoundLists-reserved lists.heads.items c.resize.new.self.items lists.marks lists.nodes.items c.resize-then-wanted-len.new.self.items (704 - lists.heads.len)
+    AreSoundLists-reserved lists.heads.items c.resize.new.self.items lists.marks lists.nodes.items c.resize-then-wanted-len.new.self.items (CELLS - lists.heads.len)
     (omega arith) (heads_are (goal.at.invariant_of-self-in_err-resize-2 c).In_ok-resize)
     (λ slot. ap (λ ns. node_at ns slot) c.in_err-resize-2.ensures.items) c.self.invariant
 

@@ -3,8 +3,8 @@ use Rattle.std.specs.Prelude.{◌≡◌, ℕ, ◌≤◌, Option, Some, None, con
 use Rattle.std.specs.Option.{unwrap_or}
 use Rattle.std.proofs.Common.{ap, ◌∙◌, arith, ⊎_elim}
 use Rattle.std.proofs.lemmas.Bool.{cases_lt, lt-ltb, le-ltb}
-use Rattle.rb_wheel.specs.declared.link.TheConstants.{NONE}
-use Rattle.rb_wheel.specs.declared.link.Link.TheInside.{Inside}
+use Rattle.rb_timer.specs.declared.link.TheConstants.{NONE}
+use Rattle.rb_timer.specs.declared.link.Link.TheInside.{Inside}
 
 -- the slot that a link leads to, if it does
 abbrev pub slot_of : Inside → Option ℕ
