@@ -7,6 +7,7 @@
 
 mod delayed;
 mod element;
+mod laws;
 mod moment;
 mod payload;
 mod payload_fault;
@@ -15,6 +16,7 @@ mod tests;
 
 pub use delayed::{Delayed, is_expired};
 pub use element::{Element, GREATEST_ATTEMPT};
+pub use laws::limits_have_their_values;
 pub use moment::{GREATEST_MOMENT, add_capped, add_delay};
 pub use payload::{GREATEST_PAYLOAD_BYTE, LEAST_PAYLOAD_BYTE, MOST_PAYLOAD_BYTES, Payload};
 pub use payload_fault::PayloadFault;

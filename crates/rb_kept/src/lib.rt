@@ -7,11 +7,13 @@
 
 mod fault;
 mod kept;
+mod laws;
 mod outcome;
 mod perform;
 mod tries;
 
 pub use fault::{CallFault, NewFault};
 pub use kept::{Kept, MOST_CALLS};
+pub use laws::most_calls_has_its_value;
 pub use outcome::{Outcome, Step};
 pub use tries::Try;

@@ -5,11 +5,13 @@
 #![tactic(auto)]
 
 mod books;
+mod laws;
 mod tally;
 #[cfg(test)]
 mod tests;
 mod totals;
 
 pub use books::Books;
+pub use laws::greatest_count_has_its_value;
 pub use tally::Tally;
 pub use totals::{GREATEST_COUNT, Totals};

@@ -21,6 +21,12 @@ use std::marker::Model;
 /// A delay queue over any timer, as `DelayQueue` of Java SE 17 for one thread.
 ///
 /// Memory is taken by `new_from`, `offer` and `drain` alone.
+///
+/// What a call costs: `offer`, `poll` and `remove` make one change of the timer, and beside it a constant on
+/// average. An offer that finds no room doubles it, and so moves all elements. `drain` costs a poll for each
+/// element that it takes, and one more. `peek` and `next_expiry` cost the timer's `least`, `size` and
+/// `next_id` a constant. `clear` costs what stands: where that is little beside the room, a removal for each
+/// element, and else a pass over the room. `new_from` costs an offer for each element.
 #[derive(Drop)]
 pub struct DelayQueue<T: Timer> {
     store: Store<T>,

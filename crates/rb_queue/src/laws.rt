@@ -1,4 +1,6 @@
+ghost use Rattle.std.specs.Prelude.{◌≡◌};
 ghost use Rattle.rb_queue.specs.Leaving.{IsOfferedOnce, LeavesOnce, IsBalanced};
+ghost use Rattle.rb_queue.specs.declared.opening.TheConstants.{MOST_OPENING_ELEMENTS, GREATEST_OPENING_ID};
 
 /// In a legal history no id is offered twice, and none leaves twice. An element of the opening counts
 /// as offered.
@@ -11,4 +13,10 @@ pub fn each_id_once()
 /// those that were given, removed and cleared, and those that are left.
 pub fn each_element_counted()
     ensures { IsBalanced }
+{}
+
+/// The limits of an opening are these numbers, the second 2^40. Every other clause names the constants.
+pub fn opening_limits_have_their_values()
+    ensures elements { MOST_OPENING_ELEMENTS ≡ 1000000 }
+    ensures next_id { GREATEST_OPENING_ID ≡ 1099511627776 }
 {}

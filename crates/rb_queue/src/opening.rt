@@ -40,7 +40,8 @@ impl Opening {
     }
 
     /// The opening of these elements. `None` exactly where they are more than 1,000,000, their ids do
-    /// not rise or are not below `next_id`, or that is above 2^40. It takes no memory.
+    /// not rise or are not below `next_id`, or that is above 2^40. It takes no memory, and looks at each
+    /// element once.
     pub fn new(elements: Items, next_id: u64, last_at: u64) -> Option<Opening>
         ensures opening { IsSome result ↔ IsOpening elements next_id }
         ensures elements { IfSome result (λ opening. opening.elements ≡ elements) }

@@ -119,7 +119,8 @@ impl<T: Timer> Store<T> {
         self.elements.len()
     }
 
-    /// Discards all elements, at the cost of those that stand: not of the room, nor of what once stood.
+    /// Discards all elements, at the cost of those that stand: not of the room, nor of what once stood. Few
+    /// are taken out one by one.
     pub(crate) fn clear(&mut self)
         ensures { self.new ≡ map.empty }
     {
