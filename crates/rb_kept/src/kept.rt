@@ -1,4 +1,4 @@
-ghost use Rattle.std.specs.Prelude.{◌≡◌, ℕ, ◌<◌, ◌≤◌, ◌↔◌, [], length, IsErrOf, IsErrAnd, IfOk, IfErr, OnErr};
+ghost use Rattle.std.specs.Prelude.{◌≡◌, ℕ, ◌+◌, ◌<◌, ◌≤◌, ◌↔◌, [], length, IsErrOf, IsErrAnd, IfOk, IfErr, OnErr};
 ghost use Rattle.rb_ledger.specs.Totals.{nothing};
 ghost use Rattle.rb_queue.specs.History.{IsLegal, state_of};
 ghost use Rattle.rb_queue.specs.Counts.{audit_of};
@@ -11,7 +11,7 @@ use crate::outcome::{Outcome, Step};
 use crate::perform::{Answer, Performed, perform};
 use crate::tries::Try;
 use rb_ledger::{Books, Tally};
-use rb_queue::{Ask, Audit, DelayQueue, Event, Opening};
+use rb_queue::{Ask, Audit, DelayQueue, Event, Opening, each_element_counted};
 use rb_timer::Timer;
 use std::alloc::{AllocError, Global};
 use std::marker::Model;
@@ -23,6 +23,10 @@ pub const MOST_CALLS: u64 = 1_000_000;
 ///
 /// Each answered call appends one event; a refused one changes nothing. Room for all events is taken at
 /// the start, so that of the calls an offer and a drain alone can want memory.
+///
+/// What a call costs: `act` what the queue's own call does, and a constant for the event and the counts; a
+/// drain also notes the ids that it took, and keeps room for no more. `run_tries` costs an `act` for each
+/// try. `history`, `opening`, `capacity` and `audit` cost a constant, however long the history is.
 #[derive(Drop)]
 pub struct Kept<T: Timer> {
     queue: DelayQueue<T>,
@@ -193,10 +197,14 @@ impl<T: Timer> Kept<T> {
         self.capacity
     }
 
-    /// What the run came to so far.
+    /// What the run came to so far. Nothing is lost: the elements of the opening and those that were offered
+    /// are those that were given, removed and cleared, and those that are left.
     pub fn audit(&self) -> Audit
-        ensures { result ≡ audit_of self.now.opening self.now.history }
+        ensures counts { result ≡ audit_of self.now.opening self.now.history }
+        ensures balanced { result.offered + result.opening ≡ result.given + result.removed + result.cleared + result.left }
     {
+        // The proof reads here the law for every legal history.
+        each_element_counted();
         Audit {
             calls: self.history.len() as u64,
             offered: self.books.offered(),

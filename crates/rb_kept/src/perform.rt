@@ -56,6 +56,8 @@ fn offer<T: Timer>(queue: &mut DelayQueue<T>, draft: Draft) -> Performed
     let Ok(element) = queue.offer(draft) else {
         return Performed::NoMemory;
     };
+    // The event keeps one copy, and the caller gets the other. The copy has a name of its own, since an element
+    // that is written twice in one value counts as moved.
     let recorded = element;
     Performed::Done(Answer {
         act: Act::Offer(recorded),
@@ -93,19 +95,16 @@ fn take<T: Timer>(queue: &mut DelayQueue<T>, at: u64) -> Performed
 fn poll_for<T: Timer>(queue: &mut DelayQueue<T>, at: u64, start: u64, timeout: u64) -> Performed
     ensures { Performs queue.old at (Ask.PollFor start timeout) result queue.new }
 {
-    let got = match queue.poll(at) {
-        Some(element) => {
-            return Performed::Done(Answer {
-                act: Act::PollFor {
-                    start,
-                    timeout,
-                    got: Some(element.id()),
-                },
-                reply: Reply::Item(element),
-            });
-        }
-        None => None,
-    };
+    if let Some(element) = queue.poll(at) {
+        return Performed::Done(Answer {
+            act: Act::PollFor {
+                start,
+                timeout,
+                got: Some(element.id()),
+            },
+            reply: Reply::Item(element),
+        });
+    }
     if at < add_capped(start, timeout) {
         return Performed::Later(queue.next_expiry());
     }
@@ -113,7 +112,7 @@ fn poll_for<T: Timer>(queue: &mut DelayQueue<T>, at: u64, start: u64, timeout: u
         act: Act::PollFor {
             start,
             timeout,
-            got,
+            got: None,
         },
         reply: Reply::Nothing,
     })

@@ -1,13 +1,15 @@
--- What is kept beside the history, its books, sums and the queue's size, is what counting it gives.
-use Rattle.std.proofs.Common.{◌≡◌, length, sym, ap, ◌∙◌, arith}
+-- What is kept beside the history, its books, sums and the queue's size, is what counting it gives. So the law
+-- for legal histories speaks of these numbers.
+use Rattle.std.proofs.Common.{◌≡◌, ◌+◌, length, sym, ap, ◌∙◌, arith}
 use Rattle.std.specs.FinMap as map
 use Rattle.rb_ledger.specs.declared.totals.Totals.{Totals}
 use Rattle.rb_queue.specs.Queue.{Queue}
 use Rattle.rb_queue.specs.Counts.{left_count}
+use Rattle.rb_queue.specs.declared.audit.Audit.{Audit}
 use Rattle.rb_kept.proofs.kept.Kept.audit.Goals as goal
 
-pub returns : goal.returns
-returns g c =
+pub returns-clause-counts : goal.returns-clause-counts
+returns-clause-counts g c =
     let calls : c.len.result ≡ length c.self.inside.history.items = omega arith in
     let offered = c.offered.ensures ∙ ap (λ (t : Totals). t.offered) c.self.invariant.booked in
     let given = c.given.ensures ∙ ap (λ (t : Totals). t.given) c.self.invariant.booked in
@@ -22,3 +24,10 @@ returns g c =
       left = left i;
       opening = opening i;
     })
+
+pub returns-clause-balanced : goal.returns-clause-balanced
+returns-clause-balanced g c =
+    let counts = returns-clause-counts g c in
+    let law = c.each_element_counted.ensures c.args.self.now.opening c.args.self.now.history (rw (← c.self.view_is) c.self.invariant.legal) in
+    ap (λ (a : Audit). a.offered + a.opening) counts ∙ law
+    ∙ sym (ap (λ (a : Audit). a.given + a.removed + a.cleared + a.left) counts)
