@@ -15,4 +15,5 @@ mod removals;
 mod runs_of_tries;
 mod same_over_each_timer;
 mod shares;
+mod timer_refusals;
 mod waits;

@@ -1,20 +1,20 @@
 // Calls that take no memory. `tools/count_allocations` counts what the two tests of this file allocate:
-// they make the same things, and only the second makes the calls, so they have to allocate as often.
+// they make the same things, and only the second makes the calls, so they have to allocate as often. All things
+// are made before the first call, so that the tool can also refuse every allocation from that call on.
 
-use crate::tests::fixtures::{expect_number, payload};
+use crate::tests::fixtures::{expect, expect_number, payload};
 use rb_binary::BinaryTimer;
 use rb_delayed::{Delayed, Element, Payload, add_capped, add_delay, is_expired};
 use rb_kept::{CallFault, Kept, Outcome};
 use rb_ledger::{Books, Tally};
 use rb_pairing::PairingTimer;
 use rb_protocol::{LineReply, read_request, write_reply};
-use rb_queue::{Ask, DelayQueue, Draft, Opening, Reply};
-use rb_replay::read_history;
+use rb_queue::{Act, Ask, DelayQueue, Draft, Items, Opening, Reply};
+use rb_replay::{History, read_history};
 use rb_timer::{ListTimer, Timer};
 use rb_wheel::WheelTimer;
-use std::alloc::{AllocError, Global};
+use std::alloc::Global;
 use std::process::Abort;
-use std::test::Fail;
 
 // How often each call is made.
 const ROUNDS: u64 = 100;
@@ -34,40 +34,136 @@ const ROOM: usize = 70;
 const CALLS: u64 = 1_002;
 
 #[test]
-fn none_of_the_calls(rt: HostRuntime) -> Result<(), Fail> {
-    expect_answers(&rt, rt.alloc(), 0)
+fn none_of_the_calls(rt: HostRuntime) {
+    expect_answers(&rt, rt.alloc(), 0);
 }
 
 #[test]
-fn each_of_the_calls(rt: HostRuntime) -> Result<(), Fail> {
-    expect_answers(&rt, rt.alloc(), ROUNDS)
+fn each_of_the_calls(rt: HostRuntime) {
+    expect_answers(&rt, rt.alloc(), ROUNDS);
+}
+
+// What the calls are made on.
+#[derive(Drop)]
+struct Things {
+    text: Vec<u8>,
+    history: History,
+    list: Over<ListTimer>,
+    heap: Over<BinaryTimer>,
+    pairing: Over<PairingTimer>,
+    wheel: Over<WheelTimer>,
+}
+
+// A timer with room, a queue and a kept queue with elements.
+#[derive(Drop)]
+struct Over<T: Timer> {
+    timer: T,
+    queue: DelayQueue<T>,
+    kept: Kept<T>,
+    tally: Tally,
+}
+
+fn made(rt: &impl Abort, alloc: Global) -> Things {
+    Things {
+        text: text(rt, alloc),
+        history: history(rt, alloc),
+        list: made_over(rt, alloc),
+        heap: made_over(rt, alloc),
+        pairing: made_over(rt, alloc),
+        wheel: made_over(rt, alloc),
+    }
+}
+
+fn made_over<T: Timer>(rt: &impl Abort, alloc: Global) -> Over<T> {
+    let (kept, tally) = kept_queue(rt, alloc);
+    Over {
+        timer: timer(rt, alloc),
+        queue: queue(rt, alloc),
+        kept,
+        tally,
+    }
+}
+
+// Room for the longest reply.
+fn text(rt: &impl Abort, alloc: Global) -> Vec<u8> {
+    let text = Vec::with_capacity(alloc, 128);
+    text.ok().expect(rt, "a text")
+}
+
+fn history(rt: &impl Abort, alloc: Global) -> History {
+    let history = read_history(alloc, b"history 3\nopen 0 0 0\n0 0 0 size 0\nend 1\n");
+    history.ok().expect(rt, "a history")
+}
+
+fn timer<T: Timer>(rt: &impl Abort, alloc: Global) -> T {
+    let mut timer = T::new(alloc);
+    let room = timer.reserve(ROOM);
+    expect(rt, room.is_ok(), "room");
+    timer
+}
+
+// A queue of elements whose expiries are their ids.
+fn queue<T: Timer>(rt: &impl Abort, alloc: Global) -> DelayQueue<T> {
+    let mut queue = DelayQueue::new(alloc);
+    for expiry in 0..ELEMENTS {
+        offers(rt, &mut queue, expiry);
+    }
+    queue
+}
+
+fn offers<T: Timer>(rt: &impl Abort, queue: &mut DelayQueue<T>, expiry: u64) {
+    if queue.next_id() < u64::MAX {
+        let offered = queue.offer(draft(rt, expiry));
+        expect(rt, offered.is_ok(), "an offer");
+    }
+}
+
+// A kept queue of such elements.
+fn kept_queue<T: Timer>(rt: &impl Abort, alloc: Global) -> (Kept<T>, Tally) {
+    let begun = Kept::new_from(alloc, CALLS, Opening::empty(alloc));
+    let (mut kept, mut tally) = begun.ok().expect(rt, "a kept queue");
+    for expiry in 0..ELEMENTS {
+        let offered = kept.act(&mut tally, 0, 0, Ask::Offer(draft(rt, expiry)));
+        expect_done(rt, &offered);
+    }
+    (kept, tally)
 }
 
 // Each round of each group counts how many of its calls answered as they have to.
-fn expect_answers(rt: &impl Abort, alloc: Global, rounds: u64) -> Result<(), Fail> {
-    expect_number(rt, values(rt, rounds), rounds.saturating_mul(6));
+fn expect_answers(rt: &impl Abort, alloc: Global, rounds: u64) {
+    let mut things = made(rt, alloc);
+    expect_number(rt, values(rt, rounds), rounds.saturating_mul(7));
+    expect_number(rt, beginnings(rt, alloc, rounds), rounds.saturating_mul(4));
     expect_number(rt, books(rounds), rounds.saturating_mul(3));
-    expect_number(rt, lines(alloc, rounds)?, rounds.saturating_mul(3));
-    expect_number(rt, events(alloc, rounds)?, rounds);
-    expect_over::<ListTimer>(rt, alloc, rounds)?;
-    expect_over::<BinaryTimer>(rt, alloc, rounds)?;
-    expect_over::<PairingTimer>(rt, alloc, rounds)?;
-    expect_over::<WheelTimer>(rt, alloc, rounds)
-}
-
-fn expect_over<T: Timer>(rt: &impl Abort, alloc: Global, rounds: u64) -> Result<(), Fail> {
-    expect_number(rt, timers::<T>(alloc, rounds)?, rounds.saturating_mul(8));
     expect_number(
         rt,
-        queues::<T>(rt, alloc, rounds)?,
+        lines(&mut things.text, rounds),
+        rounds.saturating_mul(3),
+    );
+    expect_number(rt, events(&things.history, rounds), rounds);
+    expect_over(rt, alloc, &mut things.list, rounds);
+    expect_over(rt, alloc, &mut things.heap, rounds);
+    expect_over(rt, alloc, &mut things.pairing, rounds);
+    expect_over(rt, alloc, &mut things.wheel, rounds);
+}
+
+fn expect_over<T: Timer>(rt: &impl Abort, alloc: Global, over: &mut Over<T>, rounds: u64) {
+    expect_number(
+        rt,
+        timers(alloc, &mut over.timer, rounds),
+        rounds.saturating_mul(8),
+    );
+    expect_number(
+        rt,
+        queues(alloc, &mut over.queue, rounds),
         rounds.saturating_mul(6),
     );
     expect_number(
         rt,
-        kept_queues::<T>(rt, alloc, rounds)?,
-        rounds.saturating_mul(9),
+        kept_queues(&mut over.kept, &mut over.tally, rounds),
+        rounds.saturating_mul(10),
     );
-    Ok(())
+    clears(rt, &mut over.kept, &mut over.tally, rounds);
 }
 
 fn count(answers: &[bool]) -> u64 {
@@ -101,8 +197,27 @@ fn value_round(element: &Element, round: u64) -> u64 {
         add_delay(round, 1) == round.checked_add(1),
         add_capped(u64::MAX, round) == u64::MAX,
         !is_expired(element, round),
+        element.id() == 0 && element.expiry() == LATE,
         element.delay(LATE) == 0,
         element.delay_order(element).is_eq(),
+    ])
+}
+
+// What a queue or a run begins with, and what an act came to.
+fn beginnings(rt: &impl Abort, alloc: Global, rounds: u64) -> u64 {
+    let mut right = 0_u64;
+    for _ in 0..rounds {
+        right = right.saturating_add(beginning_round(rt, alloc));
+    }
+    right
+}
+
+fn beginning_round(rt: &impl Abort, alloc: Global) -> u64 {
+    count(&[
+        draft(rt, LATE).expiry == LATE,
+        Opening::empty(alloc).next_id == 0,
+        Opening::new(Items::new(Vec::new(alloc)), 7, LATE).is_some(),
+        Act::Clear.cleared(3) == 3 && Act::Take(0).given() == 1,
     ])
 }
 
@@ -129,13 +244,12 @@ fn book_round() -> u64 {
 }
 
 // Lines of requests, and replies into room for the longest one.
-fn lines(alloc: Global, rounds: u64) -> Result<u64, AllocError> {
-    let mut text = Vec::with_capacity(alloc, 128)?;
+fn lines(text: &mut Vec<u8>, rounds: u64) -> u64 {
     let mut right = 0_u64;
     for _ in 0..rounds {
-        right = right.saturating_add(line_round(&mut text));
+        right = right.saturating_add(line_round(text));
     }
-    Ok(right)
+    right
 }
 
 fn line_round(text: &mut Vec<u8>) -> u64 {
@@ -148,24 +262,21 @@ fn line_round(text: &mut Vec<u8>) -> u64 {
 }
 
 // The events of a history that was read.
-fn events(alloc: Global, rounds: u64) -> Result<u64, Fail> {
-    let history = read_history(alloc, b"history 3\nopen 0 0 0\n0 0 0 size 0\nend 1\n")?;
+fn events(history: &History, rounds: u64) -> u64 {
     let mut right = 0_u64;
     for _ in 0..rounds {
         right = right.saturating_add(history.events().len() as u64);
     }
-    Ok(right)
+    right
 }
 
 // A timer, but for its room.
-fn timers<T: Timer>(alloc: Global, rounds: u64) -> Result<u64, AllocError> {
-    let mut timer = T::new(alloc);
-    timer.reserve(ROOM)?;
+fn timers<T: Timer>(alloc: Global, timer: &mut T, rounds: u64) -> u64 {
     let mut right = 0_u64;
     for round in 0..rounds {
-        right = right.saturating_add(timer_round(alloc, &mut timer, round));
+        right = right.saturating_add(timer_round(alloc, timer, round));
     }
-    Ok(right)
+    right
 }
 
 // An entry near the round's moment and one far behind it, and then one in each slot.
@@ -214,25 +325,13 @@ fn draft(rt: &impl Abort, expiry: u64) -> Draft {
 }
 
 // A queue, but for its offers and drains.
-fn queues<T: Timer>(rt: &impl Abort, alloc: Global, rounds: u64) -> Result<u64, AllocError> {
-    let mut queue = filled::<T>(rt, alloc)?;
+fn queues<T: Timer>(alloc: Global, queue: &mut DelayQueue<T>, rounds: u64) -> u64 {
     let mut right = 0_u64;
     for round in 0..rounds {
-        right = right.saturating_add(queue_round(alloc, &mut queue, round));
+        right = right.saturating_add(queue_round(alloc, queue, round));
     }
-    empty(&mut queue, rounds);
-    Ok(right)
-}
-
-// A queue of these elements, whose expiries are their ids.
-fn filled<T: Timer>(rt: &impl Abort, alloc: Global) -> Result<DelayQueue<T>, AllocError> {
-    let mut queue = DelayQueue::new(alloc);
-    for expiry in 0..ELEMENTS {
-        if queue.next_id() < u64::MAX {
-            queue.offer(draft(rt, expiry))?;
-        }
-    }
-    Ok(queue)
+    empty(queue, rounds);
+    right
 }
 
 fn queue_round<T: Timer>(alloc: Global, queue: &mut DelayQueue<T>, round: u64) -> u64 {
@@ -254,20 +353,12 @@ fn empty<T: Timer>(queue: &mut DelayQueue<T>, rounds: u64) {
 }
 
 // A kept queue, but for its offers and drains.
-fn kept_queues<T: Timer>(rt: &impl Abort, alloc: Global, rounds: u64) -> Result<u64, Fail> {
-    let (mut kept, mut tally) = Kept::<T>::new_from(alloc, CALLS, Opening::empty(alloc))
-        .ok()
-        .expect(rt, "a kept queue");
-    for expiry in 0..ELEMENTS {
-        let offered = kept.act(&mut tally, 0, 0, Ask::Offer(draft(rt, expiry)));
-        expect_done(rt, &offered);
-    }
+fn kept_queues<T: Timer>(kept: &mut Kept<T>, tally: &mut Tally, rounds: u64) -> u64 {
     let mut right = 0_u64;
     for round in 0..rounds {
-        right = right.saturating_add(kept_round(&mut kept, &mut tally, round));
+        right = right.saturating_add(kept_round(kept, tally, round));
     }
-    clears(rt, &mut kept, &mut tally, rounds);
-    Ok(right)
+    right
 }
 
 fn expect_done(rt: &impl Abort, step: &rb_kept::Step) {
@@ -287,6 +378,7 @@ fn kept_round<T: Timer>(kept: &mut Kept<T>, tally: &mut Tally, round: u64) -> u6
         answers(kept, tally, Ask::Size),
         kept.history().len() == before.saturating_add(6),
         kept.capacity() == CALLS,
+        kept.opening().next_id == 0,
         kept.audit().calls == tally.calls(),
     ])
 }

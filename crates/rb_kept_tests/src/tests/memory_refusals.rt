@@ -2,6 +2,7 @@ use super::fixtures::{
     done, element, expect, expect_element, expect_number, expect_opening, expect_step, later,
     offer, offered,
 };
+use super::timer_refusals::timer_refusals;
 use rb_delayed::Element;
 use rb_kept::{CallFault, Kept, NewFault, Outcome, Step, Try};
 use rb_ledger::{Tally, Totals};
@@ -348,7 +349,9 @@ fn run_on(rt: &impl Abort, alloc: Global) -> u32 {
 
 #[test]
 fn a_refusal_changes_nothing(rt: HostRuntime) {
+    let of_timers = timer_refusals(&rt, rt.alloc());
     let begun_empty = run_through::<ListTimer>(&rt, rt.alloc());
     let begun_with_elements = run_on(&rt, rt.alloc());
-    assert_eq!(rt; begun_empty.saturating_add(begun_with_elements), REFUSALS);
+    let of_queues = begun_empty.saturating_add(begun_with_elements);
+    assert_eq!(rt; of_timers.saturating_add(of_queues), REFUSALS);
 }

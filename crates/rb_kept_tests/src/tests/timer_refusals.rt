@@ -1,0 +1,169 @@
+// A timer that asks for room, and a run of commands, refused in turn. The same for each timer: after a
+// refusal it has its entries and its room as before, and the call, made again, finds memory.
+
+use super::fixtures::{expect, expect_number};
+use rb_binary::BinaryTimer;
+use rb_pairing::PairingTimer;
+use rb_timer::TimerAnswer::{self, Entry, Inserted, Refused, Removed};
+use rb_timer::TimerCommand::{self, Due, Insert, Least, Remove};
+use rb_timer::{ListTimer, Timer, run_timer};
+use rb_wheel::WheelTimer;
+use std::alloc::Global;
+use std::process::Abort;
+
+// The rooms of a timer, one after the other. Each is filled before the next is asked for, and most arrays
+// have to move for it.
+const ROOMS: [usize; 4] = [3, 8, 20, MOST];
+
+const MOST: usize = 70;
+
+// The higher the slot, the sooner it expires: 1,000 down to 931.
+fn expiry_of(slot: usize) -> u64 {
+    1_000_u64.saturating_sub(slot as u64)
+}
+
+// The entry of least expiry, where the slots below `count` are filled.
+fn least_of(count: usize) -> Option<(usize, u64)> {
+    let slot = count.checked_sub(1)?;
+    Some((slot, expiry_of(slot)))
+}
+
+fn puts<T: Timer>(timer: &mut T, slot: usize) -> bool {
+    if timer.room() <= slot || timer.get(slot).is_some() {
+        return false;
+    }
+    timer.insert(slot, expiry_of(slot));
+    true
+}
+
+fn takes<T: Timer>(timer: &mut T, slot: usize) -> bool {
+    if timer.get(slot).is_none() {
+        return false;
+    }
+    timer.remove(slot) == expiry_of(slot)
+}
+
+// The timer has just so many slots, and an entry in each.
+fn expect_filled<T: Timer>(rt: &impl Abort, timer: &T, count: usize) {
+    expect_number(rt, timer.room() as u64, count as u64);
+    expect_number(rt, timer.len() as u64, count as u64);
+    expect(rt, timer.least() == least_of(count), "the least entry");
+    for slot in 0..count {
+        expect(
+            rt,
+            timer.get(slot) == Some(expiry_of(slot)),
+            "a slot's entry",
+        );
+    }
+}
+
+// Asks a filled timer for room, once more where that was refused, and answers how often it was.
+fn reserves<T: Timer>(rt: &impl Abort, timer: &mut T, count: usize, wanted: usize) -> u32 {
+    if timer.reserve(wanted).is_ok() {
+        return 0;
+    }
+    expect_filled(rt, timer, count);
+    expect(rt, timer.reserve(wanted).is_ok(), "no memory for a room");
+    1
+}
+
+// Fills the new slots. The last one is emptied and filled once more, and by then the wheel has moved past it:
+// all that comes later is early for the wheel.
+fn fills<T: Timer>(rt: &impl Abort, timer: &mut T, count: usize, room: usize) {
+    for slot in count..room {
+        expect(rt, puts(timer, slot), "a slot is filled");
+    }
+    let last = room.saturating_sub(1);
+    expect(
+        rt,
+        takes(timer, last) && puts(timer, last),
+        "the last slot is filled again",
+    );
+    expect_filled(rt, timer, room);
+}
+
+// Grows from room to room.
+fn grows<T: Timer>(rt: &impl Abort, timer: &mut T) -> u32 {
+    let (mut met, mut count) = (0_u32, 0);
+    for room in ROOMS {
+        met = met.saturating_add(reserves(rt, timer, count, room));
+        fills(rt, timer, count, room);
+        count = room;
+    }
+    met
+}
+
+// Commands that leave a filled timer as it was, with their answers.
+const COMMANDS: [TimerCommand; 7] = [
+    Least,
+    Remove(0),
+    Remove(0),
+    Insert(0, 1_000),
+    Insert(MOST, 1),
+    Due(930),
+    Due(931),
+];
+
+const ANSWERS: [TimerAnswer; 7] = [
+    Entry(Some((69, 931))),
+    Removed(1_000),
+    Refused,
+    Inserted,
+    Refused,
+    Entry(None),
+    Entry(Some((69, 931))),
+];
+
+fn has_run<T: Timer>(rt: &impl Abort, alloc: Global, timer: &mut T) -> bool {
+    let ran = run_timer(alloc, timer, &COMMANDS);
+    expect_filled(rt, timer, MOST);
+    match ran {
+        Ok(answers) => {
+            expect(rt, answers.as_slice() == ANSWERS.as_slice(), "the answers");
+            true
+        }
+        Err(_) => false,
+    }
+}
+
+// Runs the commands, once more where that was refused, and answers how often it was.
+fn runs<T: Timer>(rt: &impl Abort, alloc: Global, timer: &mut T) -> u32 {
+    if has_run(rt, alloc, timer) {
+        return 0;
+    }
+    expect(rt, has_run(rt, alloc, timer), "no memory for a run");
+    1
+}
+
+// Takes out all entries, each when it is due.
+fn drains<T: Timer>(rt: &impl Abort, timer: &mut T) {
+    for taken in 0..MOST {
+        let count = MOST.saturating_sub(taken);
+        expect(rt, timer.due(1_000) == least_of(count), "the due entry");
+        expect(
+            rt,
+            takes(timer, count.saturating_sub(1)),
+            "the due entry leaves",
+        );
+    }
+    expect_number(rt, timer.len() as u64, 0);
+}
+
+fn refusals_over<T: Timer>(rt: &impl Abort, alloc: Global) -> u32 {
+    let mut timer = T::new(alloc);
+    let growing = grows(rt, &mut timer);
+    let running = runs(rt, alloc, &mut timer);
+    drains(rt, &mut timer);
+    growing.saturating_add(running)
+}
+
+/// Makes the calls of each timer that may want memory, and answers how often they were refused.
+pub fn timer_refusals(rt: &impl Abort, alloc: Global) -> u32 {
+    let list = refusals_over::<ListTimer>(rt, alloc);
+    let heap = refusals_over::<BinaryTimer>(rt, alloc);
+    let pairing = refusals_over::<PairingTimer>(rt, alloc);
+    let wheel = refusals_over::<WheelTimer>(rt, alloc);
+    list.saturating_add(heap)
+        .saturating_add(pairing)
+        .saturating_add(wheel)
+}
