@@ -23,7 +23,7 @@ pub returns-then-eq-clause-holds : goal.returns-then-eq-clause-holds
 returns-then-eq-clause-holds g c =
     let pair = c.take_out-pair in
     let books : c.totals_in-booked.result ≡ totals_of pair.result.kept.history =
-    c.totals_in-booked.ensures.totals ∙ ap (λ (a : Audit). record { calls = a.calls; offered = a.offered; given = a.given }) c.audit-audit.ensures in
+    c.totals_in-booked.ensures.totals ∙ ap (λ (a : Audit). record { calls = a.calls; offered = a.offered; given = a.given }) c.audit-audit.ensures.counts in
     let counts = subst AreCounts books c.totals_in-booked.ensures.fits in
     let same : c.totals-counted.result ≡ c.totals_in-booked.result = equal_totals c.totals-counted.result c.totals_in-booked.result c.if-eq.ensures in
     has_all_calls {T = g.row.T.Denot} c.args.pass c.pass.inside.seat.me c.take.new.seat.me
@@ -34,7 +34,7 @@ pub give-requires-clause-holds : goal.give-requires-clause-holds
 give-requires-clause-holds g c =
     let pair = c.take_out-pair in
     let books : c.totals_in-booked.result ≡ totals_of pair.result.kept.history =
-    c.totals_in-booked.ensures.totals ∙ ap (λ (a : Audit). record { calls = a.calls; offered = a.offered; given = a.given }) c.audit-audit.ensures in
+    c.totals_in-booked.ensures.totals ∙ ap (λ (a : Audit). record { calls = a.calls; offered = a.offered; given = a.given }) c.audit-audit.ensures.counts in
     let counts = subst AreCounts books c.totals_in-booked.ensures.fits in
     back_may_give {T = g.row.T.Denot} c.args.pass c.pass.inside.seat.me c.take.new.seat.me
     (c.pass.invariant.rest ∙ ap (λ (p : Seen). (idle p, [])) c.pass.view_is) c.take.ensures.taken pair.result pair.ensures.out pair.ensures.legal pair.ensures.fits counts
@@ -44,7 +44,7 @@ pub returns-clause-not_all : goal.returns-clause-not_all
 returns-clause-not_all g c =
     let pair = c.take_out-pair in
     let books : c.totals_in-booked.result ≡ totals_of pair.result.kept.history =
-    c.totals_in-booked.ensures.totals ∙ ap (λ (a : Audit). record { calls = a.calls; offered = a.offered; given = a.given }) c.audit-audit.ensures in
+    c.totals_in-booked.ensures.totals ∙ ap (λ (a : Audit). record { calls = a.calls; offered = a.offered; given = a.given }) c.audit-audit.ensures.counts in
     let counts = subst AreCounts books c.totals_in-booked.ensures.fits in
     let share = c.totals-counted.ensures ∙ c.pass.invariant.counted ∙ ap tally_of c.pass.view_is in
     let table = c.give.ensures.table ∙ (c.put_back.ensures.table ∙ (pair.ensures.table ∙ (c.take.ensures.table ∙ ap (λ (p : Seen). p.table) c.pass.view_is))) in
