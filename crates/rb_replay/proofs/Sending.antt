@@ -1,5 +1,5 @@
 -- What a writer holds while a text is sent.
-use Rattle.std.proofs.Common.{◌≡◌, ℕ, ◌+◌, ◌-◌, List, ◌++◌, Option, Some, None, length, take, drop, ap, ◌∙◌}
+use Rattle.std.proofs.Common.{◌≡◌, ℕ, ◌+◌, ◌-◌, List, ◌++◌, Option, length, take, drop, ap, ◌∙◌}
 use Rattle.std.proofs.lemmas.List.{take_rest, drop-drop}
 use Rattle.std.specs.Io.KnownBytes.{Appends, Keeps}
 use Rattle.std.proofs.KnownBytes.{Appends-trans, Appends-kept}
@@ -28,9 +28,3 @@ HasSent-more old mid new text rest n h appends =
       left = take_rest rest n ∙ ap (drop n) h.left ∙ drop-drop n h.taken text;
       written = rw seam (Appends-trans old mid new _ _ h.written appends);
     }
-
--- what is known stays where nothing was written
-pub known-kept : (old new : Option (List ℕ)) (held : List ℕ) → old ≡ Some held → Keeps old new → new ≡ Some held
-known-kept None new held is keeps = absurd (cc)
-known-kept (Some xs) None held is keeps = absurd keeps
-known-kept (Some xs) (Some ys) held is keeps = ap Some keeps ∙ is

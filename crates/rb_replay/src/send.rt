@@ -1,4 +1,5 @@
-ghost use Rattle.std.specs.Prelude.{◌≡◌, ℕ, List, ◌++◌, take, Some, MatchResult};
+ghost use Rattle.std.specs.Prelude.{ℕ, take, MatchResult};
+ghost use Rattle.std.specs.Io.KnownBytes.{Appends};
 
 use std::io::{ErrorKind, Write};
 
@@ -11,9 +12,9 @@ pub(crate) struct WriteFault;
 ///
 /// After an `Err` the writer has got the first bytes of the text, perhaps none or all.
 pub(crate) fn send<W: Write>(writer: &mut W, text: &[u8]) -> Result<(), WriteFault>
-    ensures { (before : List ℕ) → W.contents writer.old ≡ Some before → MatchResult result
-        (λ _. W.contents writer.new ≡ Some (before ++ text.now))
-        (λ _. (taken : ℕ) × (W.contents writer.new ≡ Some (before ++ take taken text.now))) }
+    ensures { MatchResult result
+        (λ _. Appends (W.contents writer.old) (W.contents writer.new) text.now)
+        (λ _. (taken : ℕ) × Appends (W.contents writer.old) (W.contents writer.new) (take taken text.now)) }
 {
     send_bytes(writer, text)?;
     let Ok(()) = writer.flush() else {
@@ -24,9 +25,9 @@ pub(crate) fn send<W: Write>(writer: &mut W, text: &[u8]) -> Result<(), WriteFau
 
 // Writes the bytes, without a flush.
 fn send_bytes<W: Write>(writer: &mut W, bytes: &[u8]) -> Result<(), WriteFault>
-    ensures { (before : List ℕ) → W.contents writer.old ≡ Some before → MatchResult result
-        (λ _. W.contents writer.new ≡ Some (before ++ bytes.now))
-        (λ _. (taken : ℕ) × (W.contents writer.new ≡ Some (before ++ take taken bytes.now))) }
+    ensures { MatchResult result
+        (λ _. Appends (W.contents writer.old) (W.contents writer.new) bytes.now)
+        (λ _. (taken : ℕ) × Appends (W.contents writer.old) (W.contents writer.new) (take taken bytes.now)) }
 {
     let mut rest = bytes;
     // Nothing says that interruptions end, so the writes are counted.

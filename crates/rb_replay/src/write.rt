@@ -1,4 +1,4 @@
-ghost use Rattle.std.specs.Prelude.{◌≡◌, ℕ, ◌≤◌, List, Some, length};
+ghost use Rattle.std.specs.Prelude.{◌≤◌, length};
 ghost use Rattle.rb_replay.specs.HistoryText.{history_text};
 ghost use Rattle.rb_replay.specs.Written.{Writes};
 
@@ -23,8 +23,7 @@ pub fn write_history<W: Write>(
     writer: &mut W,
 ) -> Result<(), HistoryFault>
     requires { length events.now ≤ MOST_EVENTS }
-    ensures { (before : List ℕ) → W.contents writer.old ≡ Some before
-        → Writes result before (history_text opening.now events.now) (W.contents writer.new) }
+    ensures { Writes result (W.contents writer.old) (history_text opening.now events.now) (W.contents writer.new) }
 {
     let Ok(text) = history_bytes(alloc, opening, events) else {
         return Err(HistoryFault::Memory);
