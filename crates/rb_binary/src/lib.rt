@@ -3,7 +3,5 @@
 
 mod binary_timer;
 mod heap;
-#[cfg(test)]
-mod tests;
 
 pub use binary_timer::BinaryTimer;

@@ -10,6 +10,7 @@ mod fixtures;
 mod full_run;
 mod memory_refusals;
 mod openings;
+mod refused_room;
 mod refusing_timer;
 mod removals;
 mod runs_of_tries;

@@ -1,4 +1,4 @@
-//! The trials that every timer has to pass, and room and order of the pairing heap.
+//! Room and order of the pairing heap.
 
 mod ample_memory;
 mod few_entries;
@@ -6,4 +6,3 @@ mod fixtures;
 mod many_entries;
 mod memory_refusals;
 mod refilled_slots;
-mod trials;

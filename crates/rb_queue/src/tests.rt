@@ -6,6 +6,5 @@ mod many_elements;
 mod memory_refusals;
 mod offers_and_polls;
 mod openings;
-mod refusing_timer;
 mod removals;
 mod steps;

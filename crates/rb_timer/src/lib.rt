@@ -1,5 +1,4 @@
-//! Which slot expires first: the contract of all timers, a run over any of them, the plain timer,
-//! and trials for the others.
+//! Which slot expires first: the contract of all timers, a run over any of them, and the plain timer.
 //!
 //! A timer is seen as a finite map from slot to expiry, with a room that every slot is below. A
 //! slot is a number that the timer's owner chose, and an expiry a moment in nanoseconds. `reserve`
@@ -8,14 +7,12 @@
 #![tactic(auto)]
 
 mod command;
-mod large_trials;
 pub mod link;
 mod list_timer;
 mod run;
 #[cfg(test)]
 mod tests;
 mod timer;
-pub mod trials;
 
 pub use command::{TimerAnswer, TimerCommand};
 pub use list_timer::ListTimer;

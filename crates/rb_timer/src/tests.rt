@@ -1,10 +1,3 @@
-//! The plain timer in the trials, and the trials themselves: a timer that answers otherwise fails them.
+//! Links lead where they were made to.
 
-mod ample_memory;
-mod fills_and_drains;
-mod fixtures;
-mod large_trials;
-mod limited_timer;
 mod links;
-mod long_run;
-mod trials;

@@ -16,14 +16,14 @@ use std::process::Abort;
 const REFUSALS: u32 = 0;
 
 // Past several growths of slots, timer and directory.
-const MANY: u64 = 20;
+pub const MANY: u64 = 20;
 
 // The later the offer, the sooner it expires. At 95 elements 5 to 19 are expired.
-fn expiry_of(id: u64) -> u64 {
+pub fn expiry_of(id: u64) -> u64 {
     100 - id % 100
 }
 
-fn numbered(rt: &impl Abort, id: u64) -> Element {
+pub fn numbered(rt: &impl Abort, id: u64) -> Element {
     element(rt, id, expiry_of(id), b"a")
 }
 

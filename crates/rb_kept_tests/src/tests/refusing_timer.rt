@@ -1,12 +1,9 @@
-use super::fixtures::{expect_handed_back, expect_number};
-use super::memory_refusals::{opening_of, run_through};
-use rb_kept::{Kept, NewFault};
-use rb_timer::{ListTimer, Timer};
+use rb_timer::Timer;
 use std::alloc::{AllocError, Global};
 
-// A timer that answers want of memory once, at the first room above `MOST`, as its contract allows.
+/// A timer that answers want of memory once, at the first room above `MOST`, as its contract allows.
 #[derive(Debug, Drop)]
-struct RefusingTimer<T: Timer, const MOST: usize> {
+pub struct RefusingTimer<T: Timer, const MOST: usize> {
     timer: T,
     has_refused: bool,
 }
@@ -64,19 +61,4 @@ impl<T: Timer, const MOST: usize> Timer for RefusingTimer<T, MOST> {
     fn clear(&mut self) {
         self.timer.clear();
     }
-}
-
-#[test]
-fn an_offer_refused_by_the_timer_changes_nothing(rt: HostRuntime) {
-    // The ninth element asks the timer for more room.
-    let met = run_through::<RefusingTimer<ListTimer, 8>>(&rt, rt.alloc());
-    expect_number(&rt, u64::from(met), 1);
-}
-
-#[test]
-fn an_opening_refused_by_the_timer_is_handed_back(rt: HostRuntime) {
-    let given = opening_of(&rt, rt.alloc(), 9);
-    let handed_back = Some((opening_of(&rt, rt.alloc(), 9), NewFault::Memory));
-    let refused = Kept::<RefusingTimer<ListTimer, 8>>::new_from(rt.alloc(), 1, given).err();
-    expect_handed_back(&rt, &refused, &handed_back, 1);
 }

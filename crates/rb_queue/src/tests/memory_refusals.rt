@@ -152,10 +152,10 @@ fn offers_and_drains<T: Timer>(
     Ok(offering.saturating_add(draining))
 }
 
-/// Begins, offers and drains, each call made again where it was refused, and gives the number of
-/// refusals. After a refusal all is as before it: what a queue shows then, and each element that it
-/// gives up to the end.
-pub(super) fn run_through<T: Timer>(rt: &impl Abort, alloc: Global) -> Result<u32, AllocError> {
+// Begins, offers and drains, each call made again where it was refused, and gives the number of
+// refusals. After a refusal all is as before it: what a queue shows then, and each element that it
+// gives up to the end.
+fn run_through<T: Timer>(rt: &impl Abort, alloc: Global) -> Result<u32, AllocError> {
     let opening = opening_of(rt, five(rt, alloc)?, 5, 0);
     let (mut queue, refused) = begun_again::<T>(alloc, &opening)?;
     let further = offers_and_drains(rt, &mut queue)?;

@@ -1,18 +1,12 @@
-use crate::command::{TimerAnswer, TimerCommand};
-use crate::tests::fixtures::{Failure, expect_passed};
-use crate::trials::{TRIALS, Trial, first_failure_of};
-use crate::{ListTimer, trials};
+use super::fixtures::Failure;
+use super::trials::{TRIALS, Trial, first_failure_of};
+use rb_timer::{ListTimer, TimerAnswer, TimerCommand};
 use std::alloc::{AllocError, Global};
 use std::process::Abort;
 use std::test::Fail;
 
 fn expect_failed(rt: &impl Abort, failure: Failure, trial: &str, place: usize) {
     assert_eq!(rt; failure, Some("wrong"), "{trial} {place}");
-}
-
-#[test]
-fn passes_the_trials(rt: HostRuntime) {
-    expect_passed(&rt, trials::first_failure::<ListTimer>(rt.alloc()));
 }
 
 // The steps of a trial with another answer at this place.

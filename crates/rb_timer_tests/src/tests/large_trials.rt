@@ -2,23 +2,23 @@
 //!
 //! A timer that gives up for want of memory that is there, or past some number of entries or
 //! commands, meets every contract. These trials find it.
-use crate::command::TimerAnswer::{self, Entry, Inserted, Refused, Removed};
-use crate::command::TimerCommand::{self, Due, Insert, Remove};
-use crate::timer::Timer;
-use crate::trials::{Trial, passes};
+use super::trials::{Trial, passes};
+use rb_timer::Timer;
+use rb_timer::TimerAnswer::{self, Entry, Inserted, Refused, Removed};
+use rb_timer::TimerCommand::{self, Due, Insert, Remove};
 use std::alloc::{AllocError, Global};
 
 /// The expiry at rank 0, in nanoseconds. It has 20 digits, and so have all the others.
-pub(crate) const LEAST_EXPIRY: u64 = 18_446_744_073_709_500_000;
+pub const LEAST_EXPIRY: u64 = 18_446_744_073_709_500_000;
 
 /// How many slots the trials use, and the rank of each: how many others expire before it.
 #[derive(Clone, Copy, Debug)]
-pub(crate) struct Scatter {
+pub struct Scatter {
     /// A prime, so that the products of a slot with a number below it are scattered.
-    pub(crate) slots: usize,
+    pub slots: usize,
     /// A slot by this is its rank, and a rank by `to_slot` its slot: by `slots` their product leaves 1.
-    pub(crate) to_rank: usize,
-    pub(crate) to_slot: usize,
+    pub to_rank: usize,
+    pub to_slot: usize,
 }
 
 impl Scatter {
@@ -28,7 +28,7 @@ impl Scatter {
     }
 
     /// The slot before which so many expire.
-    pub(crate) fn slot_of(&self, rank: usize) -> usize {
+    pub fn slot_of(&self, rank: usize) -> usize {
         self.remainder(rank.wrapping_mul(self.to_slot))
     }
 
@@ -38,8 +38,8 @@ impl Scatter {
     }
 }
 
-/// What the public trials use.
-pub(crate) const MANY: Scatter = Scatter {
+/// What each timer is tried with.
+pub const MANY: Scatter = Scatter {
     slots: 2503,
     to_rank: 1117,
     to_slot: 977,
@@ -48,20 +48,20 @@ pub(crate) const MANY: Scatter = Scatter {
 /// What each trial expects of the entries that it put in. The right expiry is `LEAST_EXPIRY`, and
 /// the right room is the number of slots.
 #[derive(Clone, Copy, Debug)]
-pub(crate) struct Expected {
+pub struct Expected {
     /// The least expiry of a timer that was filled.
-    pub(crate) filled: u64,
+    pub filled: u64,
     /// The least expiry of those that come due.
-    pub(crate) drained: u64,
+    pub drained: u64,
     /// The room of a timer that was cleared.
-    pub(crate) cleared: usize,
+    pub cleared: usize,
     /// The least expiry that the long run answers.
-    pub(crate) ran: u64,
+    pub ran: u64,
 }
 
 impl Expected {
     /// What a right timer answers.
-    pub(crate) fn right(scatter: &Scatter) -> Expected {
+    pub fn right(scatter: &Scatter) -> Expected {
         Expected {
             filled: LEAST_EXPIRY,
             drained: LEAST_EXPIRY,
@@ -79,7 +79,7 @@ pub fn first_large_failure<T: Timer>(alloc: Global) -> Result<Option<&'static st
 }
 
 /// The name of the first trial over these slots that the timer answers otherwise than expected.
-pub(crate) fn first_large_failure_of<T: Timer>(
+pub fn first_large_failure_of<T: Timer>(
     alloc: Global,
     scatter: &Scatter,
     expected: &Expected,
@@ -103,11 +103,7 @@ pub(crate) fn first_large_failure_of<T: Timer>(
 }
 
 /// Whether a timer without entries takes one in each slot, with room made for one at a time.
-pub(crate) fn fills<T: Timer>(
-    timer: &mut T,
-    scatter: &Scatter,
-    least: u64,
-) -> Result<bool, AllocError> {
+pub fn fills<T: Timer>(timer: &mut T, scatter: &Scatter, least: u64) -> Result<bool, AllocError> {
     for slot in 0..scatter.slots {
         timer.reserve(slot + 1)?;
         if timer.room() <= slot || timer.get(slot).is_some() || timer.len() != slot {
@@ -122,7 +118,7 @@ pub(crate) fn fills<T: Timer>(
 }
 
 /// Whether a timer that was filled gives its entries in their order, each when it is due.
-pub(crate) fn drains<T: Timer>(timer: &mut T, scatter: &Scatter, least: u64) -> bool {
+pub fn drains<T: Timer>(timer: &mut T, scatter: &Scatter, least: u64) -> bool {
     for rank in 0..scatter.slots {
         let (slot, expiry) = (scatter.slot_of(rank), expiry_at(least, rank));
         if timer.due(expiry.saturating_sub(1)).is_some()
@@ -144,7 +140,7 @@ fn clears<T: Timer>(timer: &mut T, room: usize) -> bool {
 }
 
 /// Whether `run_timer` answers eight commands for each slot, which is more than 20,000 for `MANY`.
-pub(crate) fn runs_long<T: Timer>(
+pub fn runs_long<T: Timer>(
     alloc: Global,
     scatter: &Scatter,
     least: u64,
@@ -159,7 +155,7 @@ pub(crate) fn runs_long<T: Timer>(
 }
 
 /// The commands of the long run, each with its answer.
-pub(crate) fn long_steps(
+pub fn long_steps(
     alloc: Global,
     scatter: &Scatter,
     least: u64,

@@ -1,8 +1,8 @@
-use crate::large_trials::{
+use super::fixtures::{FEW, Failure, expect, expect_holds, right};
+use super::large_trials::{
     Expected, LEAST_EXPIRY, MANY, drains, fills, first_large_failure_of, runs_long,
 };
-use crate::tests::fixtures::{FEW, Failure, expect, expect_holds, right};
-use crate::{ListTimer, Timer};
+use rb_timer::{ListTimer, Timer};
 use std::alloc::Global;
 use std::process::Abort;
 

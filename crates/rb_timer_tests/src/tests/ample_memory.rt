@@ -1,17 +1,15 @@
-use crate::large_trials::{LEAST_EXPIRY, MANY, fills, first_large_failure_of, runs_long};
-use crate::tests::fixtures::{FEW, Failure, expect, expect_holds, expect_passed, right};
-use crate::tests::limited_timer::LimitedTimer;
-use crate::{ListTimer, Timer, trials};
+use super::fixtures::{FEW, Failure, expect, expect_holds, expect_passed, right};
+use super::large_trials::{
+    LEAST_EXPIRY, MANY, fills, first_large_failure, first_large_failure_of, runs_long,
+};
+use super::limited_timer::LimitedTimer;
+use super::trials::first_failure;
+use rb_timer::{ListTimer, Timer};
 use std::alloc::{AllocError, Global};
 use std::process::Abort;
 
 fn expect_no_memory(rt: &impl Abort, failure: Result<Failure, AllocError>) {
     assert!(rt; failure.is_err());
-}
-
-#[test]
-fn answers_with_ample_memory(rt: HostRuntime) {
-    expect_passed(&rt, trials::first_large_failure::<ListTimer>(rt.alloc()));
 }
 
 fn few_failure<T: Timer>(alloc: Global) -> Result<Failure, AllocError> {
@@ -30,18 +28,9 @@ fn many_ran<T: Timer>(alloc: Global) -> Result<bool, AllocError> {
 #[test]
 fn a_timer_that_gives_up_fails(rt: HostRuntime) {
     let alloc = rt.alloc();
-    expect_no_memory(
-        &rt,
-        trials::first_failure::<LimitedTimer<ListTimer, 3>>(alloc),
-    );
-    expect_no_memory(
-        &rt,
-        trials::first_failure::<LimitedTimer<ListTimer, 11>>(alloc),
-    );
-    expect_passed(
-        &rt,
-        trials::first_failure::<LimitedTimer<ListTimer, 12>>(alloc),
-    );
+    expect_no_memory(&rt, first_failure::<LimitedTimer<ListTimer, 3>>(alloc));
+    expect_no_memory(&rt, first_failure::<LimitedTimer<ListTimer, 11>>(alloc));
+    expect_passed(&rt, first_failure::<LimitedTimer<ListTimer, 12>>(alloc));
 }
 
 // The room of the large ones is 2503, and over few slots 13. Only the fill and the run make room.
@@ -50,11 +39,11 @@ fn a_timer_that_gives_up_at_many_fails(rt: HostRuntime) {
     let alloc = rt.alloc();
     expect_no_memory(
         &rt,
-        trials::first_large_failure::<LimitedTimer<ListTimer, 16>>(alloc),
+        first_large_failure::<LimitedTimer<ListTimer, 16>>(alloc),
     );
     expect_no_memory(
         &rt,
-        trials::first_large_failure::<LimitedTimer<ListTimer, 2502>>(alloc),
+        first_large_failure::<LimitedTimer<ListTimer, 2502>>(alloc),
     );
     expect_holds(
         &rt,

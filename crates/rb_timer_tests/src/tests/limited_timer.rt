@@ -1,9 +1,9 @@
-use crate::timer::Timer;
+use rb_timer::Timer;
 use std::alloc::{AllocError, Global};
 
 /// A timer that answers want of memory for more room than `MOST`, as its contract allows.
 #[derive(Debug, Drop)]
-pub(crate) struct LimitedTimer<T: Timer, const MOST: usize> {
+pub struct LimitedTimer<T: Timer, const MOST: usize> {
     timer: T,
 }
 

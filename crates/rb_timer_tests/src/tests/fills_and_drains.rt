@@ -1,6 +1,6 @@
-use crate::large_trials::{LEAST_EXPIRY, drains, fills};
-use crate::tests::fixtures::{FEW, expect_holds};
-use crate::{ListTimer, Timer};
+use super::fixtures::{FEW, expect_holds};
+use super::large_trials::{LEAST_EXPIRY, drains, fills};
+use rb_timer::{ListTimer, Timer};
 use std::alloc::{AllocError, Global};
 
 // Makes the timer's room this one, and puts the last entry of all at this slot, where there is none.

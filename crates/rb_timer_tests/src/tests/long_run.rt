@@ -1,7 +1,7 @@
-use crate::command::{TimerAnswer, TimerCommand};
-use crate::large_trials::{LEAST_EXPIRY, long_steps};
-use crate::tests::fixtures::FEW;
-use crate::tests::trials::{expect_failure, named};
+use super::fixtures::FEW;
+use super::large_trials::{LEAST_EXPIRY, long_steps};
+use super::wrong_answers::{expect_failure, named};
+use rb_timer::{TimerAnswer, TimerCommand};
 use std::process::Abort;
 use std::test::Fail;
 

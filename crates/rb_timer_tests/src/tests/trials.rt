@@ -1,24 +1,18 @@
 //! Trials that every timer has to pass: commands for an empty timer, each with its right answer.
-//!
-//! They are for tests. A timer's crate tries its timer in two lines, with few entries and with many:
-//! `assert_eq!(rt; trials::first_failure::<MyTimer>(rt.alloc())?, None)` and
-//! `assert_eq!(rt; trials::first_large_failure::<MyTimer>(rt.alloc())?, None)`.
-use crate::command::TimerAnswer::{self, Cleared, Entry, Inserted, Refused, Removed};
-use crate::command::TimerCommand::{self, Clear, Due, Insert, Least, Remove};
-pub use crate::large_trials::first_large_failure;
-use crate::run::run_timer;
-use crate::timer::Timer;
+use rb_timer::TimerAnswer::{self, Cleared, Entry, Inserted, Refused, Removed};
+use rb_timer::TimerCommand::{self, Clear, Due, Insert, Least, Remove};
+use rb_timer::{Timer, run_timer};
 use std::alloc::{AllocError, Global};
 
 // No two entries of a trial have equal expiries, so that each answer is the only right one.
 #[derive(Clone, Copy, Debug)]
-pub(crate) struct Trial<'a> {
-    pub(crate) name: &'static str,
-    pub(crate) room: usize,
-    pub(crate) steps: &'a [(TimerCommand, TimerAnswer)],
+pub struct Trial<'a> {
+    pub name: &'static str,
+    pub room: usize,
+    pub steps: &'a [(TimerCommand, TimerAnswer)],
 }
 
-pub(crate) static TRIALS: [Trial<'static>; 4] = [
+pub static TRIALS: [Trial<'static>; 4] = [
     Trial {
         name: "each command, and each way to refuse one",
         room: 4,
@@ -137,7 +131,7 @@ pub fn first_failure<T: Timer>(alloc: Global) -> Result<Option<&'static str>, Al
 }
 
 /// The name of the first of these trials that the timer answers otherwise.
-pub(crate) fn first_failure_of<T: Timer>(
+pub fn first_failure_of<T: Timer>(
     alloc: Global,
     trials: &[Trial<'_>],
 ) -> Result<Option<&'static str>, AllocError> {
@@ -150,7 +144,7 @@ pub(crate) fn first_failure_of<T: Timer>(
 }
 
 /// Whether an empty timer, once it has the room, answers the commands so.
-pub(crate) fn passes<T: Timer>(alloc: Global, trial: &Trial<'_>) -> Result<bool, AllocError> {
+pub fn passes<T: Timer>(alloc: Global, trial: &Trial<'_>) -> Result<bool, AllocError> {
     let commands: Vec<TimerCommand> = trial.steps.iter().map(|step| step.0).collect(alloc)?;
     let expected: Vec<TimerAnswer> = trial.steps.iter().map(|step| step.1).collect(alloc)?;
     let mut timer = T::new(alloc);

@@ -1,4 +1,4 @@
-use crate::large_trials::{Expected, Scatter};
+use super::large_trials::{Expected, Scatter};
 use std::alloc::AllocError;
 use std::process::Abort;
 

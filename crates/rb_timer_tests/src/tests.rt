@@ -1,0 +1,11 @@
+mod ample_memory;
+mod each_timer;
+mod fills_and_drains;
+mod fixtures;
+mod large_trials;
+mod large_wrong_answers;
+mod limited_timer;
+mod long_run;
+mod plain_timer_agreement;
+mod trials;
+mod wrong_answers;

@@ -1,0 +1,114 @@
+use rand_pcg::Pcg32;
+use rand_pcg::rand_core::Rng;
+use rb_binary::BinaryTimer;
+use rb_pairing::PairingTimer;
+use rb_timer::TimerAnswer::Entry;
+use rb_timer::TimerCommand::{Clear, Due, Insert, Least, Remove};
+use rb_timer::{ListTimer, Timer, TimerAnswer, TimerCommand, run_timer};
+use rb_wheel::WheelTimer;
+use std::alloc::{AllocError, Global};
+use std::process::Abort;
+use std::test::Fail;
+
+// As many bits as another random number says, so that each level of a wheel has its share.
+fn of_any_size(random: &mut Pcg32) -> u64 {
+    let size = random.next_u32() % 64;
+    random.next_u64() >> size
+}
+
+// A command at one of 48 slots. Moments stand around `now`, on either side.
+fn next_command(random: &mut Pcg32, now: u64) -> TimerCommand {
+    let slot = (random.next_u32() % 48) as usize;
+    match random.next_u32() % 64 {
+        0..=23 => Insert(slot, now.saturating_add(of_any_size(random))),
+        24..=27 => Insert(slot, now.saturating_sub(of_any_size(random))),
+        28..=39 => Remove(slot),
+        40..=47 => Least,
+        48..=50 => Due(now.saturating_sub(of_any_size(random))),
+        51 if random.next_u32() % 16 == 0 => Clear,
+        _ => Due(now),
+    }
+}
+
+// 1,000 commands. The time goes on by steps of any size, from 0 to its end.
+fn next_commands(
+    random: &mut Pcg32,
+    alloc: Global,
+    run: u32,
+) -> Result<Vec<TimerCommand>, AllocError> {
+    let mut now = 0u64;
+    let mut commands = Vec::new(alloc);
+    for _ in 0..1000u32 {
+        now = now.saturating_add(of_any_size(random) >> (run % 60));
+        commands.push(next_command(random, now))?;
+    }
+    Ok(commands)
+}
+
+// The answers are equal, but that another entry of the same expiry may be given.
+fn agree(one: &TimerAnswer, other: &TimerAnswer) -> bool {
+    match (one, other) {
+        (Entry(Some((_, expiry))), Entry(Some((_, another)))) => expiry == another,
+        _ => one == other,
+    }
+}
+
+fn expect_agreement(rt: &impl Abort, answers: &[TimerAnswer], expected: &[TimerAnswer], run: u32) {
+    assert_eq!(rt; answers.len(), expected.len());
+    assert!(rt;
+        answers
+            .iter()
+            .zip(expected.iter())
+            .all(|(one, other)| agree(one, other)),
+        "run {run}"
+    );
+}
+
+fn answers_of<T: Timer>(
+    alloc: Global,
+    commands: &[TimerCommand],
+) -> Result<Vec<TimerAnswer>, AllocError> {
+    let mut timer = T::new(alloc);
+    timer.reserve(48)?;
+    run_timer(alloc, &mut timer, commands)
+}
+
+fn expect_agrees<T: Timer>(
+    rt: &impl Abort,
+    alloc: Global,
+    commands: &[TimerCommand],
+    run: u32,
+) -> Result<(), AllocError> {
+    let expected = answers_of::<ListTimer>(alloc, commands)?;
+    let answers = answers_of::<T>(alloc, commands)?;
+    expect_agreement(rt, &answers, &expected, run);
+    Ok(())
+}
+
+// 100 runs of 1,000 commands each, the same each time.
+fn expect_always_agrees<T: Timer>(rt: &impl Abort, alloc: Global) -> Result<(), AllocError> {
+    let mut random = Pcg32::new(88172645463325252, 1);
+    for run in 0..100u32 {
+        let commands = next_commands(&mut random, alloc, run)?;
+        expect_agrees::<T>(rt, alloc, &commands, run)?;
+    }
+    Ok(())
+}
+
+#[test]
+fn the_binary_heap_agrees_with_the_list(rt: HostRuntime) -> Result<(), Fail> {
+    expect_always_agrees::<BinaryTimer>(&rt, rt.alloc())?;
+    Ok(())
+}
+
+#[test]
+fn the_pairing_heap_agrees_with_the_list(rt: HostRuntime) -> Result<(), Fail> {
+    expect_always_agrees::<PairingTimer>(&rt, rt.alloc())?;
+    Ok(())
+}
+
+#[test]
+fn the_wheel_agrees_with_the_list(rt: HostRuntime) -> Result<(), Fail> {
+    expect_always_agrees::<WheelTimer>(&rt, rt.alloc())?;
+    Ok(())
+}
