@@ -15,7 +15,7 @@
 //! | `verdict TEXT` | the line that a replay must print |
 //! | `status N` | the exit status of a replay |
 //! | `timer T` | the script is run over this timer alone |
-//! | `reads N` | the script is read by so many bytes alone: `whole`, 1 or 7 |
+//! | `reads N` | the script is read by so many bytes alone: `whole`, 1 or 7, and not cut at every place |
 //! | `reader fails N` | a read fails when N bytes of the script were read |
 //! | `reader interrupted` | every second read is interrupted, the first one too |
 //! | `writer fails N` | the call of the writer with this number fails; writes and flushes count, from 0 |

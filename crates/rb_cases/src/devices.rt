@@ -7,6 +7,9 @@ pub const TIMERS: [&str; 4] = ["list", "heap", "pairing", "wheel"];
 /// How many bytes of a script a read gives at most. The first is the whole script.
 pub const SIZES: [usize; 3] = [usize::MAX, 1, 7];
 
+/// A script of at most so many bytes is also cut in two, at every place.
+pub const MOST_CUT: usize = 1_000;
+
 /// Over what a script is run, where a case tells it.
 #[derive(Clone, Copy)]
 pub struct Devices {
@@ -54,6 +57,11 @@ impl Devices {
             Some(only) => only == size,
             None => true,
         }
+    }
+
+    /// Whether the case leaves open how the script is read.
+    pub fn have_any_size(&self) -> bool {
+        self.size.is_none()
     }
 
     /// Takes a line, which begins with this word.

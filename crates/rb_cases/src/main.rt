@@ -1,9 +1,10 @@
 //! Runs the cases of text files, and says by a line how each came out.
 //!
 //! The words of the command line are the files; what stands in one is told in `case_reader.rt`. A script
-//! is run over each timer, and read whole, byte by byte and by seven bytes. The last line counts. The
-//! exit status is 0 where every case came out as it must, 1 where one did not, and 2 where a file can't
-//! be read or is malformed, which standard error tells by the file, the line and the reason.
+//! is run over each timer, and read whole, byte by byte, by seven bytes and, if it has at most 1,000 bytes, in
+//! two parts, cut at every place. The last line counts. The exit status is 0 where every case came out as it
+//! must, 1 where one did not, and 2 where a file can't be read or is malformed, which standard error tells by
+//! the file, the line and the reason.
 #![tactic(auto)]
 
 mod case;
@@ -15,6 +16,7 @@ mod form;
 mod malformed;
 mod numbers;
 mod outcome;
+mod reads;
 mod replays;
 mod report;
 mod scripts;

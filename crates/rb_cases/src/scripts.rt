@@ -1,7 +1,8 @@
 use crate::case::Case;
-use crate::devices::{SIZES, TIMERS};
+use crate::devices::{MOST_CUT, SIZES, TIMERS};
 use crate::differences::{of_bytes, of_texts};
 use crate::outcome::Outcome;
+use crate::reads::Reads;
 use crate::sink::Sink;
 use crate::source::Source;
 use rb_arguments::{ScriptOptions, Words, read_words};
@@ -23,14 +24,29 @@ pub fn script_difference(alloc: Global, case: &Case) -> Result<Option<String>, A
     Ok(None)
 }
 
-// Runs the script over a timer with each size of reads.
+// Runs the script over a timer, with each size of reads and cut at each place.
 fn over_timer(alloc: Global, case: &Case, timer: &str) -> Result<Option<String>, AllocError> {
     let Some(options) = options_of(alloc, case, timer)? else {
         return Ok(Some("the words of `args` are refused".to_string(alloc)?));
     };
+    if let Some(text) = by_sizes(alloc, case, timer, &options)? {
+        return Ok(Some(text));
+    }
+    if case.devices.have_any_size() && case.input.bytes.len() <= MOST_CUT {
+        return by_cuts(alloc, case, timer, &options);
+    }
+    Ok(None)
+}
+
+fn by_sizes(
+    alloc: Global,
+    case: &Case,
+    timer: &str,
+    options: &ScriptOptions,
+) -> Result<Option<String>, AllocError> {
     for size in SIZES {
         if case.devices.have_size(size)
-            && let Some(text) = by_reads(alloc, case, &options, size)?
+            && let Some(text) = by_reads(alloc, case, options, Reads::of_size(size))?
         {
             let reads = if size == usize::MAX {
                 "whole"
@@ -45,13 +61,27 @@ fn over_timer(alloc: Global, case: &Case, timer: &str) -> Result<Option<String>,
     Ok(None)
 }
 
+fn by_cuts(
+    alloc: Global,
+    case: &Case,
+    timer: &str,
+    options: &ScriptOptions,
+) -> Result<Option<String>, AllocError> {
+    for first in 1..case.input.bytes.len() {
+        if let Some(text) = by_reads(alloc, case, options, Reads::cut_behind(first))? {
+            return Ok(Some(format!(in alloc; "over {timer}, cut behind byte {first}: {text}")?));
+        }
+    }
+    Ok(None)
+}
+
 fn by_reads(
     alloc: Global,
     case: &Case,
     options: &ScriptOptions,
-    size: usize,
+    reads: Reads,
 ) -> Result<Option<String>, AllocError> {
-    let outcome = run(alloc, case, options, size)?;
+    let outcome = run(alloc, case, options, reads)?;
     compared(alloc, case, &outcome)
 }
 
@@ -71,15 +101,15 @@ fn compared(alloc: Global, case: &Case, outcome: &Outcome) -> Result<Option<Stri
     }
 }
 
-// Runs the script over a timer, with reads of at most so many bytes.
+// Runs the script over a timer, by these reads.
 fn run(
     alloc: Global,
     case: &Case,
     options: &ScriptOptions,
-    size: usize,
+    reads: Reads,
 ) -> Result<Outcome, AllocError> {
     let devices = &case.devices;
-    let mut reader = source_of(case, size);
+    let mut reader = source_of(case, reads);
     let mut writer = Sink::new(alloc, devices.writer_fails, devices.writer_takes);
     let mut recorder = recorder_of(alloc, case);
     let ended = match opening_of(alloc, case) {
@@ -102,7 +132,7 @@ fn run(
     })
 }
 
-fn source_of(case: &Case, size: usize) -> Source<'_> {
+fn source_of(case: &Case, reads: Reads) -> Source<'_> {
     let devices = &case.devices;
     let input = case.input.bytes.as_slice();
     let rest = match devices.reader_fails {
@@ -111,7 +141,7 @@ fn source_of(case: &Case, size: usize) -> Source<'_> {
     };
     Source::new(
         rest,
-        size,
+        reads,
         devices.reader_fails.is_some(),
         devices.is_interrupted,
     )

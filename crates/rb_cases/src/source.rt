@@ -1,10 +1,11 @@
+use crate::reads::Reads;
 use std::io::{self, ErrorKind, Read};
 
 /// Gives its bytes by at most so many at a read, and then ends or fails.
 #[derive(Drop)]
 pub struct Source<'a> {
     rest: &'a [u8],
-    size: usize,
+    reads: Reads,
     fails: bool,
     is_interrupted: bool,
     /// Whether the next read is interrupted.
@@ -12,10 +13,10 @@ pub struct Source<'a> {
 }
 
 impl<'a> Source<'a> {
-    pub fn new(rest: &'a [u8], size: usize, fails: bool, is_interrupted: bool) -> Source<'a> {
+    pub fn new(rest: &'a [u8], reads: Reads, fails: bool, is_interrupted: bool) -> Source<'a> {
         Source {
             rest,
-            size,
+            reads,
             fails,
             is_interrupted,
             is_due: is_interrupted,
@@ -33,7 +34,8 @@ impl Read for Source<'_> {
         if self.fails && self.rest.is_empty() {
             return Err(ErrorKind::ConnectionReset.into());
         }
-        let count = self.size.min(buf.len()).min(self.rest.len());
+        let count = self.reads.first.min(buf.len()).min(self.rest.len());
+        self.reads = Reads::of_size(self.reads.later);
         buf[..count].copy_from_slice(&self.rest[..count]);
         self.rest = &self.rest[count..];
         Ok(count)
