@@ -1,11 +1,12 @@
 -- The content of the timer, read from its nodes.
-use Rattle.std.proofs.Common.{◌≡◌, ℕ, ◌+◌, ◌<◌, ◌≤◌, ◌≢◌, List, length, get_or, set, Option, Some, None, IsSome, IfSome, is_some, refl, sym, ap, ◌∙◌, subst, arith, ⊎_elim, get_or-set_same, get_or-set_other}
+use Rattle.std.proofs.Common.{◌≡◌, ℕ, ◌+◌, ◌<◌, ◌≤◌, ◌≢◌, List, length, get_or, set, Option, Some, None, IsSome, IfSome, is_some, refl, sym, ap, ◌∙◌, subst, arith, ⊎_elim, get_or-set_same, get_or-set_other, length-set}
 use Rattle.std.specs.Option.{unwrap_or}
 use Rattle.std.proofs.Math.Logic.{∥∥₁_elim}
 use Rattle.std.proofs.Props.{props}
 use Rattle.std.specs.FinMap as map
 use Rattle.std.specs.Prelude.{count_by}
 use Rattle.std.proofs.lemmas.List.{length-map, get_or_read}
+use Rattle.std.proofs.lemmas.List.Sums.{count_by-le-length}
 use Rattle.rb_timer.specs.Content.{IsLeastSlot}
 use Rattle.rb_timer.specs.Slots.{content_of, get-content_of, content_empty, content_of-insert, content_of-remove, len-content_of}
 use Rattle.rb_pairing.specs.declared.node.Node.{Node}
@@ -64,6 +65,17 @@ module _ (nodes new : List Node) (slot : ℕ) where
     count-added free =
         ap (count_by is_some) row
         ∙ count_added (expiries nodes) slot expiry row_within (get_or-expiries nodes slot ∙ free)
+
+  -- no more are counted than there are slots
+  pub counted_below : (expiry : ℕ) → expiries new ≡ set (expiries nodes) slot (Some expiry) → count_by is_some (expiries new) ≤ length nodes
+  counted_below expiry row =
+      omega (
+        arith,
+        count_by-le-length (is_some {T = ℕ}) (expiries new),
+        ap length row,
+        length-set (expiries nodes) slot (Some expiry),
+        length-map nodes (λ (node : Node). node.expiry),
+      )
 
   -- none written there is an entry taken out
   present_within : IsSome (expiry_of nodes slot) → slot < length (expiries nodes)
