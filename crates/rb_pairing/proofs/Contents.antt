@@ -5,12 +5,12 @@ use Rattle.std.proofs.Math.Logic.{∥∥₁_elim}
 use Rattle.std.proofs.Props.{props}
 use Rattle.std.specs.FinMap as map
 use Rattle.std.specs.Prelude.{count_by}
-use Rattle.std.proofs.lemmas.List.{length-map, get_or_read}
+use Rattle.std.proofs.lemmas.List.{length-map}
 use Rattle.std.proofs.lemmas.List.Sums.{count_by-le-length}
 use Rattle.rb_timer.specs.Content.{IsLeastSlot}
 use Rattle.rb_timer.specs.Slots.{content_of, get-content_of, content_empty, content_of-insert, content_of-remove, len-content_of}
 use Rattle.rb_pairing.specs.declared.node.Node.{Node}
-use Rattle.rb_pairing.specs.Nodes.{vacant, expiry_of, previous_of, expiries, moment_of}
+use Rattle.rb_pairing.specs.Nodes.{expiry_of, previous_of, expiries, moment_of}
 use Rattle.rb_pairing.specs.Forest.{IsTop, IsTree}
 use Rattle.rb_pairing.specs.Changes.{Melds}
 use Rattle.rb_pairing.proofs.Ancestors.{climbs}
@@ -39,12 +39,6 @@ expiry_is nodes slot some = some_moment nodes slot (expiry_of nodes slot) refl s
 pub present-content : (nodes : List Node) (slot : ℕ)
     → IsSome (map.get (content_of (expiries nodes)) slot) → IsSome (expiry_of nodes slot)
 present-content nodes slot present = ap is_some (sym (get-content nodes slot)) ∙ present
-
--- the node that was read at such a slot is the slot's
-pub expiry_read : (nodes : List Node) (slot : ℕ) (read : Node) → IsSome (expiry_of nodes slot)
-    → read ≡ get_or nodes slot read → read.expiry ≡ expiry_of nodes slot
-expiry_read nodes slot read present is =
-    ap (λ (node : Node). node.expiry) (get_or_read nodes slot read (in_room-expiry nodes slot present) is vacant)
 
 module _ (nodes new : List Node) (slot : ℕ) where
   -- an expiry written at a slot is an entry added

@@ -1,5 +1,5 @@
 -- Nodes with no entries, alone or behind others.
-use Rattle.std.proofs.Common.{◌≡◌, ℕ, zero, suc, ◌<◌, ◌≤◌, List, [], ◌∷◌, ◌++◌, length, Option, Some, None, is_some, cond, ltb, refl, sym, ap, ◌∙◌, arith, ⊎_elim, length-append, zero-add, Bool, true, false, subst}
+use Rattle.std.proofs.Common.{◌≡◌, ℕ, zero, suc, ◌<◌, ◌≤◌, List, [], ◌∷◌, ◌++◌, length, Option, Some, None, is_some, cond, ltb, refl, sym, ap, ◌∙◌, arith, ⊎_elim, length-append, zero-add}
 use Rattle.std.specs.Prelude.{replicate, count_by}
 use Rattle.std.proofs.Math.Logic.{∥∥₁_map}
 use Rattle.std.specs.Option.{unwrap_or}

@@ -1,5 +1,5 @@
 -- The words of a node, and what they say.
-use Rattle.std.specs.Prelude.{◌≡◌, ℕ, Bool, true, false, Option, Some, None, cond, eqb}
+use Rattle.std.specs.Prelude.{◌≡◌, ℕ, Bool, false, Option, Some, None, cond, eqb}
 use Rattle.std.proofs.Common.{sym, ap, ◌∙◌, refl, ⊎_elim}
 use Rattle.std.proofs.lemmas.Bool.{cases_eq, eq-eqb, ne_eqb}
 use Rattle.rb_pairing.specs.Fields.{Fields}

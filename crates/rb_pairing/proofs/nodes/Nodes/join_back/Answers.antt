@@ -7,6 +7,7 @@ use Rattle.rb_pairing.proofs.Expiries.{same_length}
 use Rattle.rb_pairing.proofs.LinkTests.{link_is_not}
 use Rattle.rb_pairing.proofs.Rows.{relinks_none, relinks_more, relinks_join, next_join, row_within, rank_within, rank_to, neighbour}
 use Rattle.rb_pairing.proofs.nodes.Nodes.join_back.Goals as goal
+use Rattle.rb_pairing.proofs.nodes.Nodes.join_back.Goals.{After-unwrap-left}
 
 pub back-init : goal.back-init
 back-init c = record {
@@ -23,20 +24,20 @@ pub unwrap-left-requires : goal.unwrap-left-requires
 unwrap-left-requires c = ∥∥₁_elim c.back.invariant.row (hlevel props)
     (λ to. ap is_some c.previous.ensures ∙ to.row.in_row)
 
-pub join-last-requires-clause-neighbours : goal.join-last-requires-clause-neighbours
-join-last-requires-clause-neighbours c =
+-- what is before the last entry is followed by it
+neighbours : (c : After-unwrap-left) → next_of c.back.self c.unwrap-left.result ≡ Some c.back.last
+neighbours c =
     ∥∥₁_elim c.back.invariant.row (hlevel props)
     (λ to. neighbour c.back.self c.args.parent c.back.last to.row c.unwrap-left.result
     (sym c.previous.ensures ∙ c.unwrap-left.ensures)
     (λ is. link_is_not _ _ (sym c.eq.ensures ∙ c.if-eq.false) (c.child.ensures ∙ is)))
 
+pub join-last-requires-clause-neighbours : goal.join-last-requires-clause-neighbours
+join-last-requires-clause-neighbours c = neighbours (goal.at.join-last-requires-clause-neighbours c).After-unwrap-left
+
 pub back-preserved : goal.back-preserved
 back-preserved c =
-    let neighbours : next_of c.back.self c.unwrap-left.result ≡ Some c.back.last =
-    ∥∥₁_elim c.back.invariant.row (hlevel props)
-    (λ to. neighbour c.back.self c.args.parent c.back.last to.row c.unwrap-left.result
-    (sym c.previous.ensures ∙ c.unwrap-left.ensures)
-    (λ is. link_is_not _ _ (sym c.eq.ensures ∙ c.if-eq.false) (c.child.ensures ∙ is))) in
+    let neighbours = neighbours (goal.at.back-preserved c).After-unwrap-left in
     let linked = c.back.invariant.relinks.linked in
     record {
       relinks = relinks_more _ _ _ c.back.invariant.relinks

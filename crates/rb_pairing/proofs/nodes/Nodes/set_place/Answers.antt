@@ -1,5 +1,5 @@
 -- The node at the slot is written.
-use Rattle.std.proofs.Common.{List, sym, subst, ap, ◌∙◌}
+use Rattle.std.proofs.Common.{List, sym, subst}
 use Rattle.rb_pairing.specs.declared.node.Node.{Node}
 use Rattle.rb_pairing.specs.Changes.{SetsPlace}
 use Rattle.rb_pairing.proofs.Writes.{changed_at, sets_place}

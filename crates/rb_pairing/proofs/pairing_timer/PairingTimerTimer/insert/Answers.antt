@@ -1,5 +1,5 @@
 -- The nodes have one expiry more.
-use Rattle.std.proofs.Common.{◌≡◌, ◌+◌, ◌≤◌, ◌∙◌, length, is_some, sym, ap, arith}
+use Rattle.std.proofs.Common.{◌≡◌, ◌+◌, ◌∙◌, is_some, sym, ap, arith}
 use Rattle.std.specs.Prelude.{count_by}
 use Rattle.rb_pairing.specs.Nodes.{expiry_of, expiries}
 use Rattle.rb_pairing.proofs.Contents.{get-content, content-added, expiry_added, count-added, counted_below}

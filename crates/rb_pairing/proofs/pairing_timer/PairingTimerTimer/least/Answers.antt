@@ -1,5 +1,5 @@
 -- The root is an entry of least expiry.
-use Rattle.std.proofs.Common.{◌∙◌, sym, subst}
+use Rattle.std.proofs.Common.{sym, subst}
 use Rattle.rb_timer.specs.Content.{IsLeastSlot}
 use Rattle.rb_timer.specs.Slots.{content_of}
 use Rattle.rb_pairing.specs.Nodes.{expiries}

@@ -1,5 +1,5 @@
 -- The nodes stay, with vacant slots behind them.
-use Rattle.std.proofs.Common.{◌≡◌, ◌∙◌, sym, ap}
+use Rattle.std.proofs.Common.{◌∙◌, sym, ap}
 use Rattle.std.specs.Prelude.{count_by, is_some}
 use Rattle.rb_pairing.specs.Nodes.{expiries}
 use Rattle.rb_pairing.proofs.Rooms.{more_tree, more_entry, count-more, content-more}
