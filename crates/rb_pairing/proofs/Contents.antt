@@ -1,15 +1,16 @@
 -- The content of the timer, read from its nodes.
-use Rattle.std.proofs.Common.{◌≡◌, ℕ, ◌+◌, ◌<◌, ◌≤◌, ◌≢◌, List, length, get_or, set, Option, Some, None, IsSome, IfSome, is_some, refl, sym, ap, ◌∙◌, subst, arith, ⊎_elim, get_or-set_same, get_or-set_other}
+use Rattle.std.proofs.Common.{◌≡◌, ℕ, ◌+◌, ◌<◌, ◌≤◌, ◌≢◌, List, length, get_or, set, Option, Some, None, IsSome, IfSome, is_some, refl, sym, ap, ◌∙◌, subst, arith, ⊎_elim, get_or-set_same, get_or-set_other, length-set}
 use Rattle.std.specs.Option.{unwrap_or}
 use Rattle.std.proofs.Math.Logic.{∥∥₁_elim}
 use Rattle.std.proofs.Props.{props}
 use Rattle.std.specs.FinMap as map
 use Rattle.std.specs.Prelude.{count_by}
-use Rattle.std.proofs.lemmas.List.{length-map, get_or_read}
+use Rattle.std.proofs.lemmas.List.{length-map}
+use Rattle.std.proofs.lemmas.List.Sums.{count_by-le-length}
 use Rattle.rb_timer.specs.Content.{IsLeastSlot}
 use Rattle.rb_timer.specs.Slots.{content_of, get-content_of, content_empty, content_of-insert, content_of-remove, len-content_of}
 use Rattle.rb_pairing.specs.declared.node.Node.{Node}
-use Rattle.rb_pairing.specs.Nodes.{vacant, expiry_of, previous_of, expiries, moment_of}
+use Rattle.rb_pairing.specs.Nodes.{expiry_of, previous_of, expiries, moment_of}
 use Rattle.rb_pairing.specs.Forest.{IsTop, IsTree}
 use Rattle.rb_pairing.specs.Changes.{Melds}
 use Rattle.rb_pairing.proofs.Ancestors.{climbs}
@@ -39,12 +40,6 @@ pub present-content : (nodes : List Node) (slot : ℕ)
     → IsSome (map.get (content_of (expiries nodes)) slot) → IsSome (expiry_of nodes slot)
 present-content nodes slot present = ap is_some (sym (get-content nodes slot)) ∙ present
 
--- the node that was read at such a slot is the slot's
-pub expiry_read : (nodes : List Node) (slot : ℕ) (read : Node) → IsSome (expiry_of nodes slot)
-    → read ≡ get_or nodes slot read → read.expiry ≡ expiry_of nodes slot
-expiry_read nodes slot read present is =
-    ap (λ (node : Node). node.expiry) (get_or_read nodes slot read (in_room-expiry nodes slot present) is vacant)
-
 module _ (nodes new : List Node) (slot : ℕ) where
   -- an expiry written at a slot is an entry added
   module _ (expiry : ℕ) (within : slot < length nodes) (row : expiries new ≡ set (expiries nodes) slot (Some expiry)) where
@@ -64,6 +59,17 @@ module _ (nodes new : List Node) (slot : ℕ) where
     count-added free =
         ap (count_by is_some) row
         ∙ count_added (expiries nodes) slot expiry row_within (get_or-expiries nodes slot ∙ free)
+
+  -- no more are counted than there are slots
+  pub counted_below : (expiry : ℕ) → expiries new ≡ set (expiries nodes) slot (Some expiry) → count_by is_some (expiries new) ≤ length nodes
+  counted_below expiry row =
+      omega (
+        arith,
+        count_by-le-length (is_some {T = ℕ}) (expiries new),
+        ap length row,
+        length-set (expiries nodes) slot (Some expiry),
+        length-map nodes (λ (node : Node). node.expiry),
+      )
 
   -- none written there is an entry taken out
   present_within : IsSome (expiry_of nodes slot) → slot < length (expiries nodes)

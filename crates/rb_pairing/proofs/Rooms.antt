@@ -1,5 +1,5 @@
 -- Nodes with no entries, alone or behind others.
-use Rattle.std.proofs.Common.{◌≡◌, ℕ, zero, suc, ◌<◌, ◌≤◌, List, [], ◌∷◌, ◌++◌, length, Option, Some, None, is_some, cond, ltb, refl, sym, ap, ◌∙◌, arith, ⊎_elim, length-append, zero-add, Bool, true, false, subst}
+use Rattle.std.proofs.Common.{◌≡◌, ℕ, zero, suc, ◌<◌, ◌≤◌, List, [], ◌∷◌, ◌++◌, length, Option, Some, None, is_some, cond, ltb, refl, sym, ap, ◌∙◌, arith, ⊎_elim, length-append, zero-add}
 use Rattle.std.specs.Prelude.{replicate, count_by}
 use Rattle.std.proofs.Math.Logic.{∥∥₁_map}
 use Rattle.std.specs.Option.{unwrap_or}
@@ -183,26 +183,10 @@ more_tree nodes more root tree =
     wider_tree nodes (nodes ++ replicate more vacant)
     (omega (arith, length-append nodes (replicate more vacant))) (node_at-more nodes more) root tree
 
--- the nodes after more room was asked for, and given or not
-pub resized_tree : (nodes new : List Node) (more : ℕ) (given : Bool) (root : Option ℕ)
-    → new ≡ cond given (nodes ++ replicate more vacant) nodes → IsTree nodes root → IsTree new root
-resized_tree nodes new more true root is tree =
-    subst (λ row. IsTree row root) (sym is) (more_tree nodes more root tree)
-resized_tree nodes new more false root is tree = subst (λ row. IsTree row root) (sym is) tree
-
-pub resized_entry : (nodes new : List Node) (more : ℕ) (given : Bool) (at : Option ℕ)
-    → new ≡ cond given (nodes ++ replicate more vacant) nodes → IsEntry nodes at → IsEntry new at
-resized_entry nodes new more true at is entry =
-    λ slot found. ap (λ row. is_some (expiry_of row slot)) is
-    ∙ ap (λ (node : Node). is_some node.expiry) (node_at-more nodes more slot) ∙ entry slot found
-resized_entry nodes new more false at is entry = subst (λ row. IsEntry row at) (sym is) entry
-
-pub resized_count : (nodes new : List Node) (more : ℕ) (given : Bool)
-    → new ≡ cond given (nodes ++ replicate more vacant) nodes
-    → count_by is_some (expiries new) ≡ count_by is_some (expiries nodes)
-resized_count nodes new more true is =
-    ap (λ row. count_by is_some (expiries row)) is ∙ count-more nodes more
-resized_count nodes new more false is = ap (λ row. count_by is_some (expiries row)) is
+-- an entry stands among them
+pub more_entry : (nodes : List Node) (more : ℕ) (at : Option ℕ) → IsEntry nodes at → IsEntry (nodes ++ replicate more vacant) at
+more_entry nodes more at entry =
+    λ slot found. ap (λ (node : Node). is_some node.expiry) (node_at-more nodes more slot) ∙ entry slot found
 
 pub content-vacant : (more : ℕ) → content_of (expiries (replicate more vacant)) ≡ finite.empty
 content-vacant more =

@@ -1,8 +1,8 @@
 -- The nodes after one of them is written.
-use Rattle.std.proofs.Common.{◌≡◌, ℕ, ◌<◌, ◌≢◌, List, ◌++◌, take, drop, length, set, get_or, Option, Some, None, refl, sym, ap, ◌∙◌, subst, ⊎_elim, get_or-set_same, get_or-set_other}
+use Rattle.std.proofs.Common.{◌≡◌, ℕ, ◌<◌, ◌≢◌, List, length, set, get_or, Option, Some, None, refl, sym, ap, ◌∙◌, subst, ⊎_elim, get_or-set_same, get_or-set_other}
 use Rattle.std.proofs.Math.Seq.{map-set_same}
 use Rattle.std.proofs.lemmas.Bool.{cases_eq}
-use Rattle.std.proofs.lemmas.List.{take_at, get_or_default}
+use Rattle.std.proofs.lemmas.List.{get_or_default}
 use Rattle.rb_pairing.specs.declared.node.Node.{Node}
 use Rattle.rb_pairing.specs.Nodes.{vacant, node_at, expiry_of, child_of, next_of, expiries}
 use Rattle.rb_pairing.specs.Changes.{SetsPrevious, SetsLink, SetsPlace, SetsChild, ClearsLinks}
@@ -12,11 +12,6 @@ pub each_slot : (P : ℕ → Type 0) (slot : ℕ) → P slot → ((other : ℕ) 
     → (other : ℕ) → P other
 each_slot P slot here elsewhere other =
     ⊎_elim (λ same. subst P (sym same) here) (elsewhere other) (cases_eq other slot)
-
--- what a vector has after the whole of it was lent as a slice
-pub written_back : (n : ℕ) (new old : List Node) → length new ≡ n
-    → take n (new ++ drop (length new) old) ≡ new
-written_back n new old long = take_at new (drop (length new) old) n long
 
 module _ (nodes : List Node) (slot : ℕ) (node : Node) (within : slot < length nodes) where
   pub here : node_at (set nodes slot node) slot ≡ node
@@ -41,9 +36,16 @@ module _ (nodes : List Node) (slot : ℕ) (within : slot < length nodes) where
   abbrev old : Node
   old = node_at nodes slot
 
-  -- the node that is read there
-  pub read_at : (read : Node) → get_or nodes slot read ≡ node_at nodes slot
-  read_at read = get_or_default nodes slot read vacant within
+  -- the node that was read there, in the vector that the contract sees as these nodes
+  pub read_at : (items : List Node) (read : Node) → items ≡ nodes → read ≡ get_or items slot read → read ≡ node_at nodes slot
+  read_at items read view is =
+      is ∙ ap (λ ns. get_or ns slot read) view ∙ get_or_default nodes slot read vacant within
+
+  -- and the nodes once it was changed
+  pub changed_at : (change : Node → Node) (items : List Node) (read new : Node) → items ≡ nodes → read ≡ get_or items slot read
+      → new ≡ change read → set items slot new ≡ set nodes slot (change old)
+  changed_at change items read new view is changes =
+      ap (λ ns. set ns slot new) view ∙ ap (set nodes slot) (changes ∙ ap change (read_at items read view is))
 
   abbrev with_previous : Option ℕ → Node
   with_previous previous = record old { previous = previous }

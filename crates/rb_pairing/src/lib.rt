@@ -7,6 +7,7 @@
 
 mod links;
 mod node;
+mod nodes;
 mod pairing_timer;
 #[cfg(test)]
 mod tests;

@@ -3,8 +3,7 @@ ghost use Rattle.std.proofs.Props.{props};
 ghost use Rattle.rb_pairing.specs.Nodes.{expiries};
 ghost use Rattle.rb_pairing.specs.Forest.{IsTree, IsEntry};
 
-use crate::node::Node;
-use crate::tree::{add, leaf_under, newest_but, take_out};
+use crate::nodes::Nodes;
 use rb_timer::Timer;
 use std::alloc::{AllocError, Global};
 
@@ -18,11 +17,12 @@ const SLOTS_TO_AN_ENTRY: usize = 8;
 /// says so: a leaf below k entries raises the usual potential, the sum of the logarithms of the entries'
 /// sizes, by a sum of log(1 + 1/size) over k sizes that differ, which is at most log(k + 1). A single
 /// removal may join as many entries as there are. A clear costs a constant for each entry that it takes
-/// out, whatever the room, and every other call but `reserve` a constant.
+/// out, whatever the room. `reserve`, where it makes room, costs all the room that there is then, and every
+/// other call a constant.
 #[derive(Debug, Drop)]
 pub struct PairingTimer {
     // At each slot of the room its node.
-    nodes: Vec<Node>,
+    nodes: Nodes,
     // The slot of the entry under which all others hang.
     root: Option<usize>,
     // The slot of the newest entry or, once that is removed, of the one that was before it. An entry
@@ -31,9 +31,9 @@ pub struct PairingTimer {
     newest: Option<usize>,
     // How many entries there are.
     len: usize,
-    ghost tree: { IsTree nodes.items root } by { Prim.hlevel props },
-    ghost newest_stands: { IsEntry nodes.items newest },
-    ghost counted: { len ≡ count_by is_some (expiries nodes.items) },
+    ghost tree: { IsTree nodes root } by { Prim.hlevel props },
+    ghost newest_stands: { IsEntry nodes newest },
+    ghost counted: { len ≡ count_by is_some (expiries nodes) },
 }
 
 impl Timer for PairingTimer {
@@ -42,15 +42,15 @@ impl Timer for PairingTimer {
     ghost use Rattle.rb_pairing.specs.Nodes.{expiries};
     ghost use Rattle.rb_pairing.specs.NodeRoom.{in_nodes_of_content};
 
-    ghost content = { λ timer. content_of (expiries timer.nodes.items) };
+    ghost content = { λ timer. content_of (expiries timer.nodes) };
 
-    ghost room = { λ timer. length timer.nodes.items };
+    ghost room = { λ timer. length timer.nodes };
 
-    ghost slots_below_room = { λ timer. in_nodes_of_content timer.nodes.items };
+    ghost slots_below_room = { λ timer. in_nodes_of_content timer.nodes };
 
     fn new(alloc: Global) -> Self {
         PairingTimer {
-            nodes: Vec::new(alloc),
+            nodes: Nodes::new(alloc),
             root: None,
             newest: None,
             len: 0,
@@ -58,7 +58,7 @@ impl Timer for PairingTimer {
     }
 
     fn room(&self) -> usize {
-        self.nodes.len()
+        self.nodes.room()
     }
 
     fn len(&self) -> usize {
@@ -66,33 +66,30 @@ impl Timer for PairingTimer {
     }
 
     fn get(&self, slot: usize) -> Option<u64> {
-        self.nodes.get(slot)?.expiry()
+        self.nodes.expiry(slot)
     }
 
     fn reserve(&mut self, wanted: usize) -> Result<(), AllocError> {
-        if wanted > self.nodes.len() {
-            self.nodes.resize(wanted, Node::vacant())?;
-        }
-        Ok(())
+        self.nodes.reserve(wanted)
     }
 
     fn insert(&mut self, slot: usize, expiry: u64) {
-        self.root = add(&mut self.nodes, self.root, self.newest, slot, expiry);
+        self.root = self.nodes.add(self.root, self.newest, slot, expiry);
         self.newest = Some(slot);
         self.len += 1;
     }
 
     fn remove(&mut self, slot: usize) -> u64 {
-        let expiry = self.nodes[slot].expiry().unwrap();
-        self.newest = newest_but(&self.nodes, self.newest, slot);
-        self.root = take_out(&mut self.nodes, self.root, slot);
+        let expiry = self.nodes.moment(slot);
+        self.newest = self.nodes.newest_but(self.newest, slot);
+        self.root = self.nodes.take_out(self.root, slot);
         self.len -= 1;
         expiry
     }
 
     fn least(&self) -> Option<(usize, u64)> {
         let root = self.root?;
-        Some((root, self.nodes[root].expiry().unwrap()))
+        Some((root, self.nodes.moment(root)))
     }
 
     fn due(&mut self, now: u64) -> Option<(usize, u64)> {
@@ -100,7 +97,7 @@ impl Timer for PairingTimer {
     }
 
     fn clear(&mut self) {
-        if self.len < self.nodes.len() / SLOTS_TO_AN_ENTRY {
+        if self.len < self.nodes.room() / SLOTS_TO_AN_ENTRY {
             self.take_each();
         } else {
             self.take_all();
@@ -118,11 +115,11 @@ impl PairingTimer {
     //
     // The newest is the entry to go on from: once it is removed that is the one that was before it.
     fn take_each(&mut self)
-        ensures content { content_of (expiries self.new.nodes.items) ≡ map.empty }
-        ensures room { length self.new.nodes.items ≡ length self.old.nodes.items }
+        ensures content { content_of (expiries self.new.nodes) ≡ map.empty }
+        ensures room { length self.new.nodes ≡ length self.old.nodes }
     {
         while let Some(slot) = self.newest.or(self.root) {
-            let leaf = leaf_under(&self.nodes, slot);
+            let leaf = self.nodes.leaf_under(slot);
             self.newest = Some(leaf);
             self.remove(leaf);
         }
@@ -130,10 +127,10 @@ impl PairingTimer {
 
     // Takes out all entries at once, by a walk over the room.
     fn take_all(&mut self)
-        ensures content { content_of (expiries self.new.nodes.items) ≡ map.empty }
-        ensures room { length self.new.nodes.items ≡ length self.old.nodes.items }
+        ensures content { content_of (expiries self.new.nodes) ≡ map.empty }
+        ensures room { length self.new.nodes ≡ length self.old.nodes }
     {
-        self.nodes.fill(Node::vacant());
+        self.nodes.clear();
         self.root = None;
         self.newest = None;
         self.len = 0;

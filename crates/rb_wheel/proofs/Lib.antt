@@ -15,5 +15,6 @@ pub mod Order
 pub mod Removals
 pub mod Rooms
 pub mod Spreads
+pub mod TakenOff
 pub mod Viewed
 pub mod WrittenLinks

@@ -34,7 +34,7 @@ lies_later base next None cell up none lies = lies
 lies_later base next (Some expiry) None up none lies = omega arith
 lies_later base next (Some expiry) (Some cell) up none lies = absurd (none-some cell (sym none))
 
-lies_in : (base : ℕ) (expiry cell : Option ℕ) (e at : ℕ) → expiry ≡ Some e → cell ≡ Some at → base ≤ e → IsCellOf base e at → LiesRight base expiry cell
+pub lies_in : (base : ℕ) (expiry cell : Option ℕ) (e at : ℕ) → expiry ≡ Some e → cell ≡ Some at → base ≤ e → IsCellOf base e at → LiesRight base expiry cell
 lies_in base None cell e at is lies after in_cell = absurd (none-some e is)
 lies_in base (Some expiry) None e at is lies after in_cell = absurd (none-some at lies)
 lies_in base (Some expiry) (Some cell) e at is lies after in_cell =

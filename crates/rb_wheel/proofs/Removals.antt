@@ -13,7 +13,7 @@ use Rattle.rb_wheel.specs.Lists.{Slots, cell_at}
 use Rattle.rb_wheel.proofs.Members.{met}
 use Rattle.rb_wheel.proofs.Viewed.{in_room_viewed, cells_viewed, expiries_viewed, if_some, in_heads_of}
 use Rattle.rb_wheel.proofs.Linked.{TakesOut, LinksAgree-taken, cases_some}
-use Rattle.rb_wheel.proofs.WrittenLinks.{in_room, length-with_previous, with_previous_here, with_previous_other, cells_of-with_previous, expiries_of-with_previous, length-with_next, with_next_here, with_next_other, cells_of-with_next, expiries_of-with_next}
+use Rattle.rb_wheel.proofs.WrittenLinks.{in_room, length-with_previous, with_previous_here, with_previous_other, with_previous_shown, cells_of-with_previous, expiries_of-with_previous, length-with_next, with_next_here, with_next_other, cells_of-with_next, expiries_of-with_next}
 
 -- its neighbours know one another
 abbrev pub joined : List Node → ℕ → List Node
@@ -74,10 +74,7 @@ module _ (heads : List (Option ℕ)) (nodes : List Node) (at slot : ℕ) (rank :
   -- what does not show a neighbour is as before
   same_noted : {X : Type 0} (shown : Node → X) → ((node : Node) (previous : Option ℕ) → shown (record node { previous = previous }) ≡ shown node)
       → (s : ℕ) → shown (node_at noted s) ≡ shown (node_at nodes s)
-  same_noted shown same s = ⊎_elim
-      (λ here. ap shown (with_previous_here nodes before after s here (after_in_room s here)) ∙ same (node_at nodes s) before)
-      (λ other. ap shown (with_previous_other nodes before after s other))
-      (cases_some after s)
+  same_noted shown same = with_previous_shown nodes before shown same after
 
   same_joined : {X : Type 0} (shown : Node → X) → ((node : Node) (next : Option ℕ) → shown (record node { next = next }) ≡ shown node)
       → (s : ℕ) → shown (node_at (joined nodes slot) s) ≡ shown (node_at noted s)
@@ -104,7 +101,7 @@ module _ (heads : List (Option ℕ)) (nodes : List Node) (at slot : ℕ) (rank :
   head_inner None a s inner c = absurd (none-some s inner)
   head_inner (Some t) a s inner c = refl
 
-  takes : TakesOut (head_at heads) (cell_in nodes) (next_in nodes) (previous_in nodes)
+  pub takes : TakesOut (head_at heads) (cell_in nodes) (next_in nodes) (previous_in nodes)
       (head_at (with_first heads at before after)) (cell_in (without nodes slot))
       (next_in (without nodes slot)) (previous_in (without nodes slot)) at slot
   takes = record {

@@ -1,11 +1,16 @@
 -- The entries of a cell, spread over lower ones one after another.
-use Rattle.std.proofs.Common.{◌≡◌, ℕ, ◌<◌, Bool, false, cond, eqb, List, length, set, Option, Some, None, sym, ap, ◌∙◌, refl, arith, ⊎_elim, get_or-set_same, length-set}
-use Rattle.std.specs.Prelude.{count_by}
-use Rattle.std.proofs.lemmas.Bool.{cases_lt, eq-eqb, ne_eqb}
+use Rattle.std.proofs.Common.{◌≡◌, ℕ, ◌<◌, ◌≤◌, ◌≢◌, Bool, true, false, cond, eqb, List, length, set, Option, Some, None, is_some, sym, ap, ◌∙◌, refl, subst, arith, ⊎_elim, get_or-set_same, get_or-set_other, length-set}
+use Rattle.std.specs.Prelude.{count_by, IsSomeAnd}
+use Rattle.std.proofs.lemmas.Bool.{cases_lt, cases_eq, eq-eqb, ne_eqb}
 use Rattle.std.proofs.lemmas.List.{get_or_past}
 use Rattle.std.proofs.lemmas.List.Sums.{sum_by-set}
-use Rattle.std.proofs.lemmas.Option.{none-some}
-use Rattle.rb_wheel.specs.Lists.{cell_at}
+use Rattle.std.proofs.lemmas.Option.{none-some, same_Some}
+use Rattle.rb_wheel.specs.declared.node.Node.{Node}
+use Rattle.rb_wheel.specs.Cells.{IsCellOf}
+use Rattle.rb_wheel.specs.Lists.{cell_at, slot_expiry, IsVacant}
+use Rattle.rb_wheel.specs.Nodes.{expiry_of}
+use Rattle.rb_wheel.specs.Wheel.{LiesRight, LieRight, MaySpread, SameInCells}
+use Rattle.rb_wheel.proofs.Moves.{lies_in}
 
 -- how many slots a cell holds
 abbrev pub is_in : ℕ → Option ℕ → Bool
@@ -20,18 +25,71 @@ in_row cells slot cell lies = ⊎_elim (λ within. within)
     (λ past. absurd (none-some cell (sym (get_or_past cells slot None past) ∙ lies)))
     (cases_lt slot (length cells))
 
--- a cell holds one slot less once that lies in a lower one
-pub count_in-lower : (cells : List (Option ℕ)) (slot cell lower : ℕ) → cell_at cells slot ≡ Some cell → lower < cell
-    → count_in cell (set (set cells slot None) slot (Some lower)) < count_in cell cells
-count_in-lower cells slot cell lower lies before =
-    let within = in_row cells slot cell lies in
-    let taken = set cells slot None in
-    let long = length-set cells slot None in
-    let out = sum_by-set (λ c. cond (is_in cell c) 1 0) cells slot None None within in
-    let back = sum_by-set (λ c. cond (is_in cell c) 1 0) taken slot (Some lower) None (omega arith) in
-    let one : ℕ = 1 in
-    let none : ℕ = 0 in
-    let was : cond (is_in cell (cell_at cells slot)) one none ≡ one = ap (λ c. cond (is_in cell c) one none) lies ∙ ap (λ b. cond b one none) (eq-eqb cell cell refl) in
-    let gone : cond (is_in cell (cell_at taken slot)) one none ≡ none = ap (λ c. cond (is_in cell c) one none) (get_or-set_same cells slot None None within) in
-    let here : cond (eqb lower cell) one none ≡ none = ap (λ b. cond b one none) (ne_eqb lower cell (λ same. omega arith)) in
-    omega (arith, out, back, was, gone, here)
+-- the expiry of an entry that has one is the number in its node
+some_expiry : (is_taken : Bool) (expiry : ℕ) (P : ℕ → Type 0) → IsSomeAnd (cond is_taken (Some expiry) None) P
+    → (cond is_taken (Some expiry) None ≡ Some expiry) × P expiry
+some_expiry true expiry P holds = (refl, holds)
+some_expiry false expiry P holds = absurd (holds)
+
+-- an entry of the cell is put where it belongs
+module _ (base cell : ℕ) (expiries cells : List (Option ℕ)) (may : MaySpread base cell expiries cells)
+    (slot : ℕ) (node : Node) (lies : cell_at cells slot ≡ Some cell) (is : slot_expiry expiries slot ≡ expiry_of node)
+    (lower : ℕ) (belongs : IsCellOf base node.expiry lower) where
+  inside : (expiry_of node ≡ Some node.expiry) × ((base ≤ node.expiry) × ((other : ℕ) → IsCellOf base node.expiry other → other < cell))
+  inside = some_expiry node.is_taken node.expiry
+      (λ expiry. (base ≤ expiry) × ((other : ℕ) → IsCellOf base expiry other → other < cell))
+      (subst (λ e. IsSomeAnd e (λ expiry. (base ≤ expiry) × ((other : ℕ) → IsCellOf base expiry other → other < cell))) is (may.inside slot lies))
+
+  -- which is in a lower cell
+  pub before : lower < cell
+  before = inside.1.1 lower belongs
+
+  within : slot < length cells
+  within = in_row cells slot cell lies
+
+  abbrev put : List (Option ℕ)
+  put = set cells slot (Some lower)
+
+  here : cell_at put slot ≡ Some lower
+  here = get_or-set_same cells slot (Some lower) None within
+
+  elsewhere : (other : ℕ) → other ≢ slot → cell_at put other ≡ cell_at cells other
+  elsewhere other apart = get_or-set_other cells slot other (Some lower) None apart
+
+  pub may_still : MaySpread base cell expiries put
+  may_still = record {
+    others = λ other off. ⊎_elim
+        (λ same. subst (λ s. LiesRight base (slot_expiry expiries s) (cell_at put s)) (sym same)
+        (lies_in base (slot_expiry expiries slot) (cell_at put slot) node.expiry lower (is ∙ inside.0) here inside.1.0 belongs))
+        (λ apart. subst (λ c. LiesRight base (slot_expiry expiries other) c) (sym (elsewhere other apart))
+        (may.others other (λ in_cell. off (elsewhere other apart ∙ in_cell))))
+        (cases_eq other slot);
+    inside = λ other in_cell. may.inside other
+        (sym (elsewhere other
+        (λ same. let low = before in let at = same_Some lower cell (sym here ∙ ap (cell_at put) (sym same) ∙ in_cell) in omega arith))
+        ∙ in_cell);
+  }
+
+  pub same_still : (first_cells : List (Option ℕ)) → SameInCells first_cells cells → SameInCells first_cells put
+  same_still first_cells same = record {
+    room = length-set cells slot (Some lower) ∙ same.room;
+    each = λ other. ⊎_elim
+        (λ at. ap (λ s. is_some (cell_at put s)) at ∙ ap is_some here ∙ sym (ap is_some lies) ∙ ap (λ s. is_some (cell_at cells s)) (sym at) ∙ same.each other)
+        (λ apart. ap is_some (elsewhere other apart) ∙ same.each other)
+        (cases_eq other slot);
+  }
+
+  -- so that its own cell holds one less
+  pub one_less : count_in cell put < count_in cell cells
+  one_less =
+      let counts = sum_by-set (λ c. cond (is_in cell c) 1 0) cells slot (Some lower) None within in
+      let low = before in
+      let one : ℕ = 1 in
+      let none : ℕ = 0 in
+      let was : cond (is_in cell (cell_at cells slot)) one none ≡ one = ap (λ c. cond (is_in cell c) one none) lies ∙ ap (λ b. cond b one none) (eq-eqb cell cell refl) in
+      let now : cond (is_in cell (Some lower)) one none ≡ none = ap (λ b. cond b one none) (ne_eqb lower cell (λ same. omega arith)) in
+      omega (arith, counts, was, now)
+
+-- with none left there all lie right
+pub all_right : (base cell : ℕ) (expiries cells : List (Option ℕ)) → MaySpread base cell expiries cells → IsVacant cells cell → LieRight base expiries cells
+all_right base cell expiries cells may vacant = record { each = λ slot. may.others slot (vacant slot) }

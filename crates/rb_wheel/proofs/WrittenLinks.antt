@@ -1,12 +1,13 @@
 -- What the nodes are after one neighbour was written, or one slot's node.
 use Rattle.std.proofs.Common.{◌≡◌, ℕ, ◌<◌, ◌≢◌, List, length, Option, Some, None, sym, ap, ◌∙◌, refl, ⊎_elim, get_or-set_same, get_or-set_other, length-set, arith, set, get_or}
 use Rattle.std.proofs.lemmas.Bool.{cases_lt}
-use Rattle.std.proofs.lemmas.List.{get_or_past, get_or_read}
+use Rattle.std.proofs.lemmas.List.{get_or_past, get_or_read, map-set}
 use Rattle.std.proofs.Math.Seq.{map-set_same}
 use Rattle.std.proofs.lemmas.Option.{none-some, same_Some}
 use Rattle.rb_wheel.specs.declared.node.Node.{Node}
 use Rattle.rb_wheel.specs.Nodes.{vacant, node_at, expiry_of, with_next, with_previous}
-use Rattle.rb_wheel.specs.WheelLinks.{cell_in, cells_of, expiries_of}
+use Rattle.rb_wheel.specs.WheelLinks.{head_at, first_node, with_put, cell_in, cells_of, expiries_of}
+use Rattle.rb_wheel.proofs.Linked.{cases_some}
 
 -- a slot that lies in a cell has a node
 pub in_room : (nodes : List Node) (slot at : ℕ) → cell_in nodes slot ≡ Some at → slot < length nodes
@@ -39,6 +40,18 @@ module _ (nodes : List Node) (previous : Option ℕ) where
   with_previous_other None slot apart = refl
   with_previous_other (Some other) slot apart =
       get_or-set_other nodes other slot _ vacant (λ same. apart (ap Some (sym same)))
+
+  -- what does not show what precedes is as before
+  pub with_previous_shown : {X : Type 0} (shown : Node → X) → ((node : Node) (p : Option ℕ) → shown (record node { previous = p }) ≡ shown node)
+      → (o : Option ℕ) (slot : ℕ) → shown (node_at (with_previous nodes o previous) slot) ≡ shown (node_at nodes slot)
+  with_previous_shown shown same o slot = ⊎_elim
+      (λ within. ⊎_elim
+      (λ here. ap shown (with_previous_here o slot here within) ∙ same (node_at nodes slot) previous)
+      (λ other. ap shown (with_previous_other o slot other))
+      (cases_some o slot))
+      (λ past. ap shown (get_or_past (with_previous nodes o previous) slot vacant (let long = length-with_previous o in omega arith)
+      ∙ sym (get_or_past nodes slot vacant past)))
+      (cases_lt slot (length nodes))
 
   pub cells_of-with_previous : (o : Option ℕ) → cells_of (with_previous nodes o previous) ≡ cells_of nodes
   cells_of-with_previous None = refl
@@ -75,3 +88,28 @@ module _ (nodes : List Node) (next : Option ℕ) where
   pub expiries_of-with_next : (o : Option ℕ) → expiries_of (with_next nodes o next) ≡ expiries_of nodes
   expiries_of-with_next None = refl
   expiries_of-with_next (Some slot) = map-set_same expiry_of nodes slot _ vacant refl
+
+-- a slot is put first in a cell
+module _ (heads : List (Option ℕ)) (nodes : List Node) (at slot : ℕ) where
+  abbrev noted : List Node
+  noted = with_previous nodes (head_at heads at) (Some slot)
+
+  pub with_put_here : slot < length nodes → node_at (with_put heads nodes at slot) slot ≡ first_node heads at (node_at noted slot)
+  with_put_here within = get_or-set_same noted slot _ vacant
+      (let long = length-with_previous nodes (Some slot) (head_at heads at) in omega arith)
+
+  pub with_put_other : (s : ℕ) → s ≢ slot → node_at (with_put heads nodes at slot) s ≡ node_at noted s
+  with_put_other s apart = get_or-set_other noted slot s _ vacant apart
+
+  pub cells_of-with_put : cells_of (with_put heads nodes at slot) ≡ set (cells_of nodes) slot (Some at)
+  cells_of-with_put =
+      map-set (λ (l : Node). l.cell) noted slot _
+      ∙ ap (λ cells. set cells slot (Some at)) (cells_of-with_previous nodes (Some slot) (head_at heads at))
+
+  pub expiries_of-with_put : expiries_of (with_put heads nodes at slot) ≡ expiries_of nodes
+  expiries_of-with_put =
+      map-set_same expiry_of noted slot _ vacant refl
+      ∙ expiries_of-with_previous nodes (Some slot) (head_at heads at)
+
+  pub length-with_put : length (with_put heads nodes at slot) ≡ length nodes
+  length-with_put = length-set noted slot _ ∙ length-with_previous nodes (Some slot) (head_at heads at)

@@ -14,13 +14,17 @@ cell_at cells slot = slice_index_or cells slot None
 abbrev pub slot_expiry : List (Option ℕ) → ℕ → Option ℕ
 slot_expiry expiries slot = slice_index_or expiries slot None
 
+-- some slot lies in the cell
+abbrev pub IsHeld : List (Option ℕ) → ℕ → Type 0
+IsHeld cells cell = (slot : ℕ) × (cell_at cells slot ≡ Some cell)
+
 -- no slot lies in the cell
 abbrev pub IsVacant : List (Option ℕ) → ℕ → Type 0
 IsVacant cells cell = (slot : ℕ) → cell_at cells slot ≢ Some cell
 
 -- the cell holds a slot, and no cell before it does
 pub record IsFirstCell (cells : List (Option ℕ)) (cell : ℕ) : Type 0 where
-  pub held : (slot : ℕ) × (cell_at cells slot ≡ Some cell)
+  pub held : IsHeld cells cell
   pub first : (slot : ℕ) → IfSome (cell_at cells slot) (λ other. cell ≤ other)
 
 -- the slot lies in the cell, and no slot of that cell expires before it

@@ -1,15 +1,24 @@
 -- How the lists lie: at each cell its first slot, at each slot its neighbours.
-use Rattle.std.specs.Prelude.{◌≡◌, ℕ, ◌<◌, ◌≤◌, List, length, map, Option, Some, None, slice_index_or}
+use Rattle.std.specs.Prelude.{◌≡◌, ℕ, ◌<◌, ◌≤◌, List, length, map, Option, Some, None, slice_index_or, slice_set}
 use Rattle.rb_wheel.specs.declared.node.Node.{Node}
 use Rattle.rb_wheel.specs.declared.marks.Marks.{Marks}
 use Rattle.rb_wheel.specs.declared.cells.TheConstants.{CELLS}
 use Rattle.rb_wheel.specs.Marks.{mark_at, mark_of}
 use Rattle.rb_wheel.specs.Lists.{Slots}
-use Rattle.rb_wheel.specs.Nodes.{node_at, expiry_of}
+use Rattle.rb_wheel.specs.Nodes.{node_at, expiry_of, with_previous}
 
 -- a cell's first slot
 abbrev pub head_at : List (Option ℕ) → ℕ → Option ℕ
 head_at heads cell = slice_index_or heads cell None
+
+-- the node of a slot that is first in its cell, and the nodes with it
+abbrev pub first_node : List (Option ℕ) → ℕ → Node → Node
+first_node heads at node = record node { cell = Some at; next = head_at heads at; previous = None }
+
+abbrev pub with_put : List (Option ℕ) → List Node → ℕ → ℕ → List Node
+with_put heads nodes at slot =
+    let noted : List Node = with_previous nodes (head_at heads at) (Some slot) in
+    slice_set noted slot (first_node heads at (node_at noted slot))
 
 -- a slot's cell, and its neighbours there
 abbrev pub cell_in : List Node → ℕ → Option ℕ

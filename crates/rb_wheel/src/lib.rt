@@ -6,6 +6,7 @@ mod lists;
 mod marks;
 mod next_first;
 mod node;
+mod spread;
 #[cfg(test)]
 mod tests;
 mod wheel_timer;

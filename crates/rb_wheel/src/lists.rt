@@ -1,11 +1,13 @@
 ghost use Rattle.std.specs.Prelude.{◌≡◌, ◌≢◌, ◌⊎◌, ◌<◌, ◌≤◌, ◌-◌, ◌^◌, ◌++◌, ℕ, List, [], Option, Some, None, IsSome, OnOk, OnErr, IfSome, MatchOption, length, replicate, slice_set, slice_index_or};
 ghost use Rattle.rb_wheel.specs.Nodes.{with_first};
 ghost use Rattle.rb_wheel.specs.Marks.{mark_at, mark_of, mark_with_first};
-ghost use Rattle.rb_wheel.specs.Lists.{cell_at, slot_expiry, IsVacant, IsFirstCell, IsLeastIn, HasExpiries};
+ghost use Rattle.rb_wheel.specs.Lists.{cell_at, slot_expiry, IsHeld, IsVacant, IsFirstCell, IsLeastIn, HasExpiries};
+ghost use Rattle.rb_wheel.specs.Wheel.{LieRight, MaySpread, SameInCells};
 
 use crate::cells::CELLS;
 use crate::marks::Marks;
 use crate::node::{Node, set_next, set_previous};
+use crate::spread::{put_first, spread};
 use rb_timer::link::Link;
 use std::alloc::{AllocError, Global};
 use std::marker::Model;
@@ -101,12 +103,13 @@ impl Lists {
         requires free { cell_at self.old.cells slot ≡ None }
         ensures { self.new ≡ record self.old { cells = slice_set self.old.cells slot (Some cell) } }
     {
-        let next = self.heads[cell];
-        let link = Link::to(slot);
-        set_previous(&mut self.nodes, next, link);
-        self.nodes[slot].put_first(cell, next);
-        self.heads[cell] = link;
-        self.marks.insert(cell);
+        put_first(
+            &mut self.heads,
+            &mut self.marks,
+            &mut self.nodes,
+            slot,
+            cell,
+        );
     }
 
     /// Takes a slot out of its cell.
@@ -126,6 +129,23 @@ impl Lists {
             node.next,
         );
         self.nodes[slot].take_out();
+    }
+
+    /// Puts the slots of a cell into the lower cells where they belong from the base, which has entered it.
+    pub(crate) fn spread(&mut self, base: u64, cell: usize)
+        requires held { IsHeld self.old.cells cell }
+        requires may { MaySpread base cell self.old.expiries self.old.cells }
+        ensures expiries { self.new.expiries ≡ self.old.expiries }
+        ensures right { LieRight base self.old.expiries self.new.cells }
+        ensures same { SameInCells self.old.cells self.new.cells }
+    {
+        spread(
+            &mut self.heads,
+            &mut self.marks,
+            &mut self.nodes,
+            base,
+            cell,
+        );
     }
 
     /// The first cell that holds a slot.

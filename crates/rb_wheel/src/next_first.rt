@@ -1,8 +1,8 @@
 ghost use Rattle.std.specs.Prelude.{◌≡◌, ◌≢◌, ◌<◌, Some, IfSome, MatchOption};
 ghost use Rattle.rb_wheel.specs.Lists.{IsVacant, IsLeastIn, HasExpiries};
-ghost use Rattle.rb_wheel.specs.Wheel.{LieRight, MaySpread, SameInCells, ExpireTogether, IsFirst};
+ghost use Rattle.rb_wheel.specs.Wheel.{LieRight, SameInCells, ExpireTogether, IsFirst};
 
-use crate::cells::{DIGITS, cell_of};
+use crate::cells::DIGITS;
 use crate::lists::Lists;
 
 /// The first entry of the cells, after a slot was taken out of its cell: the one so far, or, where that
@@ -42,7 +42,7 @@ fn next_first(lists: &mut Lists, base: &mut u64) -> Option<(usize, u64)>
     let entry = least_of(lists, cell)?;
     *base = entry.1;
     if cell >= DIGITS {
-        spread(lists, *base, cell);
+        lists.spread(*base, cell);
     }
     Some(entry)
 }
@@ -58,18 +58,4 @@ fn least_of(lists: &Lists, cell: usize) -> Option<(usize, u64)>
     }
     let slot = lists.first_in(cell)?;
     Some((slot, lists.expiry(slot).unwrap()))
-}
-
-// Puts the slots of a cell into the lower cells where they belong from the base, which has entered it.
-fn spread(lists: &mut Lists, base: u64, cell: usize)
-    requires { MaySpread base cell lists.old.expiries lists.old.cells }
-    ensures expiries { lists.new.expiries ≡ lists.old.expiries }
-    ensures right { LieRight base lists.old.expiries lists.new.cells }
-    ensures same { SameInCells lists.old.cells lists.new.cells }
-{
-    while let Some(slot) = lists.first_in(cell) {
-        let expiry = lists.expiry(slot).unwrap();
-        lists.remove(slot);
-        lists.insert(slot, cell_of(base, expiry));
-    }
 }

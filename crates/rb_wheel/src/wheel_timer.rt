@@ -17,10 +17,12 @@ pub type WheelTimer = Wheel<PairingTimer>;
 /// then spread over lower levels. What is put in later and expires before the base stands in a timer of
 /// its own, `E`. Where no entry is left the base is 0 again.
 ///
-/// What calls cost, beside those of `E`: `least` and `due` look at the first entry of each part, and walk
-/// over nothing. `insert` puts one slot into a list. `remove` takes one out, and may move others to lower
-/// levels; from when it is put in until it is taken out an entry is moved so at most ten times. `clear`
-/// takes the entries out one by one where they are few beside the room, and else goes over the room.
+/// What calls cost, beside those of `E`: `insert`, `least` and `due` cost a constant, and so does a `remove`
+/// of any entry but the first of the cells. When that one leaves, the entries of one cell, which may be all,
+/// are walked over twice: to find the next, and to move each to a lower level. An entry is moved at most ten
+/// times before it is taken out, so in the long run this `remove` costs a constant too. `clear` costs a
+/// constant for each entry that it takes out, whatever the room. `reserve`, where it makes room, costs all
+/// the room that there is then.
 #[derive(Debug, Drop)]
 pub struct Wheel<E: Timer> {
     // The slots of the room, each with its entry's expiry, wherever that lies.

@@ -2,8 +2,8 @@
 use Rattle.rb_wheel.proofs.Moves.{may_spread, right_lowest, first_is}
 use Rattle.rb_wheel.proofs.next_first.next_first.Goals as goal
 
-pub spread-requires : goal.spread-requires
-spread-requires c =
+pub spread-requires-clause-may : goal.spread-requires-clause-may
+spread-requires-clause-may c =
     may_spread c.args.base.now c.args.lists.now.expiries c.args.lists.now.cells c.requires c.in_ok-cell.cell c.in_ok-cell.ensures.first
     c.in_ok-entry.entry.0 c.in_ok-entry.entry.1 c.in_ok-entry.ensures c.if-cell-ge-DIGITS.true
 

@@ -6,7 +6,7 @@ use Rattle.rb_pairing.proofs.pairing_timer.PairingTimer.take_each.Goals as goal
 
 pub remove-requires : goal.remove-requires
 remove-requires c =
-    ap is_some (get-content c.loop-slot.self.nodes.items c.leaf_under-leaf.result) ∙ rw c.deref.ensures.value at c.leaf_under-leaf.ensures
+    ap is_some (get-content c.loop-slot.self.nodes c.leaf_under-leaf.result) ∙ c.leaf_under-leaf.ensures
 
 pub loop-slot-smaller : goal.loop-slot-smaller
 loop-slot-smaller c =
@@ -14,11 +14,11 @@ loop-slot-smaller c =
       arith,
       c.loop-slot.self.counted,
       c.remove.new.self.counted,
-      count-less c.loop-slot.self.nodes.items c.remove.new.self.nodes.items c.leaf_under-leaf.result
-          (rw c.deref.ensures.value at c.leaf_under-leaf.ensures) c.remove.ensures.content,
+      count-less c.loop-slot.self.nodes c.remove.new.self.nodes c.leaf_under-leaf.result
+          c.leaf_under-leaf.ensures c.remove.ensures.content,
     )
 
 pub returns-clause-content : goal.returns-clause-content
 returns-clause-content c =
-    content_empty-no_root c.loop-slot.self.nodes.items c.loop-slot.self.root c.loop-slot.self.tree
+    content_empty-no_root c.loop-slot.self.nodes c.loop-slot.self.root c.loop-slot.self.tree
     (none_of_or c.loop-slot.self.newest c.loop-slot.self.root (sym c.or.ensures ∙ c.in_default.is))

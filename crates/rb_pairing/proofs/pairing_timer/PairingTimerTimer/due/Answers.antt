@@ -12,5 +12,5 @@ returns-clause-due c =
     let due = c.filter.result in
     let filtered : MatchOption c.least.result (due ≡ None) (λ entry. due ≡ then_some (nat_le entry.1 c.args.now) entry) =
     search rules in
-    IsDueEntry-from_least (content_of (expiries timer.nodes.items))
+    IsDueEntry-from_least (content_of (expiries timer.nodes))
     c.args.now c.least.result due c.least.ensures filtered

@@ -6,4 +6,4 @@ use Rattle.rb_pairing.proofs.pairing_timer.PairingTimerTimer.len.Goals as goal
 
 pub returns : goal.returns
 returns c =
-    c.args.self.now.counted ∙ sym (len-content_of (expiries c.args.self.now.nodes.items))
+    c.args.self.now.counted ∙ sym (len-content_of (expiries c.args.self.now.nodes))

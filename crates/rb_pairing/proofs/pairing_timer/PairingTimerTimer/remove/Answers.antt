@@ -1,99 +1,56 @@
--- The nodes come back with one expiry less.
-use Rattle.std.proofs.Common.{◌<◌, ◌∙◌, length, Some, is_some, sym, ap, arith}
+-- The nodes have one expiry less.
+use Rattle.std.proofs.Common.{◌≡◌, ◌+◌, ◌∙◌, Some, is_some, sym, ap, arith}
 use Rattle.std.specs.Prelude.{count_by}
 use Rattle.rb_pairing.specs.Nodes.{expiries}
-use Rattle.rb_pairing.specs.Forest.{IsEntry}
-use Rattle.rb_pairing.proofs.Contents.{get-content, present-content, expiry_read, content-removed, expiry_kept, count-removed}
+use Rattle.rb_pairing.proofs.Contents.{get-content, present-content, expiry_is, content-removed, expiry_kept, count-removed}
 use Rattle.rb_pairing.proofs.InRoom.{in_room-expiry}
-use Rattle.rb_pairing.proofs.Writes.{written_back}
 use Rattle.rb_pairing.proofs.pairing_timer.PairingTimerTimer.remove.Goals as goal
+use Rattle.rb_pairing.proofs.pairing_timer.PairingTimerTimer.remove.Goals.{After-take_out-self}
 
-pub index-requires : goal.index-requires
-index-requires c =
-    let nodes = c.args.self.now.nodes.items in
-    let within : c.args.slot < length nodes =
-    in_room-expiry nodes c.args.slot (present-content nodes c.args.slot c.requires) in
-    omega arith
-
-pub unwrap-expiry-requires : goal.unwrap-expiry-requires
-unwrap-expiry-requires c =
-    let nodes = c.args.self.now.nodes.items in
-    let present = present-content nodes c.args.slot c.requires in
-    ap is_some c.expiry.ensures ∙ ap is_some (expiry_read nodes c.args.slot c.index.result.now present c.index.ensures) ∙ present
+pub moment-expiry-requires : goal.moment-expiry-requires
+moment-expiry-requires c = present-content c.args.self.now.nodes c.args.slot c.requires
 
 pub newest_but-self-requires-clause-in_room : goal.newest_but-self-requires-clause-in_room
 newest_but-self-requires-clause-in_room c =
-    let nodes = c.args.self.now.nodes.items in
-    let within : c.args.slot < length nodes =
-    in_room-expiry nodes c.args.slot (present-content nodes c.args.slot c.requires) in
-    omega arith
-
-pub take_out-self-requires-clause-present : goal.take_out-self-requires-clause-present
-take_out-self-requires-clause-present c =
-    rw c.deref_mut.ensures.value (present-content c.args.self.now.nodes.items c.args.slot c.requires)
-
-pub overflow_sub-self : goal.overflow_sub-self
-overflow_sub-self c =
-    let timer = c.args.self.now in
-    let row = rw c.deref_mut.ensures.value at c.take_out-self.ensures.expiries in
-    omega (
-      arith,
-      timer.counted,
-      count-removed timer.nodes.items c.take_out-self.new.nodes c.args.slot
-          (present-content timer.nodes.items c.args.slot c.requires) row,
-    )
-
-pub invariant_of-self-clause-tree : goal.invariant_of-self-clause-tree
-invariant_of-self-clause-tree c =
-    let timer = c.args.self.now in
-    let back = written_back timer.nodes.len c.take_out-self.new.nodes timer.nodes.items (omega arith) in
-    rw back c.take_out-self.ensures.tree
-
-pub invariant_of-self-clause-newest_stands : goal.invariant_of-self-clause-newest_stands
-invariant_of-self-clause-newest_stands c =
-    let timer = c.args.self.now in
-    let new = c.take_out-self.new.nodes in
-    let back = written_back timer.nodes.len new timer.nodes.items (omega arith) in
-    let row = rw c.deref_mut.ensures.value at c.take_out-self.ensures.expiries in
-    let stands : IsEntry timer.nodes.items c.newest_but-self.result =
-    rw c.deref.ensures.value at c.newest_but-self.ensures.entry in
-    rw back
-    (λ other is. ap is_some (expiry_kept timer.nodes.items new c.args.slot
-    (present-content timer.nodes.items c.args.slot c.requires) row other (λ same. c.newest_but-self.ensures.apart (is ∙ ap Some same)))
-    ∙ stands other is)
-
-pub invariant_of-self-clause-counted : goal.invariant_of-self-clause-counted
-invariant_of-self-clause-counted c =
-    let timer = c.args.self.now in
-    let new = c.take_out-self.new.nodes in
-    let back = written_back timer.nodes.len new timer.nodes.items (omega arith) in
-    let row = rw c.deref_mut.ensures.value at c.take_out-self.ensures.expiries in
-    omega (
-      arith,
-      timer.counted,
-      count-removed timer.nodes.items new c.args.slot (present-content timer.nodes.items c.args.slot c.requires) row,
-      ap (λ nodes. count_by is_some (expiries nodes)) back,
-    )
-
-pub returns-clause-value : goal.returns-clause-value
-returns-clause-value c =
-    let nodes = c.args.self.now.nodes.items in
-    let present = present-content nodes c.args.slot c.requires in
-    get-content nodes c.args.slot
-    ∙ sym (expiry_read nodes c.args.slot c.index.result.now present c.index.ensures)
-    ∙ sym c.expiry.ensures ∙ c.unwrap-expiry.ensures
-
-pub returns-clause-content : goal.returns-clause-content
-returns-clause-content c =
-    let timer = c.args.self.now in
-    let new = c.take_out-self.new.nodes in
-    let back = written_back timer.nodes.len new timer.nodes.items (omega arith) in
-    let row = rw c.deref_mut.ensures.value at c.take_out-self.ensures.expiries in
-    rw back (content-removed timer.nodes.items new c.args.slot (present-content timer.nodes.items c.args.slot c.requires) row)
+    in_room-expiry c.args.self.now.nodes c.args.slot (present-content c.args.self.now.nodes c.args.slot c.requires)
 
 pub take_out-self-requires-clause-in_room : goal.take_out-self-requires-clause-in_room
 take_out-self-requires-clause-in_room c =
-    let nodes = c.args.self.now.nodes.items in
-    let within : c.args.slot < length nodes =
-    in_room-expiry nodes c.args.slot (present-content nodes c.args.slot c.requires) in
-    omega arith
+    in_room-expiry c.args.self.now.nodes c.args.slot (present-content c.args.self.now.nodes c.args.slot c.requires)
+
+pub take_out-self-requires-clause-present : goal.take_out-self-requires-clause-present
+take_out-self-requires-clause-present c = present-content c.args.self.now.nodes c.args.slot c.requires
+
+-- one less is counted
+counted : (c : After-take_out-self) → count_by is_some (expiries c.take_out-self.new.self) + 1 ≡ count_by is_some (expiries c.args.self.now.nodes)
+counted c =
+    count-removed c.args.self.now.nodes c.take_out-self.new.self c.args.slot
+    (present-content c.args.self.now.nodes c.args.slot c.requires) c.take_out-self.ensures.expiries
+
+pub overflow_sub-self : goal.overflow_sub-self
+overflow_sub-self c =
+    let was = c.args.self.now.counted in
+    omega (arith, was, counted (goal.at.overflow_sub-self c).After-take_out-self)
+
+pub invariant_of-self-clause-newest_stands : goal.invariant_of-self-clause-newest_stands
+invariant_of-self-clause-newest_stands c = λ other is.
+    ap is_some (expiry_kept c.args.self.now.nodes c.take_out-self.new.self c.args.slot
+    (present-content c.args.self.now.nodes c.args.slot c.requires) c.take_out-self.ensures.expiries other
+    (λ same. c.newest_but-self.ensures.apart (is ∙ ap Some same)))
+    ∙ c.newest_but-self.ensures.entry other is
+
+pub invariant_of-self-clause-counted : goal.invariant_of-self-clause-counted
+invariant_of-self-clause-counted c =
+    let was = c.args.self.now.counted in
+    omega (arith, was, counted (goal.at.invariant_of-self-clause-counted c).After-take_out-self)
+
+pub returns-clause-value : goal.returns-clause-value
+returns-clause-value c =
+    get-content c.args.self.now.nodes c.args.slot
+    ∙ expiry_is c.args.self.now.nodes c.args.slot (present-content c.args.self.now.nodes c.args.slot c.requires)
+    ∙ ap Some (sym c.moment-expiry.ensures)
+
+pub returns-clause-content : goal.returns-clause-content
+returns-clause-content c =
+    content-removed c.args.self.now.nodes c.take_out-self.new.self c.args.slot
+    (present-content c.args.self.now.nodes c.args.slot c.requires) c.take_out-self.ensures.expiries

@@ -4,10 +4,9 @@ use Rattle.rb_wheel.specs.declared.node.Node.{Node}
 use Rattle.rb_wheel.specs.Nodes.{node_at, with_next, with_previous, with_first}
 use Rattle.rb_wheel.specs.WheelLinks.{head_at, cells_of, expiries_of, AreSoundLists}
 use Rattle.rb_wheel.specs.Marks.{mark_at}
-use Rattle.rb_wheel.specs.declared.marks.Marks.{Marks}
 use Rattle.rb_wheel.proofs.Insertions.{marks_again}
 use Rattle.rb_wheel.proofs.Removals.{has_head, in_wheel, next_low, previous_low, left_linked, cells_left, expiries_left, taken_out, length-nodes_left, length-with_first, with_first_other, first_marked}
-use Rattle.rb_wheel.proofs.Viewed.{in_room_viewed, slots_of-parts, written_back}
+use Rattle.rb_wheel.proofs.Viewed.{in_room_viewed, slots_of-parts, sound_moved, written_back}
 use Rattle.rb_wheel.proofs.WrittenLinks.{changed_there, length-with_previous, length-with_next}
 use Rattle.rb_wheel.proofs.lists.Lists.remove.Goals as goal
 use Rattle.rb_wheel.proofs.lists.Lists.remove.Goals.{After-set_previous, After-set_next, After-set_first}
@@ -78,11 +77,6 @@ pub set_first-requires-clause-in_wheel : goal.set_first-requires-clause-in_wheel
 set_first-requires-clause-in_wheel c =
     in_wheel c.self.inside.heads.items c.self.inside.marks c.self.inside.nodes.items c.args.self.now c.args.slot c.unwrap-cell.result c.index-node.result.now
     c.self.invariant c.self.view_is c.requires c.index-node.ensures c.unwrap-cell.ensures
-
-sound_moved : {heads new_heads : List (Option ℕ)} {marks : Marks} {nodes new_nodes : List Node}
-    → new_heads ≡ heads → new_nodes ≡ nodes → AreSoundLists heads marks nodes → AreSoundLists new_heads marks new_nodes
-sound_moved {heads} {new_heads} {marks} {nodes} {new_nodes} heads_are nodes_are sound =
-    subst (λ hs. AreSoundLists hs marks new_nodes) (sym heads_are) (subst (λ ls. AreSoundLists heads marks ls) (sym nodes_are) sound)
 
 pub invariant_of-self : goal.invariant_of-self
 invariant_of-self c =

@@ -1,0 +1,173 @@
+ghost use Rattle.std.specs.Prelude.{◌≡◌, ℕ, ◌<◌, ◌^◌, ◌-◌, ◌++◌, [], Some, None, IsSome, is_ok, if◌then◌else◌, length, replicate};
+ghost use Rattle.rb_pairing.specs.Nodes.{vacant, expiry_of, child_of, next_of, previous_of, moment_of, with_expiry};
+ghost use Rattle.rb_pairing.specs.Changes.{SetsPrevious, SetsLink, SetsPlace, SetsChild, ClearsLinks};
+
+use crate::node::Node;
+use std::alloc::{AllocError, Global};
+use std::marker::Model;
+
+/// The slots of the room, each with its node. Contracts see the list of the nodes.
+///
+/// But for `reserve` and `clear`, each of the calls here reads or writes one node.
+#[derive(Debug, Drop)]
+pub(crate) struct Nodes {
+    slots: Vec<Node>,
+}
+
+impl Model for Nodes {
+    ghost use Rattle.std.specs.Prelude.{List};
+    ghost use Rattle.rb_pairing.specs.declared.node.Node.{Node};
+
+    ghost Value = { List Node };
+
+    ghost view = { λ nodes. nodes.slots.items };
+}
+
+impl Nodes {
+    /// There is no slot, and no memory is taken until `reserve`.
+    pub(crate) fn new(alloc: Global) -> Self
+        ensures { result ≡ [] }
+    {
+        Nodes {
+            slots: Vec::new(alloc),
+        }
+    }
+
+    /// How many slots there are.
+    pub(crate) fn room(&self) -> usize
+        ensures { result ≡ length self.now }
+    {
+        self.slots.len()
+    }
+
+    /// Makes room for `wanted` slots. Where memory is refused nothing changes.
+    pub(crate) fn reserve(&mut self, wanted: usize) -> Result<(), AllocError>
+        ensures { self.new ≡ self.old ++ replicate (if is_ok result then wanted - length self.old else 0) vacant }
+    {
+        if wanted > self.slots.len() {
+            self.slots.resize(wanted, Node::vacant())?;
+        }
+        Ok(())
+    }
+
+    /// Takes away every entry.
+    pub(crate) fn clear(&mut self)
+        ensures { self.new ≡ replicate (length self.old) vacant }
+    {
+        self.slots.fill(Node::vacant());
+    }
+
+    /// The expiry of the slot's entry, in nanoseconds, if it has one.
+    pub(crate) fn expiry(&self, slot: usize) -> Option<u64>
+        ensures { result ≡ expiry_of self.now slot }
+    {
+        self.slots.get(slot)?.expiry()
+    }
+
+    /// The expiry of the slot's entry, in nanoseconds.
+    pub(crate) fn moment(&self, slot: usize) -> u64
+        requires { IsSome (expiry_of self.now slot) }
+        ensures { result ≡ moment_of self.now slot }
+    {
+        self.slots[slot].expiry().unwrap()
+    }
+
+    /// The first entry of the row under that one.
+    pub(crate) fn child(&self, slot: usize) -> Option<usize>
+        requires { slot < length self.now }
+        ensures { result ≡ child_of self.now slot }
+    {
+        self.slots[slot].child()
+    }
+
+    /// The entry behind that one in its row.
+    pub(crate) fn next(&self, slot: usize) -> Option<usize>
+        requires { slot < length self.now }
+        ensures { result ≡ next_of self.now slot }
+    {
+        self.slots[slot].next()
+    }
+
+    /// The entry before that one in its row, or for the first of a row the parent.
+    pub(crate) fn previous(&self, slot: usize) -> Option<usize>
+        requires { slot < length self.now }
+        ensures { result ≡ previous_of self.now slot }
+    {
+        self.slots[slot].previous()
+    }
+
+    /// Notes what comes before that entry, if there is one.
+    pub(crate) fn set_previous(&mut self, slot: Option<usize>, previous: Option<usize>)
+        requires slot { (other : ℕ) → slot ≡ Some other → other < length self.old }
+        requires previous { (other : ℕ) → previous ≡ Some other → other < length self.old }
+        ensures { SetsPrevious self.old self.new slot previous }
+    {
+        if let Some(slot) = slot {
+            self.slots[slot].set_previous(previous);
+        }
+    }
+
+    /// Has the entry that links to `from` link to `to` instead.
+    pub(crate) fn set_link(&mut self, slot: Option<usize>, from: usize, to: Option<usize>)
+        requires slot { (other : ℕ) → slot ≡ Some other → other < length self.old }
+        requires present { (other : ℕ) → slot ≡ Some other → IsSome (expiry_of self.old other) }
+        requires to { (other : ℕ) → to ≡ Some other → other < length self.old }
+        ensures { SetsLink self.old self.new slot from to }
+    {
+        if let Some(slot) = slot {
+            if self.slots[slot].child() == Some(from) {
+                self.slots[slot].set_child(to);
+            } else {
+                self.slots[slot].set_next(to);
+            }
+        }
+    }
+
+    /// Notes what the entry stands between.
+    pub(crate) fn set_place(&mut self, slot: usize, previous: Option<usize>, next: Option<usize>)
+        requires slot { slot < length self.old }
+        requires previous { (other : ℕ) → previous ≡ Some other → other < length self.old }
+        requires next { (other : ℕ) → next ≡ Some other → other < length self.old }
+        ensures { SetsPlace self.old self.new slot previous next }
+    {
+        self.slots[slot].set_place(previous, next);
+    }
+
+    /// Notes the first of the row under the entry.
+    pub(crate) fn set_child(&mut self, slot: usize, child: usize)
+        requires slot { slot < length self.old }
+        requires present { IsSome (expiry_of self.old slot) }
+        requires child { child < length self.old }
+        ensures { SetsChild self.old self.new slot child }
+    {
+        self.slots[slot].set_child(Some(child));
+    }
+
+    /// Takes every link from the entry. What links to it stays.
+    pub(crate) fn clear_links(&mut self, slot: usize)
+        requires slot { slot < length self.old }
+        requires present { IsSome (expiry_of self.old slot) }
+        ensures { ClearsLinks self.old self.new slot }
+    {
+        self.slots[slot].clear_links();
+    }
+
+    /// Puts an entry at a slot that has no child.
+    pub(crate) fn occupy(&mut self, slot: usize, expiry: u64)
+        requires slot { slot < length self.old }
+        requires child { child_of self.old slot ≡ None }
+        ensures put { self.new ≡ with_expiry self.old slot (Some expiry) }
+        ensures countable { length self.old < 2 ^ 64 }
+    {
+        self.slots[slot].occupy(expiry);
+    }
+
+    /// Takes away the entry of a slot that has no child.
+    pub(crate) fn vacate(&mut self, slot: usize)
+        requires slot { slot < length self.old }
+        requires child { child_of self.old slot ≡ None }
+        ensures { self.new ≡ with_expiry self.old slot None }
+    {
+        self.slots[slot].vacate();
+    }
+}
