@@ -9,8 +9,9 @@ use std::alloc::{AllocError, Global};
 
 /// A binary heap of the entries, by expiry, that also knows where each slot's entry is.
 ///
-/// Whoever moves an entry in the heap notes its new place at its slot. An insert and a removal cost a logarithm
-/// of the entries, a clear as many steps as there are entries, and each other call a constant.
+/// Whoever moves an entry in the heap notes its new place at its slot. An insert and a removal cost at most a
+/// logarithm of the entries, and a clear a constant for each entry, whatever the room. A `reserve` that makes room
+/// costs all the room that there is then, and each other call a constant.
 #[derive(Debug, Drop)]
 pub struct BinaryTimer {
     heap: Vec<Entry>,

@@ -1,9 +1,10 @@
 use crate::timer::Timer;
 use std::alloc::{AllocError, Global};
 
-/// The plain timer: the expiry of each slot, in a row. It looks at each slot to find the least.
+/// The plain timer: the expiry of each slot, in a row. It is what the other timers are compared with.
 ///
-/// It is what the other timers are compared with.
+/// `least`, `due`, `len` and `clear` cost the whole room, and so does a `reserve` that makes room. Each other call
+/// costs a constant.
 #[derive(Debug, Drop)]
 pub struct ListTimer {
     expiries: Vec<Option<u64>>,

@@ -8,6 +8,11 @@ use std::alloc::{AllocError, Global};
 ///
 /// Among entries of equal least expiry `least` and `due` may give any. The conditions of `insert` and
 /// `remove` are the caller's to meet; nothing tests them.
+///
+/// A call costs what it takes out or puts in, and at most a logarithm of the entries that stand; not what once
+/// stood, nor what room there is. Each type says of which calls that holds each time, and of which in the long
+/// run. `reserve`, where it makes room, costs all the room that there is then. The plain timer alone does not
+/// keep this rule.
 pub trait Timer: Drop {
     /// The entries: each slot with its expiry.
     ghost content: { Self → Content };
