@@ -57,7 +57,7 @@ fn program<'a>(alloc: Global) -> Result<Command<'a>, AllocError>
     let replay = replay_command(alloc)?;
     let serve = serve_command(alloc)?;
     let scripts = Command::new(alloc, "rb_broker")
-        .about("A broker of delayed elements")
+        .about("A broker for jobs that have to wait")
         .subcommand_required(true)
         .subcommand(script)?;
     let replays = scripts.subcommand(replay)?;
