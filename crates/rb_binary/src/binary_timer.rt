@@ -9,12 +9,13 @@ use std::alloc::{AllocError, Global};
 
 /// A binary heap of the entries, by expiry, that also knows where each slot's entry is.
 ///
-/// Whoever moves an entry in the heap notes its new place at its slot. An insert and a removal cost a logarithm
-/// of the entries, a clear as many steps as there are entries, and each other call a constant.
+/// Whatever moves an entry in the heap notes its new place at its slot. An insert and a removal
+/// cost a logarithm of the entries, a clear one step for each entry, and every other call a
+/// constant. These costs are not part of the contract.
 #[derive(Debug, Drop)]
 pub struct BinaryTimer {
     heap: Vec<Entry>,
-    // At each slot of the room the place of its entry in the heap.
+    // For each slot of the room, the place of its entry in the heap.
     places: Vec<Link>,
     ghost agrees: { Agrees heap.items places.items } by { Prim.hlevel props },
     ghost ordered: { IsOrdered heap.items } by { Prim.hlevel props },

@@ -4,7 +4,7 @@ use rb_kept::{Kept, NewFault};
 use rb_timer::{ListTimer, Timer};
 use std::alloc::{AllocError, Global};
 
-// A timer that answers want of memory once, at the first room above `MOST`, as its contract allows.
+// A timer that says once that there is no memory, at the first room above `MOST`, as its contract allows.
 #[derive(Debug, Drop)]
 struct RefusingTimer<T: Timer, const MOST: usize> {
     timer: T,

@@ -8,7 +8,7 @@ use std::alloc::{AllocError, Global};
 use std::process::Abort;
 use std::test::Fail;
 
-// A timer that answers want of memory once, at the first room above `MOST`, as its contract allows.
+// A timer that says once that there is no memory, at the first room above `MOST`, as its contract allows.
 #[derive(Debug, Drop)]
 struct RefusingTimer<T: Timer, const MOST: usize> {
     timer: T,
