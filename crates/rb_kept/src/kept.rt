@@ -115,9 +115,10 @@ impl<T: Timer> Kept<T> {
     /// Makes one call for a seat, at the later of the moment `asked` and that of the last event,
     /// and counts it in the caller's share.
     ///
-    /// `Done` means that exactly one event was appended. `Later` comes exactly if the ask would
-    /// wait, and changes nothing. `Full` comes exactly if the history has `capacity` events,
-    /// whatever the ask; `Memory` for an offer and a drain alone. A fault changes nothing.
+    /// `Done` means that exactly one event was appended. `Full` comes exactly if the history has
+    /// `capacity` events, whatever the ask. If there is room, `Later` comes exactly if the ask
+    /// would wait, and changes nothing. `Memory` comes for an offer and a drain alone. A fault
+    /// changes nothing.
     pub fn act(
         &mut self,
         tally: &mut Tally,
