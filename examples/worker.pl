@@ -3,7 +3,7 @@
 #
 # It takes one job after the other from the server at PORT of 127.0.0.1 and runs COMMAND with the job's payload as its
 # last word. The job is done if that ends with status 0; otherwise it fails, and comes back as the server's options
-# say. COMMAND has to bear repetition: a job whose `DONE` the server never read comes back.
+# say. COMMAND must be safe to repeat: a job whose `DONE` the server never read comes back.
 #
 #   SIGTERM, SIGINT      finishes the job in hand, leaves, and ends with status 0; without a job within two seconds
 #   WORKER_SESSION=30    seconds after which it leaves between two jobs and connects again, so that a server which is
