@@ -4,9 +4,9 @@
 #   CALLS       calls of each heap run (default and greatest 1000000)
 #   LIST_CALLS  calls of the list run (default: CALLS)
 #   RUNS        runs of each kind and timer, of which the median counts (default 5)
-#   OTHER       another build of rb_broker, to compare this one with where replies go to a file or a pipe
+#   OTHER       another build of rb_broker, to compare this one with when replies go to a file or a pipe
 #
-# Three kinds of input, in each of which S elements stand all the time:
+# Three kinds of input, in each of which S elements are in the queue all the time:
 #   random    delays from 0 to 1,000,000,000 ns; AT moves time on to the least expiry, an element is offered,
 #             and POLL takes one, which is DONE
 #   timeouts  each element expires later than those before it; of twenty that leave, nineteen are removed by
@@ -25,10 +25,10 @@ fi
 
 top=$(readlink -f -- "${BASH_SOURCE[0]}") && top=${top%/*/*}
 program=$top/crates/rb_broker/out/rb_broker
-"$top/broker" --help > /dev/null # builds it where it has to
+"$top/broker" --help > /dev/null # builds it if it has to
 room=$(mktemp -d) && trap 'rm -rf -- "$room"' EXIT
 
-# Prints an input: its kind, how many elements stand, how many calls. The seed is fixed.
+# Prints an input: its kind, how many elements are in the queue, how many calls. The seed is fixed.
 make_input() {
     python3 - "$1" "$2" "$3" << 'PYTHON'
 import heapq, random, sys
@@ -116,8 +116,8 @@ measure() {
     done
 }
 
-# Runs random input through this program, through OTHER where that is named, and through cat, to a file and to a
-# pipe: how many elements stand.
+# Runs random input through this program, through OTHER if that is named, and through cat, to a file and to a
+# pipe: how many elements are in the queue.
 compare_devices() {
     local size=$1 input="$room/random-$1-$CALLS" output name begun ended
     local names=(this ${OTHER:+other} cat)

@@ -1,5 +1,5 @@
 #!/usr/bin/env bash
-# Measures `rb_broker serve` beside an echo server, and beside beanstalkd where that is installed:
+# Measures `rb_broker serve` against an echo server, and against beanstalkd if that is installed:
 # bench/serve.sh, from any folder. It needs rustc for the clients, bench/clients.rs, which say what they do.
 #
 #   ROUNDS        rounds (offer, take and done) of each run one by one, of all its clients together (default 60000, at most 400000)
@@ -19,13 +19,13 @@ fi
 
 top=$(readlink -f -- "${BASH_SOURCE[0]}") && top=${top%/*/*}
 program=$top/crates/rb_broker/out/rb_broker
-"$top/broker" --help > /dev/null # builds it where it has to
+"$top/broker" --help > /dev/null # builds it if it has to
 room=$(mktemp -d) && trap 'rm -rf -- "$room"' EXIT
 rustc --edition 2021 -O -o "$room/clients" "$top/bench/clients.rs"
 peers=(echo lines broker)
 ! command -v beanstalkd > /dev/null || peers+=(beanstalkd)
 
-# The command of a peer's server: the peer, and the number of clients. Its words stand in $command.
+# The command of a peer's server: the peer, and the number of clients. Its words are in $command.
 command_of() {
     case $1 in
         broker) command=("$program" serve --port "$port" --workers "$2" --sessions "$2" --calls 1000000) ;;
@@ -43,7 +43,7 @@ is_ready() {
     esac
 }
 
-# Starts a peer's server for so many clients, at a port of its own choice, $port. Its process is $server.
+# Starts a peer's server for this many clients, at a port of its own choice, $port. Its process is $server.
 start_server() {
     local tries looks command
     for ((tries = 0; tries < 20; tries++)); do

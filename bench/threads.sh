@@ -1,7 +1,7 @@
 #!/usr/bin/env bash
 # Measures the shared queue and its waits, beside the kept queue alone and beside the same kept queue under the
 # Mutex and Condvar of Rattle's std: bench/threads.sh, from any folder. It needs rt for the program, whose sources
-# lie in bench/threads; that is built, and proved, where it has to.
+# lie in bench/threads; that is built, and proved, if it has to be.
 #
 #   CALLS      calls of each run of one thread (default 400000, greatest 500000)
 #   TRANSFERS  elements that go from thread to thread in each run of pairs (default 400000, greatest 500000)
@@ -9,7 +9,7 @@
 #   TAKES      takes of each run whose elements expire in 50 ms, 20 side by side (default 1000)
 #   RUNS       runs of each kind, of which the medians count (default 5)
 #
-# Kinds that are compared run in turn, so that what else the machine does meets them alike.
+# Kinds that are compared run in turn, so that other load on the machine affects them alike.
 set -euo pipefail
 export LC_ALL=C
 
@@ -36,7 +36,7 @@ build() {
     local began name source kept=${program%/*} crate=$room/crates/rb_bench
     # What changes while the build runs may not be in it, so the program counts as made when it began.
     began=$(date +%s.%N)
-    echo "bench: building the program, which takes minutes where proofs are checked for the first time" >&2
+    echo "bench: building the program, which takes minutes the first time, since its proofs are checked" >&2
     run_rt "$top/crates/rb_blocking" check --jobs 1
     mkdir -p -- "$crate/src" "$kept"
     for name in "${below[@]}"; do
@@ -54,7 +54,7 @@ build() {
     touch -d "@$began" -- "$program"
 }
 
-# Runs rt in a folder: the folder, and rt's words. It prints what rt said where that failed.
+# Runs rt in a folder: the folder, and rt's words. It prints what rt said if that failed.
 run_rt() {
     local folder=$1
     shift
@@ -64,7 +64,7 @@ run_rt() {
 # The median of a column of numbers.
 median() { sort -n | awk '{ n[NR] = $1 } END { print n[int((NR + 1) / 2)] }'; }
 
-# Runs kinds in turn: how many pairs of threads (1 where a kind has none), a count, and the kinds. It keeps the
+# Runs kinds in turn: how many pairs of threads (1 if a kind has none), a count, and the kinds. It keeps the
 # median of the first and of the second figure of each kind.
 declare -A first second
 measure() {
@@ -82,7 +82,7 @@ measure() {
     done
 }
 
-# The sum of a formula, with so many places after the point.
+# The value of a formula, with this many places after the point.
 sum() { awk "BEGIN { printf \"%.$1f\", $2 }"; }
 
 # A line on one thread's calls: their name, the kind, the kind that it is compared with, and of how many units,

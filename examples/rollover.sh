@@ -1,5 +1,5 @@
 #!/usr/bin/env bash
-# Runs servers at one port, one after the other, each behind the history of the one before, from any folder:
+# Runs servers at one port, one after the other, each continuing the history of the one before, from any folder:
 # examples/rollover.sh PORT FOLDER SECONDS [OPTION ..]
 #
 # A run has room for a limited number of calls and sessions. So each run goes on for SECONDS and is then stopped in
@@ -8,7 +8,7 @@
 #
 #   FOLDER/run-N.txt   the history of run N, written when that run ends
 #   FOLDER/run-N.log   what its server printed
-#   OPTION ..          options of the server but --port, --history and --from, such as --workers 8 --delay 1000000000
+#   OPTION ..          options of the server except --port, --history and --from, such as --workers 8 --delay 1000000000
 #
 # Open sessions are never cut off. Clients have to leave by themselves, between two jobs, and connect again; every ten
 # seconds a line says that a run still waits for them. RB_BROKER names another program than ./broker.
@@ -86,7 +86,7 @@ close_run() {
     wait "${visitors[@]}" 2> /dev/null
 }
 
-# Checks that the run ended well and that its history can be gone on behind.
+# Checks that the run ended well and that its history can be continued.
 check_run() {
     local status=0 audit
     wait "$server" || status=$?

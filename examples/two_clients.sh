@@ -1,8 +1,8 @@
 #!/usr/bin/env bash
-# A server and two clients, by bash alone: examples/two_clients.sh [PORT], from any folder.
+# A server and two clients, with bash alone: examples/two_clients.sh [PORT], from any folder.
 #
-# The first client waits for a job. The second offers one that expires half a second later. Printed is
-# what each of them is sent, and at last what the server writes at its end.
+# The first client waits for a job. The second offers one that expires half a second later. It prints
+# what each of them is sent, and finally what the server writes at its end.
 set -euo pipefail
 
 top=$(readlink -f -- "${BASH_SOURCE[0]}") && top=${top%/*/*}

@@ -3,15 +3,15 @@
 #
 # It takes one job after the other from the server at PORT of 127.0.0.1 and runs COMMAND with the job's payload as its
 # last word. The job is done if that ends with status 0; otherwise it fails, and comes back as the server's options
-# say. COMMAND has to bear repetition: a job whose `DONE` the server never read comes back.
+# say. COMMAND must be safe to repeat: a job whose `DONE` the server never read comes back.
 #
 #   SIGTERM, SIGINT      finishes the job in hand, leaves, and ends with status 0; without a job within two seconds
 #   WORKER_SESSION=30    seconds after which it leaves between two jobs and connects again, so that a server which is
 #                        to be replaced can end
 #   WORKER_PATIENCE=60   seconds for which it looks for a server that serves it; then it ends with status 1
 #
-# Printed is a line for each job that it ran, and one at the end. What went wrong stands on standard error. Status: 0
-# after a signal; 1 if there was no server for so long; 2 if a word is wrong.
+# Printed is a line for each job that it ran, and one at the end. Standard error says what went wrong. Status: 0
+# after a signal; 1 if there was no server for that long; 2 if a word is wrong.
 use strict;
 use warnings;
 use IO::Handle;
@@ -30,7 +30,7 @@ my $patience = $ENV{WORKER_PATIENCE} // 60;
 
 my $stopping = 0;
 $SIG{TERM} = $SIG{INT} = sub { $stopping = 1 };
-$SIG{PIPE} = 'IGNORE';    # a server that is gone is seen by a write that fails
+$SIG{PIPE} = 'IGNORE';    # a failing write shows that a server is gone
 STDOUT->autoflush(1);
 
 my %count = (done => 0, again => 0, dead => 0, lost => 0, unheard => 0);
@@ -49,7 +49,7 @@ sub ask {
     my $wait = IO::Select->new($socket);
     my $until;
     while ($reply !~ /\n\z/) {    # one request at a time, so nothing follows the reply
-        $until //= time + 2 if $stopping;    # behind busy workers there may be no reply for a long time
+        $until //= time + 2 if $stopping;    # while all workers are busy there may be no reply for a long time
         return if defined $until and time > $until;
         next unless $wait->can_read(0.2);
         my $read = sysread $socket, $reply, 4096, length $reply;

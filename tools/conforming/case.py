@@ -53,7 +53,7 @@ def one_of(*names: str) -> Callable[[str], str]:
 TEXTS = ("from", ">", "<", "=")
 DEVICES = ("reader", "writer", "recorder")
 
-# The words that stand once at most in a case. Those of a device begin with two words.
+# The words that a case has at most once. Those of a device begin with two words.
 OUTCOMES = {"ends": ending, "verdict": str, "status": status_of}
 OF_DEVICES = {
     "timer": one_of(*TIMERS),

@@ -22,7 +22,7 @@ def printed(lines: list[bytes], place: int) -> str:
 
 
 def of_ends(ended: Ended, what: str, wanted: bytes, status: int) -> str | None:
-    """What differs first: that the run did not end, what it printed, or its status. Beside the status stands the last
+    """What differs first: that the run did not end, what it printed, or its status. With the status comes the last
     line of standard error."""
     if ended.status is None:
         return "it had to be ended"

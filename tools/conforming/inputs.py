@@ -6,7 +6,7 @@ import socket
 import sys
 import threading
 
-CAN_BREAK_OFF = sys.platform == "linux"  # where a socket gives its bytes first, and fails only then
+CAN_BREAK_OFF = sys.platform == "linux"  # there a socket gives its bytes first, and fails only then
 
 
 class Pieces:
@@ -50,7 +50,7 @@ class Halves(Pieces):
 
 
 class BrokenOff:
-    """An input whose read fails behind the last byte. It is one end of a pair of sockets. Something lies unread at the
+    """An input whose read fails after the last byte. It is one end of a pair of sockets. Something lies unread at the
     other end when that is closed, so the connection counts as reset."""
 
     def __init__(self, content: bytes):

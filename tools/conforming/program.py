@@ -65,7 +65,7 @@ class Program:
             return running.ended(*running.process.communicate())
 
     def run_until_closed(self, words: list[str], content: bytes, replies: int) -> Ended:
-        """Runs the program, and closes its standard output once it has sent so many replies, each to one line. Only
+        """Runs the program, and closes its standard output once it has sent this many replies, each to one line. Only
         then are the other lines sent."""
         lines = content.splitlines(keepends=True)
         given = Halves(b"".join(lines[:replies]), b"".join(lines[replies:]))

@@ -10,7 +10,7 @@ from loading.counts import Counts
 from loading.session import Fault, Session
 
 SECOND = 1_000_000_000  # in nanoseconds
-PAUSE = SECOND // 1000  # behind a wait that the server gave up, since it may give up each at once
+PAUSE = SECOND // 1000  # after a wait that the server gave up, since it may give up each at once
 
 
 @dataclass(frozen=True)

@@ -13,14 +13,14 @@ def row(cells: tuple[object, ...]) -> str:
 
 
 def line_of(second: int, counts: Counts) -> str:
-    """The counts after so many seconds."""
+    """The counts after this many seconds."""
     late = counts.lateness()
     times = (late.median, late.percentile, late.greatest) if late else ("-", "-", "-")
     return row((second, counts.offered, counts.taken, counts.failed, *times))
 
 
 def summary(counts: Counts, seconds: float) -> list[str]:
-    """The lines at the end of a run that lasted so many seconds."""
+    """The lines at the end of a run that lasted this many seconds."""
     late = counts.lateness()
     told = f"median {late.median}, 99th percentile {late.percentile}, greatest {late.greatest}" if late else "none"
     errors = ", ".join(f"{count} of {fault}" for fault, count in counts.errors.most_common())

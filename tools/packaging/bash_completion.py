@@ -14,14 +14,14 @@ _@program@_options() {
     esac
 }
 
-# The words that complete the value of an option; FILES where it is a file, and nothing where there is none.
+# The words that complete the value of an option; FILES if it is a file, and nothing if it has none.
 _@program@_values() {
     case $1 in
 @values@
     esac
 }
 
-# The option that may not stand beside this one.
+# The option that excludes this one.
 _@program@_excluded() {
     case $1 in
 @excluded@

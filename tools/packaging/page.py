@@ -23,7 +23,7 @@ def options_in(text: str) -> set[str]:
 
 
 def entries_of(page: str) -> dict[str, list[str]]:
-    """What stands below each option's head, `.B` or `.BI` behind `.TP`: a text for each time that it does."""
+    """The texts below each option's head, which is `.B` or `.BI` after `.TP`."""
     entries: dict[str, list[str]] = {}
     for part in page.split("\n.TP\n")[1:]:
         head, _, body = part.partition("\n")
@@ -73,7 +73,7 @@ def check_page(tally: Tally, table: Table) -> None:
 
 
 def check_layout(tally: Tally, path: str) -> None:
-    """The page in a file is set without a warning. mandoc looks at it too where it is installed."""
+    """The page in a file is set without a warning. mandoc checks it too if it is installed."""
     told = run("man", "--warnings", "-E", "UTF-8", "-l", path)
     heads = [it for it in ("NAME", "SCRIPT", "REPLAY", "SERVE", "EXIT STATUS", "FILES") if it not in told.said]
     tally.count("man of the page", told.errors or fault_unless(told.status == 0, f"status {told.status}"))

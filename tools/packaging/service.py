@@ -74,7 +74,7 @@ class Serving:
 
 
 def try_service(tally: Tally, root: str, state: str) -> None:
-    """Runs of one service: a good stop, a run that goes on and is killed, and one behind a damaged history."""
+    """Runs of one service: a good stop, a run that continues it and is killed, and one that finds a damaged history."""
     with Serving(root, state, 40) as server:
         try_client(tally, server)
         try_stops(tally, server)

@@ -15,7 +15,7 @@ ask() { COMP_WORDS=("$@") COMP_CWORD=$(($# - 1)); _rb_broker; echo "${COMPREPLY[
 cd "$2"
 """
 
-# The words of each call of _arguments, one a line, and an empty line behind them.
+# The words of each call of _arguments, one a line, followed by an empty line.
 ZSH = """
 _arguments() { print -rl -- "$@" '' }
 _describe() { : }

@@ -10,7 +10,7 @@ from packaging.table import HELP_COMMAND, HELP_OPTIONS, Command, Option, Table
 from serving.server import Tally
 
 ROW = re.compile(r"^ +(?:-h, )?(--[a-z-]+)(?: <([A-Z]+)>)? +(.*)$", re.M)
-NOWHERE = "/nowhere/rb_broker"  # a file that is not there: where words are accepted, it can't be read
+NOWHERE = "/nowhere/rb_broker"  # a missing file: if the words are accepted, it can't be read
 
 
 def option_told(name: str, value: str, text: str) -> Option:
@@ -56,8 +56,8 @@ def check_help_of(tally: Tally, program: str, command: Command) -> None:
 def accepts(program: str, command: Command, words: list[str]) -> Optional[bool]:
     """Whether the program accepts these words, with those that the command can't do without.
 
-    It is given a file to begin with that is not there, so that it ends at once. Nothing where it ends otherwise
-    than by that file, and refuses no word either.
+    It is told to begin with a missing file, so that it ends at once. Returns nothing if it ends neither because of that
+    file nor because of a refused word.
     """
     given = {it.split("=")[0] for it in words}
     needed = [f"{it.name}={it.least}" for it in command.options if it.required and it.name not in given]

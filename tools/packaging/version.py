@@ -30,7 +30,7 @@ def version_of_repository() -> Version:
     """The version that the last tag and the last commit make.
 
     The tag v1.2 is version 1.2, and three commits later 1.2+3.COMMIT. With no tag it is 0~TIME.COMMIT, which is below
-    all others. Where the checkout has changes that are not committed, `+changed` follows.
+    all others. If the checkout has changes that are not committed, `+changed` follows.
     """
     commit, moment = git("rev-parse", "--short=8", "HEAD"), git("log", "-1", "--format=%ct")
     if not commit or not moment.isdigit():

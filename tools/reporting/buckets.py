@@ -19,7 +19,7 @@ class Buckets(NamedTuple):
 
     @classmethod
     def over(cls, start: int, end: int, most: int) -> Buckets:
-        """At most so many buckets from the moment `start` to the moment `end`, which the last one has too."""
+        """At most `most` buckets from the moment `start` to the moment `end`, which the last one includes."""
         behind = end + 1
         number = max(1, min(most, behind - start))
         return cls([start + (behind - start) * place // number for place in range(number + 1)])
@@ -32,7 +32,7 @@ class Buckets(NamedTuple):
         return (self.edges[-1] - self.edges[0]) / len(self)
 
     def slices(self, moments: array) -> List[slice]:
-        """Where each bucket's entries stand in a column of moments, which rise."""
+        """The places of each bucket's entries in a column of rising moments."""
         places = [bisect_left(moments, edge) for edge in self.edges]
         return [slice(low, high) for low, high in zip(places, places[1:])]
 

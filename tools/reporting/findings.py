@@ -12,9 +12,9 @@ from reporting.history import NONE, History
 from reporting.jobs import Jobs, gifts, lives
 from reporting.units import counted, percent, span
 
-BURST_GIFTS, BURST_SPAN = 3, 1_000_000  # a job given so often within so many nanoseconds
-IDLE_POLLS, IDLE_SHARE = 100, 0.9  # so many polls, of which this share found nothing
-DEEP_END, DEEP_SHARE = 100, 0.9  # so many elements at the end, and this share of the greatest number
+BURST_GIFTS, BURST_SPAN = 3, 1_000_000  # a job given this often within this many nanoseconds
+IDLE_POLLS, IDLE_SHARE = 100, 0.9  # this many polls, of which this share found nothing
+DEEP_END, DEEP_SHARE = 100, 0.9  # this many elements at the end, and this share of the greatest number
 MOST_NAMED = 5
 
 

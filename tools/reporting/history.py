@@ -10,7 +10,7 @@ from bisect import bisect_left
 from dataclasses import dataclass, field
 from typing import Dict, Optional
 
-# Stands where there is no row, and no event.
+# Takes the place of a row or an event if there is none.
 NONE = -1
 
 
@@ -26,7 +26,7 @@ class Elements:
     roots: array = field(default_factory=lambda: array("i"))  # the first row of the same job
     offered_in: array = field(default_factory=lambda: array("i"))  # an event, or NONE for one of the opening
     left_in: array = field(default_factory=lambda: array("i"))  # an event, or NONE for one that is left at the end
-    payloads: bytearray = field(default_factory=bytearray)  # one behind the other
+    payloads: bytearray = field(default_factory=bytearray)  # one after the other
     payload_ends: array = field(default_factory=lambda: array("Q"))
 
     def __len__(self) -> int:

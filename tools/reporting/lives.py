@@ -9,7 +9,7 @@ from reporting.figures import Figures
 from reporting.history import NONE, History
 from reporting.jobs import lives
 
-# A page has the lives of jobs of about so many elements, which are 2 MB.
+# A page has the lives of jobs of about this many elements, which are 2 MB.
 MOST_ELEMENTS = 20_000
 
 # JavaScript's own numbers are exact up to here. Greater ones go as text.
@@ -62,5 +62,5 @@ def lives_json(figures: Figures, roots: Sequence[int]) -> str:
         head = [elements.payload(root), _exact(elements.firsts[root])]
         told[str(elements.origins[root])] = [*head, [_attempt(history, row) for row in rows]]
     text = json.dumps({"acts": [act.keyword for act in ACTS], "jobs": told}, separators=(",", ":"))
-    # Inside a script element these three could begin its end, or a comment; in JSON they stand in payloads alone.
+    # Inside a script element these three could begin its end, or a comment; in JSON they occur only in payloads.
     return text.replace("<", "\\u003c").replace(">", "\\u003e").replace("&", "\\u0026")

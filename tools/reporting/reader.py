@@ -67,7 +67,7 @@ def _read_opening(lines: Iterator[bytes], history: History, standing: Standing) 
 
 
 def _read_events(lines: Iterator[bytes], first: int, reader: EventReader, look: Callable[[], None]) -> None:
-    """Reads the events, of which the first stands in this line, and the last line."""
+    """Reads the events, the first of which is in this line, and the last line."""
     pattern, number = GRAMMARS[reader.history.version].event, first - 1
     for number, line in enumerate(lines, first):
         match = pattern.fullmatch(line)

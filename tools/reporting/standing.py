@@ -6,7 +6,7 @@ from typing import Optional, Tuple
 from reporting.faults import Wrong
 from reporting.history import NONE, History
 
-# Id, expiry, origin, first expiry or nothing, attempt and payload, as they stand in a line.
+# Id, expiry, origin, first expiry or nothing, attempt and payload, as a line has them.
 ElementWords = Tuple[bytes, ...]
 
 

@@ -31,7 +31,7 @@ def gifts_of(act):
 
 
 class Expected:
-    """What an act must be: its words, where None stands for any, and for an offer its delay, if that is known."""
+    """What an act must be: its words, with None for any, and for an offer its delay, if that is known."""
 
     def __init__(self, *words, delay=None):
         self.words, self.delay = [it if it is None else str(it) for it in words], delay
@@ -156,7 +156,7 @@ def blocks_of(events):
     for event in events:
         if event.act[0] == "remove" and int(event.act[1]) >= FIRST_MARK:
             number = last[event.seat] = int(event.act[1]) - FIRST_MARK
-            stray += blocks.pop(number, [])  # a mark that stands twice is nobody's
+            stray += blocks.pop(number, [])  # a mark that occurs twice is nobody's
             blocks[number] = []
         blocks.get(last.get(event.seat), stray).append(event)
     return blocks, stray

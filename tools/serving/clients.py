@@ -107,7 +107,7 @@ class Client:
         self.hang_up()
 
 
-# What a client does, behind its mark. Each ends its session in its own way.
+# What a client does, after its mark. Each ends its session in its own way.
 
 
 def gives(client):

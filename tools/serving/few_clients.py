@@ -98,7 +98,7 @@ def serves_at_once(workers):
 
 
 def gives_up(turns, most):
-    """A take in an empty queue is given up, the quickest of five within so many seconds."""
+    """A take in an empty queue is given up, the quickest of five within this many seconds."""
     times = []
     with serving("--turns", turns) as server:
         client = visitor(server)
@@ -111,7 +111,7 @@ def gives_up(turns, most):
 
 
 def answers_before_it_waits():
-    """A reply does not wait for the take behind it, which came in the same piece and is given up after a while."""
+    """A reply does not wait for the take that follows, which came in the same piece and is given up after a while."""
     with serving("--turns", 20) as server:
         client = visitor(server)
         began = time.monotonic()

@@ -2,8 +2,8 @@
 """Offers two letters and delivers them: python3 letters.py PORT, beside `rb_broker serve --port PORT --sessions 2`.
 
 The second letter expires after a second. Nobody is in when it is brought for the first time, so it is brought again.
-Printed is a line for each attempt, and at last what became of the jobs. Ctrl-C ends it early, with no job held.
-Exit status: 0, or 1 where no such server is found in three seconds, with a line on standard error.
+Printed is a line for each attempt, and finally what became of the jobs. Ctrl-C ends it early, with no job held.
+Exit status: 0, or 1 if no such server is found within three seconds, with a line on standard error.
 """
 import argparse
 import logging

@@ -5,7 +5,7 @@ use Rattle.clap.specs.Words.{Rule, Text, new_rule}
 use Rattle.clap.specs.declared.builder.action.ArgAction.TheVariants.{SetTrue}
 use Rattle.clap.specs.declared.builder.value_parser.ValueParser.TheVariants.{Unsigned, Names}
 
--- `--calls N`: from 1 to 1,000,000, and 10,000 where it is not given
+-- `--calls N`: from 1 to 1,000,000, and 10,000 if it is not given
 abbrev pub calls_option : Rule
 calls_option = record (new_rule (codes "calls")) {
   long = Some (codes "calls");
@@ -14,7 +14,7 @@ calls_option = record (new_rule (codes "calls")) {
   parser = Some (Unsigned 1 1000000);
 }
 
--- `--timer T`: one of the names, and `heap` where it is not given
+-- `--timer T`: one of the names, and `heap` if it is not given
 abbrev pub timer_option : Bor (List (Bor Text)) → Rule
 timer_option names = record (new_rule (codes "timer")) {
   long = Some (codes "timer");
@@ -23,7 +23,7 @@ timer_option names = record (new_rule (codes "timer")) {
   parser = Some (Names names);
 }
 
--- `--delay N`: from 0 to 2^64 - 1 nanoseconds, and 1,000 where it is not given
+-- `--delay N`: from 0 to 2^64 - 1 nanoseconds, and 1,000 if it is not given
 abbrev pub delay_option : Rule
 delay_option = record (new_rule (codes "delay")) {
   long = Some (codes "delay");
@@ -32,7 +32,7 @@ delay_option = record (new_rule (codes "delay")) {
   parser = Some (Unsigned 0 18446744073709551615);
 }
 
--- `--rate N`: from 0 to 2^64 - 1 nanoseconds, where no delay is given
+-- `--rate N`: from 0 to 2^64 - 1 nanoseconds, if no delay is given
 abbrev pub rate_option : Rule
 rate_option = record (new_rule (codes "rate")) {
   long = Some (codes "rate");
@@ -41,7 +41,7 @@ rate_option = record (new_rule (codes "rate")) {
   is_free = false;
 }
 
--- `--attempts N`: from 1 to 1,000, and 3 where it is not given
+-- `--attempts N`: from 1 to 1,000, and 3 if it is not given
 abbrev pub attempts_option : Rule
 attempts_option = record (new_rule (codes "attempts")) {
   long = Some (codes "attempts");
@@ -73,7 +73,7 @@ port_option = record (new_rule (codes "port")) {
   parser = Some (Unsigned 1 65535);
 }
 
--- `--workers N`: from 1 to 16, and 4 where it is not given
+-- `--workers N`: from 1 to 16, and 4 if it is not given
 abbrev pub workers_option : Rule
 workers_option = record (new_rule (codes "workers")) {
   long = Some (codes "workers");
@@ -82,7 +82,7 @@ workers_option = record (new_rule (codes "workers")) {
   parser = Some (Unsigned 1 16);
 }
 
--- `--sessions N`: from 1 to 10,000, and 1 where it is not given
+-- `--sessions N`: from 1 to 10,000, and 1 if it is not given
 abbrev pub sessions_option : Rule
 sessions_option = record (new_rule (codes "sessions")) {
   long = Some (codes "sessions");
@@ -91,7 +91,7 @@ sessions_option = record (new_rule (codes "sessions")) {
   parser = Some (Unsigned 1 10000);
 }
 
--- `--turns N`: from 0 to 1,000,000, and 10,000 where it is not given
+-- `--turns N`: from 0 to 1,000,000, and 10,000 if it is not given
 abbrev pub turns_option : Rule
 turns_option = record (new_rule (codes "turns")) {
   long = Some (codes "turns");

@@ -81,7 +81,7 @@ pub record GivesPolicy (rows : List Row) (policy : Policy) : Type 0 where
   pub pace : pace_in (one_of (codes "delay") rows) (one_of (codes "rate") rows) ≡ Some policy.pace
 
 -- The values of `script` give its options and files. The timer is the one that is named, and the numbers
--- are those that are told; each is the default where it is left out.
+-- are those that are given; each that is left out is the default.
 pub record GivesScript (rows : List Row) (options : ScriptOptions) (history from : Option (String Global)) : Type 0 where
   pub timer : first_of (codes "timer") rows ≡ Some (timer_name options.timer)
   pub calls : number_in (one_of (codes "calls") rows) ≡ Some options.calls
@@ -89,7 +89,7 @@ pub record GivesScript (rows : List Row) (options : ScriptOptions) (history from
   pub history_is : option_map string_bytes history ≡ first_of (codes "history") rows
   pub from_is : option_map string_bytes from ≡ first_of (codes "from") rows
 
--- the retries are checked exactly where the flag is set, and then by the policy that is given
+-- the retries are checked exactly if the flag is set, and then by the policy that is given
 abbrev pub GivesChains : List Row → Option Policy → Type 0
 GivesChains rows None = first_of (codes "chains") rows ≢ Some (codes "true")
 GivesChains rows (Some policy) = (first_of (codes "chains") rows ≡ Some (codes "true")) × GivesPolicy rows policy
@@ -99,7 +99,7 @@ pub record GivesReplay (rows : List Row) (options : ReplayOptions) (file : Strin
   pub chains : GivesChains rows options.chains
   pub file_is : first_of (codes "file") rows ≡ Some (string_bytes file)
 
--- The values of `serve` give its options and files, each the default where it is left out.
+-- The values of `serve` give its options and files. Each that is left out is the default.
 pub record GivesServer (rows : List Row) (options : ServeOptions) (history from : Option (String Global)) : Type 0 where
   pub port : number_in (one_of (codes "port") rows) ≡ Some options.port
   pub timer : first_of (codes "timer") rows ≡ Some (timer_name options.timer)

@@ -46,7 +46,7 @@ pub fn delay_option<'a>(alloc: Global) -> Arg<'a>
     Arg::new(alloc, "delay")
         .long("delay")
         .value_name("N")
-        .help("how many nanoseconds after its failure a job is offered again")
+        .help("nanoseconds from a failure until the job comes back, 1000000000 for a second")
         .value_parser(ValueParser::Unsigned(0, u64::MAX))
         .default_value("1000")
 }
@@ -59,7 +59,7 @@ pub fn rate_option<'a>(alloc: Global) -> Result<Arg<'a>, AllocError>
     Arg::new(alloc, "rate")
         .long("rate")
         .value_name("N")
-        .help("how many nanoseconds lie between two attempts of a job, in the place of a delay")
+        .help("nanoseconds between two attempts of a job, instead of a delay")
         .value_parser(ValueParser::Unsigned(0, u64::MAX))
         .conflicts_with("delay")
 }
@@ -85,7 +85,7 @@ pub fn history_option<'a>(alloc: Global) -> Arg<'a>
     Arg::new(alloc, "history")
         .long("history")
         .value_name("FILE")
-        .help("the file that the history of the run is written to")
+        .help("the file to write the history of the run to")
 }
 
 /// `--from FILE`
@@ -93,9 +93,10 @@ pub fn from_option<'a>(alloc: Global) -> Arg<'a>
     ensures rule { rule_of result ≡ from_option }
     ensures local { result.global ≡ false }
 {
-    Arg::new(alloc, "from").long("from").value_name("FILE").help(
-        "the file with the history of the run behind which this one goes on",
-    )
+    Arg::new(alloc, "from")
+        .long("from")
+        .value_name("FILE")
+        .help("the file with the history that this run continues")
 }
 
 /// `--port P`
@@ -106,7 +107,7 @@ pub fn port_option<'a>(alloc: Global) -> Arg<'a>
     Arg::new(alloc, "port")
         .long("port")
         .value_name("P")
-        .help("the TCP port on 127.0.0.1 at which clients are served")
+        .help("the TCP port on 127.0.0.1 to listen on")
         .required(true)
         .value_parser(ValueParser::Unsigned(1, u64::from(u16::MAX)))
 }
@@ -132,7 +133,7 @@ pub fn sessions_option<'a>(alloc: Global) -> Arg<'a>
     Arg::new(alloc, "sessions")
         .long("sessions")
         .value_name("N")
-        .help("after how many sessions the server ends")
+        .help("how many sessions to serve before the server ends")
         .value_parser(ValueParser::Unsigned(1, MOST_SESSIONS))
         .default_value("1")
 }
@@ -145,7 +146,7 @@ pub fn turns_option<'a>(alloc: Global) -> Arg<'a>
     Arg::new(alloc, "turns")
         .long("turns")
         .value_name("N")
-        .help("after how many turns a wait of a session is given up")
+        .help("how many turns TAKE and POLLFOR wait before they answer STOPPED")
         .value_parser(ValueParser::Unsigned(0, MOST_TURNS))
         .default_value("10000")
 }

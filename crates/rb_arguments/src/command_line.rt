@@ -22,10 +22,10 @@ use clap::{Arg, Command, Error};
 use rb_kept::MOST_CALLS;
 use std::alloc::{AllocError, Global};
 
-/// What the words of a command line ask for, the first of which is the program's own name.
+/// What the words of a command line ask for. The first word is the program's own name.
 ///
-/// Where they are no command, the error has the text for the user and the exit code: 0 for help,
-/// which was asked for, and else 2. For want of memory its kind is `OutOfMemory`.
+/// If they are not a command, the error has the text for the user and the exit code: 0 for help
+/// that was asked for, 2 for any other. If memory runs out, its kind is `OutOfMemory`.
 pub fn read_words(alloc: Global, words: &[&str]) -> Result<Words, Error>
     ensures in_range { (options : ScriptOptions) (history from : Option (String Global)) → result ≡ Ok (Words.Script options history from)
         → (1 ≤ options.calls) × (options.calls ≤ MOST_CALLS) × AreAttempts options.policy.attempts }
@@ -48,7 +48,7 @@ pub fn read_words(alloc: Global, words: &[&str]) -> Result<Words, Error>
     )?)
 }
 
-// The program's command with its subcommands.
+// The program's command, with its subcommands.
 fn program<'a>(alloc: Global) -> Result<Command<'a>, AllocError>
     ensures { IfOk result (λ command. (scripted served : Bor (List (Bor (List ℕ)))) × AreTimerNames scripted
         × AreTimerNames served × (app_of command ≡ program scripted served)) }
@@ -57,7 +57,7 @@ fn program<'a>(alloc: Global) -> Result<Command<'a>, AllocError>
     let replay = replay_command(alloc)?;
     let serve = serve_command(alloc)?;
     let scripts = Command::new(alloc, "rb_broker")
-        .about("A broker of delayed elements")
+        .about("A broker for jobs that have to wait")
         .subcommand_required(true)
         .subcommand(script)?;
     let replays = scripts.subcommand(replay)?;
@@ -117,7 +117,7 @@ fn with_policy<'a>(alloc: Global, command: Command<'a>) -> Result<Command<'a>, A
     with_option(rate, attempts_option(alloc))
 }
 
-// The command with one option more, which is of this command alone.
+// The command with one more option, which belongs to this command alone.
 fn with_option<'a>(command: Command<'a>, option: Arg<'a>) -> Result<Command<'a>, AllocError>
     requires local { option.global ≡ false }
     ensures app { IfOk result (λ wider. app_of wider ≡ with_rule (app_of command.entry) (rule_of option.entry)) }

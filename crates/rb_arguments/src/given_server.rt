@@ -16,7 +16,7 @@ use clap::ArgMatches;
 use rb_kept::MOST_CALLS;
 use std::alloc::{AllocError, Global};
 
-/// What the values of `serve` ask for, if each is there and in its range.
+/// What the values of `serve` ask for, if each is there and within its range.
 pub(crate) fn serve(alloc: Global, given: &ArgMatches<'_>) -> Result<Option<Words>, AllocError>
     ensures { IfOk result (λ asked. IfSome asked (IsAskedBy (codes "serve") (rows_of (found_of given.now)))) }
 {
@@ -100,7 +100,7 @@ fn run_options(given: &ArgMatches<'_>) -> Option<RunOptions>
     })
 }
 
-// The number that an option's value spells, if it is in this range.
+// The number that an option's value spells, if it is within this range.
 fn number_within(given: &ArgMatches<'_>, id: &str, least: u64, most: u64) -> Option<u64>
     ensures number { IfSome result (λ number. number_in (one_text (found_of given.now) id.now) ≡ Some number) }
     ensures range { IfSome result (λ number. (least ≤ number) × (number ≤ most)) }

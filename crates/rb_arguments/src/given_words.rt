@@ -16,11 +16,10 @@ use rb_kept::MOST_CALLS;
 use rb_retry::{Pace, Policy};
 use std::alloc::{AllocError, Global};
 
-/// What a subcommand's name and values ask for, if each value is there and in its range.
+/// What a subcommand's name and values ask for, if each value is there and within its range.
 ///
-/// clap has refused every other value before. But what its contracts say of the values that passed
-/// is said of a command's own options, and not of a subcommand's, so the ranges are tested here once
-/// more.
+/// clap has already refused all other values. But its contracts promise the ranges only for a
+/// command's own options, and not for those of a subcommand, so they are tested here again.
 pub fn asked_by(
     alloc: Global,
     name: &str,
@@ -116,7 +115,7 @@ fn is_set(given: &ArgMatches<'_>, id: &str) -> bool
     }
 }
 
-/// The policy that is given.
+/// The policy that was given.
 pub(crate) fn given_policy(given: &ArgMatches<'_>) -> Option<Policy>
     ensures attempts { IfSome result (λ policy. number_in (one_text (found_of given.now) (codes "attempts"))
         ≡ Some policy.attempts) }
@@ -141,7 +140,7 @@ fn policy(pace: Pace, attempts: u32) -> Option<Policy>
     }
 }
 
-// A rate where one was given, and else the delay.
+// The rate, if one was given, and otherwise the delay.
 fn pace(given: &ArgMatches<'_>) -> Option<Pace>
     ensures pace { IfSome result (λ pace.
         pace_in (one_text (found_of given.now) (codes "delay")) (one_text (found_of given.now) (codes "rate")) ≡ Some pace) }

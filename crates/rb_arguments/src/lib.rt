@@ -1,7 +1,7 @@
 //! The words of the command line: which command they name, and what its options and files are.
 //!
-//! `clap` reads the words and writes the texts for those who use the command. What the options are, and
-//! what is used where one is left out, is said here.
+//! `clap` reads the words, and writes the texts that users see. The options and their defaults are
+//! defined here.
 #![tactic(auto)]
 
 mod arguments;

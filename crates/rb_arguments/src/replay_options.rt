@@ -1,8 +1,8 @@
 use rb_retry::Policy;
 
-/// What the check of a history is given.
+/// The options of `replay`.
 #[derive(Clone, Copy, Debug, PartialEq, Eq)]
 pub struct ReplayOptions {
-    /// The policy by which the retries of a legal history are checked, where they are.
+    /// The policy by which the retries of a legal history are checked, if they are.
     pub chains: Option<Policy>,
 }

@@ -4,10 +4,10 @@ ghost use Rattle.rb_arguments.specs.declared.run_options.TheConstants.{MOST_WORK
 
 use rb_retry::Policy;
 
-/// How many workers a server has at most.
+/// The greatest number of workers of a server.
 pub const MOST_WORKERS: u64 = 16;
 
-/// What a server's run is given.
+/// The options of a server's run.
 #[derive(Clone, Copy, Debug, PartialEq, Eq)]
 pub struct RunOptions {
     /// How many sessions are served at once, 1 to 16.

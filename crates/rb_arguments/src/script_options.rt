@@ -4,7 +4,7 @@ ghost use Rattle.rb_kept.specs.declared.kept.TheConstants.{MOST_CALLS};
 use crate::timer_kind::TimerKind;
 use rb_retry::Policy;
 
-/// What a script's run is given.
+/// The options of `script`.
 #[derive(Clone, Copy, Debug, PartialEq, Eq)]
 pub struct ScriptOptions {
     /// Which timer the queue uses.

@@ -4,24 +4,24 @@ ghost use Rattle.rb_arguments.specs.declared.serve_options.TheConstants.{MOST_SE
 use crate::run_options::RunOptions;
 use crate::timer_kind::TimerKind;
 
-/// After how many sessions a server ends at the latest.
+/// The greatest number of sessions after which a server can be told to end.
 pub const MOST_SESSIONS: u64 = 10_000;
 
-/// After how many turns a wait of a session is given up at the latest.
+/// The greatest number of turns after which a wait can be given up.
 pub const MOST_TURNS: u64 = 1_000_000;
 
-/// What the command `serve` is given.
+/// The options of `serve`.
 #[derive(Clone, Copy, Debug, PartialEq, Eq)]
 pub struct ServeOptions {
     /// The TCP port on 127.0.0.1, 1 to 65,535.
     pub port: u16,
     /// Which timer the queue uses.
     pub timer: TimerKind,
-    /// After how many sessions the server ends, 1 to 10,000.
+    /// How many sessions are served before the server ends, 1 to 10,000.
     pub sessions: u64,
-    /// After how many turns a wait of a session is given up, 0 to 1,000,000.
+    /// After how many turns a take or a timed poll is given up, 0 to 1,000,000.
     pub turns: u64,
-    /// What its run is given.
+    /// The options of its run.
     pub run: RunOptions,
     pub ghost port_from_one: { 1 ≤ port },
     pub ghost sessions_from_one: { 1 ≤ sessions },

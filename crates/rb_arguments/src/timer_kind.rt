@@ -1,6 +1,6 @@
 ghost use Rattle.std.specs.Prelude.{◌≡◌, ◌↔◌, Some, IfSome, codes};
 
-/// Which timer a queue uses to find what is due.
+/// How a queue finds the element that expires first.
 #[derive(Clone, Copy, Debug, PartialEq, Eq)]
 pub enum TimerKind {
     /// The plain timer, which looks at each slot: `list` on the command line.
@@ -14,10 +14,10 @@ pub enum TimerKind {
 }
 
 impl TimerKind {
-    /// The names that the command line takes.
+    /// The names that the command line accepts.
     pub const NAMES: [&'static str; 4] = ["list", "heap", "pairing", "wheel"];
 
-    /// The name of the kind that is used where none is named.
+    /// The name of the default kind.
     pub const DEFAULT_NAME: &'static str = "heap";
 
     /// The kind of that name, if there is one.

@@ -5,25 +5,25 @@ use crate::serve_options::ServeOptions;
 /// What the words of the command line ask for.
 #[derive(Drop)]
 pub enum Words {
-    /// To run a script, from standard input to standard output.
+    /// Run a script, from standard input to standard output.
     Script {
         options: ScriptOptions,
         /// The file that the run's history is written to, if any.
         history: Option<String>,
-        /// The file with the history behind which the run goes on, if any.
+        /// The file with the history that the run continues, if any.
         from: Option<String>,
     },
-    /// To check the history in a file.
+    /// Check the history in a file.
     Replay {
         options: ReplayOptions,
         file: String,
     },
-    /// To serve clients over TCP.
+    /// Serve clients over TCP.
     Serve {
         options: ServeOptions,
         /// The file that the run's history is written to, if any.
         history: Option<String>,
-        /// The file with the history behind which the run goes on, if any.
+        /// The file with the history that the run continues, if any.
         from: Option<String>,
     },
 }

@@ -9,13 +9,13 @@ use std::alloc::{AllocError, Global};
 
 /// A binary heap of the entries, by expiry, that also knows where each slot's entry is.
 ///
-/// Whoever moves an entry in the heap notes its new place at its slot. An insert and a removal cost at most a
+/// Whatever moves an entry in the heap notes its new place at its slot. An insert and a removal cost at most a
 /// logarithm of the entries, and a clear a constant for each entry, whatever the room. A `reserve` that makes room
 /// costs all the room that there is then, and each other call a constant.
 #[derive(Debug, Drop)]
 pub struct BinaryTimer {
     heap: Vec<Entry>,
-    // At each slot of the room the place of its entry in the heap.
+    // For each slot of the room, the place of its entry in the heap.
     places: Vec<Link>,
     ghost agrees: { Agrees heap.items places.items } by { Prim.hlevel props },
     ghost ordered: { IsOrdered heap.items } by { Prim.hlevel props },

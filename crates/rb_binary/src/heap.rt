@@ -21,9 +21,9 @@ fn put(heap: &mut [Entry], places: &mut [Link], place: usize, entry: Entry)
     places[entry.slot] = Link::to(place);
 }
 
-/// Moves the entry up to where it does not expire before its parent.
+/// Moves the entry up until it does not expire before its parent.
 ///
-/// Its place need not be noted yet.
+/// Its place need not have been noted.
 pub(crate) fn sift_up(heap: &mut [Entry], places: &mut [Link], mut place: usize)
     requires put { IsPutAt heap.old places.old place }
     requires ordered { MayRise heap.old place }
@@ -42,7 +42,7 @@ pub(crate) fn sift_up(heap: &mut [Entry], places: &mut [Link], mut place: usize)
     put(heap, places, place, entry);
 }
 
-// Moves the entry down to where no child expires before it. Its place need not be noted yet.
+// Moves the entry down until no child expires before it. Its place need not have been noted.
 fn sift_down(heap: &mut [Entry], places: &mut [Link], mut place: usize)
     requires put { IsPutAt heap.old places.old place }
     requires ordered { MaySink heap.old place }
@@ -69,11 +69,11 @@ fn least_child(heap: &[Entry], place: usize) -> usize
     let left = 2 * place + 1;
     let right = left + 1;
     let is_right = right < heap.len() && heap[right].expiry < heap[left].expiry;
-    // A branch would be guessed wrong every other time.
+    // A processor would guess a branch wrong every other time.
     left + usize::from(is_right)
 }
 
-/// Moves the entry up or down to where it belongs. Its place need not be noted yet.
+/// Moves the entry up or down to where it belongs. Its place need not have been noted.
 pub(crate) fn settle(heap: &mut [Entry], places: &mut [Link], place: usize)
     requires put { IsPutAt heap.old places.old place }
     requires ordered { IsOrderedBut heap.old place }

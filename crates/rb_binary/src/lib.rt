@@ -1,4 +1,4 @@
-//! The timer that the program runs with where none is named: a binary heap that knows where each slot's entry is.
+//! The program's default timer: a binary heap that knows where each slot's entry is.
 #![tactic(auto)]
 
 mod binary_timer;

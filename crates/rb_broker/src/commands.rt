@@ -14,8 +14,8 @@ use std::time;
 
 /// Runs a script from standard input to standard output.
 ///
-/// The file `from` is read before anything else, and the file `history` is created before the session,
-/// so both may be the same. Where standard output is closed it is not created.
+/// It reads the file `from` before anything else, and creates the file `history` before the
+/// session, so both may be the same. If standard output is closed, it does not create the file.
 pub fn script(
     rt: &HostRuntime,
     options: &ScriptOptions,
@@ -34,7 +34,7 @@ pub fn script(
     )
 }
 
-/// Checks the history in a file, prints the line that tells of it, and answers the exit status.
+/// Checks the history in a file, prints the line about it, and returns the exit status.
 pub fn replay(rt: &HostRuntime, options: &ReplayOptions, file: &str) -> Result<u8, BrokerFault> {
     let (line, status) = run_replay(rt.alloc(), options, &text_of(rt, file)?)?;
     let mut output = rt.stdout();
@@ -44,14 +44,14 @@ pub fn replay(rt: &HostRuntime, options: &ReplayOptions, file: &str) -> Result<u
     }
 }
 
-/// Serves clients at a port of 127.0.0.1, writes the history of the run, and prints what it came to.
+/// Serves clients at a port of 127.0.0.1, writes the history of the run, and prints its counts.
 ///
-/// The file `from` is read before anything else. The file `history` is created before the port is
-/// listened at, and what stood in it goes once the port is had: so both may be the same, and a port that
-/// can't be had costs no history. That the port is listened at, standard output says by a line. Where the
-/// run gives no history the file stays empty.
+/// It reads the file `from` before anything else. It creates the file `history` before it binds the
+/// port, and empties it once the port is bound: so both may be the same, and a port in use costs no
+/// history. Then it prints the line that names the port. If the run ends without a history, the
+/// file stays empty.
 ///
-/// The workers are started and wait by `handle`.
+/// `handle` starts the workers, and they wait by it.
 pub fn serve<R: Threads + Wait + time::Clock + Sync>(
     rt: &HostRuntime,
     handle: &R,
@@ -90,7 +90,7 @@ fn serve_over<T: Timer + Send, R: Threads + Wait + time::Clock + Sync>(
     end_server(alloc, &report, &mut rt.stdout(), history)
 }
 
-// Where a run begins: behind the history in a file, if one is named.
+// Where a run begins: where the history in a file ends, if one is named.
 fn opening_behind(rt: &HostRuntime, from: Option<&str>) -> Result<Opening, BrokerFault> {
     match from {
         Some(path) => opening_in(rt.alloc(), &text_of(rt, path)?),
@@ -103,15 +103,16 @@ fn device_for(rt: &HostRuntime, history: Option<&str>) -> Result<Option<File>, B
     let Some(path) = history else {
         return Ok(None);
     };
-    // The next file that is opened takes the place of a closed standard output, and would get the replies.
+    // The system would give the place of a closed standard output to the next file that is opened,
+    // which would then get the replies.
     match rt.stdout().write(&[]) {
         Ok(_) => Ok(Some(created(rt, path)?)),
         Err(_) => Err(BrokerFault::Write),
     }
 }
 
-// Creates the file of a run's history, if one is named. What stands in it stays: a port that is taken must
-// not cost the history of an earlier run.
+// Creates the file of a run's history, if one is named. Its contents stay: a port in use must not
+// cost the history of an earlier run.
 fn make_room_for(rt: &HostRuntime, history: Option<&str>) -> Result<(), BrokerFault> {
     let Some(path) = history else {
         return Ok(());
@@ -130,7 +131,7 @@ fn text_of(rt: &HostRuntime, path: &str) -> Result<Vec<u8>, BrokerFault> {
     }
 }
 
-// A file of this name, with nothing in it.
+// An empty file of this name.
 fn created(rt: &HostRuntime, path: &str) -> Result<File, BrokerFault> {
     match fs::create(rt, path) {
         Ok(file) => Ok(file),

@@ -1,10 +1,10 @@
-//! A broker of delayed elements, as a command.
+//! The broker as a command.
 //!
-//! `rb_broker script` reads a script from standard input and writes its answers to standard output.
-//! `rb_broker replay` checks the history of a run. `rb_broker serve` answers many clients over TCP.
-//! The exit status is 0 at the end of a run and after help, 1 for a history that is not accepted or
-//! that no run goes on behind, 2 where the words are refused, 3 where input, output, a file, a port or
-//! a thread fails or an input has no end, and 4 for want of memory.
+//! `rb_broker script` reads a script from standard input and writes the replies to standard output.
+//! `rb_broker replay` checks the history of a run. `rb_broker serve` serves many clients over TCP.
+//! The exit status is 0 at the end of a run and after help; 1 for a history that is not accepted or
+//! that no run can continue; 2 if the command line is refused; 3 if input, output, a file, a port
+//! or a thread fails, or an input has no end; and 4 if memory runs out.
 #![tactic(auto)]
 
 mod commands;
@@ -25,7 +25,7 @@ use std::sync::Wait;
 use std::thread::Threads;
 use std::{env, io, time};
 
-/// The exit status where the words are refused.
+/// The exit status if the command line is refused.
 const WORDS_REFUSED: u8 = 2;
 
 fn main(rt: HostRuntime) -> ExitCode {
@@ -44,7 +44,7 @@ fn main(rt: HostRuntime) -> ExitCode {
     }
 }
 
-/// The words of the command line, the program's own name first.
+/// The words of the command line, beginning with the program's own name.
 fn command_line(rt: &HostRuntime) -> io::Result<Vec<String>> {
     Ok(env::args(rt)?.collect(rt.alloc())?)
 }
@@ -54,8 +54,8 @@ fn lent_words<'a>(alloc: Global, words: &'a Vec<String>) -> Result<Vec<&'a str>,
     words.iter().map(|word| word.as_str()).collect(alloc)
 }
 
-/// Does what `words` ask for, and answers the exit status of it. A server's workers are started and wait
-/// by `handle`.
+/// Does what `words` ask for, and returns its exit status. `handle` starts the workers of a server,
+/// and they wait by it.
 fn run<R: Threads + Wait + time::Clock + Sync>(
     rt: &HostRuntime,
     handle: &R,
@@ -90,7 +90,7 @@ fn run<R: Threads + Wait + time::Clock + Sync>(
     }
 }
 
-/// Prints the line of the fault, where there is one, and answers the exit status.
+/// Prints the line of the fault, if there is one, and returns the exit status.
 fn exit_after_run<T: Copy>(rt: &HostRuntime, outcome: Result<T, BrokerFault>) -> ExitCode
     ensures { exit_status result ≡ status_of_run outcome }
 {
@@ -100,8 +100,8 @@ fn exit_after_run<T: Copy>(rt: &HostRuntime, outcome: Result<T, BrokerFault>) ->
     }
 }
 
-/// Prints the line of the fault, where there is one, and answers the exit status, which is that of the
-/// verdict where there is none.
+/// Prints the line of the fault, if there is one, and returns the exit status, which without a
+/// fault is that of the verdict.
 fn exit_after_replay(rt: &HostRuntime, outcome: Result<u8, BrokerFault>) -> ExitCode
     ensures { exit_status result ≡ status_of_replay outcome }
 {
@@ -111,8 +111,8 @@ fn exit_after_replay(rt: &HostRuntime, outcome: Result<u8, BrokerFault>) -> Exit
     }
 }
 
-/// Prints the text of `error`, help to standard output and else to standard error, and answers its
-/// exit status. Help that cannot be written is a fault of output.
+/// Prints the text of `error`, help to standard output and anything else to standard error, and
+/// returns its exit status. Help that can't be written is a fault of output.
 fn exit_for_refused_words(rt: &HostRuntime, error: &Error) -> ExitCode
     ensures { IsStatusOfWords (kind_of error.now) (exit_status result) }
 {
@@ -129,7 +129,7 @@ fn exit_for_refused_words(rt: &HostRuntime, error: &Error) -> ExitCode
     }
 }
 
-/// Prints the line of `fault` to standard error and answers its exit status.
+/// Prints the line of `fault` to standard error and returns its exit status.
 fn exit_with_fault(rt: &HostRuntime, fault: BrokerFault) -> ExitCode
     ensures { exit_status result ≡ status_of fault }
 {

@@ -6,7 +6,7 @@ use crate::text::Text;
 use std::alloc::{AllocError, Global};
 use std::str::SplitWhitespace;
 
-/// A run, and what it must come to.
+/// A run, and how it must come out.
 #[derive(Drop)]
 pub struct Case {
     /// The number of its first line.
@@ -40,7 +40,7 @@ impl Case {
         })
     }
 
-    /// Takes a line, which begins with this word.
+    /// Takes a line that begins with this word.
     pub fn take(&mut self, alloc: Global, word: &str, text: &str) -> Result<(), Flaw> {
         match word {
             "args" => once(&mut self.args, text.to_string(alloc)?),
@@ -64,7 +64,7 @@ impl Case {
         }
     }
 
-    /// Whether all is there that a case has, and nothing beside it.
+    /// Whether the case has all that it needs, and nothing else.
     pub fn check(&self) -> Result<(), Flaw> {
         if !self.is_script() && !self.is_replay() {
             return Err(Flaw::NoOutcome);
@@ -78,7 +78,7 @@ impl Case {
         self.devices.check(self.input.bytes.len())
     }
 
-    /// Whether a script is run, and not a history replayed.
+    /// Whether a script is run; otherwise a history is replayed.
     pub fn is_script(&self) -> bool {
         self.ends.is_some()
     }
@@ -97,7 +97,7 @@ impl Case {
     }
 }
 
-// Puts a value where none stands yet.
+// Sets a value that is not set yet.
 fn once<T: Drop>(place: &mut Option<T>, value: T) -> Result<(), Flaw> {
     if place.is_some() {
         return Err(Flaw::Twice);
@@ -106,7 +106,7 @@ fn once<T: Drop>(place: &mut Option<T>, value: T) -> Result<(), Flaw> {
     Ok(())
 }
 
-// The text of an end. What counts the lost jobs is a number.
+// The text of an end. The number of lost jobs in it must be a number.
 fn ending(text: &str) -> Result<&str, Flaw> {
     match text.split_once(' ') {
         Some(("quit" | "input", lost)) => number(lost).map(|_| text),

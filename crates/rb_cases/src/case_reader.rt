@@ -1,36 +1,36 @@
 //! The reading of a case file.
 //!
-//! A file is lines, each of which begins with one word. A line that is blank or begins with `#` is a
-//! remark. `case` begins a case, and the lines up to the next one tell it:
+//! A file is a list of lines, each of which begins with one word. A line that is blank or begins
+//! with `#` is a comment. `case` begins a case, and the lines up to the next `case` describe it:
 //!
-//! | Line | What it tells |
+//! | Line | Meaning |
 //! |---|---|
-//! | `case NAME` | the name under which it is printed |
-//! | `args WORDS` | the words behind `script` or `replay`; the timer is left out, and so are files |
-//! | `from TEXT` | a line of the history behind which the script's run goes on |
+//! | `case NAME` | the case's name, as it is printed |
+//! | `args WORDS` | the words after `script` or `replay`, without the timer and the files |
+//! | `from TEXT` | a line of the history that the script's run continues |
 //! | `> TEXT` | a line of the script |
 //! | `< TEXT` | a line of the replies |
 //! | `= TEXT` | a line of the history: the one that a script must write, or that is replayed |
-//! | `ends TEXT` | how a script ends: `quit N` or `input N` where N held jobs are lost, or the fault's text |
+//! | `ends TEXT` | how a script ends: `quit N` or `input N` if N held jobs are lost, or the fault's text |
 //! | `verdict TEXT` | the line that a replay must print |
 //! | `status N` | the exit status of a replay |
-//! | `timer T` | the script is run over this timer alone |
-//! | `reads N` | the script is read by so many bytes alone: `whole`, 1 or 7, and not cut at every place |
-//! | `reader fails N` | a read fails when N bytes of the script were read |
-//! | `reader interrupted` | every second read is interrupted, the first one too |
-//! | `writer fails N` | the call of the writer with this number fails; writes and flushes count, from 0 |
-//! | `writer takes N` | a write takes N bytes at most |
-//! | `recorder fails N` | the call with this number of the device that gets the history fails |
+//! | `timer T` | the script is only run over this timer |
+//! | `reads N` | the script is only read in pieces of this many bytes: `whole`, 1 or 7, and not cut at every place |
+//! | `reader fails N` | a read fails after N bytes of the script |
+//! | `reader interrupted` | every second read is interrupted, beginning with the first |
+//! | `writer fails N` | the writer's call with this number fails; writes and flushes are counted, from 0 |
+//! | `writer takes N` | a write takes at most N bytes |
+//! | `recorder fails N` | the call with this number of the history's device fails |
 //!
-//! `from`, `>`, `<` and `=` may stand as often as there are lines. `>~ TEXT` is a line without its end, and
-//! `>*500 TEXT` is 500 lines; so it is with the other three. Without a `=` line a script's run keeps no
-//! history, and `=~` alone says that nothing is written to it. Each other word stands once at most. A case
-//! has `ends` and is a script, or `verdict` and `status` and is a replay, and then none of the words that
-//! are a script's.
+//! `from`, `>`, `<` and `=` are given once for each line of their text. `>~ TEXT` is a line without
+//! its end, and `>*500 TEXT` is 500 lines; the other three work alike. Without a `=` line a
+//! script's run keeps no history, and `=~` alone says that nothing is written to it. Every other
+//! word may be given once. A case with `ends` is a script; a case with `verdict` and `status` is a
+//! replay, and has none of the words of a script.
 //!
-//! In a TEXT of these four `\\` is a backslash, `\r` a carriage return, `\n` a line feed, `\xFF` the byte
-//! of these two digits, `\(65 a)` 65 times the text behind the number, `\#` the number of the line among
-//! those of a `*`, from 0, and `\(# 65)` that number and 65 together.
+//! In a TEXT of these four, `\\` is a backslash, `\r` a carriage return, `\n` a line feed, `\xFF`
+//! the byte of these two digits, `\(65 a)` 65 times the text after the number, `\#` the number of
+//! the line among those of a `*`, counted from 0, and `\(# 65)` the sum of that number and 65.
 
 use crate::case::Case;
 use crate::flaw::Flaw;
@@ -44,7 +44,7 @@ pub struct CaseReader {
     cases: Vec<Case>,
 }
 
-/// The cases of a file's text, of which there is one at least.
+/// The cases of a file's text, at least one.
 pub fn read_cases(alloc: Global, text: &str) -> Result<Vec<Case>, Malformed> {
     let mut reader = CaseReader::new(alloc);
     let mut number = 0_usize;
@@ -96,7 +96,7 @@ impl CaseReader {
         }
     }
 
-    // The case before, which gets no more lines, is whole.
+    // The case before, which gets no more lines, is complete.
     fn check_last(&self) -> Result<(), Malformed> {
         match self.cases.last() {
             Some(case) => at_line(case.line, case.check()),

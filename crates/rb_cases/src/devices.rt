@@ -4,28 +4,29 @@ use crate::numbers::number;
 /// The timers over which a script is run.
 pub const TIMERS: [&str; 4] = ["list", "heap", "pairing", "wheel"];
 
-/// How many bytes of a script a read gives at most. The first is the whole script.
+/// The greatest number of bytes of a script that a read gives. The first value stands for the whole
+/// script.
 pub const SIZES: [usize; 3] = [usize::MAX, 1, 7];
 
-/// A script of at most so many bytes is also cut in two, at every place.
+/// A script of at most this many bytes is also cut in two, at every place.
 pub const MOST_CUT: usize = 1_000;
 
-/// Over what a script is run, where a case tells it.
+/// What a script is run over, if a case says so.
 #[derive(Clone, Copy)]
 pub struct Devices {
-    /// Whether the case tells anything of them.
+    /// Whether the case says anything about devices.
     pub are_given: bool,
     timer: Option<&'static str>,
     size: Option<usize>,
     /// Whether every second read is interrupted.
     pub is_interrupted: bool,
-    /// Behind how many bytes a read fails.
+    /// After how many bytes a read fails.
     pub reader_fails: Option<usize>,
-    /// Which call of the writer fails, from 0.
+    /// Which call of the writer fails, counted from 0.
     pub writer_fails: Option<usize>,
-    /// How many bytes a write takes at most.
+    /// The greatest number of bytes that a write takes.
     pub writer_takes: Option<usize>,
-    /// Which call of the device that gets the history fails, from 0.
+    /// Which call of the history's device fails, counted from 0.
     pub recorder_fails: Option<usize>,
 }
 
@@ -51,7 +52,7 @@ impl Devices {
         }
     }
 
-    /// Whether the script is read by so many bytes.
+    /// Whether the script is read in pieces of this many bytes.
     pub fn have_size(&self, size: usize) -> bool {
         match self.size {
             Some(only) => only == size,
@@ -64,7 +65,7 @@ impl Devices {
         self.size.is_none()
     }
 
-    /// Takes a line, which begins with this word.
+    /// Takes a line that begins with this word.
     pub fn take(&mut self, word: &str, text: &str) -> Result<(), Flaw> {
         self.are_given = true;
         let (kind, rest) = text.split_once(' ').unwrap_or((text, ""));
@@ -88,7 +89,7 @@ impl Devices {
         Ok(())
     }
 
-    /// Whether a read that is to fail can do so in an input of so many bytes.
+    /// Whether a read that is to fail can do so in an input of this many bytes.
     pub fn check(&self, input: usize) -> Result<(), Flaw> {
         match self.reader_fails {
             Some(behind) if behind > input => Err(Flaw::BehindInput),
@@ -97,7 +98,7 @@ impl Devices {
     }
 }
 
-// Puts a value where none stands yet.
+// Sets a value that is not set yet.
 fn set_once<T: Copy>(place: &mut Option<T>, value: T) -> Result<(), Flaw> {
     if place.is_some() {
         return Err(Flaw::Twice);

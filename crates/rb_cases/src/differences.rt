@@ -3,7 +3,7 @@ use crate::replays::replay_difference;
 use crate::scripts::script_difference;
 use std::alloc::{AllocError, Global};
 
-/// What differs from what the case says, if something does.
+/// What differs from the case, if anything does.
 pub fn difference(alloc: Global, case: &Case) -> Result<Option<String>, AllocError> {
     if case.is_script() {
         script_difference(alloc, case)
@@ -12,7 +12,7 @@ pub fn difference(alloc: Global, case: &Case) -> Result<Option<String>, AllocErr
     }
 }
 
-/// What came in place of what was wanted, if they differ.
+/// What came instead of what was wanted, if they differ.
 pub fn of_texts(
     alloc: Global,
     what: &str,
@@ -25,7 +25,7 @@ pub fn of_texts(
     Ok(Some(format!(in alloc; "{what}: {came:?} in place of {wanted:?}")?))
 }
 
-/// The first line that came in place of another, if the texts differ.
+/// The first line that came instead of another, if the texts differ.
 pub fn of_bytes(
     alloc: Global,
     what: &str,
@@ -42,7 +42,7 @@ pub fn of_bytes(
     Ok(Some(format!(in alloc; "{what}, line {number}: {came:?} in place of {wanted:?}")?))
 }
 
-// How many lines the texts have in common, from the first on.
+// How many lines the texts have in common at their beginning.
 fn same_lines(one: &[u8], other: &[u8]) -> usize {
     let lines = one.split_inclusive(|&byte| byte == b'\n');
     let others = other.split_inclusive(|&byte| byte == b'\n');
@@ -52,7 +52,7 @@ fn same_lines(one: &[u8], other: &[u8]) -> usize {
         .count()
 }
 
-// The line with this number, from 0, or nothing.
+// The line with this number, counted from 0, or an empty text.
 fn line_at(text: &[u8], number: usize) -> &[u8] {
     let mut lines = text.split_inclusive(|&byte| byte == b'\n');
     lines.nth(number).unwrap_or(&[])

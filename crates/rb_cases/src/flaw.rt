@@ -3,19 +3,19 @@ use std::alloc::AllocError;
 /// What is wrong with a line of a case file.
 #[derive(Clone, Copy)]
 pub enum Flaw {
-    /// The line begins with no word of a case.
+    /// The line does not begin with a word of a case.
     Word,
-    /// A line of a case stands before the first `case`, or the file has none.
+    /// A line of a case comes before the first `case`, or the file has no case.
     NoCase,
     /// The case has no name.
     Name,
-    /// Behind `\` stands nothing that may stand there.
+    /// A `\` is followed by something that may not follow it.
     Escape,
-    /// A number is wanted and is not there.
+    /// There is no number where one is needed.
     Number,
-    /// No timer, no size of reads or no fault of a device has this name.
+    /// No timer, size of reads or device fault has this name.
     Device,
-    /// The word stands for the second time in its case, and it may stand once.
+    /// The case has the word for the second time, and it may have it once.
     Twice,
     /// The case has neither `ends` nor `verdict`.
     NoOutcome,
@@ -23,14 +23,14 @@ pub enum Flaw {
     Half,
     /// The case has words of a script and words of a replay.
     Mixed,
-    /// The reader is to fail behind the end of the input.
+    /// The reader is to fail past the end of the input.
     BehindInput,
-    /// There is no memory for the case.
+    /// There is not enough memory for the case.
     Memory,
 }
 
 impl Flaw {
-    /// The reason as it is printed.
+    /// The reason, as it is printed.
     pub fn as_str(self) -> &'static str {
         match self {
             Flaw::Word => "no word of a case",

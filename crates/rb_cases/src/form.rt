@@ -6,14 +6,14 @@ use crate::numbers::number;
 pub enum Form {
     /// As one line.
     Line,
-    /// As a part of a line, without an end.
+    /// As a part of a line, without its end.
     Part,
-    /// As so many lines.
+    /// As this many lines.
     Lines(usize),
 }
 
 impl Form {
-    /// The mark of a text, and the form that is told behind it.
+    /// The mark of a text, and the form that follows it.
     pub fn split(word: &str) -> Result<(&str, Form), Flaw> {
         if let Some(mark) = word.strip_suffix('~') {
             return Ok((mark, Form::Part));

@@ -1,10 +1,10 @@
-//! Runs the cases of text files, and says by a line how each came out.
+//! Runs the cases of text files, and prints a line about each.
 //!
-//! The words of the command line are the files; what stands in one is told in `case_reader.rt`. A script
-//! is run over each timer, and read whole, byte by byte, by seven bytes and, if it has at most 1,000 bytes, in
-//! two parts, cut at every place. The last line counts. The exit status is 0 where every case came out as it
-//! must, 1 where one did not, and 2 where a file can't be read or is malformed, which standard error tells by
-//! the file, the line and the reason.
+//! The words of the command line are the files; `case_reader.rt` describes one. A script is run
+//! over each timer, and read whole, byte by byte, seven bytes at a time and, if it has at most
+//! 1,000 bytes, in two parts, cut at every place. The last line has the counts. The exit status is
+//! 0 if every case came out as it must, 1 if one did not, and 2 if a file can't be read or is
+//! malformed; standard error then names the file, the line and the reason.
 #![tactic(auto)]
 
 mod case;
@@ -114,7 +114,7 @@ fn count(rt: &HostRuntime, report: &Report) -> Result<(), Stopped> {
     }
 }
 
-// Says why the run does not go on.
+// Says why the run stops.
 fn stop(rt: &HostRuntime, reason: &str) -> Stopped {
     let _ = eprintln!(rt; "rb_cases: {reason}");
     Stopped

@@ -1,6 +1,6 @@
 use crate::flaw::Flaw;
 
-/// The first flaw of a case file, and the number of its line, from 1.
+/// The first flaw of a case file, and the number of its line, counted from 1.
 #[derive(Clone, Copy)]
 pub struct Malformed {
     pub line: usize,

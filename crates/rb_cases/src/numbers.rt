@@ -1,6 +1,6 @@
 use crate::flaw::Flaw;
 
-/// The number that a word of decimal digits tells.
+/// The number that a word of decimal digits spells.
 pub fn number(word: &str) -> Result<usize, Flaw> {
     if !word.bytes().all(|byte| byte.is_ascii_digit()) {
         return Err(Flaw::Number);

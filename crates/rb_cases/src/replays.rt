@@ -4,7 +4,7 @@ use rb_arguments::{ReplayOptions, Words, read_words};
 use rb_runs::run_replay;
 use std::alloc::{AllocError, Global};
 
-/// What differs from the case where its history is replayed.
+/// What differs from the case when its history is replayed.
 pub fn replay_difference(alloc: Global, case: &Case) -> Result<Option<String>, AllocError> {
     let Some(options) = options_of(alloc, case)? else {
         return Ok(Some("the words of `args` are refused".to_string(alloc)?));
@@ -15,7 +15,7 @@ pub fn replay_difference(alloc: Global, case: &Case) -> Result<Option<String>, A
     }
 }
 
-// What differs first: the line or the status.
+// The first difference: in the line or in the status.
 fn compared(
     alloc: Global,
     case: &Case,

@@ -12,7 +12,7 @@ impl Report {
         Report { cases: 0, wrong: 0 }
     }
 
-    /// Counts one case more.
+    /// Counts one more case.
     pub fn add(&mut self, is_wrong: bool) {
         self.cases = self.cases.saturating_add(1);
         self.wrong = self.wrong.saturating_add(u64::from(is_wrong));

@@ -12,7 +12,7 @@ use rb_runs::{opening_in, run_script};
 use rb_session::Ended;
 use std::alloc::{AllocError, Global};
 
-/// What differs from the case in the first of its runs that is not as it must be.
+/// What differs from the case in its first run that is not as it must be.
 pub fn script_difference(alloc: Global, case: &Case) -> Result<Option<String>, AllocError> {
     for timer in TIMERS {
         if case.devices.have_timer(timer)
@@ -85,7 +85,7 @@ fn by_reads(
     compared(alloc, case, &outcome)
 }
 
-// What differs first: the replies, the end or the history.
+// The first difference: in the replies, the end or the history.
 fn compared(alloc: Global, case: &Case, outcome: &Outcome) -> Result<Option<String>, AllocError> {
     if let Some(text) = of_bytes(alloc, "replies", &outcome.replies, &case.replies.bytes)? {
         return Ok(Some(text));

@@ -7,7 +7,7 @@ pub struct Sink {
     pub bytes: Vec<u8>,
     calls: usize,
     fails_at: Option<usize>,
-    /// How many bytes a write takes at most.
+    /// The greatest number of bytes that a write takes.
     most: usize,
 }
 

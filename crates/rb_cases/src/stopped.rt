@@ -1,3 +1,3 @@
-/// The run does not go on. The reason stands on standard error.
+/// The run stops. Standard error says why.
 #[derive(Clone, Copy)]
 pub struct Stopped;

@@ -8,7 +8,7 @@ use std::alloc::{AllocError, Global};
 pub struct Text {
     alloc: Global,
     pub bytes: Vec<u8>,
-    /// Whether a line of the case tells it. It may be empty then.
+    /// Whether a line of the case gives it. It may be empty then.
     pub is_given: bool,
 }
 
@@ -43,7 +43,7 @@ impl Text {
         Ok(self.bytes.extend_from_slice(b"\n")?)
     }
 
-    // Appends the bytes that are told. There are no more escapes than bytes.
+    // Appends the bytes that are meant. There are no more escapes than bytes.
     fn push_told(&mut self, index: usize, told: &str) -> Result<(), Flaw> {
         let mut rest = told;
         for _ in 0..told.len() {
@@ -52,7 +52,7 @@ impl Text {
         Ok(())
     }
 
-    // Appends what stands before the first escape, and that. What stands behind it is left.
+    // Appends what comes before the first escape, and that escape. What follows it is left.
     fn push_piece<'a>(&mut self, index: usize, told: &'a str) -> Result<&'a str, Flaw> {
         let Some((plain, escaped)) = told.split_once('\\') else {
             self.bytes.extend_from_slice(told.as_bytes())?;

@@ -4,8 +4,8 @@ ghost use Rattle.rb_delayed.specs.Moment.{delay_of, IsExpired};
 
 use std::cmp::Ordering;
 
-/// Something that may be taken once its delay has expired, as `java.util.concurrent.Delayed` of
-/// Java SE 17.
+/// Something that may be taken once its delay has expired, like `java.util.concurrent.Delayed`
+/// (Java SE 17).
 pub trait Delayed {
     /// Its name.
     ghost id: { Self → ℕ };
@@ -17,19 +17,19 @@ pub trait Delayed {
     fn id(&self) -> u64
         ensures { result ≡ id self.now };
 
-    /// The moment, in nanoseconds, from which on it is expired.
+    /// The moment, in nanoseconds, from which it is expired.
     fn expiry(&self) -> u64
         ensures { result ≡ expiry self.now };
 
-    /// How many nanoseconds after `now` it expires, as `Delayed.getDelay`. The delay is zero at the
-    /// expiry, and negative after it.
+    /// The nanoseconds from `now` until it expires, like `Delayed.getDelay`: zero at the expiry,
+    /// negative after it.
     fn delay(&self, now: u64) -> i128
         ensures { result ≡ delay_of (expiry self.now) now }
     {
         i128::from(self.expiry()) - i128::from(now)
     }
 
-    /// The order of the two delays, which is the same at every moment, as `Delayed.compareTo`.
+    /// How the two delays compare, like `Delayed.compareTo`. The order is the same at every moment.
     fn delay_order(&self, other: &Self) -> Ordering
         ensures { (now : ℕ) → result ≡ int_cmp (delay_of (expiry self.now) now) (delay_of (expiry other.now) now) }
     {
@@ -37,7 +37,8 @@ pub trait Delayed {
     }
 }
 
-/// Whether the delay is zero or less at `now`, as `DelayQueue` of Java SE 17 has it.
+/// Whether the delay is zero or less at `now`, which is what `DelayQueue` (Java SE 17) means by
+/// expired.
 pub fn is_expired<D: Delayed>(element: &D, now: u64) -> bool
     ensures expired { IsTrue result ↔ IsExpired (D.expiry element.now) now }
     ensures by_expiry { IsTrue result ↔ (D.expiry element.now ≤ now) }

@@ -4,17 +4,17 @@ ghost use Rattle.rb_delayed.specs.declared.element.TheConstants.{GREATEST_ATTEMP
 use crate::delayed::Delayed;
 use crate::payload::Payload;
 
-/// The greatest number of an attempt.
+/// The greatest attempt number.
 pub const GREATEST_ATTEMPT: u32 = 1_000;
 
 /// What a delay queue holds: a payload with the moment from which it may be taken.
 #[derive(Clone, Copy, Debug, PartialEq, Eq)]
 pub struct Element {
-    /// The name that the queue gave it, which no other element has.
+    /// The number that the queue gave it, which no other element has.
     pub id: u64,
-    /// The moment, in nanoseconds, from which on it is expired.
+    /// The moment, in nanoseconds, from which it is expired.
     pub expiry: u64,
-    /// The id of the first element that carried this job, its own at the first attempt.
+    /// The id of the first element of this job, which is its own at the first attempt.
     pub origin: u64,
     /// The expiry of that first element, in nanoseconds. A retry at a fixed rate counts from it.
     pub first: u64,

@@ -1,8 +1,8 @@
 //! What a delay queue holds: elements with their payloads, each with the moment at which it expires.
 //!
-//! A moment is a `u64` count of nanoseconds. The delay of an element at a moment is its expiry less
-//! that moment, and may be negative; the element is expired once its delay is zero or less, as
-//! `java.util.concurrent.Delayed` and `DelayQueue` of Java SE 17 have it. Nothing here takes memory.
+//! A moment is a `u64` count of nanoseconds. The delay of an element at a moment is its expiry
+//! minus that moment, and may be negative. The element is expired once its delay is zero or less,
+//! as in `java.util.concurrent.Delayed` and `DelayQueue` (Java SE 17). Nothing here takes memory.
 #![tactic(auto)]
 
 mod delayed;

@@ -1,10 +1,10 @@
 ghost use Rattle.std.specs.Prelude.{◌≡◌, ◌+◌, ◌≤◌, min};
 ghost use Rattle.std.specs.Option.{SomeIff};
 
-/// The last moment that there is, 2^64 - 1 nanoseconds.
+/// The last moment, 2^64 - 1 nanoseconds.
 pub const GREATEST_MOMENT: u64 = u64::MAX;
 
-/// The moment `delay` nanoseconds after `now`, or `None` exactly where that would pass the greatest
+/// The moment `delay` nanoseconds after `now`. `None` exactly if that would pass the greatest
 /// moment.
 pub fn add_delay(now: u64, delay: u64) -> Option<u64>
     ensures { SomeIff result (now + delay ≤ GREATEST_MOMENT) (now + delay) }
@@ -12,7 +12,7 @@ pub fn add_delay(now: u64, delay: u64) -> Option<u64>
     now.checked_add(delay)
 }
 
-/// The moment `delay` nanoseconds after `now`, or the greatest moment where that comes first.
+/// The moment `delay` nanoseconds after `now`, or the greatest moment if that comes first.
 pub fn add_capped(now: u64, delay: u64) -> u64
     ensures { result ≡ min (now + delay) GREATEST_MOMENT }
 {

@@ -5,7 +5,7 @@ use crate::payload_fault::PayloadFault;
 use std::marker::Model;
 use std::{fmt, str};
 
-/// How many bytes a payload has at most.
+/// The greatest length of a payload, in bytes.
 pub const MOST_PAYLOAD_BYTES: usize = 64;
 
 /// The least byte of a payload, `!`.
@@ -16,10 +16,10 @@ pub const GREATEST_PAYLOAD_BYTE: u8 = 0x7E;
 
 /// What a job carries: 1 to 64 bytes, each a visible ASCII character.
 ///
-/// It is stored in place, so it is copied and takes no memory.
+/// The bytes are stored in place, so a payload is `Copy` and takes no memory.
 #[derive(Clone, Copy, PartialEq, Eq)]
 pub struct Payload {
-    // Zeros stand behind the payload's own bytes, so that equal payloads have equal buffers.
+    // The payload's own bytes are followed by zeros, so equal payloads have equal buffers.
     buffer: [u8; MOST_PAYLOAD_BYTES],
     len: usize,
 }
@@ -46,9 +46,9 @@ impl Model for Payload {
 impl Payload {
     /// The payload of these bytes.
     ///
-    /// Of the faults the first that holds is answered: `Empty` where there is no byte, `TooLong`
-    /// where there are more than 64, and `BadByte` with the place, from 0, of the first byte that is
-    /// no visible ASCII character.
+    /// Returns the first fault that holds: `Empty` if there is no byte, `TooLong` if there are more
+    /// than 64, `BadByte` if a byte is not a visible ASCII character, with the place of the first
+    /// such byte, counted from 0.
     pub fn new(bytes: &[u8]) -> Result<Payload, PayloadFault>
         ensures ok { IsOk result ↔ IsPayload bytes.now }
         ensures value { IfOk result (λ payload. payload ≡ bytes.now) }
@@ -90,14 +90,14 @@ impl fmt::Debug for Payload {
     }
 }
 
-// The place of the first byte that no payload may have.
+// The place of the first byte that a payload may not have.
 fn first_bad(bytes: &[u8]) -> Option<usize>
     ensures { result ≡ first_bad bytes.now }
 {
     bytes.iter().position(|&byte| !is_visible(byte))
 }
 
-// The bytes with zeros behind them.
+// The bytes, followed by zeros.
 fn padded(bytes: &[u8]) -> [u8; MOST_PAYLOAD_BYTES]
     requires { length bytes.now ≤ MOST_PAYLOAD_BYTES }
     ensures { result ≡ bytes.now ++ replicate (MOST_PAYLOAD_BYTES - length bytes.now) 0 }
@@ -107,7 +107,7 @@ fn padded(bytes: &[u8]) -> [u8; MOST_PAYLOAD_BYTES]
     buffer
 }
 
-// Whether a payload may have the byte.
+// Whether a payload may have this byte.
 fn is_visible(byte: u8) -> bool
     ensures { result ≡ is_visible byte }
 {

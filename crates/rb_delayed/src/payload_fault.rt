@@ -1,6 +1,6 @@
 use thiserror::Error;
 
-/// Why bytes are no payload.
+/// Why bytes are not a payload.
 #[derive(Clone, Copy, Debug, PartialEq, Eq, Error)]
 pub enum PayloadFault {
     /// There is no byte.
@@ -9,7 +9,7 @@ pub enum PayloadFault {
     /// There are more than 64 bytes.
     #[error("a payload has at most 64 bytes")]
     TooLong,
-    /// A byte is not a visible ASCII character. This is the place of the first such byte, from 0.
+    /// A byte is not a visible ASCII character. This is the place of the first one, counted from 0.
     #[error("the byte at place {0} is not a visible ASCII character")]
     BadByte(usize),
 }

@@ -1,4 +1,4 @@
--- The line that tells what a run came to.
+-- The line with the counts of a run.
 use Rattle.std.specs.Prelude.{ℕ, List, [], ◌∷◌, ◌++◌, codes, decimal}
 use Rattle.rb_protocol.specs.declared.format.TheConstants.{LINE_FEED}
 use Rattle.rb_queue.specs.declared.audit.Audit.{Audit}

@@ -1,4 +1,4 @@
--- The exit status of a fault, and the faults of what a run stands on.
+-- The exit status of a fault, and the faults of the crates that a run uses.
 use Rattle.std.specs.Prelude.{ℕ}
 use Rattle.rb_ending.specs.declared.broker_fault.BrokerFault.{BrokerFault}
 use Rattle.rb_ending.specs.declared.broker_fault.BrokerFault.TheVariants as Broker
@@ -7,7 +7,7 @@ use Rattle.rb_replay.specs.declared.history_fault.HistoryFault.TheVariants as Hi
 use Rattle.rb_session.specs.declared.session_fault.SessionFault.{SessionFault}
 use Rattle.rb_session.specs.declared.session_fault.SessionFault.TheVariants as Session
 
--- 1 for an opening that is none, 3 for input, output, listening and workers, 4 for want of memory
+-- 1 for a bad opening, 3 for input, output, files, listening and workers, 4 for want of memory
 abbrev pub status_of : BrokerFault → ℕ
 status_of Broker.BadOpening = 1
 status_of Broker.Read = 3

@@ -5,7 +5,7 @@ use Rattle.rb_replay.specs.HistoryText.{history_text}
 use Rattle.rb_replay.specs.Written.{Writes}
 use Rattle.rb_replay.specs.declared.history_fault.HistoryFault.{HistoryFault}
 
--- there was nothing and is nothing, or what there was has become something that stands so to it
+-- there was nothing and is nothing, or what there was has become something in this relation to it
 abbrev pub Becomes : {H : Type 0} → (H → H → Type 0) → Option H → Option H → Type 0
 Becomes stands None None = Unit {0}
 Becomes stands (Some old) (Some new) = stands old new

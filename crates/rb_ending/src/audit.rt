@@ -8,8 +8,8 @@ use rb_queue::Audit;
 use serde_json::{Map, Value};
 use std::alloc::{AllocError, Global};
 
-/// What a run came to, as one line: a JSON object without spaces, its keys in the order of the
-/// alphabet, and a line feed.
+/// The counts of a run as one line: a JSON object without spaces, with its keys in alphabetical
+/// order, and a line feed.
 ///
 /// The only fault is `Memory`.
 pub fn audit_line(alloc: Global, audit: &Audit) -> Result<String, BrokerFault>

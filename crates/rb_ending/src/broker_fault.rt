@@ -14,7 +14,7 @@ pub enum BrokerFault {
     /// A write to standard output failed.
     #[error("cannot write output")]
     Write,
-    /// The input or a file had no end within the reads that are made of it.
+    /// The input or a file had no end within the greatest number of reads.
     #[error("too many reads")]
     ReadTurns,
     /// The file of a history could not be opened or read.
@@ -23,19 +23,19 @@ pub enum BrokerFault {
     /// The file of a history could not be created or written.
     #[error("cannot write history")]
     WriteHistory,
-    /// A run cannot begin where this history ends: it was not read, is not legal, or leads too far.
+    /// No run can continue this history: it is not a history, is not legal, or leads past a limit.
     #[error("bad opening")]
     BadOpening,
-    /// A server can't listen at its port.
+    /// The server can't listen on its port.
     #[error("cannot listen")]
     Listen,
-    /// A worker of a server can't be started.
+    /// A worker of the server can't be started.
     #[error("cannot start worker")]
     Worker,
-    /// The passes of a server's workers have not made all calls of its history.
+    /// The calls of the server's workers are not all those of its history.
     #[error("passes not gathered")]
     NotGathered,
-    /// There is no memory for the run.
+    /// There is not enough memory for the run.
     #[error("out of memory")]
     Memory,
 }
@@ -43,8 +43,8 @@ pub enum BrokerFault {
 impl BrokerFault {
     ghost use Rattle.rb_ending.specs.BrokerFault.{status_of};
 
-    /// The exit status of a run that ends by this fault: 1 for a bad opening, 4 for memory,
-    /// and else 3.
+    /// The exit status of a run that ends with this fault: 1 for a bad opening, 4 for memory, 3 for
+    /// any other.
     pub fn status(self) -> u8
         ensures { result ≡ status_of self }
     {

@@ -1,6 +1,6 @@
 //! How a run of the program ends: its fault with its exit status, its history, and its audit line.
 //!
-//! A script and a server end in the same ways, so both stand on this.
+//! A script and a server end in the same ways, so both depend on this crate.
 #![tactic(auto)]
 
 mod audit;

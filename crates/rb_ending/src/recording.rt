@@ -6,7 +6,8 @@ use rb_timer::Timer;
 use std::alloc::Global;
 use std::io::Write;
 
-/// Writes the history of the kept queue, where something is to have it.
+/// Writes the history of the kept queue, if there is a device for it. The faults are those of
+/// `write_history`.
 pub fn record<T: Timer, H: Write>(
     alloc: Global,
     kept: &Kept<T>,
@@ -14,7 +15,7 @@ pub fn record<T: Timer, H: Write>(
 ) -> Result<(), HistoryFault>
     ensures { RecordsRun H.contents kept.now result history.old history.new }
 {
-    // The proof reads here how long the history may get.
+    // The proof learns here how long the history may get.
     let _ = kept.capacity();
     match history {
         Some(device) => write_history(alloc, kept.opening(), kept.history(), device),

@@ -35,7 +35,7 @@ HasRoom log = length log.history < log.capacity
 abbrev pub IsFull : Log → Type 0
 IsFull log = length log.history ≡ log.capacity
 
--- the log with these events behind its own
+-- the log with these events after its own
 abbrev pub with_events : Log → List Event → Log
 with_events log events = record log { history = log.history ++ events }
 

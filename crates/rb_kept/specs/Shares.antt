@@ -1,4 +1,4 @@
--- What the events of a history come to, and a caller's share of it.
+-- The totals of a history's events, and a caller's share of them.
 use Rattle.std.specs.Prelude.{◌≡◌, List, [], ◌∷◌, length}
 use Rattle.rb_ledger.specs.Totals.{one_call, total_of}
 use Rattle.rb_ledger.specs.declared.totals.Totals.{Totals}
@@ -12,7 +12,7 @@ abbrev pub totals_of : List Event → Totals
 totals_of history =
     record { calls = call_count history; offered = offer_count history; given = give_count history }
 
--- what one event comes to
+-- the totals of one event
 abbrev pub amount_of : Event → Totals
 amount_of event = one_call (length (inserted (effect_of event.act))) (length (given (effect_of event.act)))
 

@@ -25,7 +25,7 @@ TakesMemory (Offer draft) = Unit {0}
 TakesMemory (Drain max) = Unit {0}
 TakesMemory _ = ⊥
 
--- the ask waits past this moment where nothing is expired
+-- the ask waits past this moment if nothing is expired
 abbrev pub WaitsPast : Ask → ℕ → Type 0
 WaitsPast Take now = Unit {0}
 WaitsPast (PollFor start timeout) now = now < deadline_of start timeout
@@ -64,7 +64,7 @@ abbrev pub Answers : Log → Try → Outcome → Log → Type 0
 Answers old try (Done reply) new = (event : Event) × (new ≡ with_event old event) × Records old try reply event
 Answers old try (Later next) new = Waits old try next × (new ≡ old)
 
--- one try: full exactly where there is no room, and a fault changes nothing
+-- one try: full exactly if there is no room, and a fault changes nothing
 abbrev pub StepsTo : Log → Try → Result Outcome CallFault → Log → Type 0
 StepsTo old try (Ok outcome) new = HasRoom old × Answers old try outcome new
 StepsTo old try (Err Full) new = IsFull old × (new ≡ old)

@@ -4,24 +4,24 @@ ghost use Rattle.rb_kept.specs.declared.fault.CallFault.TheVariants.{Memory};
 use std::alloc::AllocError;
 use thiserror::Error;
 
-/// Why no kept queue could be made. The first that holds is answered.
+/// Why no kept queue could be made. If both hold, the first is returned.
 #[derive(Clone, Copy, Debug, PartialEq, Eq, Error)]
 pub enum NewFault {
     /// The capacity is 0 or above 1,000,000.
     #[error("a history has room for 1 to 1,000,000 calls")]
     BadCapacity,
-    /// There is no memory for the history, or for the elements of the opening.
+    /// There is not enough memory for the history, or for the elements of the opening.
     #[error("out of memory")]
     Memory,
 }
 
-/// Why a call was not answered. Nothing has changed then. The first that holds is answered.
+/// Why a call got no reply. Nothing has changed then. If both hold, the first is returned.
 #[derive(Clone, Copy, Debug, PartialEq, Eq, Error)]
 pub enum CallFault {
     /// The history has as many events as its capacity.
     #[error("the history is full")]
     Full,
-    /// There is no memory for the offered element or for what is drained.
+    /// There is not enough memory for the offered element or for what is drained.
     #[error("out of memory")]
     Memory,
 }

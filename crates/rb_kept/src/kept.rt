@@ -16,17 +16,19 @@ use rb_timer::Timer;
 use std::alloc::{AllocError, Global};
 use std::marker::Model;
 
-/// How many calls a history has room for at most.
+/// The greatest number of calls that a history has room for.
 pub const MOST_CALLS: u64 = 1_000_000;
 
 /// A delay queue and the history of its calls, which leads from the opening to exactly this queue.
 ///
-/// Each answered call appends one event; a refused one changes nothing. Room for all events is taken at
-/// the start, so that of the calls an offer and a drain alone can want memory.
+/// Each call that gets a reply appends one event; a refused one changes nothing. Room for all
+/// events is taken at the start, so of the calls only an offer and a drain can fail for want of
+/// memory.
 ///
-/// What a call costs: `act` what the queue's own call does, and a constant for the event and the counts; a
-/// drain also notes the ids that it took, and keeps room for no more. `run_tries` costs an `act` for each
-/// try. `history`, `opening`, `capacity` and `audit` cost a constant, however long the history is.
+/// What a call costs: `act` what the queue's own call costs, and a constant for the event and the
+/// counts; a drain also copies the ids that it took, and keeps room for no more. `run_tries` costs
+/// an `act` for each try. `history`, `opening`, `capacity` and `audit` cost a constant, however
+/// long the history is. These costs are not part of the contract.
 #[derive(Drop)]
 pub struct Kept<T: Timer> {
     queue: DelayQueue<T>,
@@ -56,8 +58,9 @@ impl<T: Timer> Model for Kept<T> {
 }
 
 impl<T: Timer> Kept<T> {
-    /// An empty queue with room for `capacity` calls, 1 to 1,000,000, which is taken at once, and the
-    /// first share of its totals.
+    /// An empty queue with room for `capacity` calls, 1 to 1,000,000, which is taken at once, and
+    /// the first share of its totals. The faults are `BadCapacity`, exactly if the capacity is out
+    /// of range, and `Memory`.
     pub fn new(alloc: Global, capacity: u64) -> Result<(Self, Tally), NewFault>
         ensures elements { IfOk result (λ made. made.0.opening.elements ≡ []) }
         ensures next_id { IfOk result (λ made. made.0.opening.next_id ≡ 0) }
@@ -70,8 +73,9 @@ impl<T: Timer> Kept<T> {
         Kept::new_from(alloc, capacity, Opening::empty(alloc)).map_err(|refused| refused.1)
     }
 
-    /// The queue of an opening, with room for `capacity` calls, 1 to 1,000,000, which is taken at once,
-    /// and the first share of its totals. A fault hands the opening back.
+    /// The queue of an opening, with room for `capacity` calls, 1 to 1,000,000, which is taken at
+    /// once, and the first share of its totals. The faults are those of `new`, and hand the opening
+    /// back.
     pub fn new_from(
         alloc: Global,
         capacity: u64,
@@ -108,12 +112,13 @@ impl<T: Timer> Kept<T> {
         Ok((kept, tally))
     }
 
-    /// Makes one call for a seat, at the moment `asked`, or at that of the last event where that is
-    /// later, and counts it in the caller's share.
+    /// Makes one call for a seat, at the later of the moment `asked` and that of the last event,
+    /// and counts it in the caller's share.
     ///
-    /// `Done` has appended exactly one event. `Later` is answered exactly where the ask would wait, and
-    /// changes nothing. `Full` is answered exactly where the history has `capacity` events, whatever the
-    /// ask; `Memory` for an offer and a drain alone. A fault changes nothing.
+    /// `Done` means that exactly one event was appended. `Full` comes exactly if the history has
+    /// `capacity` events, whatever the ask. If there is room, `Later` comes exactly if the ask
+    /// would wait, and changes nothing. `Memory` comes for an offer and a drain alone. A fault
+    /// changes nothing.
     pub fn act(
         &mut self,
         tally: &mut Tally,
@@ -153,10 +158,10 @@ impl<T: Timer> Kept<T> {
         }
     }
 
-    /// Makes the tries one after the other, with a step for each. A fault stands in its place, and the
-    /// run goes on.
+    /// Makes the tries one after the other, and returns a step for each. A fault is the step of its
+    /// try, and the next try follows.
     ///
-    /// Room for the steps is asked for first: after an `Err` nothing has changed.
+    /// It asks for room for the steps first: on `Err` nothing has changed.
     pub fn run_tries(&mut self, tally: &mut Tally, tries: Vec<Try>) -> Result<Vec<Step>, AllocError>
         ensures steps { IfOk result (λ steps. StepsAlong self.old tries.items steps.items self.new) }
         ensures tally { Grows self.old self.new tally.old tally.new }
@@ -164,7 +169,7 @@ impl<T: Timer> Kept<T> {
         ensures err { OnErr result (self.new ≡ self.old) }
         ensures err_tally { OnErr result (tally.new ≡ tally.old) }
     {
-        // The proof reads here that the history is legal.
+        // The proof learns here that the history is legal.
         let _ = &self.history;
         let mut steps = Vec::with_capacity(self.alloc, tries.len())?;
         for one in &tries {
@@ -173,7 +178,7 @@ impl<T: Timer> Kept<T> {
         Ok(steps)
     }
 
-    /// The events, in order. They are a legal history from the opening on.
+    /// The events, in order: a legal history from the opening on.
     pub fn history(&self) -> &[Event]
         ensures events { result.now ≡ self.now.history }
         ensures legal { IsLegal self.now.opening self.now.history }
@@ -188,7 +193,7 @@ impl<T: Timer> Kept<T> {
         &self.opening
     }
 
-    /// How many events the history has room for.
+    /// How many events the history has room for, at most 1,000,000.
     pub fn capacity(&self) -> u64
         ensures capacity { result ≡ self.now.capacity }
         ensures few { length self.now.history ≤ self.now.capacity }
@@ -197,13 +202,13 @@ impl<T: Timer> Kept<T> {
         self.capacity
     }
 
-    /// What the run came to so far. Nothing is lost: the elements of the opening and those that were offered
-    /// are those that were given, removed and cleared, and those that are left.
+    /// The counts of the run so far. Nothing is lost: the elements of the opening and those that
+    /// were offered are those that were given, removed or cleared, and those that are left.
     pub fn audit(&self) -> Audit
         ensures counts { result ≡ audit_of self.now.opening self.now.history }
         ensures balanced { result.offered + result.opening ≡ result.given + result.removed + result.cleared + result.left }
     {
-        // The proof reads here the law for every legal history.
+        // The proof learns here the law for every legal history.
         each_element_counted();
         Audit {
             calls: self.history.len() as u64,
@@ -217,7 +222,7 @@ impl<T: Timer> Kept<T> {
     }
 }
 
-// The moment of the last event, or that of the opening before the first.
+// The moment of the last event or, if there is none, that of the opening.
 fn last_moment(opening: &Opening, history: &[Event]) -> u64
     ensures { result ≡ (state_of opening.now history.now).moment }
 {

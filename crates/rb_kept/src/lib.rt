@@ -1,8 +1,8 @@
-//! A queue with the history of its calls: each answered call is one event more, and the history is
-//! always one that a single queue may have had from its opening on.
+//! A queue with the history of its calls: each call that gets a reply is one more event, and the
+//! history is always one that a single queue could have had from its opening on.
 //!
-//! Moments are nanoseconds. The memory for all events is taken when the history is made; what a drain gave
-//! has its own.
+//! Moments are nanoseconds. The memory for all events is taken when the history is made, except
+//! that the ids of each drain have their own.
 #![tactic(auto)]
 
 mod fault;

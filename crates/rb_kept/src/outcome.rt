@@ -4,10 +4,10 @@ use rb_queue::Reply;
 /// How a call that was not refused ended.
 #[derive(Debug, Drop, PartialEq, Eq)]
 pub enum Outcome {
-    /// It was answered: the history has exactly one event more.
+    /// It got a reply: the history has exactly one more event.
     Done(Reply),
-    /// It would wait, as nothing is expired: nothing has changed. The least expiry, in nanoseconds, or
-    /// `None` where the queue is empty.
+    /// It would wait, since nothing has expired, and nothing has changed. This is the least expiry,
+    /// in nanoseconds, or `None` if the queue is empty.
     Later(Option<u64>),
 }
 

@@ -7,22 +7,22 @@ use rb_queue::{Act, Ask, DelayQueue, Draft, Ids, Reply};
 use rb_timer::Timer;
 use std::alloc::Global;
 
-/// What the queue did, and what the caller is answered.
+/// What the queue did, and the reply to the caller.
 #[derive(Debug, Drop)]
 pub(crate) struct Answer {
     pub(crate) act: Act,
     pub(crate) reply: Reply,
 }
 
-/// How an ask of the queue ended. It is no `Result`: an answer has the size of two elements, and each
-/// wrapping on its way would copy it.
+/// How an ask of the queue ended. It is not a `Result`: an answer has the size of two elements, and
+/// each time that it is wrapped it would be copied.
 #[derive(Debug, Drop)]
 pub(crate) enum Performed {
-    /// It was answered.
+    /// It got a reply.
     Done(Answer),
     /// It would wait, at most until this expiry.
     Later(Option<u64>),
-    /// There is no memory for it, and the queue is as before.
+    /// There is not enough memory for it, and the queue is unchanged.
     NoMemory,
 }
 
@@ -56,8 +56,8 @@ fn offer<T: Timer>(queue: &mut DelayQueue<T>, draft: Draft) -> Performed
     let Ok(element) = queue.offer(draft) else {
         return Performed::NoMemory;
     };
-    // The event keeps one copy, and the caller gets the other. The copy has a name of its own, since an element
-    // that is written twice in one value counts as moved.
+    // The event keeps one copy, and the caller gets the other. The copy has a name of its own,
+    // because an element that is written twice in one value counts as moved.
     let recorded = element;
     Performed::Done(Answer {
         act: Act::Offer(recorded),
@@ -143,7 +143,7 @@ fn remove<T: Timer>(queue: &mut DelayQueue<T>, id: u64) -> Performed
     })
 }
 
-// Room for the ids is asked for before anything is taken out.
+// It asks for room for the ids before it takes anything out.
 fn drain<T: Timer>(alloc: Global, queue: &mut DelayQueue<T>, at: u64, max: u64) -> Performed
     ensures { Performs queue.old at (Ask.Drain max) result queue.new }
 {
@@ -161,8 +161,8 @@ fn drain<T: Timer>(alloc: Global, queue: &mut DelayQueue<T>, at: u64, max: u64) 
     })
 }
 
-// The ids of the elements, in a vector that has room for them. The history keeps it, so it gives back the room
-// that is left over.
+// The ids of the elements, in a vector that has room for them. The history keeps this vector, so it
+// gives back the room that is left over.
 fn ids_of(elements: &[Element], mut ids: Vec<u64>) -> Ids
     requires empty { ids.items ≡ [] }
     requires room { length elements.now ≤ vec_capacity ids }

@@ -1,12 +1,12 @@
 use rb_queue::Ask;
 
-/// A call that somebody tries to make.
+/// A call that someone tries to make.
 #[derive(Clone, Copy, Debug, PartialEq, Eq)]
 pub struct Try {
     /// Who calls.
     pub seat: u64,
     /// The moment, in nanoseconds, that the caller hands in.
     pub asked: u64,
-    /// What is asked.
+    /// What the caller asks.
     pub ask: Ask,
 }

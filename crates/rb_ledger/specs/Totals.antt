@@ -3,7 +3,7 @@ use Rattle.std.specs.Prelude.{ℕ, ◌+◌, min}
 use Rattle.rb_ledger.specs.declared.totals.Totals.{Totals}
 use Rattle.rb_ledger.specs.declared.totals.TheConstants.{GREATEST_COUNT}
 
--- the sum, or the greatest count where that is less
+-- the sum, or the greatest count if that is less
 abbrev pub capped_sum : ℕ → ℕ → ℕ
 capped_sum one other = min (one + other) GREATEST_COUNT
 
@@ -11,7 +11,7 @@ capped_sum one other = min (one + other) GREATEST_COUNT
 abbrev pub nothing : Totals
 nothing = record { calls = 0; offered = 0; given = 0 }
 
--- one call that offered and gave out so many elements
+-- one call that offered and gave this many elements
 abbrev pub one_call : ℕ → ℕ → Totals
 one_call offered given = record { calls = 1; offered = offered; given = given }
 

@@ -20,7 +20,7 @@ impl Model for Books {
 }
 
 impl Books {
-    /// Books of a run without a call, and the first share of them. Both are zero.
+    /// The books of a run without a call, and the first share of them. Both are zero.
     pub fn new() -> (Books, Tally)
         ensures books { result.0 ≡ nothing }
         ensures tally { result.1 ≡ nothing }
@@ -31,7 +31,7 @@ impl Books {
         (books, Tally::new())
     }
 
-    /// Adds one call, which offered and gave out so many elements, to the books and to its caller's
+    /// Adds one call, which offered and gave this many elements, to the books and to its caller's
     /// share.
     pub fn note(&mut self, tally: &mut Tally, offered: u64, given: u64)
         ensures books { self.new ≡ total_of self.old (one_call offered given) }
@@ -46,7 +46,7 @@ impl Books {
         tally.add(call);
     }
 
-    /// The calls that were answered.
+    /// The calls that got a reply.
     pub fn calls(&self) -> u64
         ensures { result ≡ self.now.calls }
     {
@@ -60,14 +60,14 @@ impl Books {
         self.totals.offered
     }
 
-    /// The elements that were given out.
+    /// The elements that were given.
     pub fn given(&self) -> u64
         ensures { result ≡ self.now.given }
     {
         self.totals.given
     }
 
-    /// All three.
+    /// All three counts.
     pub fn totals(&self) -> Totals
         ensures { result ≡ self.now }
     {

@@ -1,7 +1,8 @@
 //! Totals of a run, and the shares of them that its callers keep.
 //!
-//! The books count every call, and each caller's tally counts its own. So the shares, once all are
-//! joined, come to the books. Nothing here takes memory, and a count that would pass 2^64 - 1 stays there.
+//! The books count every call, and each caller's tally counts its own, so all shares joined
+//! together equal the books. Nothing here takes memory, and a count that would pass 2^64 - 1 stays
+//! there.
 #![tactic(auto)]
 
 mod books;

@@ -6,7 +6,7 @@ use std::marker::Model;
 
 /// One caller's share of the totals of a run.
 ///
-/// It is made with the books or split from another share, and counts what `Books::note` tells it.
+/// It is made with the books or split off another share, and counts what `Books::note` tells it.
 #[derive(Debug, Drop)]
 pub struct Tally {
     totals: Totals,
@@ -35,7 +35,7 @@ impl Tally {
         self.totals = self.totals.plus(more);
     }
 
-    /// A new share, of nothing. This one stays as it is.
+    /// A new share of zero. This one stays as it is.
     pub fn split(&mut self) -> Tally
         ensures share { result ≡ nothing }
         ensures same { self.new ≡ self.old }
@@ -43,14 +43,14 @@ impl Tally {
         Tally::new()
     }
 
-    /// Takes the other share into this one.
+    /// Adds the other share to this one.
     pub fn join(&mut self, other: Tally)
         ensures { self.new ≡ total_of self.old other }
     {
         self.add(other.totals);
     }
 
-    /// The calls that were answered.
+    /// The calls that got a reply.
     pub fn calls(&self) -> u64
         ensures { result ≡ self.now.calls }
     {
@@ -64,14 +64,14 @@ impl Tally {
         self.totals.offered
     }
 
-    /// The elements that were given out.
+    /// The elements that were given.
     pub fn given(&self) -> u64
         ensures { result ≡ self.now.given }
     {
         self.totals.given
     }
 
-    /// All three.
+    /// All three counts.
     pub fn totals(&self) -> Totals
         ensures { result ≡ self.now }
     {

@@ -1,4 +1,4 @@
-//! The totals of a run, and the shares that come to them.
+//! The totals of a run, and the shares that add up to them.
 
 mod fixtures;
 mod greatest_counts;

@@ -3,28 +3,28 @@ ghost use Rattle.std.specs.Prelude.{◌≡◌};
 /// The greatest count, 2^64 - 1.
 pub const GREATEST_COUNT: u64 = u64::MAX;
 
-/// How many calls there were, and how many elements they offered and gave out.
+/// How many calls there were, and how many elements they offered and gave.
 #[derive(Clone, Copy, Debug, PartialEq, Eq)]
 pub struct Totals {
-    /// The calls that were answered.
+    /// The calls that got a reply.
     pub calls: u64,
     /// The elements that were offered.
     pub offered: u64,
-    /// The elements that were given out.
+    /// The elements that were given.
     pub given: u64,
 }
 
 impl Totals {
     ghost use Rattle.rb_ledger.specs.Totals.{total_of};
 
-    // No call, and no element.
+    // No calls and no elements.
     pub(crate) const NOTHING: Totals = Totals {
         calls: 0,
         offered: 0,
         given: 0,
     };
 
-    // Both together.
+    // The sum of the two.
     pub(crate) fn plus(self, other: Totals) -> Totals
         ensures { result ≡ total_of self other }
     {

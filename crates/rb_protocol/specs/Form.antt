@@ -4,7 +4,7 @@ use Rattle.rb_delayed.specs.Payload.{IsPayload}
 use Rattle.rb_protocol.specs.declared.request.Request.{Request}
 use Rattle.rb_protocol.specs.declared.request.Request.TheVariants.{Offer, OfferAt, Poll, PollFor, Take, Peek, Remove, Drain, Clear, Size, Done, Fail, At, Quit}
 
--- what stands behind a keyword
+-- what follows a keyword
 pub data Arguments : Type 0 where
   nothing : Arguments
   number : ℕ → Arguments
@@ -35,7 +35,7 @@ form_of (Fail id) = form (codes "FAIL") (number id)
 form_of (At moment) = form (codes "AT") (number moment)
 form_of Quit = form (codes "QUIT") nothing
 
--- the words behind the keyword
+-- the words after the keyword
 abbrev pub argument_words : Arguments → List (List ℕ)
 argument_words nothing = []
 argument_words (number value) = decimal value ∷ []
@@ -47,7 +47,7 @@ AreRight nothing = Unit {0}
 AreRight (number value) = value < 2 ^ 64
 AreRight (number_and_payload value payload) = (value < 2 ^ 64) × IsPayload payload
 
--- some request has this keyword, and so many words behind it
+-- some request has this keyword, and this many words after it
 pub record Takes (keyword : List ℕ) (count : ℕ) : Type 0 where
   pub request : Request
   pub named : keyword ≡ (form_of request).keyword

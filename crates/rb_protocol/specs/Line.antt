@@ -7,6 +7,6 @@ use Rattle.rb_protocol.specs.declared.format.TheConstants.{SPACE}
 abbrev pub spaced : List (List ℕ) → List ℕ
 spaced words = join_with_byte SPACE words
 
--- what stands between the spaces of a line
+-- what is between the spaces of a line
 abbrev pub words_of : List ℕ → List (List ℕ)
 words_of line = slice_split (λ byte. byte == SPACE) line

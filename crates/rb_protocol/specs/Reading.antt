@@ -1,4 +1,4 @@
--- Which request a line is, and else the first of its faults.
+-- Which request a line is, or the first of its faults.
 use Rattle.std.specs.Prelude.{◌≡◌, ℕ, ◌<◌, ◌≤◌, List, [], ◌∷◌, length, All, Result, Ok, Err}
 use Rattle.rb_delayed.specs.Payload.{IsPayload}
 use Rattle.rb_protocol.specs.Number.{IsNumber}
@@ -19,22 +19,22 @@ pub record IsRequest (line : List ℕ) (request : Request) : Type 0 where
   pub words : words_of line ≡ (form_of request).keyword ∷ argument_words (form_of request).arguments
   pub right : AreRight (form_of request).arguments
 
--- no word is empty, as one between two spaces or behind a last space would be
+-- no word is empty, as one between two spaces or after a last space would be
 abbrev pub NoGap : List (List ℕ) → Type 0
 NoGap words = All (λ word. 0 < length word) words
 
--- the line has the words of a request, whatever stands in the places of its arguments
+-- the line has the words of a request, whatever the words for its arguments are
 pub record HasWords (line keyword : List ℕ) (places : List (List ℕ)) : Type 0 where
   pub words : words_of line ≡ keyword ∷ places
   pub no_gap : NoGap places
   pub known : Takes keyword (length places)
 
--- in the first place, if there is one, stands a number
+-- the first word, if there is one, is a number
 abbrev pub HasNumber : List (List ℕ) → Type 0
 HasNumber [] = Unit {0}
 HasNumber (word ∷ _) = (value : ℕ) × IsNumber word value
 
--- in the second place, if there is one, stands a payload
+-- the second word, if there is one, is a payload
 abbrev pub HasPayload : List (List ℕ) → Type 0
 HasPayload [] = Unit {0}
 HasPayload (_ ∷ []) = Unit {0}

@@ -27,7 +27,7 @@ place_words Nothing = []
 place_words (One word) = word.now ∷ []
 place_words (Two word other) = word.now ∷ other.now ∷ []
 
--- no request has more words behind its keyword
+-- no request has more words after its keyword
 pub record AreFew (places : List (List ℕ)) : Type 0 where
   pub no_gap : NoGap places
   pub few : length places ≤ 2

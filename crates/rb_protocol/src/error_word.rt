@@ -1,22 +1,22 @@
 /// Why a request was refused.
 #[derive(Clone, Copy, Debug, PartialEq, Eq)]
 pub enum ErrorWord {
-    /// The words, their number or the spaces between them are not a request's.
+    /// The words, their number or the spaces between them are not those of a request.
     Syntax,
-    /// A word in a number's place is not a number.
+    /// A word in the place of a number is not a number.
     Number,
     /// The expiry would pass the greatest moment.
     Range,
-    /// The payload is too long, or has a byte that it may not have.
+    /// The payload is too long, or has a byte that is not allowed.
     Payload,
-    /// The session does not hold the element that is done or failed.
+    /// The session does not hold the job that is to be done or to fail.
     NotHeld,
-    /// The run has as many calls as it has room for.
+    /// The run has made as many calls as it has room for.
     Full,
-    /// There is no memory for what was asked.
+    /// There is not enough memory for what was asked.
     Memory,
-    /// The line is too long, or its end never came.
+    /// The line is too long, or the input ended before its line feed.
     Line,
-    /// The session holds as many elements as it may.
+    /// The session holds as many jobs as it may.
     Held,
 }

@@ -1,5 +1,5 @@
-/// What stands between two words of a line.
+/// The byte between two words of a line.
 pub const SPACE: u8 = b' ';
 
-/// What ends a line.
+/// The byte that ends a line.
 pub const LINE_FEED: u8 = b'\n';

@@ -41,7 +41,7 @@ pub fn read_alone(word: &[u8]) -> Option<Request>
 }
 
 impl NumberKeyword {
-    /// The keyword that the word is.
+    /// The keyword that the word is, or `None` if it is none of them.
     pub fn read(word: &[u8]) -> Option<NumberKeyword>
         ensures some { IfSome result (λ keyword. (value : ℕ)
             → form_of (number_request keyword value)
@@ -75,7 +75,7 @@ impl NumberKeyword {
 }
 
 impl OfferKeyword {
-    /// The keyword that the word is.
+    /// The keyword that the word is, or `None` if it is none of them.
     pub fn read(word: &[u8]) -> Option<OfferKeyword>
         ensures some { IfSome result (λ keyword. (value : ℕ) (payload : List ℕ)
             → form_of (offer_request keyword value payload)

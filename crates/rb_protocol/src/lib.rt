@@ -1,8 +1,8 @@
 //! The line protocol of the broker: which request a line is, and which line a reply is.
 //!
-//! A request is one line of words with one space between two of them, and so is a reply. Lines are
-//! read without their ends, and written with them. Reading takes no memory, and writing takes none
-//! where the text has `REPLY_ROOM` bytes of free capacity.
+//! A request is one line of words with one space between two of them, and so is each line of a
+//! reply. Lines are read without their ends, and written with them. Reading takes no memory, and
+//! writing takes none if the text has `REPLY_ROOM` bytes of free capacity.
 #![tactic(auto)]
 
 mod error_word;

@@ -9,38 +9,38 @@ use crate::reply_line::{MOST_DIGITS, ReplyLine};
 use rb_delayed::Element;
 use std::alloc::AllocError;
 
-/// How many bytes the longest reply line has, with its end.
+/// The length of the longest reply line, in bytes, with its line feed.
 pub const MOST_REPLY_BYTES: usize = 117;
 
-/// How many bytes are room enough for any reply line.
+/// Free capacity, in bytes, that is enough for any reply line.
 pub const REPLY_ROOM: usize = 128;
 
 /// One line of a reply. Moments are in nanoseconds.
 #[derive(Clone, Copy, Debug, PartialEq, Eq)]
 pub enum LineReply {
-    /// An element was offered: its id, and its expiry.
+    /// An element was offered: its id and its expiry.
     Offered { id: u64, expiry: u64 },
     /// This element was taken.
     Item(Element),
     /// This element has least expiry.
     Head(Element),
-    /// There is no such element.
+    /// There is nothing to take or to show.
     Nothing,
-    /// Whether the element was in the queue, and was removed from it.
+    /// Whether the element was in the queue, from which it is then removed.
     Removed(bool),
-    /// So many elements were taken, whose lines follow.
+    /// This many elements were taken; their lines follow.
     Drained(u64),
     /// All elements were removed.
     Cleared,
-    /// There are so many elements.
+    /// This many elements are in the queue.
     Size(u64),
-    /// The element of this id is finished.
+    /// The job of this id is finished.
     Done(u64),
-    /// The job was offered again: its new id, and its expiry.
+    /// The job was offered again: its new id and its expiry.
     Again { id: u64, expiry: u64 },
-    /// The element of this id failed at the last attempt, and its job is given up.
+    /// The job of this id failed at its last attempt, and is not offered again.
     Dead(u64),
-    /// It is this moment.
+    /// The moment is now this one.
     Now(u64),
     /// The wait was given up.
     Stopped,
@@ -50,10 +50,10 @@ pub enum LineReply {
     Error(ErrorWord),
 }
 
-/// Appends the reply's line, with its end. An `Err` comes where the text could not grow, and leaves it
-/// as it was.
+/// Appends the reply's line, with its line feed: at most 117 bytes.
 ///
-/// With `REPLY_ROOM` bytes of free capacity no memory is taken, and it is `Ok`.
+/// With `REPLY_ROOM` bytes of free capacity it takes no memory and succeeds. It fails only if the
+/// text could not grow, and then leaves the text as it was.
 pub fn write_reply(reply: &LineReply, text: &mut Vec<u8>) -> Result<(), AllocError>
     ensures ok { OnOk result (text.new.items ≡ text.old.items ++ text_of reply.now) }
     ensures err { OnErr result (text.new.items ≡ text.old.items) }
@@ -93,10 +93,10 @@ fn put_words(line: &mut ReplyLine, reply: &LineReply)
     }
 }
 
-// How many bytes two numbers have at most, with a space between them.
+// The greatest length of two numbers with a space between them.
 const NUMBERS_ROOM: usize = 41;
 
-// How many bytes an element has at most: two numbers of 20 digits and one of 4, three spaces and a
+// The greatest length of an element: two numbers of 20 digits and one of 4, three spaces and a
 // payload.
 const ELEMENT_ROOM: usize = 111;
 

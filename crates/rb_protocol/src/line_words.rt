@@ -4,7 +4,7 @@ ghost use Rattle.rb_protocol.specs.Words.{first_space, words_behind, place_words
 
 use crate::format::SPACE;
 
-/// The words behind a keyword, as parts of their line, before the number and the payload are read.
+/// The words after a keyword, as parts of their line, before the number and the payload are read.
 #[derive(Clone, Copy)]
 pub enum Places<'a> {
     Nothing,
@@ -12,8 +12,8 @@ pub enum Places<'a> {
     Two(&'a [u8], &'a [u8]),
 }
 
-/// Takes a line apart at its spaces, into a keyword and the words behind it. `None` exactly where
-/// these are more than two, or one of them is empty.
+/// Splits a line at its spaces into a keyword and the words after it. `None` exactly if more than
+/// two words follow, or one of them is empty.
 pub fn read_line_words(line: &[u8]) -> Option<(&[u8], Places<'_>)>
     ensures words { IfSome result (λ words. words_of line.now ≡ words.0.now ∷ place_words words.1) }
     ensures few { IfSome result (λ words. AreFew (place_words words.1)) }
@@ -24,7 +24,7 @@ pub fn read_line_words(line: &[u8]) -> Option<(&[u8], Places<'_>)>
     Some((keyword, read_places(rest)?))
 }
 
-// The words of what stands behind the keyword.
+// The words of what follows the keyword.
 fn read_places(rest: Option<&[u8]>) -> Option<Places<'_>>
     ensures words { IfSome result (λ places. place_words places ≡ words_behind rest.entry) }
     ensures few { IfSome result (λ places. AreFew (place_words places)) }
@@ -44,7 +44,7 @@ fn read_places(rest: Option<&[u8]>) -> Option<Places<'_>>
     Some(Places::Two(word, other))
 }
 
-// The first word of a text, and what stands behind the space that ends it, if one does.
+// The first word of a text, and what follows the space that ends it, if there is one.
 fn cut_word(text: &[u8]) -> (&[u8], Option<&[u8]>)
     ensures { words_of text.now ≡ result.0.now ∷ words_behind result.1 }
 {

@@ -6,12 +6,12 @@ use crate::format::LINE_FEED;
 use crate::line_reply::REPLY_ROOM;
 use itoa::write_digits;
 
-/// How many digits a number has at most.
+/// The greatest number of digits that a number has.
 pub const MOST_DIGITS: usize = 20;
 
-/// A reply's line, of which the last bytes are written.
+/// A reply's line, whose last bytes are written.
 ///
-/// It is written from its end to its front, as the digits of a number come.
+/// It is written from its end to its front, in the order in which the digits of a number are found.
 #[derive(Drop)]
 pub struct ReplyLine {
     bytes: [u8; REPLY_ROOM],
@@ -22,7 +22,7 @@ pub struct ReplyLine {
 impl ReplyLine {
     ghost use Rattle.rb_protocol.specs.ReplyLine.{written};
 
-    /// A line of which only the end is written.
+    /// A line of which only the line feed is written.
     pub fn new() -> ReplyLine
         ensures written { written result ≡ LINE_FEED ∷ [] }
         ensures start { result.start + 1 ≡ REPLY_ROOM }
@@ -33,7 +33,7 @@ impl ReplyLine {
         }
     }
 
-    /// The bytes that are written.
+    /// The bytes that are written so far.
     pub fn as_bytes(&self) -> &[u8]
         ensures bytes { result.now ≡ written self.now }
         ensures len { self.now.start + length result.now ≡ REPLY_ROOM }

@@ -11,7 +11,7 @@ use crate::line_words::{Places, read_line_words};
 use crate::number::read_number;
 use rb_delayed::Payload;
 
-/// How many bytes a line of a request has at most, without its end.
+/// The greatest length of a request line, in bytes, without its line feed.
 pub const MOST_LINE_BYTES: usize = 256;
 
 /// What a line asks for. Moments, delays and timeouts are in nanoseconds.
@@ -23,34 +23,34 @@ pub enum Request {
     OfferAt { expiry: u64, payload: Payload },
     /// Take the head, if there is one.
     Poll,
-    /// Take the head, once there is one within this timeout.
+    /// Take the head, waiting for one for at most this timeout.
     PollFor(u64),
-    /// Take the head, once there is one.
+    /// Take the head, waiting for one.
     Take,
     /// Show an element of least expiry.
     Peek,
     /// Remove the element of this id from the queue.
     Remove(u64),
-    /// Take at most so many expired elements.
+    /// Take at most this many expired elements.
     Drain(u64),
     /// Remove all elements from the queue.
     Clear,
     /// Count the elements.
     Size,
-    /// The held element of this id is finished.
+    /// The held job of this id is finished.
     Done(u64),
-    /// The held element of this id failed.
+    /// The held job of this id failed.
     Fail(u64),
-    /// Let it be this moment, or later.
+    /// Move time to this moment, unless it is later already.
     At(u64),
     /// End the session.
     Quit,
 }
 
-/// Reads a line without its end.
+/// Reads a line, without its line feed.
 ///
-/// Of the faults the first that holds is answered: `Line`, `Syntax`, `Number`, `Payload`. No memory
-/// is taken, and the line is not copied.
+/// Returns the first fault that holds: `Line`, `Syntax`, `Number`, `Payload`. It takes no memory,
+/// and does not copy the line.
 pub fn read_request(line: &[u8]) -> Result<Request, LineFault>
     ensures { IsReading line.now result }
 {
@@ -61,7 +61,8 @@ pub fn read_request(line: &[u8]) -> Result<Request, LineFault>
     request_of(keyword, places)
 }
 
-// The keyword is read before the number, and that before the payload, as their faults are ordered.
+// The keyword is read before the number, and the number before the payload: that is the order of
+// their faults.
 fn request_of(keyword: &[u8], places: Places<'_>) -> Result<Request, LineFault>
     ensures { IsAnswer keyword.now (place_words places.entry) result }
 {
@@ -81,7 +82,7 @@ fn request_of(keyword: &[u8], places: Places<'_>) -> Result<Request, LineFault>
     }
 }
 
-/// A line is a request exactly where it is that request's text.
+/// A line is a request exactly if it is the text of that request.
 pub fn request_has_text()
     ensures { (line : List ℕ) (request : Request) → IsRequest line request
         ↔ ((line ≡ request_text request) × AreRight (form_of request).arguments) }

@@ -10,7 +10,7 @@ use Rattle.rb_queue.specs.Effect.{effect_of, queue_after}
 use Rattle.rb_queue.specs.declared.act.Act.{Act}
 use Rattle.rb_queue.specs.declared.act.Act.TheVariants.{Offer, Poll, Take, PollFor, Peek, Remove, Drain, Clear, Size}
 
--- `poll` takes the head, or gives nothing where no element is expired
+-- `poll` takes the head, or gives nothing if no element is expired
 abbrev pub Polls : Bag → ℕ → Option ℕ → Type 0
 Polls bag now given = MatchOption given (NoneExpired bag now) (IsHeadId bag now)
 
@@ -18,22 +18,22 @@ Polls bag now given = MatchOption given (NoneExpired bag now) (IsHeadId bag now)
 abbrev pub deadline_of : ℕ → ℕ → ℕ
 deadline_of start timeout = min (start + timeout) GREATEST_MOMENT
 
--- a timed poll takes the head, or gives nothing at its deadline where no element is expired
+-- a timed poll takes the head, or gives nothing at its deadline if no element is expired
 abbrev pub PollsFor : Bag → ℕ → ℕ → Option ℕ → Type 0
 PollsFor bag now deadline None = NoneExpired bag now × (deadline ≤ now)
 PollsFor bag now deadline (Some id) = IsHeadId bag now id
 
--- `peek` shows a least element, expired or not, and nothing where there is none
+-- `peek` shows a least element, expired or not, and nothing if there is none
 abbrev pub Peeks : Bag → Option ℕ → Type 0
 Peeks bag shown =
     MatchOption shown (bag ≡ map.empty) (λ id. IsSomeAnd (map.get bag id) (IsLeast bag))
 
--- each of the ids is that of a head, where those before it have left
+-- each of the ids is that of a head, once those before it have left
 abbrev pub AreHeads : Bag → ℕ → List ℕ → Type 0
 AreHeads bag now [] = Unit {0}
 AreHeads bag now (id ∷ ids) = IsHeadId bag now id × AreHeads (map.remove bag id) now ids
 
--- `drain` takes heads one after the other, at most `max`, and all that are expired where it takes fewer
+-- `drain` takes heads one after the other, at most `max`, and all that are expired if it takes fewer
 pub record Drains (bag : Bag) (now max : ℕ) (ids : List ℕ) : Type 0 where
   pub heads : AreHeads bag now ids
   pub at_most : length ids ≤ max

@@ -62,7 +62,7 @@ discarded (gives ids) = []
 discarded (discards ids) = ids
 discarded empties = []
 
--- how many elements are cleared away, of so many that stand in the queue
+-- how many elements are cleared, if this many are in the queue
 abbrev pub cleared : Effect → ℕ → ℕ
 cleared (inserts element) count = 0
 cleared (gives ids) count = 0

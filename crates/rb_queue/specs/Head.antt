@@ -24,6 +24,6 @@ IsHeadId bag now id = IsSomeAnd (map.get bag id) (IsHead bag now)
 abbrev pub IsLeastExpiry : Bag → ℕ → Type 0
 IsLeastExpiry bag expiry = (element : Element) × IsLeast bag element × (element.expiry ≡ expiry)
 
--- the least expiry, or none where the bag is empty
+-- the least expiry, or none if the bag is empty
 abbrev pub IsNextExpiry : Bag → Option ℕ → Type 0
 IsNextExpiry bag expiry = MatchOption expiry (bag ≡ map.empty) (IsLeastExpiry bag)

@@ -44,6 +44,6 @@ state_from state (event ∷ events) = state_from (state_after state event) event
 abbrev pub state_of : Opening → List Event → State
 state_of opening history = state_from (start_of opening) history
 
--- a history is legal where its events are allowed one after the other, from the opening on
+-- a history is legal if its events are allowed one after the other, from the opening on
 abbrev pub IsLegal : Opening → List Event → Type 0
 IsLegal opening history = AllowsAll (start_of opening) history

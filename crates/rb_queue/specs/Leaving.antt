@@ -9,7 +9,7 @@ use Rattle.rb_queue.specs.Counts.{offer_count, give_count, removed_count, cleare
 use Rattle.rb_queue.specs.declared.event.Event.{Event}
 use Rattle.rb_queue.specs.declared.opening.Opening.{Opening}
 
--- how often the id stands among these
+-- how often the id is among these
 abbrev pub times : ℕ → List ℕ → ℕ
 times id ids = count_by (λ one. one == id) ids
 
@@ -28,7 +28,7 @@ leavings_of id bag (gives ids) = times id ids
 leavings_of id bag (discards ids) = times id ids
 leavings_of id bag empties = standing id bag
 
--- how often the id is offered, where an element of the opening counts as offered once
+-- how often the id is offered; an element of the opening counts as offered once
 abbrev pub offer_times : Opening → List Event → ℕ → ℕ
 offer_times opening history id =
     times id (ids_of opening.elements) + sum_by (λ event. offers_of id (effect_of event.act)) history

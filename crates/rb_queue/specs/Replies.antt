@@ -1,4 +1,4 @@
--- What the caller of the last event of a history is answered.
+-- The reply to the caller of a history's last event.
 use Rattle.std.specs.Prelude.{ℕ, ◌-◌, List, [], ◌∷◌, length, Option, Some, None, option_map, option_and_then, slice_get}
 use Rattle.std.specs.FinMap as map
 use Rattle.rb_delayed.specs.declared.element.Element.{Element}
@@ -11,18 +11,18 @@ use Rattle.rb_queue.specs.declared.reply.Reply.TheVariants.{Offered, Item, Nothi
 use Rattle.rb_queue.specs.declared.event.Event.{Event}
 use Rattle.rb_queue.specs.declared.opening.Opening.{Opening}
 
--- the elements of these ids, in their order, where the bag has each
+-- the elements of these ids, in their order, if the bag has each
 abbrev pub elements_in : Bag → List ℕ → Option (List Element)
 elements_in bag [] = Some []
 elements_in bag (id ∷ ids) =
     option_and_then (λ element. option_map (λ rest. element ∷ rest) (elements_in bag ids)) (map.get bag id)
 
--- the element of the id is answered so, and no id by `Nothing`
+-- the answer for the element of this id, and `Nothing` for no id
 abbrev pub answer_in : Bag → (Element → Reply) → Option ℕ → Option Reply
 answer_in bag answer None = Some Nothing
 answer_in bag answer (Some id) = option_map answer (map.get bag id)
 
--- the reply that an act names, where each id stands for an element of the bag
+-- the reply that an act names, whose ids are those of elements in the bag
 abbrev pub reply_in : Bag → Act → Option Reply
 reply_in bag (acts.Offer element) = Some (Offered element)
 reply_in bag (acts.Poll given) = answer_in bag Item given
@@ -50,7 +50,7 @@ offered_from bag (event ∷ events) = offered_from (with_inserted bag (effect_of
 abbrev pub offered : Opening → List Event → Bag
 offered opening history = offered_from (bag_from opening.elements) history
 
--- the reply to the last event, where each id stands for the element that was offered under it
+-- the reply to the last event, whose ids are those under which elements were offered
 abbrev pub reply_of : Opening → List Event → Option Reply
 reply_of opening history =
     option_and_then (λ event. reply_in (offered opening history) event.act) (slice_get history (length history - 1))

@@ -3,25 +3,25 @@ ghost use Rattle.std.specs.Prelude.{◌≡◌, length};
 use crate::sequence::Ids;
 use rb_delayed::Element;
 
-/// What an event did. Elements that were offered before stand by their ids.
+/// What an event did. Elements that were offered earlier are named by their ids.
 #[derive(Debug, Drop, PartialEq, Eq)]
 pub enum Act {
     /// This element was inserted.
     Offer(Element),
-    /// The element of this id was taken, or nothing was expired.
+    /// The element of this id was taken, or nothing had expired.
     Poll(Option<u64>),
     /// The element of this id was taken.
     Take(u64),
-    /// The element of this id was taken, or nothing was expired at the deadline, which is so many
-    /// nanoseconds after the start.
+    /// The element of this id was taken, or nothing had expired at the deadline, `timeout`
+    /// nanoseconds after `start`.
     PollFor {
         start: u64,
         timeout: u64,
         got: Option<u64>,
     },
-    /// The element of this id was shown, or there was none.
+    /// The element of this id was shown, or the queue was empty.
     Peek(Option<u64>),
-    /// The element of this id was taken out, where it was found.
+    /// The element of this id was taken out, if it was found.
     Remove {
         id: u64,
         found: bool,
@@ -33,7 +33,7 @@ pub enum Act {
     },
     /// All elements were discarded.
     Clear,
-    /// There were so many elements.
+    /// There were this many elements.
     Size(u64),
 }
 
@@ -65,7 +65,7 @@ impl Act {
         u64::from(matches!(self, Act::Remove { found: true, .. }))
     }
 
-    /// How many elements it cleared away, of so many that stood in the queue.
+    /// How many elements it cleared, if `standing` were in the queue.
     pub fn cleared(&self, standing: u64) -> u64
         ensures { result ≡ cleared (effect_of self.now) standing }
     {

@@ -9,13 +9,13 @@ pub enum Ask {
     Poll,
     /// Take the head, and wait for it if there is none.
     Take,
-    /// Take the head, and wait for it until so many nanoseconds after the start.
+    /// Take the head, and wait for it until `timeout` nanoseconds after `start`.
     PollFor { start: u64, timeout: u64 },
     /// Show an element of least expiry, expired or not.
     Peek,
     /// Take out the element of this id, expired or not.
     Remove(u64),
-    /// Take at most so many expired elements.
+    /// Take at most this many expired elements.
     Drain(u64),
     /// Discard all elements.
     Clear,

@@ -1,6 +1,7 @@
-/// What a run came to, in numbers of elements but for `calls`.
+/// The counts of a run: of elements, and in `calls` of calls.
 ///
-/// What was there at the start and what was offered is what was given, removed, cleared or is left.
+/// What was there at the start plus what was offered is what was given, removed, cleared or is
+/// left.
 #[derive(Clone, Copy, Debug, PartialEq, Eq)]
 pub struct Audit {
     /// The calls that were answered.
@@ -13,8 +14,8 @@ pub struct Audit {
     pub removed: u64,
     /// The elements that `clear` discarded.
     pub cleared: u64,
-    /// The elements that stand in the queue.
+    /// The elements that are left in the queue.
     pub left: u64,
-    /// The elements that stood in the queue at the start.
+    /// The elements that were in the queue at the start.
     pub opening: u64,
 }

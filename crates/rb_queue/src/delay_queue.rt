@@ -18,15 +18,16 @@ use rb_timer::Timer;
 use std::alloc::{AllocError, Global};
 use std::marker::Model;
 
-/// A delay queue over any timer, as `DelayQueue` of Java SE 17 for one thread.
+/// A delay queue over any timer, like `DelayQueue` (Java SE 17), for one thread.
 ///
-/// Memory is taken by `new_from`, `offer` and `drain` alone.
+/// Only `new_from`, `offer` and `drain` take memory.
 ///
-/// What a call costs: `offer`, `poll` and `remove` make one change of the timer, and beside it a constant on
-/// average. An offer that finds no room doubles it, and so moves all elements. `drain` costs a poll for each
-/// element that it takes, and one more. `peek` and `next_expiry` cost the timer's `least`, `size` and
-/// `next_id` a constant. `clear` costs what stands: where that is little beside the room, a removal for each
-/// element, and else a pass over the room. `new_from` costs an offer for each element.
+/// What a call costs: `offer`, `poll` and `remove` change the timer once, and cost a constant on
+/// average besides. An offer that finds no room doubles it, and so moves all elements. `drain`
+/// costs a poll for each element that it takes, and one more. `peek` and `next_expiry` cost the
+/// timer's `least`, `size` and `next_id` a constant. `clear` costs a removal for each element if
+/// they are few beside the room, and one pass over the room otherwise. `new_from` costs an offer
+/// for each element. These costs are not part of the contract.
 #[derive(Drop)]
 pub struct DelayQueue<T: Timer> {
     store: Store<T>,
@@ -49,7 +50,7 @@ impl<T: Timer> Model for DelayQueue<T> {
 }
 
 impl<T: Timer> DelayQueue<T> {
-    /// An empty queue, which takes no memory until the first offer. Its ids begin at 0.
+    /// An empty queue, whose ids begin at 0. It takes no memory until the first offer.
     pub fn new(alloc: Global) -> Self
         ensures { result ≡ empty_queue }
     {
@@ -60,7 +61,7 @@ impl<T: Timer> DelayQueue<T> {
         }
     }
 
-    /// The queue that a run begins with.
+    /// The queue that a run with this opening begins with. It fails if there is not enough memory.
     pub fn new_from(alloc: Global, opening: &Opening) -> Result<Self, AllocError>
         ensures { IfOk result (λ queue. queue ≡ opening_queue opening.now) }
     {
@@ -75,9 +76,11 @@ impl<T: Timer> DelayQueue<T> {
         })
     }
 
-    /// Inserts an element under the next id, as `DelayQueue.offer`, and gives it. It never waits.
+    /// Inserts an element under the next id, like `DelayQueue.offer`, and returns it. It never
+    /// waits.
     ///
-    /// All memory is asked for first: after an `Err` the queue is as before. There must be an id left.
+    /// It asks for all memory first: on `Err` the queue is unchanged. It requires that an id is
+    /// left.
     pub fn offer(&mut self, draft: Draft) -> Result<Element, AllocError>
         requires { self.old.next_id < u64.MAX }
         ensures offers { IfOk result (λ element. (now : ℕ) → Acts self.old now (acts.Offer element) self.new) }
@@ -90,8 +93,8 @@ impl<T: Timer> DelayQueue<T> {
         Ok(element)
     }
 
-    /// Takes the head, an element of least expiry that is expired at `now`, as `DelayQueue.poll`.
-    /// `None` exactly where nothing is expired.
+    /// Takes out the head, an element of least expiry that has expired at `now`, like
+    /// `DelayQueue.poll`. `None` exactly if nothing has expired.
     pub fn poll(&mut self, now: u64) -> Option<Element>
         ensures polls { Acts self.old now (acts.Poll (id_of result)) self.new }
         ensures element { IfSome result (λ element. map.get self.old.bag element.id ≡ Some element) }
@@ -99,9 +102,10 @@ impl<T: Timer> DelayQueue<T> {
         self.store.remove_due(now)
     }
 
-    /// An element of least expiry, expired or not; it stays. `None` exactly where the queue is empty.
+    /// An element of least expiry, expired or not, which stays in the queue. `None` exactly if the
+    /// queue is empty.
     ///
-    /// As `DelayQueue.peek`, but that every element of least expiry may be shown.
+    /// Like `DelayQueue.peek`, except that any element of least expiry may be shown.
     pub fn peek(&self) -> Option<Element>
         ensures peeks { (now : ℕ) → Acts self.now now (acts.Peek (id_of result)) self.now }
         ensures element { IfSome result (λ element. map.get self.now.bag element.id ≡ Some element) }
@@ -109,19 +113,19 @@ impl<T: Timer> DelayQueue<T> {
         self.store.least()
     }
 
-    /// Takes out the element of the id, expired or not, as `DelayQueue.remove`, and tells whether there
-    /// was one.
+    /// Takes out the element of this id, expired or not, like `DelayQueue.remove`, and returns
+    /// whether there was one.
     pub fn remove(&mut self, id: u64) -> bool
         ensures { (now : ℕ) → Acts self.old now (acts.Remove id result) self.new }
     {
         self.store.remove(id).is_some()
     }
 
-    /// Takes heads one after the other, at most `max`, while one is expired at `now`, as
-    /// `DelayQueue.drainTo`, and gives them in that order.
+    /// Takes out heads one after the other, at most `max`, while one has expired at `now`, like
+    /// `DelayQueue.drainTo`, and returns them in that order.
     ///
-    /// Room for the lesser of `max` and the size is asked for first: after an `Err` the queue is as
-    /// before.
+    /// It asks for room for the lesser of `max` and the size first: on `Err` the queue is
+    /// unchanged.
     pub fn drain(&mut self, now: u64, max: u64) -> Result<Items, AllocError>
         ensures drains { IfOk result (λ items. Acts self.old now (acts.Drain max (ids_of items)) self.new) }
         ensures elements { IfOk result (λ items. elements_in self.old.bag (ids_of items) ≡ Some items) }
@@ -139,28 +143,29 @@ impl<T: Timer> DelayQueue<T> {
         Ok(Items::new(items))
     }
 
-    /// Discards all elements, unexpired ones too, as `DelayQueue.clear`. The ids go on.
+    /// Discards all elements, unexpired ones too, like `DelayQueue.clear`. Ids go on from where
+    /// they were.
     pub fn clear(&mut self)
         ensures { (now : ℕ) → Acts self.old now acts.Clear self.new }
     {
         self.store.clear();
     }
 
-    /// The number of elements, expired and unexpired, as `DelayQueue.size`.
+    /// The number of elements, expired and unexpired, like `DelayQueue.size`.
     pub fn size(&self) -> u64
         ensures { (now : ℕ) → Acts self.now now (acts.Size result) self.now }
     {
         self.store.len() as u64
     }
 
-    /// The id that the next offer gives out.
+    /// The id that the next offer gets.
     pub fn next_id(&self) -> u64
         ensures { result ≡ self.now.next_id }
     {
         self.next_id
     }
 
-    /// The least expiry, in nanoseconds, or `None` exactly where the queue is empty.
+    /// The least expiry, in nanoseconds. `None` exactly if the queue is empty.
     pub fn next_expiry(&self) -> Option<u64>
         ensures { IsNextExpiry self.now.bag result }
     {

@@ -6,9 +6,9 @@ use rb_delayed::{Element, Payload};
 /// An element that is to be offered, before it has an id.
 #[derive(Clone, Copy, Debug, PartialEq, Eq)]
 pub struct Draft {
-    /// The moment, in nanoseconds, from which on the element is expired.
+    /// The moment, in nanoseconds, from which the element is expired.
     pub expiry: u64,
-    /// The id of the first element that carried this job, or `None` for the element's own.
+    /// The id of the first element of this job, or `None` for the element's own.
     pub origin: Option<u64>,
     /// The expiry of that first element, in nanoseconds, or `None` for the element's own.
     pub first: Option<u64>,
@@ -24,7 +24,7 @@ pub struct Draft {
 impl Draft {
     ghost use Rattle.rb_queue.specs.Draft.{IsDrafted};
 
-    /// The draft of a job's first element, which is its own origin.
+    /// The draft of a job's first element, expiring at `expiry`, which is its own origin.
     pub fn first(expiry: u64, payload: Payload) -> Draft
         ensures expiry { result.expiry ≡ expiry }
         ensures origin { result.origin ≡ None }
@@ -41,7 +41,7 @@ impl Draft {
         }
     }
 
-    // The element under an id, which is its own origin where the draft names none.
+    // The element under an id, which is its own origin if the draft names none.
     pub(crate) fn element(self, id: u64) -> Element
         ensures id { result.id ≡ id }
         ensures drafted { IsDrafted self result }

@@ -10,12 +10,13 @@ pub fn each_id_once()
 {}
 
 /// In a legal history nothing is lost: the elements of the opening and those that were offered are
-/// those that were given, removed and cleared, and those that are left.
+/// those that were given, removed or cleared, and those that are left.
 pub fn each_element_counted()
     ensures { IsBalanced }
 {}
 
-/// The limits of an opening are these numbers, the second 2^40. Every other clause names the constants.
+/// The limits of an opening are these numbers, the second 2^40. Every other clause names the
+/// constants.
 pub fn opening_limits_have_their_values()
     ensures elements { MOST_OPENING_ELEMENTS ≡ 1000000 }
     ensures next_id { GREATEST_OPENING_ID ≡ 1099511627776 }

@@ -6,14 +6,14 @@ use crate::sequence::Items;
 use rb_delayed::Element;
 use std::alloc::Global;
 
-/// How many elements an opening has at most.
+/// The greatest number of elements in an opening.
 pub const MOST_OPENING_ELEMENTS: usize = 1_000_000;
 
 /// The greatest next id of an opening, 2^40.
 pub const GREATEST_OPENING_ID: u64 = 1_099_511_627_776;
 
-/// What a run begins with: the elements that stand in the queue, in rising order of their ids, the id
-/// that the next offer gives out, and the moment of the last event before, in nanoseconds.
+/// What a run begins with: the elements in the queue, in rising order of their ids, the id that the
+/// next offer gets, and the moment of the last event before, in nanoseconds.
 #[derive(Debug, Drop, PartialEq, Eq)]
 pub struct Opening {
     /// At most 1,000,000 elements, each id above the one before and below `next_id`.
@@ -26,7 +26,7 @@ pub struct Opening {
 }
 
 impl Opening {
-    /// The opening with no element, where ids and moments begin at 0. It takes no memory.
+    /// The opening with no element, in which ids and moments begin at 0. It takes no memory.
     pub fn empty(alloc: Global) -> Opening
         ensures elements { result.elements ≡ [] }
         ensures next_id { result.next_id ≡ 0 }
@@ -39,9 +39,9 @@ impl Opening {
         }
     }
 
-    /// The opening of these elements. `None` exactly where they are more than 1,000,000, their ids do
-    /// not rise or are not below `next_id`, or that is above 2^40. It takes no memory, and looks at each
-    /// element once.
+    /// The opening of these elements. `None` exactly if there are more than 1,000,000, if their ids
+    /// do not rise or are not below `next_id`, or if that is above 2^40. It takes no memory, and
+    /// looks at each element once.
     pub fn new(elements: Items, next_id: u64, last_at: u64) -> Option<Opening>
         ensures opening { IsSome result ↔ IsOpening elements next_id }
         ensures elements { IfSome result (λ opening. opening.elements ≡ elements) }

@@ -1,7 +1,7 @@
 use crate::sequence::Items;
 use rb_delayed::Element;
 
-/// What a caller is answered.
+/// The reply to a call.
 #[derive(Debug, Drop, PartialEq, Eq)]
 pub enum Reply {
     /// This element was inserted.
@@ -18,6 +18,6 @@ pub enum Reply {
     Drained(Items),
     /// All elements were discarded.
     Cleared,
-    /// There are so many elements.
+    /// There are this many elements.
     Size(u64),
 }

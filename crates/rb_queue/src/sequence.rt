@@ -4,7 +4,7 @@ ghost use Rattle.std.specs.Cmp.Lexicographic.{pointwise, lists_per, lists_equiv}
 use rb_delayed::Element;
 use std::marker::Model;
 
-/// Values in an order. Contracts see the list of them.
+/// Values in an order. Contracts see them as a list.
 #[derive(Debug, Drop)]
 pub struct Sequence<T> {
     values: Vec<T>,
@@ -42,7 +42,7 @@ impl<T> Sequence<T> {
         &self.values
     }
 
-    /// The vector that it was made of. It takes no memory.
+    /// The vector that it was made from. It takes no memory.
     pub fn into_vec(self) -> Vec<T>
         ensures { result.items ≡ self }
     {

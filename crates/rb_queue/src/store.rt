@@ -11,14 +11,14 @@ use slab::Slab;
 use std::alloc::{AllocError, Global};
 use std::marker::Model;
 
-// How many slots of room there may be to an element before a pass over the room costs more than to take the
-// elements out one by one.
+// If there are more slots of room than this for each element, taking the elements out one by one
+// costs less than a pass over the room.
 const SLOTS_TO_AN_ELEMENT: usize = 8;
 
-/// The elements that stand in a queue, found by id and by expiry.
+/// The elements of a queue, found by id and by expiry.
 ///
-/// Each element lies in a slot. The timer knows the expiry at each slot and the directory the slot of
-/// each id: all three have an entry for exactly the same elements. Memory is taken by `insert` alone.
+/// Each element lies in a slot. The timer knows the expiry at each slot, and the directory the slot
+/// of each id: all three have an entry for exactly the same elements. Only `insert` takes memory.
 #[derive(Drop)]
 pub(crate) struct Store<T: Timer> {
     elements: Slab<Element>,
@@ -53,9 +53,9 @@ impl<T: Timer> Store<T> {
         }
     }
 
-    /// Inserts an element under its id, which none here has.
+    /// Inserts an element under its id, which no element here has.
     ///
-    /// All memory is asked for first: after an `Err` the store is as before.
+    /// It asks for all memory first: on `Err` the store is unchanged.
     pub(crate) fn insert(&mut self, element: &Element) -> Result<(), AllocError>
         requires { map.get self.old element.now.id ≡ None }
         ensures ok { OnOk result (self.new ≡ map.insert self.old element.now.id element.now) }
@@ -71,7 +71,7 @@ impl<T: Timer> Store<T> {
         Ok(())
     }
 
-    /// Takes out an element of least expiry that is expired at `now`. `None` exactly where none is
+    /// Takes out an element of least expiry that has expired at `now`. `None` exactly if none has
     /// expired.
     pub(crate) fn remove_due(&mut self, now: u64) -> Option<Element>
         ensures none { IfNone result (NoneExpired self.old now) }
@@ -96,7 +96,7 @@ impl<T: Timer> Store<T> {
         Some(self.elements.remove(slot))
     }
 
-    /// An element of least expiry. `None` exactly where the store is empty.
+    /// An element of least expiry. `None` exactly if the store is empty.
     pub(crate) fn least(&self) -> Option<Element>
         ensures { MatchOption result (self.now ≡ map.empty) (IsLeast self.now) }
     {
@@ -104,7 +104,7 @@ impl<T: Timer> Store<T> {
         self.elements.get(slot).copied()
     }
 
-    /// The least expiry, in nanoseconds. `None` exactly where the store is empty.
+    /// The least expiry, in nanoseconds. `None` exactly if the store is empty.
     pub(crate) fn least_expiry(&self) -> Option<u64>
         ensures { IsNextExpiry self.now result }
     {
@@ -119,8 +119,8 @@ impl<T: Timer> Store<T> {
         self.elements.len()
     }
 
-    /// Discards all elements, at the cost of those that stand: not of the room, nor of what once stood. Few
-    /// are taken out one by one.
+    /// Discards all elements, at the cost of those that are there, not of the room nor of what once
+    /// was there. If they are few, they are taken out one by one.
     pub(crate) fn clear(&mut self)
         ensures { self.new ≡ map.empty }
     {
@@ -140,7 +140,7 @@ impl<T: Timer> Store<T> {
         }
     }
 
-    // Goes over the whole room once.
+    // Makes one pass over the whole room.
     fn discard_at_once(&mut self)
         ensures { self.new ≡ map.empty }
     {

@@ -11,7 +11,7 @@ use Rattle.rb_retry.specs.Made.{Made}
 use Rattle.rb_retry.specs.declared.desk_fault.DeskFault.{DeskFault}
 use Rattle.rb_retry.specs.declared.desk_fault.DeskFault.TheVariants.{Full, Memory, Stopped}
 
--- the ask is one that waits where nothing is expired
+-- the ask is one that waits if nothing is expired
 abbrev pub MayWait : Ask → Type 0
 MayWait Take = Unit {0}
 MayWait (PollFor start timeout) = Unit {0}
@@ -23,7 +23,7 @@ MayGet ask Full = Unit {0}
 MayGet ask Memory = TakesMemory ask
 MayGet ask Stopped = MayWait ask
 
--- The moment that the event names: a reading of the desk's clock where the ask may wait, and else the
+-- The moment that the event names: a reading of the desk's clock if the ask may wait, and otherwise the
 -- one that was handed in.
 abbrev pub IsMomentOf : (ℕ → Type 0) → Ask → ℕ → ℕ → Type 0
 IsMomentOf gives Take handed asked = gives asked

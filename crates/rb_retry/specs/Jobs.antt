@@ -1,4 +1,4 @@
--- What fetching a job comes to, and what failing it does, at a desk of any kind.
+-- The outcome of fetching a job, and what failing it does, at a desk of any kind.
 use Rattle.std.specs.Prelude.{◌≡◌, ℕ, Option, Some, None, Result, Ok, Err}
 use Rattle.rb_delayed.specs.declared.element.Element.{Element}
 use Rattle.rb_queue.specs.declared.ask.Ask.{Ask}

@@ -24,7 +24,7 @@ pub record KeptState : Type 0 where
   pub moment : ℕ
   pub before : ℕ
 
--- the events behind those that there were when the desk was made
+-- the events after those that there were when the desk was made
 abbrev pub made_at : KeptState → List Made
 made_at state =
     made_after state.log.opening (take state.before state.log.history) (drop state.before state.log.history)
@@ -40,7 +40,7 @@ abbrev pub fault_of : CallFault → DeskFault
 fault_of refusals.Full = Full
 fault_of refusals.Memory = Memory
 
--- what the queue answered, where waiting is given up at once
+-- the queue's answer, with waiting given up at once
 abbrev pub answer_of : Result Outcome CallFault → Result Reply DeskFault
 answer_of (Ok (Done reply)) = Ok reply
 answer_of (Ok (Later expiry)) = Err Stopped

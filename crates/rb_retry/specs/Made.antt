@@ -10,7 +10,7 @@ pub record Made : Type 0 where
   pub event : Event
   pub reply : Option Reply
 
--- these events, which stand behind the ones before, each with its reply
+-- these events, which follow the ones before, each with its reply
 abbrev pub made_after : Opening → List Event → List Event → List Made
 made_after opening before [] = []
 made_after opening before (event ∷ events) =

@@ -91,7 +91,7 @@ may_wait Take now waits = tt
 may_wait (PollFor start timeout) now waits = tt
 may_wait _ now waits = waits
 
--- the events behind others have their replies behind those of the others
+-- events that follow others have their replies after those of the others
 pub made_after-more : (opening : Opening) (before events more : List Event)
     → made_after opening before (events ++ more) ≡ made_after opening before events ++ made_after opening (before ++ events) more
 made_after-more opening before [] more = ap (λ (front : List Event). made_after opening front more) (sym (append-nil before))

@@ -8,7 +8,7 @@ use Rattle.rb_retry.specs.declared.policy.Pace.{Pace}
 use Rattle.rb_retry.specs.declared.policy.Pace.TheVariants.{Delay, Rate}
 use Rattle.rb_retry.specs.declared.policy.Policy.{Policy}
 
--- a job may have so many attempts
+-- a job may have this many attempts
 abbrev pub AreAttempts : ℕ → Type 0
 AreAttempts attempts = (1 ≤ attempts) × (attempts ≤ GREATEST_ATTEMPT)
 
@@ -25,7 +25,7 @@ pub record IsNextAttempt (policy : Policy) (element : Element) (now : ℕ) (draf
   pub attempt : draft.attempt ≡ element.attempt + 1
   pub payload : draft.payload ≡ element.payload
 
--- What a failure at this moment offers again: the next attempt, or nothing where this was the last.
+-- What a failure at this moment offers again: the next attempt, or nothing if this was the last.
 abbrev pub IsRetry : Policy → Element → ℕ → Option Draft → Type 0
 IsRetry policy element now None = policy.attempts ≤ element.attempt
 IsRetry policy element now (Some draft) = (element.attempt < policy.attempts) × IsNextAttempt policy element now draft

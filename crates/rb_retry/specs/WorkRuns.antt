@@ -1,4 +1,4 @@
--- What working off a desk's jobs comes to.
+-- The outcome of working off a desk's jobs.
 use Rattle.std.specs.Prelude.{◌≡◌, ℕ, ◌+◌, Bool, true, false, List, [], ◌∷◌, Result, Ok, Err}
 use Rattle.rb_delayed.specs.declared.element.Element.{Element}
 use Rattle.rb_queue.specs.declared.ask.Ask.{Ask}
@@ -38,7 +38,7 @@ counted report (failed (Ok (Again again))) = record report { runs = report.runs 
 counted report (failed (Ok (Dead dead))) = record report { runs = report.runs + 1; deads = report.deads + 1 }
 counted report (failed (Err refused)) = record report { runs = report.runs + 1; lost = report.lost + 1 }
 
--- what these runs come to, behind those of a report
+-- the report after these runs, which follow those of another report
 abbrev pub report_after : WorkReport → List WorkRun → WorkReport
 report_after report [] = report
 report_after report (run ∷ runs) = report_after (counted report run.end) runs

@@ -11,8 +11,8 @@ use rb_queue::{Ask, Reply};
 
 /// A caller's way to a delay queue, with a clock of its own.
 ///
-/// What desks of all kinds share is that an answered call makes exactly one event, which has this
-/// reply, and that a refused one makes none. What a call does besides is each desk's own relation.
+/// All desks have in common that a call which gets a reply makes exactly one event, with this
+/// reply, and that a refused one makes none. What else a call does is each desk's own relation.
 pub trait Desk {
     /// What a contract sees of a desk.
     ghost State: { Type 0 };
@@ -20,14 +20,14 @@ pub trait Desk {
     /// The state of this desk.
     ghost state: { Self → State };
 
-    /// What the name of a desk is.
+    /// What kind of value a desk's name is.
     ghost Name: { Type 0 };
 
-    /// What no call changes, whatever it does: which reference to its queue the desk holds, and what its
-    /// owner has to know of that queue afterwards.
+    /// What no call changes: which reference to its queue the desk holds, and what its owner has to
+    /// know of that queue afterwards.
     ghost name: { State → Name };
 
-    /// What was made through the desk: each event with its reply.
+    /// What was made through the desk: each event, with its reply.
     ghost mine: { State → List Made };
 
     /// The numbers that are readings of the desk's clock.
@@ -43,23 +43,23 @@ pub trait Desk {
     fn now(&self) -> u64
         ensures { gives (state self.now) result };
 
-    /// Lets it be this moment, or the clock's own where that is later, and answers which. `None` where
-    /// the clock of such a desk can't be set.
+    /// Moves the clock to this moment, unless it is later already, and returns the clock's moment.
+    /// `None` if the clock of such a desk can't be set.
     fn set(&mut self, moment: u64) -> Option<u64>
         ensures sets { Sets (state self.old) moment result (state self.new) }
         ensures name { name (state self.new) ≡ name (state self.old) };
 
-    /// Makes one call. A take and a timed poll are made at readings of the desk's clock, and any other
-    /// call at the moment `asked`, which those two do not use.
+    /// Makes one call. A take and a timed poll are made at readings of the desk's clock, and any
+    /// other call at the moment `asked`, which those two do not use.
     ///
-    /// `Full` where there is no room for an event, `Memory` for an offer and a drain alone, `Stopped`
-    /// for a take and a timed poll alone.
+    /// The faults are `Full` if there is no room for an event, `Memory` for an offer and a drain
+    /// alone, `Stopped` for a take and a timed poll alone.
     fn call(&mut self, asked: u64, ask: Ask) -> Result<Reply, DeskFault>
         ensures step { Steps (state self.old) asked ask result (state self.new) }
         ensures name { name (state self.new) ≡ name (state self.old) }
         ensures few { length (mine (state self.new)) ≤ MOST_CALLS };
 
-    /// An answered call makes exactly one event, which has this reply.
+    /// A call that gets a reply makes exactly one event, which has this reply.
     ghost makes: { (old new : State) (asked : ℕ) (ask : Ask) (reply : Reply) → Steps old asked ask (Ok reply) new
         → Makes (gives old) asked ask reply (mine old) (mine new) };
 

@@ -4,13 +4,14 @@ ghost use Rattle.rb_retry.specs.KeptSteps.{fault_of};
 use rb_kept::CallFault;
 use thiserror::Error;
 
-/// Why a call at a desk was not answered. No event was made then. The first that holds is answered.
+/// Why a call at a desk got no reply. It made no event then. If several hold, the first is
+/// returned.
 #[derive(Clone, Copy, Debug, PartialEq, Eq, Error)]
 pub enum DeskFault {
     /// The history has as many events as it has room for.
     #[error("the history is full")]
     Full,
-    /// There is no memory for an offer or a drain.
+    /// There is not enough memory for an offer or a drain.
     #[error("out of memory")]
     Memory,
     /// A take or a timed poll stopped waiting.

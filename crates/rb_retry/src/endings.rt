@@ -11,11 +11,11 @@ use rb_delayed::Element;
 use rb_kept::CallFault;
 use rb_queue::{Ask, Draft, Reply};
 
-/// The job failed at `now`: the policy's next attempt is offered, at this very moment.
+/// Lets the job fail at `now`, and offers the policy's next attempt at that moment.
 ///
-/// Where this was the last attempt the job is dead, no call is made, and nothing can refuse it. A
-/// refused offer gives the job back, and no event was made: `Full` where there is no room for one,
-/// `Memory` where there is none for the element.
+/// After the last attempt the job is dead: no call is made, so nothing can refuse it. If the offer
+/// is refused, the caller gets the job back and no event was made: `Full` if there is no room for
+/// an event, `Memory` if there is not enough memory for the element.
 pub fn fail<D: Desk>(
     desk: &mut D,
     policy: &Policy,
@@ -51,7 +51,7 @@ fn offer<D: Desk>(desk: &mut D, draft: Draft, now: u64) -> Result<Element, CallF
     }
 }
 
-/// The job is done. No call is made.
+/// Ends the job as done. No call is made.
 pub fn done(job: Job) -> Element
     ensures { result ≡ job }
 {

@@ -13,7 +13,7 @@ use rb_queue::{Ask, Reply};
 
 /// Fetches the head, if there is one at the moment `asked`.
 ///
-/// A fault is the desk's: no event was made, and nothing is fetched.
+/// A fault is the desk's: it made no event, and fetched nothing.
 pub fn poll<D: Desk>(desk: &mut D, asked: u64) -> Result<Option<Job>, DeskFault>
     ensures step { D.Steps (D.state desk.old) asked asks.Poll (answer_with result) (D.state desk.new) }
     ensures name { D.name (D.state desk.new) ≡ D.name (D.state desk.old) }
@@ -25,9 +25,9 @@ pub fn poll<D: Desk>(desk: &mut D, asked: u64) -> Result<Option<Job>, DeskFault>
     }
 }
 
-/// Fetches the head, and waits for it by the desk's clock.
+/// Fetches the head, waiting for it by the desk's clock.
 ///
-/// A fault is the desk's: no event was made, and nothing is fetched.
+/// A fault is the desk's: it made no event, and fetched nothing.
 pub fn take<D: Desk>(desk: &mut D) -> Result<Job, DeskFault>
     ensures step { D.Steps (D.state desk.old) 0 asks.Take (answer_with_one result) (D.state desk.new) }
     ensures few { length (D.mine (D.state desk.new)) ≤ MOST_CALLS }
@@ -39,9 +39,9 @@ pub fn take<D: Desk>(desk: &mut D) -> Result<Job, DeskFault>
     }
 }
 
-/// Fetches the head, and waits for it by the desk's clock until `timeout` nanoseconds after `start`.
+/// Fetches the head, waiting for it by the desk's clock until `timeout` nanoseconds after `start`.
 ///
-/// A fault is the desk's: no event was made, and nothing is fetched.
+/// A fault is the desk's: it made no event, and fetched nothing.
 pub fn poll_for<D: Desk>(desk: &mut D, start: u64, timeout: u64) -> Result<Option<Job>, DeskFault>
     ensures step { D.Steps (D.state desk.old) start (asks.PollFor start timeout) (answer_with result) (D.state desk.new) }
     ensures name { D.name (D.state desk.new) ≡ D.name (D.state desk.old) }
@@ -53,10 +53,10 @@ pub fn poll_for<D: Desk>(desk: &mut D, start: u64, timeout: u64) -> Result<Optio
     }
 }
 
-/// Fetches at most `max` expired elements, head after head, behind the jobs that are there.
+/// Fetches at most `max` expired elements, head after head, and appends them to the jobs.
 ///
-/// The jobs have room for so many more. A fault is the desk's: no event was made, and nothing is
-/// fetched.
+/// It requires that `jobs` has room for `max` more. A fault is the desk's: it made no event, and
+/// fetched nothing.
 pub fn drain<D: Desk>(
     desk: &mut D,
     asked: u64,
@@ -81,7 +81,7 @@ pub fn drain<D: Desk>(
     }
 }
 
-// Makes jobs of the elements, behind those that are there.
+// Makes jobs of the elements, and appends them to those that are there.
 fn append(elements: &[Element], jobs: &mut Vec<Job>)
     requires { vec_len jobs.old + length elements.now ≤ vec_capacity jobs.old }
     ensures items { jobs.new.items ≡ jobs.old.items ++ elements.now }

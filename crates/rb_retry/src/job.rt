@@ -5,7 +5,7 @@ use std::marker::Model;
 
 /// An element that was fetched, until it is done or fails. Contracts see the element.
 ///
-/// A job is made by a fetch alone. It can neither be copied nor cloned, so it is spent once at most.
+/// Only a fetch makes a job. It can be neither copied nor cloned, so it ends at most once.
 #[derive(Debug, Drop)]
 pub struct Job {
     element: Element,
@@ -37,7 +37,7 @@ impl Job {
         &self.element
     }
 
-    /// The element, which is nobody's job any more.
+    /// The element, which is no longer anyone's job.
     pub(crate) fn into_element(self) -> Element
         ensures { result ≡ self }
     {

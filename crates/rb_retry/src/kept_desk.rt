@@ -10,13 +10,13 @@ use rb_ledger::Tally;
 use rb_queue::{Ask, Reply};
 use rb_timer::Timer;
 
-/// The one seat of a kept queue that nobody shares.
+/// The only seat of a kept queue that is not shared.
 const SEAT: u64 = 0;
 
-/// A desk over a kept queue that nobody shares, whose clock stands still until it is set.
+/// A desk over a kept queue that is not shared. Its clock stands still until it is set.
 ///
-/// Its calls are those of seat 0. Nobody else can offer what a call would wait for, so waiting is given
-/// up at once.
+/// Its calls are those of seat 0. Nobody else could offer what a call would wait for, so a call
+/// that would wait is answered `Stopped` at once.
 #[derive(Drop)]
 pub struct KeptDesk<'a, T: Timer> {
     kept: &'a mut Kept<T>,
@@ -30,12 +30,12 @@ pub struct KeptDesk<'a, T: Timer> {
 }
 
 impl<'a, T: Timer> KeptDesk<'a, T> {
-    /// A desk whose moment is that of the opening's last event, and whose calls the tally counts.
+    /// A desk at the moment of the opening's last event, whose calls the tally counts.
     pub fn new(kept: &'a mut Kept<T>, tally: &'a mut Tally) -> KeptDesk<'a, T>
         ensures state { ⟦<KeptDesk<'a, T> as Desk>⟧.state result
             ≡ record { name = kept.entry.ghost_name; log = kept.old; share = tally.old; moment = kept.old.opening.last_at; before = length kept.old.history } }
     {
-        // The proof reads here how long the history may get.
+        // The proof learns here how long the history may get.
         let _ = kept.capacity();
         let moment = kept.opening().last_at;
         let before = kept.history().len();
@@ -86,7 +86,7 @@ impl<'a, T: Timer> Desk for KeptDesk<'a, T> {
     ghost stays = { kept_stays };
 }
 
-// The moment at which an ask is made.
+// The moment at which a call is asked.
 fn asked_at(moment: u64, ask: &Ask, handed: u64) -> u64
     ensures { result ≡ asked_at moment ask.now handed }
 {
@@ -96,7 +96,7 @@ fn asked_at(moment: u64, ask: &Ask, handed: u64) -> u64
     }
 }
 
-// What the queue answered. Nobody else could end a wait.
+// The queue's answer. A wait is stopped, since nobody else could end it.
 fn answer_of(step: Step) -> Result<Reply, DeskFault>
     ensures { result ≡ answer_of step }
 {

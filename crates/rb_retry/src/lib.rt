@@ -1,7 +1,8 @@
-//! Jobs of a delay queue: what takes them, and what a failed one offers again.
+//! Jobs of a delay queue: how they are fetched, and what a failed one offers again.
 //!
-//! A desk is a caller's way to a queue. A job is fetched at a desk, and then it is done or it fails;
-//! what fails is offered again by a policy, until its attempts are used up. Moments are nanoseconds.
+//! A desk is a caller's way to a queue. A job is fetched at a desk, and then is done or fails. By
+//! its policy a failed job is offered again, until its attempts are used up. Moments are
+//! nanoseconds.
 #![tactic(auto)]
 
 mod desk;

@@ -4,21 +4,21 @@ ghost use Rattle.rb_delayed.specs.declared.element.TheConstants.{GREATEST_ATTEMP
 use rb_delayed::{Element, GREATEST_ATTEMPT, add_capped};
 use rb_queue::Draft;
 
-/// From where on the time to the next attempt of a job is counted.
+/// How the time to the next attempt of a job is counted.
 #[derive(Clone, Copy, Debug, PartialEq, Eq)]
 pub enum Pace {
-    /// So many nanoseconds after the failure, as `ScheduledExecutorService.scheduleWithFixedDelay` of
-    /// Java SE 17.
+    /// This many nanoseconds after the failure, like
+    /// `ScheduledExecutorService.scheduleWithFixedDelay` (Java SE 17).
     Delay(u64),
-    /// So many nanoseconds for each attempt so far after the job's first expiry, as
-    /// `scheduleAtFixedRate`: an attempt that began late moves none of those behind it.
+    /// This many nanoseconds for each attempt so far, counted from the job's first expiry, like
+    /// `scheduleAtFixedRate`: an attempt that began late does not delay those that follow.
     Rate(u64),
 }
 
 /// When a failed job is offered again, and how often.
 #[derive(Clone, Copy, Debug, PartialEq, Eq)]
 pub struct Policy {
-    /// From where on the time to the next attempt is counted.
+    /// How the time to the next attempt is counted.
     pub pace: Pace,
     /// How many attempts a job has, 1 to 1,000.
     pub attempts: u32,
@@ -29,7 +29,7 @@ pub struct Policy {
 impl Policy {
     ghost use Rattle.rb_retry.specs.Retry.{AreAttempts, IsRetry};
 
-    /// The next attempt expires `delay` nanoseconds after the failure. `None` exactly where `attempts`
+    /// The next attempt expires `delay` nanoseconds after the failure. `None` exactly if `attempts`
     /// is 0 or above 1,000.
     pub fn fixed(delay: u64, attempts: u32) -> Option<Policy>
         ensures some { IsSome result ↔ AreAttempts attempts }
@@ -39,8 +39,8 @@ impl Policy {
         Policy::new(Pace::Delay(delay), attempts)
     }
 
-    /// Attempt k + 1 expires k times `period` nanoseconds after the job's first expiry, also where that
-    /// has passed. `None` exactly where `attempts` is 0 or above 1,000.
+    /// Attempt k + 1 expires k times `period` nanoseconds after the job's first expiry, even if
+    /// that has passed. `None` exactly if `attempts` is 0 or above 1,000.
     pub fn fixed_rate(period: u64, attempts: u32) -> Option<Policy>
         ensures some { IsSome result ↔ AreAttempts attempts }
         ensures pace { IfSome result (λ policy. policy.pace ≡ Pace.Rate period) }
@@ -61,8 +61,8 @@ impl Policy {
         }
     }
 
-    /// What a failure of the element at `now` offers again: its job's next attempt, or `None` exactly
-    /// where this was the last one. The next expiry is at most the greatest moment, 2^64 - 1.
+    /// What a failure of the element at `now` offers again: the next attempt of its job, or `None`
+    /// exactly if this was the last one. The next expiry is at most the greatest moment, 2^64 - 1.
     pub fn retry_of(&self, element: &Element, now: u64) -> Option<Draft>
         ensures { IsRetry self.now element.now now result }
     {

@@ -1,4 +1,4 @@
-/// What a worker came to: `runs` is the sum of the other four.
+/// The counts of a worker. `runs` is the sum of the other four.
 #[derive(Clone, Copy, Debug, Default, PartialEq, Eq)]
 pub struct WorkReport {
     /// How many jobs were taken and run.
@@ -9,6 +9,6 @@ pub struct WorkReport {
     pub agains: u64,
     /// How many failed at their last attempt.
     pub deads: u64,
-    /// How many failed where the next attempt was refused.
+    /// How many failed and were lost, since the next attempt was refused.
     pub lost: u64,
 }

@@ -14,20 +14,20 @@ use crate::verdict::Verdict;
 use crate::work_report::WorkReport;
 use rb_delayed::Element;
 
-/// What is to be done with a job.
+/// What a worker does with a job.
 pub trait Work {
-    /// The answers that this work may give of an element.
+    /// The answers that this work may give for an element.
     ghost may: { Self → Element → Bool → Type 0 };
 
-    /// Runs the job of an element, and answers whether it is done.
+    /// Runs the job of an element, and returns whether it is done.
     fn run(&self, element: &Element) -> bool
         ensures { may self.now element.now result };
 }
 
 /// Takes jobs and runs them, one after the other, until a take is refused. A job that is not done
-/// fails, at the desk's moment.
+/// fails at the desk's moment.
 ///
-/// It takes no memory but what is offered again.
+/// It takes memory only for what is offered again.
 pub fn work_off<D: Desk, W: Work>(desk: &mut D, policy: &Policy, work: &W) -> WorkReport
     ensures runs { (runs : List WorkRun) × (last : D.State) × (fault : DeskFault)
         × RunsAlong D.gives D.Steps (W.may work.now) policy.now (D.state desk.old) runs last

@@ -1,4 +1,4 @@
--- Where a run begins that goes on behind a history.
+-- Where a run begins that continues a history.
 use Rattle.std.specs.Prelude.{◌≡◌, ◌⊎◌, ℕ, List, Result, Ok, Err}
 use Rattle.rb_queue.specs.History.{IsLegal, state_of}
 use Rattle.rb_queue.specs.declared.event.Event.{Event}
@@ -17,7 +17,7 @@ abbrev pub HasNoNext : Opening → List Event → Type 0
 HasNoNext from events = ((index : ℕ) × (reason : Reason) × Refuses from events index reason)
     ⊎ (IsLegal from events × IsTooLarge (state_of from events))
 
--- behind this history a run begins in the state that it leads to, or none can
+-- a run that continues this history begins in the state that it leads to, or none can continue it
 abbrev pub Continues : Opening → List Event → Result Opening BrokerFault → Type 0
 Continues from events (Ok opening) = Opens from events (Ok opening)
 Continues from events (Err BadOpening) = HasNoNext from events
@@ -27,11 +27,11 @@ Continues from events (Err fault) = fault ≡ Memory
 abbrev pub IsUnreadable : List ℕ → Type 0
 IsUnreadable text = (line : ℕ) × (reason : TextReason) × HasFault text line reason
 
--- the text is of a history that a run goes on behind so
+-- the text is of a history that a run continues so
 abbrev pub GoesOnIn : List ℕ → Result Opening BrokerFault → Type 0
 GoesOnIn text result = (from : Opening) × (events : List Event) × IsTextOf from events text × Continues from events result
 
--- the opening of a run that goes on behind the text's history, or why there is none
+-- the opening of a run that continues the text's history, or why there is none
 abbrev pub BeginsIn : List ℕ → Result Opening BrokerFault → Type 0
 BeginsIn text (Ok opening) = GoesOnIn text (Ok opening)
 BeginsIn text (Err BadOpening) = IsUnreadable text ⊎ GoesOnIn text (Err BadOpening)

@@ -14,7 +14,7 @@ use Rattle.rb_ending.specs.Recording.{RecordsRun}
 use Rattle.rb_session.specs.Gathered.{RanGathered}
 use Rattle.rb_ending.specs.declared.broker_fault.BrokerFault.{BrokerFault}
 
--- a log that begins with this opening, with no call yet and room for so many
+-- a log that begins with this opening, with no call yet and room for this many
 pub record IsFresh (log : Log) (opening : Opening) (calls : ℕ) : Type 0 where
   pub opening_is : log.opening ≡ opening
   pub history : log.history ≡ []
@@ -27,18 +27,18 @@ pub record IsNew (desk : KeptState) (opening : Opening) (calls : ℕ) : Type 0 w
   pub moment : desk.moment ≡ opening.last_at
   pub before : desk.before ≡ 0
 
--- the run ends as the writing of its history does, where its session came to its end
+-- if its session came to its end, the run ends as the writing of its history does
 abbrev pub ends_as : Ended → Result (Unit {0}) HistoryFault → Result Ended BrokerFault
 ends_as ended (Ok done) = Ok ended
 ends_as ended (Err fault) = Err (fault_of_history fault)
 
--- After a session that ended by a fault its history is written too, whatever comes of it; but for want
--- of memory the session was not begun, and nothing is written.
+-- After a session that ended with a fault its history is written too, whatever comes of that. If memory was
+-- missing, the session was not begun, and nothing is written.
 pub record RecordsBroken {H : Type 0} (contents : H → Option (List ℕ)) (log : Log) (fault : SessionFault) (device left : Option H) : Type 0 where
   pub unbegun : fault ≡ Memory → left ≡ device
   pub begun : fault ≢ Memory → (wrote : Result (Unit {0}) HistoryFault) × RecordsRun contents log wrote device left
 
--- The session's fault is answered, where it has one, and else that of writing the history.
+-- The session's fault is answered, if it has one, and otherwise that of writing the history.
 abbrev pub Finishes : {H : Type 0} → (H → Option (List ℕ)) → Log → Result Ended SessionFault → Result Ended BrokerFault → Option H → Option H → Type 0
 Finishes contents log (Err fault) result device left =
     (result ≡ Err (fault_of_session fault)) × RecordsBroken contents log fault device left

@@ -1,4 +1,4 @@
--- What the text of a history is found to be, and how that is told.
+-- The verdict on the text of a history, and how it is told.
 use Rattle.std.specs.Prelude.{◌≡◌, ℕ, List, ◌++◌, Option, IfSome, IsSomeAnd, Result, Ok, Err, codes, decimal}
 use Rattle.rb_queue.specs.History.{IsLegal}
 use Rattle.rb_queue.specs.declared.event.Event.{Event}
@@ -25,17 +25,17 @@ no_fault = Ok tt
 abbrev pub broken_at : ℕ → ChainReason → Result (Unit {0}) ChainFault
 broken_at index reason = Err (chain.At index reason)
 
--- the retries are right by the policy, where there is one
+-- the retries are right by the policy, if there is one
 abbrev pub AreRetries : Option Policy → Opening → List Event → Type 0
 AreRetries checked opening events = IfSome checked (λ policy. Chains policy opening events no_fault)
 
--- there is a policy, by which this offer is the first that is no right attempt
+-- there is a policy, by which this offer is the first that is not a right attempt
 abbrev pub BreaksChain : Option Policy → Opening → List Event → ℕ → ChainReason → Type 0
 BreaksChain checked opening events index reason =
     IsSomeAnd checked (λ policy. Chains policy opening events (broken_at index reason))
 
 -- A history is refused for its first event that is not allowed. A legal one is unchained for its first
--- offer that is no right attempt, where that is checked, and else accepted with what it came to.
+-- offer that is not a right attempt, if that is checked, and otherwise accepted with its audit.
 abbrev pub IsVerdictOn : Option Policy → Opening → List Event → Verdict → Type 0
 IsVerdictOn checked opening events (Unreadable line reason) = ⊥
 IsVerdictOn checked opening events (Refused index reason) = Checks opening events (Err (check.At index reason))
@@ -44,7 +44,7 @@ IsVerdictOn checked opening events (Unchained index reason) =
 IsVerdictOn checked opening events (Accepted audit) =
     Checks opening events (Ok audit) × AreRetries checked opening events
 
--- a text is unreadable for its first fault, and else is a history's, with the verdict on that
+-- a text is unreadable for its first fault, and otherwise is a history's, with the verdict on that
 abbrev pub IsVerdictOf : Option Policy → List ℕ → Verdict → Type 0
 IsVerdictOf checked text (Unreadable line reason) = HasFault text line reason
 IsVerdictOf checked text verdict =
@@ -61,7 +61,7 @@ verdict_text (Refused index reason) = fault_text (codes "refused") index (reason
 verdict_text (Unchained index reason) = fault_text (codes "unchained") index (chain_reason_text reason)
 verdict_text (Accepted audit) = audit_text audit
 
--- 0 where the history is accepted, else 1
+-- 0 if the history is accepted, 1 if it is not
 abbrev pub status_of_verdict : Verdict → ℕ
 status_of_verdict (Accepted audit) = 0
 status_of_verdict _ = 1

@@ -1,5 +1,5 @@
-//! Runs of the broker over any devices: a script to its end, the check of a history, and the opening that a
-//! history leads to.
+//! Runs of the broker over any devices: a script to its end, the check of a history, and the
+//! opening that a history leads to.
 #![tactic(auto)]
 
 mod opening;

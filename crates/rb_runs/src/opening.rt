@@ -9,10 +9,10 @@ use rb_queue::Opening;
 use rb_replay::{OpeningFault, TextFault, opening_of, read_history};
 use std::alloc::Global;
 
-/// The opening of a run that goes on behind the one whose history the text is.
+/// The opening of a run that continues the one whose history this text is.
 ///
-/// The faults are `Memory`, and else `BadOpening`, exactly where the text is no history's, or of one that
-/// is not legal or leads past the limits of an opening.
+/// The faults are `Memory` and, unless memory runs out, `BadOpening` exactly if the text is not a
+/// history, or if its history is not legal or leads past the limits of an opening.
 pub fn opening_in(alloc: Global, text: &[u8]) -> Result<Opening, BrokerFault>
     ensures begins { BeginsIn text.now result }
     ensures each { (from : Opening) (events : List Event) → IsRightOpening from → AreRightEvents events

@@ -1,7 +1,8 @@
-/// Calls a function over the timer of this kind. Its first type parameter, written `_`, is the timer's.
+/// Calls a function over the timer of this kind. The function's first type parameter, written `_`,
+/// is the timer's.
 ///
-/// This is the one place that knows which type each kind of timer is. Who calls it depends on the crates of
-/// all timers.
+/// Only this macro knows which type each kind of timer is. A crate that calls it depends on the
+/// crates of all timers.
 #[macro_export]
 macro_rules! over_timer {
     ($kind:expr, $function:ident::<_ $(, $type:ty)*>($($argument:expr),* $(,)?) $(,)?) => {

@@ -5,16 +5,17 @@ use rb_ending::BrokerFault;
 use std::alloc::{AllocError, Global};
 use std::io::{ErrorKind, Read};
 
-/// How often a file is read at most.
+/// The greatest number of reads of a file.
 const MOST_READS: u64 = 10_000_000;
 
-/// How many bytes are read at once at most.
+/// The greatest number of bytes that one read gets.
 const PIECE_BYTES: usize = 64 * 1024;
 
-/// All that a reader gives.
+/// Everything that a reader gives, up to its end.
 ///
-/// The faults are `ReadHistory` where a read failed, `ReadTurns` where there was no end within
-/// 10,000,000 reads, and `Memory`. Memory is taken for what is read, and for one piece of 64 KiB.
+/// The faults are `ReadHistory` if a read failed, `ReadTurns` if there was no end within 10,000,000
+/// reads, and `Memory`. An interrupted read is made again. It takes memory for what is read, and
+/// for one piece of 64 KiB.
 pub fn read_all<R: Read>(alloc: Global, reader: &mut R) -> Result<Vec<u8>, BrokerFault>
     ensures { ReadsAll (R.remaining reader.old) result (R.remaining reader.new) }
 {
@@ -35,7 +36,7 @@ pub fn read_all<R: Read>(alloc: Global, reader: &mut R) -> Result<Vec<u8>, Broke
     Err(BrokerFault::ReadTurns)
 }
 
-// Room for what is read at once.
+// Room for one read.
 fn empty_piece(alloc: Global) -> Result<Vec<u8>, AllocError>
     ensures { IfOk result (λ piece. 0 < vec_len piece) }
 {

@@ -13,8 +13,9 @@ use rb_ending::BrokerFault;
 use rb_replay::{ChainFault, History, ReplayFault, TextFault, chains, check, read_history};
 use std::alloc::Global;
 
-/// The line that `replay` prints of a text, and the exit status: 0 with the audit of a history that is
-/// legal, and whose retries are right where they are checked; 1 with the first fault of another text.
+/// The line that `replay` prints about a text, and the exit status: 0 with the audit of a history
+/// that is legal and, if they are checked, whose retries are right; 1 with the first fault of any
+/// other text.
 ///
 /// The only fault is `Memory`.
 pub fn run_replay(
@@ -32,7 +33,7 @@ pub fn run_replay(
     Ok((verdict.line(alloc)?, verdict.status()))
 }
 
-// What the text is found to be.
+// The verdict on the text.
 fn verdict_of(alloc: Global, options: &ReplayOptions, text: &[u8]) -> Result<Verdict, BrokerFault>
     ensures verdict { IfOk result (IsVerdictOf options.now.chains text.now) }
     ensures each { (opening : Opening) (events : List Event) → IsRightOpening opening → AreRightEvents events
@@ -46,7 +47,7 @@ fn verdict_of(alloc: Global, options: &ReplayOptions, text: &[u8]) -> Result<Ver
     }
 }
 
-// What the history is found to be, at most 1,000,000 events.
+// The verdict on the history, which has at most 1,000,000 events.
 fn judged(alloc: Global, options: &ReplayOptions, history: &History) -> Result<Verdict, BrokerFault>
     requires { length history.now.events ≤ MOST_EVENTS }
     ensures verdict { IfOk result (IsVerdictOn options.now.chains history.now.opening history.now.events) }

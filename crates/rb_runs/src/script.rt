@@ -15,12 +15,14 @@ use rb_timer::Timer;
 use std::alloc::Global;
 use std::io::{Read, Write};
 
-/// Runs one session over the queue of an opening, from a reader to a writer, and then writes the run's
-/// history, where something is to have it.
+/// Runs one session over the queue of an opening, from a reader to a writer, and then writes the
+/// run's history, if there is a device for it.
 ///
-/// The room for the calls is taken before the first read. What is written to the writer is the text of
-/// the session, whichever timer is chosen. The history is written also after a session that ended by a
-/// fault, which is the one that is answered; but not after `Memory`, where nothing was read.
+/// It takes the room for the calls before the first read. The writer gets the text of the session,
+/// whichever timer is chosen. The history is also written after a session that ended with a fault,
+/// which is then returned; but not after `Memory`, since nothing was read. Other faults are those
+/// of the session, `WriteHistory` if the device failed, and `Memory` if there is not enough for the
+/// history's text.
 pub fn run_script<R: Read, W: Write, H: Write>(
     alloc: Global,
     options: &ScriptOptions,
@@ -54,7 +56,7 @@ fn run_on<T: Timer, R: Read, W: Write, H: Write>(
     ensures { Exchanges (R.remaining reader.old) (R.remaining reader.new) (W.contents writer.old) (W.contents writer.new) (λ came sent.
         RanScript H.contents policy.now calls (IsAtEnd (R.remaining reader.new)) opening came sent result history.old history.new) }
 {
-    // The number of calls is in range, so that memory alone can be missing.
+    // The number of calls is in range, so only memory can be missing.
     let Ok((mut kept, mut tally)) = Kept::<T>::new_from(alloc, calls, opening) else {
         return Err(BrokerFault::Memory);
     };
@@ -70,7 +72,7 @@ fn run_on<T: Timer, R: Read, W: Write, H: Write>(
     finish(alloc, &kept, ended, history)
 }
 
-// Writes the run's history and answers how the run ends.
+// Writes the run's history and returns how the run ends.
 fn finish<T: Timer, H: Write>(
     alloc: Global,
     kept: &Kept<T>,
@@ -91,7 +93,8 @@ fn finish<T: Timer, H: Write>(
     }
 }
 
-// Writes the history after a session that ended by a fault, but for want of memory: it was not begun.
+// Writes the history after a session that ended with a fault, unless that is `Memory`: then the
+// session never began.
 fn record_broken<T: Timer, H: Write>(
     alloc: Global,
     kept: &Kept<T>,
@@ -103,6 +106,6 @@ fn record_broken<T: Timer, H: Write>(
     if let SessionFault::Memory = fault {
         return;
     }
-    // The session's fault is the one that is answered.
+    // The session's fault is the one that is returned.
     let _ = record(alloc, kept, history);
 }

@@ -5,24 +5,25 @@ use rb_queue::Audit;
 use rb_replay::{ChainReason, Reason, TextReason};
 use std::alloc::Global;
 
-/// What the text of a history is found to be.
+/// The verdict on the text of a history.
 #[derive(Clone, Copy, Debug, PartialEq, Eq)]
 pub enum Verdict {
-    /// It is no history's text: the line of this number, from 1, has the first fault.
+    /// It is not a history: the line of this number, counted from 1, has the first fault.
     Unreadable { line: u64, reason: TextReason },
-    /// The history is not legal: the event of this index, from 0, is the first that is not allowed.
+    /// The history is not legal: the event of this index, counted from 0, is the first that is not
+    /// allowed.
     Refused { index: u64, reason: Reason },
-    /// The history is legal, and the event of this index, from 0, is the first that offers no right
-    /// attempt of a job.
+    /// The history is legal, but the event of this index, counted from 0, is the first whose offer
+    /// is not a right attempt of a job.
     Unchained { index: u64, reason: ChainReason },
-    /// The history is legal, its retries are right where they were checked, and it came to this.
+    /// The history is legal, its retries are right if they were checked, and these are its counts.
     Accepted(Audit),
 }
 
 impl Verdict {
     ghost use Rattle.rb_runs.specs.Verdict.{verdict_text, status_of_verdict};
 
-    /// The line that tells the verdict. The only fault is `Memory`.
+    /// The line that `replay` prints. The only fault is `Memory`.
     pub fn line(&self, alloc: Global) -> Result<String, BrokerFault>
         ensures text { IfOk result (λ line. string_bytes line ≡ verdict_text self.now) }
         ensures fault { IfErr result (λ fault. fault ≡ BrokerFault.Memory) }
@@ -44,7 +45,7 @@ impl Verdict {
         }
     }
 
-    /// The exit status: 0 where the history is accepted, else 1.
+    /// The exit status: 0 if the history is accepted, 1 if it is not.
     pub fn status(&self) -> u8
         ensures { result ≡ status_of_verdict self.now }
     {

@@ -34,7 +34,7 @@ module _ (seat : ℕ) (opening : Opening) where
       one_counted (event.seat == seat) (record { event = event; reply = reply_of opening (before ++ event ∷ []) }) event _ (events_of events seat)
       (length_own (before ++ event ∷ []) events)
 
-  -- the seat's events behind a history follow those of the history
+  -- the seat's events after a history follow those of the history
   made_by-more : (events more : List Event) → made_by seat opening (events ++ more)
       ≡ made_by seat opening events ++ filter (λ (made : Made). made.event.seat == seat) (made_after opening events more)
   made_by-more events more =
@@ -55,7 +55,7 @@ module _ (seat : ℕ) (opening : Opening) where
       made_by-more events (event ∷ [])
       ∙ ap (λ (own : Bool). made_by seat opening events ++ cond own (record { event = event; reply = reply_of opening (events ++ event ∷ []) } ∷ []) []) (eq-eqb event.seat seat is)
 
--- how many events of the seat stand behind a history
+-- how many events of the seat follow a history
 counted : (seat : ℕ) (events more : List Event) → length (events_of (events ++ more) seat) ≡ length (events_of events seat) + length (events_of more seat)
 counted seat events more =
     ap length (filter-append (λ (event : Event). event.seat == seat) events more) ∙ length-append (events_of events seat) (events_of more seat)
@@ -108,7 +108,7 @@ module _ {C G : Type 0} (gives : C → ℕ → Type 0) (stops : G → ℕ → Ty
       → made_by new.pass.name new.pass.opening new.pass.seen ≡ mades → made_through new ≡ drop old.before mades
   through result steps mades is = ap made_through steps.stays ∙ ap (drop old.before) is
 
-  -- where the pass made no call more, neither did the desk
+  -- if the pass made no more calls, neither did the desk
   none_more : (result : Result Reply DeskFault) → SharedSteps gives stops old handed ask result new → new.pass.mine ≡ old.pass.mine → made_through new ≡ made_through old
   none_more result steps same =
       through result steps (made_by old.pass.name old.pass.opening old.pass.seen) (own_stays old.pass new.pass steps.sound steps.learns same)

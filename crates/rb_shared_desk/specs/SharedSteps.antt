@@ -61,7 +61,7 @@ module _ {C G : Type 0} where
     folded = state.pass.folded;
   }
 
-  -- the pass's events behind those that it had made when the desk was made
+  -- the pass's events after those that it had made when the desk was made
   abbrev pub made_through : SharedState C G → List Made
   made_through state = drop state.before (made_by state.pass.name state.pass.opening state.pass.seen)
 

@@ -14,9 +14,9 @@ use std::time;
 
 /// A desk over a shared queue, at the readings of a clock that can't be set.
 ///
-/// Its calls are those of its pass, and each waits while another pass calls. A take and a timed poll wait
-/// besides until they are answered, or the gate stops them. An offer rings the bell, so that the waits of
-/// other desks try again.
+/// Its calls are those of its pass, and each waits while another pass calls. A take and a timed
+/// poll also wait until they are answered or the gate stops them. An offer rings the bell, so that
+/// the waiting calls of other desks try again.
 pub struct SharedDesk<'a, T: Timer, C: Clock, G: Gate, R: Wait + time::Clock> {
     rt: &'a R,
     shared: &'a Shared<T>,
@@ -24,15 +24,15 @@ pub struct SharedDesk<'a, T: Timer, C: Clock, G: Gate, R: Wait + time::Clock> {
     clock: &'a C,
     gate: &'a mut G,
     bell: &'a Bell,
-    // The pass as it was when the desk was made, which proofs alone read.
+    // The pass as it was when the desk was made, which only proofs read.
     start: Snapshot<Pass<T>>,
     ghost of: { pass.now.table ≡ shared.now },
     ghost earlier: { length start.value.mine ≤ length pass.now.mine },
 }
 
 impl<'a, T: Timer, C: Clock, G: Gate, R: Wait + time::Clock> SharedDesk<'a, T, C, G, R> {
-    /// A desk that calls through this pass, which is one of this queue. Its waits read the clock, and end
-    /// where the gate says no.
+    /// A desk that calls through this pass, which must be one of this queue. Its waits read the
+    /// clock, and end when the gate says no.
     pub fn new(
         rt: &'a R,
         shared: &'a Shared<T>,
@@ -58,7 +58,7 @@ impl<'a, T: Timer, C: Clock, G: Gate, R: Wait + time::Clock> SharedDesk<'a, T, C
     }
 }
 
-// Why a wait was not answered, as a desk says it.
+// Why a wait got no reply, as a desk's fault.
 fn desk_fault_of(fault: WaitFault) -> DeskFault
     ensures { result ≡ fault_of_wait fault }
 {
@@ -68,7 +68,7 @@ fn desk_fault_of(fault: WaitFault) -> DeskFault
     }
 }
 
-// By hand, to say that what the pass has seen stays with its owner.
+// Written by hand, to say that what the pass has seen stays with its owner.
 impl<'a, T: Timer, C: Clock, G: Gate, R: Wait + time::Clock> Drop for SharedDesk<'a, T, C, G, R> {
     fn drop(self)
         ensures pass { self.exit.1.1.0.now ≡ self.entry.pass.now }
@@ -112,7 +112,7 @@ impl<'a, T: Timer, C: Clock, G: Gate, R: Wait + time::Clock> Desk for SharedDesk
 
     #[tactic(auto, using(crate::proofs::SharedEndings::few_through, crate::proofs::SharedEndings::ends_refused, crate::proofs::SharedEndings::ends_replied))]
     fn call(&mut self, asked: u64, ask: Ask) -> Result<Reply, DeskFault> {
-        // The proof reads here that the pass has seen a legal history.
+        // The proof learns here that the pass has seen a legal history.
         let _ = self.pass.name();
         let (rt, shared, clock, bell) = (self.rt, self.shared, self.clock, self.bell);
         match ask {

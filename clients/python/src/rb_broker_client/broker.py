@@ -46,11 +46,11 @@ class Broker:
         return self.ask(requests.offer_at(expiry, payload))
 
     def poll(self) -> Optional[Item]:
-        """Takes a job that has expired, or gives None where there is none."""
+        """Takes a job that has expired, or returns None if there is none."""
         return self.ask(requests.poll())
 
     def poll_for(self, timeout: int) -> Optional[Item]:
-        """Takes a job, and waits for one up to `timeout`. Gives None where none has expired by then."""
+        """Takes a job, waiting for one up to `timeout`. Returns None if none has expired by then."""
         return self.ask(requests.poll_for(timeout))
 
     def take(self) -> Item:
@@ -59,7 +59,7 @@ class Broker:
         return self.ask(requests.take())
 
     def peek(self) -> Optional[Item]:
-        """Shows an element of least expiry, expired or not, or gives None where the queue is empty."""
+        """Shows an element of least expiry, expired or not, or returns None if the queue is empty."""
         return self.ask(requests.peek())
 
     def drain(self, most: int) -> List[Item]:
@@ -112,21 +112,21 @@ class Broker:
         return answer
 
     def ask_all(self, questions: Iterable[Request[Answer]]) -> List[Union[Answer, Refused, Stopped]]:
-        """Sends requests in one piece, of any number, and gives the answer to each. A request that was refused, or
-        whose wait was given up, has that exception in its place."""
+        """Sends any number of requests in one piece, and returns the answer to each. For a request that was refused, or
+        whose wait was given up, the answer is that exception."""
         if self._unanswered:
             raise RuntimeError(f"{len(self._unanswered)} replies have to be received first")
         self.send(*questions)
         return [self._receive_either() for _ in range(len(self._unanswered))]
 
     def send(self, *questions: Request[Any]) -> None:
-        """Sends requests in one piece, and waits for no reply. Where this raises an `OSError`, some may have been
+        """Sends requests in one piece, and waits for no reply. If this raises an `OSError`, some may have been
         served."""
         self._unanswered.extend(questions)
         self._connection.send(b"".join(it.line + b"\n" for it in questions))
 
     def receive(self) -> Any:
-        """The answer to the first request that was sent and has none yet. Its refusal is raised."""
+        """The answer to the first request that has none yet. A refusal is raised."""
         if not self._unanswered:
             raise RuntimeError("no reply is due")
         try:
@@ -146,7 +146,7 @@ class Broker:
         return len(self._unanswered)
 
     def is_lost(self) -> bool:
-        """Whether the server is known to have ended the session. Where it is not known, it may have all the same."""
+        """Whether the server is known to have ended the session. If not, it may have ended it all the same."""
         return self._connection.is_lost()
 
     def fileno(self) -> int:

@@ -63,7 +63,7 @@ class Connection:
             self._receive()
 
     def is_lost(self) -> bool:
-        """Whether the connection is known to have ended. Where it is not known, it may have ended all the same."""
+        """Whether the connection is known to have ended. If not, it may have ended all the same."""
         try:
             self._receive()
         except OSError:

@@ -1,7 +1,7 @@
 """What may become of a request other than its answer, as exceptions.
 
-A connection that is lost raises an `OSError`, of which `Disconnected` and `TimeoutError` are kinds. All else is
-a `BrokerError`.
+A connection that is lost raises an `OSError`, of which `Disconnected` and `TimeoutError` are kinds. Anything else
+is a `BrokerError`.
 """
 from __future__ import annotations
 

@@ -1,8 +1,8 @@
-"""Reads reply lines: the values that they tell, and a reader for each kind of reply.
+"""Reads reply lines: their values, and a reader for each kind of reply.
 
 A reader takes the lines of one reply, as words, from a function that gives the next line. It raises `Refused`
-for a line `ERR`, `Stopped` where the request may wait, and `UnknownReply` for all that is not its reply. It is as
-strict as the protocol: one space between two words, numbers without leading zeros, payloads of printable ASCII.
+for a line `ERR`, `Stopped` if the request may wait, and `UnknownReply` for anything else that is not its reply. It
+is as strict as the protocol: one space between two words, numbers without leading zeros, payloads of printable ASCII.
 """
 from __future__ import annotations
 
@@ -173,7 +173,7 @@ def _demand(words: Words, line: str) -> None:
 
 
 def _numbers(words: Words, keyword: str, count: int) -> List[int]:
-    """The numbers behind the keyword of a reply."""
+    """The numbers after the keyword of a reply."""
     if words[0] != keyword or len(words) != 1 + count or not all(_NUMBER.fullmatch(it) for it in words[1:]):
         raise UnknownReply(" ".join(words))
     numbers = [int(it) for it in words[1:]]

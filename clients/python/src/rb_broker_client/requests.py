@@ -92,7 +92,7 @@ def size() -> Request[int]:
 
 
 def quit() -> Request[None]:
-    """Ends the session. Nothing behind it is served."""
+    """Ends the session. Nothing after it is served."""
     return _request("QUIT", replies.read_bye)
 
 

@@ -14,7 +14,7 @@ class Element(NamedTuple):
 
 
 class History:
-    """The elements of one run or of several, each of which went on behind the one before."""
+    """The elements of one run or of several, each of which continued the one before."""
 
     def __init__(self, *paths: str) -> None:
         self.elements: Dict[int, Element] = {}

@@ -19,7 +19,7 @@ LONGEST = 600  # seconds after which a server is killed, so that no test lasts f
 
 
 def start(words, **options):
-    """Starts a process that does not outlive the tests, also where they are broken off."""
+    """Starts a process that does not outlive the tests, even if they are interrupted."""
     process = subprocess.Popen(words, stdout=subprocess.PIPE, **options)
     atexit.register(process.kill)
     return process
@@ -84,7 +84,7 @@ class ServedTest(unittest.TestCase):
         return server
 
     def gather(self, server, count, is_done):
-        """So many workers of the server's port."""
+        """This many workers of the server's port."""
         crew = Crew(server.port, count, is_done)
         self.addCleanup(crew.stop)
         return crew

@@ -1,4 +1,4 @@
-"""The readers of replies, over lines. What they must read stands in docs/PROTOCOL.md."""
+"""The readers of replies, over lines. docs/PROTOCOL.md says what they must read."""
 import unittest
 
 from rb_broker_client import (

@@ -6,12 +6,12 @@ use std::process::Abort;
 
 // Each comparison is a function with no clause, which is proved once and not at each use.
 
-/// Compares what came of these words with what was to come of them.
+/// Compares what these words were read as with what they should be read as.
 pub fn expect_same<T: PartialEq + Debug>(rt: &impl Abort, words: &[&str], found: &T, wanted: &T) {
     assert_eq!(rt; found, wanted, "{words:?}");
 }
 
-/// What was to hold of these words holds.
+/// Expects that this holds of these words.
 pub fn expect(rt: &impl Abort, words: &[&str], holds: bool) {
     assert!(rt; holds, "{words:?}");
 }

@@ -121,7 +121,7 @@ impl Line<'_, '_> {
     }
 }
 
-// The words in front with the option of this number, or, where it is not alone, with all others.
+// The words in front with the option of this number, or, if it is not alone, with all others.
 fn chosen<'a>(
     alloc: Global,
     front: &[&'a str],

@@ -7,7 +7,7 @@ use rb_retry::Policy;
 use std::alloc::Global;
 use std::process::Abort;
 
-// The files that a script is given: that of its history and that behind which it goes on.
+// The files that a script is given: the one for its history and the one that it continues.
 fn files(asked: &Option<Words>) -> Option<(Option<&str>, Option<&str>)> {
     match asked {
         Some(Words::Script { history, from, .. }) => Some((history.as_deref(), from.as_deref())),

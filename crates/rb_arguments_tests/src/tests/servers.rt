@@ -122,7 +122,7 @@ fn takes_the_greatest_numbers(rt: HostRuntime) {
     }
 }
 
-// The files that a server is given: that of its history and that behind which it goes on.
+// The files that a server is given: the one for its history and the one that it continues.
 fn files(asked: &Option<Words>) -> Option<(Option<&str>, Option<&str>)> {
     match asked {
         Some(Words::Serve { history, from, .. }) => Some((history.as_deref(), from.as_deref())),

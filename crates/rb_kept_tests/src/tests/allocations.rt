@@ -270,7 +270,7 @@ fn events(history: &History, rounds: u64) -> u64 {
     right
 }
 
-// A timer, but for its room.
+// A timer, except for its room.
 fn timers<T: Timer>(alloc: Global, timer: &mut T, rounds: u64) -> u64 {
     let mut right = 0_u64;
     for round in 0..rounds {
@@ -324,7 +324,7 @@ fn draft(rt: &impl Abort, expiry: u64) -> Draft {
     Draft::first(expiry, payload(rt, b"a"))
 }
 
-// A queue, but for its offers and drains.
+// A queue, except for its offers and drains.
 fn queues<T: Timer>(alloc: Global, queue: &mut DelayQueue<T>, rounds: u64) -> u64 {
     let mut right = 0_u64;
     for round in 0..rounds {
@@ -352,7 +352,7 @@ fn empty<T: Timer>(queue: &mut DelayQueue<T>, rounds: u64) {
     }
 }
 
-// A kept queue, but for its offers and drains.
+// A kept queue, except for its offers and drains.
 fn kept_queues<T: Timer>(kept: &mut Kept<T>, tally: &mut Tally, rounds: u64) -> u64 {
     let mut right = 0_u64;
     for round in 0..rounds {

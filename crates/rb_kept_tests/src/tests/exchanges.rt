@@ -65,7 +65,7 @@ pub fn records_drain(
     Line::Last(asked, asked, drained_act(rt, alloc, max, entries))
 }
 
-/// Expects these lines of a new queue with room for so many calls.
+/// Expects these lines of a new queue with room for this many calls.
 pub fn expect_lines(rt: &impl Abort, alloc: Global, capacity: u64, lines: &[Line]) {
     let mut run = Run::new(rt, alloc, capacity);
     run.expect_lines(rt, lines);

@@ -186,7 +186,7 @@ fn drained_by(step: &Step) -> &[Element] {
     }
 }
 
-// Drains so many of equal expiry, which may come in any order.
+// Drains this many of equal expiry, which may come in any order.
 fn drains(rt: &impl Abort, run: &mut HeapRun, ticks: &mut [bool], moment: u64, drain: (u64, u64)) {
     let step = asks(run, moment, Ask::Drain(drain.0));
     expect_number(rt, drained_by(&step).len() as u64, drain.1);

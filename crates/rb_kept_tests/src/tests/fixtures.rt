@@ -224,7 +224,7 @@ pub fn expect_new_fault(
     assert_eq!(rt; fault, wanted, "{what} {capacity}");
 }
 
-/// An opening with its fault, where one was handed back.
+/// An opening with its fault, if one was handed back.
 pub fn expect_handed_back(
     rt: &impl Abort,
     refused: &Option<(Opening, NewFault)>,

@@ -140,7 +140,7 @@ fn asks<T: Timer>(caller: &mut Caller<T>, ask: Ask) -> Step {
     caller.kept.act(&mut caller.tally, 0, 95, ask)
 }
 
-// Asks at 95, and once more where that was refused.
+// Asks at 95, and again after a refusal.
 fn answered<T: Timer>(rt: &impl Abort, caller: &mut Caller<T>, ask: Ask) -> Step {
     let (before, again) = (snapshot(caller), ask);
     match asks(caller, ask) {
@@ -232,7 +232,7 @@ fn runs_once<T: Timer>(rt: &impl Abort, alloc: Global, caller: &mut Caller<T>) -
     has_run
 }
 
-// Offers element 20 in a run, once more where that was refused.
+// Offers element 20 in a run, again after a refusal.
 fn runs<T: Timer>(rt: &impl Abort, alloc: Global, caller: &mut Caller<T>) {
     let has_run = runs_once(rt, alloc, caller) || runs_once(rt, alloc, caller);
     expect(rt, has_run, "no memory for a run");
@@ -272,7 +272,7 @@ fn expect_events(rt: &impl Abort, opening: &Opening, history: &[Event]) {
     }
 }
 
-// Places count the opening's elements and the events behind them.
+// Places count the opening's elements and the events after them.
 fn expect_event(rt: &impl Abort, found: &Event, place: u64) {
     expect_number(rt, found.seat, 0);
     expect_number(rt, found.asked, 95);
@@ -331,7 +331,7 @@ fn expect_calls(rt: &impl Abort, audit: Audit, totals: Totals) {
     expect_number(rt, totals.given, 21);
 }
 
-// Makes each call that may want memory, and answers how often it was refused.
+// Makes each call that may want memory, and returns how often it was refused.
 pub fn run_through<T: Timer>(rt: &impl Abort, alloc: Global) -> u32 {
     let mut caller = made::<T>(rt, alloc);
     offers_many(rt, &mut caller);

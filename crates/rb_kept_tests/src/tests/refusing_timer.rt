@@ -1,7 +1,7 @@
 use rb_timer::Timer;
 use std::alloc::{AllocError, Global};
 
-/// A timer that answers want of memory once, at the first room above `MOST`, as its contract allows.
+/// A timer that says once that there is no memory, at the first room above `MOST`, as its contract allows.
 #[derive(Debug, Drop)]
 pub struct RefusingTimer<T: Timer, const MOST: usize> {
     timer: T,

@@ -177,7 +177,7 @@ fn expect_run_of_twelve(rt: &impl Abort, alloc: Global, run: &mut Run) {
     expect_eleven_events(rt, alloc, run.kept.history());
 }
 
-// A wait is a step too, and the tries behind it are made.
+// A wait is a step too, and the tries after it are made.
 #[test]
 fn each_ask_is_recorded_by_its_own_act(rt: HostRuntime) {
     let mut run = Run::new(&rt, rt.alloc(), 11);
@@ -189,7 +189,7 @@ fn expect_no_step(rt: &impl Abort, alloc: Global, run: &mut Run) {
     expect_steps(rt, &steps, &[]);
 }
 
-// Before the first event, behind the first, and once the history is full.
+// Before the first event, after the first, and once the history is full.
 fn runs_of_no_tries(rt: &impl Abort, alloc: Global, run: &mut Run) {
     expect_no_step(rt, alloc, run);
     run.expect_audit(rt, [0; 7]);
@@ -213,7 +213,7 @@ fn a_run_of_no_tries_changes_nothing(rt: HostRuntime) {
     runs_of_no_tries(&rt, rt.alloc(), &mut run);
 }
 
-// The same behind an opening, which stays as it was too.
+// The same after an opening, which stays as it was too.
 fn runs_of_no_tries_from_two(rt: &impl Abort, alloc: Global, run: &mut Run) {
     expect_no_step(rt, alloc, run);
     run.expect_audit(rt, [0, 0, 0, 0, 0, 2, 2]);

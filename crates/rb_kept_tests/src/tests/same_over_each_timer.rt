@@ -42,7 +42,7 @@ struct Row<'a> {
     audit: [u64; 7],
 }
 
-// What a run over a queue of its own came to.
+// How a run over a queue of its own came out.
 #[derive(Drop)]
 struct RunEnd {
     steps: Vec<Step>,

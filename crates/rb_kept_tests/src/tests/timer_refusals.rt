@@ -43,7 +43,7 @@ fn takes<T: Timer>(timer: &mut T, slot: usize) -> bool {
     timer.remove(slot) == expiry_of(slot)
 }
 
-// The timer has just so many slots, and an entry in each.
+// The timer has exactly this many slots, and an entry in each.
 fn expect_filled<T: Timer>(rt: &impl Abort, timer: &T, count: usize) {
     expect_number(rt, timer.room() as u64, count as u64);
     expect_number(rt, timer.len() as u64, count as u64);
@@ -57,7 +57,7 @@ fn expect_filled<T: Timer>(rt: &impl Abort, timer: &T, count: usize) {
     }
 }
 
-// Asks a filled timer for room, once more where that was refused, and answers how often it was.
+// Asks a filled timer for room, again after a refusal, and returns how often it was.
 fn reserves<T: Timer>(rt: &impl Abort, timer: &mut T, count: usize, wanted: usize) -> u32 {
     if timer.reserve(wanted).is_ok() {
         return 0;
@@ -126,7 +126,7 @@ fn has_run<T: Timer>(rt: &impl Abort, alloc: Global, timer: &mut T) -> bool {
     }
 }
 
-// Runs the commands, once more where that was refused, and answers how often it was.
+// Runs the commands, again after a refusal, and returns how often it was.
 fn runs<T: Timer>(rt: &impl Abort, alloc: Global, timer: &mut T) -> u32 {
     if has_run(rt, alloc, timer) {
         return 0;
@@ -157,7 +157,7 @@ fn refusals_over<T: Timer>(rt: &impl Abort, alloc: Global) -> u32 {
     growing.saturating_add(running)
 }
 
-/// Makes the calls of each timer that may want memory, and answers how often they were refused.
+/// Makes the calls of each timer that may want memory, and returns how often they were refused.
 pub fn timer_refusals(rt: &impl Abort, alloc: Global) -> u32 {
     let list = refusals_over::<ListTimer>(rt, alloc);
     let heap = refusals_over::<BinaryTimer>(rt, alloc);

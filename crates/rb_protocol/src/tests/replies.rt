@@ -123,7 +123,7 @@ fn fits_the_room(rt: &impl Abort, alloc: Global, longest: &LineReply) {
     expect_number(rt, text.capacity(), 128);
 }
 
-// A text of so many bytes, with room for so many more.
+// A text of this many bytes, with room for this many more.
 fn with_room(alloc: Global, length: usize, room: usize) -> Result<Vec<u8>, AllocError> {
     let mut text = Vec::with_capacity(alloc, length.saturating_add(room))?;
     text.resize(length, b'x')?;
@@ -159,7 +159,7 @@ fn a_reply_is_appended(rt: HostRuntime) -> Result<(), Fail> {
     Ok(())
 }
 
-// A text that a reply was written behind.
+// A text to which a reply was appended.
 #[derive(Drop)]
 struct Behind {
     text: Vec<u8>,
@@ -181,7 +181,7 @@ fn written_behind(
     })
 }
 
-// Whether this line stands behind so many bytes, and nothing behind it.
+// Whether the text is this many bytes, this line and nothing else.
 fn stands_behind(text: &[u8], length: usize, line: &[u8]) -> bool {
     match text.get(length..) {
         Some(rest) => rest == line,
@@ -224,7 +224,7 @@ fn expect_capacity(rt: &impl Abort, capacity: usize, wanted: usize) {
     assert_eq!(rt; capacity, wanted);
 }
 
-// The reply is written behind a text, be it short or long, with room for it and without.
+// The reply is appended to a text, short or long, with room for it and without.
 fn expect_behind(rt: &impl Abort, alloc: Global, reply: &LineReply, line: &str) {
     for length in [0_usize, 10, 1_000, 100_000] {
         expect_in_room(rt, alloc, reply, line, length);

@@ -10,7 +10,7 @@ fn payload(rt: &impl Abort, bytes: &[u8]) -> Payload {
     Payload::new(bytes).ok().expect(rt, "a payload")
 }
 
-// The front with so many `a` behind it.
+// The front, followed by this many `a`.
 fn with_letters(alloc: Global, front: &[u8], count: usize) -> Result<Vec<u8>, AllocError> {
     let mut line = front.to_vec(alloc)?;
     for _ in 0..count {
@@ -180,7 +180,7 @@ fn refuses_other_numbers(rt: HostRuntime) {
     refuses(&rt, &lines, LineFault::Number);
 }
 
-// The front with so many `a` behind it is refused.
+// The front, followed by this many `a`, is refused.
 fn refuses_letters(
     rt: &impl Abort,
     alloc: Global,

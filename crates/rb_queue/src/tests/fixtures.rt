@@ -17,7 +17,7 @@ pub fn expect_number(rt: &impl Abort, number: u64, wanted: u64, at: u64) {
     assert_eq!(rt; number, wanted, "at {at}");
 }
 
-// The number in the message is the greatest where there is none.
+// The number in the message is the greatest if there is none.
 pub fn expect_moment(rt: &impl Abort, moment: Option<u64>, wanted: Option<u64>, at: u64) {
     expect_number(
         rt,
@@ -28,7 +28,7 @@ pub fn expect_moment(rt: &impl Abort, moment: Option<u64>, wanted: Option<u64>, 
     expect(rt, moment == wanted, at);
 }
 
-/// The id, or the greatest number where there is none.
+/// The id, or the greatest number if there is none.
 pub fn id_in(found: &Option<Element>) -> u64 {
     match *found {
         Some(element) => element.id,
@@ -125,7 +125,7 @@ pub fn standing(
     Ok(Items::new(elements))
 }
 
-/// So many elements of one expiry, in the order of their ids, with room for a further one.
+/// This many elements of one expiry, in the order of their ids, with room for one more.
 pub fn many(rt: &impl Abort, alloc: Global, count: u64) -> Result<Vec<Element>, AllocError> {
     let mut elements = Vec::with_capacity(alloc, 1_000_001)?;
     let payload = payload(rt, b"job");
@@ -145,7 +145,7 @@ pub fn begun(rt: &impl Abort, alloc: Global, opening: &Opening) -> ListQueue {
         .expect(rt, "a queue")
 }
 
-/// Offers a draft, where there is an id left.
+/// Offers a draft, if an id is left.
 pub fn offered<T: Timer>(
     rt: &impl Abort,
     queue: &mut DelayQueue<T>,
@@ -209,7 +209,7 @@ pub fn drained(rt: &impl Abort, queue: &mut ListQueue, now: u64, max: u64) -> It
     queue.drain(now, max).ok().expect(rt, "drained elements")
 }
 
-/// Expects so many elements in the queue, and this next id.
+/// Expects this many elements in the queue, and this next id.
 pub fn expect_size(rt: &impl Abort, queue: &ListQueue, size: u64, next_id: u64) {
     expect_number(rt, queue.size(), size, next_id);
     expect_number(rt, queue.next_id(), next_id, size);

@@ -56,7 +56,7 @@ fn expect_rank(rt: &impl Abort, element: Element, rank: u64) {
     expect_found(rt, Some(element), Some(element_at(rt, rank)), rank);
 }
 
-// Drains, which gives so many elements from this rank on.
+// Drains, which gives this many elements, beginning with this rank.
 fn expect_part(
     rt: &impl Abort,
     queue: &mut ListQueue,

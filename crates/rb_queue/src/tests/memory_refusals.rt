@@ -39,7 +39,7 @@ fn expect_shown<T: Timer>(rt: &impl Abort, queue: &DelayQueue<T>, wanted: Shown)
     expect_moment(rt, queue.next_expiry(), wanted.3, 3);
 }
 
-// Five elements. Their memory is asked for again where it was refused.
+// Five elements. Their memory is asked for again after a refusal.
 fn five(rt: &impl Abort, alloc: Global) -> Result<Items, AllocError> {
     let entries = [(0, 100), (1, 99), (2, 98), (3, 97), (4, 96)];
     match standing(rt, alloc, &entries) {
@@ -91,7 +91,7 @@ fn drained_again<T: Timer>(
     }
 }
 
-// The items are to be so many elements, from the id `last` down.
+// The items must be this many elements, from the id `last` down.
 fn expect_down_from(rt: &impl Abort, items: &[Element], last: u64, count: u64) {
     expect_number(rt, items.len() as u64, count, last);
     let mut id = last;
@@ -101,7 +101,7 @@ fn expect_down_from(rt: &impl Abort, items: &[Element], last: u64, count: u64) {
     }
 }
 
-// Offers an element again where it was refused, and answers how often it was.
+// Offers an element again after each refusal, and returns how often it was refused.
 fn offers<T: Timer>(
     rt: &impl Abort,
     queue: &mut DelayQueue<T>,
@@ -112,7 +112,7 @@ fn offers<T: Timer>(
     Ok(times)
 }
 
-// Offers elements 5 to 19, and answers how often it was refused.
+// Offers elements 5 to 19, and returns how often it was refused.
 fn offers_many<T: Timer>(rt: &impl Abort, queue: &mut DelayQueue<T>) -> Result<u32, AllocError> {
     let mut refused = 0_u32;
     for id in 5..COUNT {
@@ -121,7 +121,7 @@ fn offers_many<T: Timer>(rt: &impl Abort, queue: &mut DelayQueue<T>) -> Result<u
     Ok(refused)
 }
 
-// Drains at most `max`, which are so many elements from the id `last` down, and answers how
+// Drains at most `max`, which are this many elements from the id `last` down, and answers how
 // often it was refused.
 fn drains<T: Timer>(
     rt: &impl Abort,
@@ -134,7 +134,7 @@ fn drains<T: Timer>(
     Ok(refused)
 }
 
-// Drains seven, and then all, and answers how often it was refused.
+// Drains seven, and then all, and returns how often it was refused.
 fn drains_twice<T: Timer>(rt: &impl Abort, queue: &mut DelayQueue<T>) -> Result<u32, AllocError> {
     let few = drains(rt, queue, (90, 7), (19, 7))?;
     let all = drains(rt, queue, (u64::MAX, u64::MAX), (12, 13))?;
@@ -152,7 +152,7 @@ fn offers_and_drains<T: Timer>(
     Ok(offering.saturating_add(draining))
 }
 
-// Begins, offers and drains, each call made again where it was refused, and gives the number of
+// Begins, offers and drains, each call made again after a refusal, and returns the number of
 // refusals. After a refusal all is as before it: what a queue shows then, and each element that it
 // gives up to the end.
 fn run_through<T: Timer>(rt: &impl Abort, alloc: Global) -> Result<u32, AllocError> {

@@ -55,7 +55,7 @@ fn expect_offer_of_last(rt: &impl Abort, queue: &mut ListQueue) {
     expect_offered(rt, queue, draft, last(rt));
 }
 
-// Where a draft names no origin, the element's own id and expiry stand for it. What comes out is
+// If a draft names no origin, the element's own id and expiry take its place. What comes out is
 // what was answered at the offer.
 #[test]
 fn an_element_has_the_fields_of_its_draft(rt: HostRuntime) {

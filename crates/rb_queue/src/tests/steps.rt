@@ -5,7 +5,7 @@ use crate::tests::fixtures::{
 use std::alloc::Global;
 use std::process::Abort;
 
-/// A call, and what it is to answer. A test is a row of steps: each call in its own place would be
+/// A call, and its right answer. A test is a row of steps: each call in its own place would be
 /// proved anew.
 #[derive(Clone, Copy)]
 pub enum Step<'a> {
@@ -21,11 +21,11 @@ pub enum Step<'a> {
     NoHead,
     /// A removal of this id, which is found or is not.
     Remove(u64, bool),
-    /// A drain at this moment of at most so many gives elements of these ids and expiries.
+    /// A drain at this moment of at most this many gives elements of these ids and expiries.
     Drain(u64, u64, &'a [(u64, u64)]),
     /// The queue is cleared.
     Clear,
-    /// There are so many elements, and this is the next id.
+    /// There are this many elements, and this is the next id.
     Size(u64, u64),
 }
 
@@ -56,7 +56,7 @@ pub fn expect_steps(rt: &impl Abort, queue: &mut ListQueue, steps: &[Step<'_>]) 
     }
 }
 
-/// Makes the steps from an empty queue on.
+/// Makes the steps, beginning with an empty queue.
 pub fn expect_run(rt: &impl Abort, alloc: Global, steps: &[Step<'_>]) {
     expect_steps(rt, &mut ListQueue::new(alloc), steps);
 }

@@ -12,7 +12,7 @@ use rb_timer::{ListTimer, Timer};
 use std::alloc::Global;
 use std::process::Abort;
 
-/// A kept queue with room for so many calls, and its tally.
+/// A kept queue with room for this many calls, and its tally.
 pub fn kept<T: Timer>(rt: &impl Abort, alloc: Global, calls: u64) -> (Kept<T>, Tally)
     ensures history { result.0.history ≡ [] }
     ensures tally { result.1 ≡ nothing }
@@ -23,7 +23,7 @@ pub fn kept<T: Timer>(rt: &impl Abort, alloc: Global, calls: u64) -> (Kept<T>, T
     }
 }
 
-/// A shared queue with room for so many calls, and its first pass.
+/// A shared queue with room for this many calls, and its first pass.
 pub fn opened(rt: &impl Abort, alloc: Global, calls: u64) -> (ListShared, ListPass)
     ensures { result.1.table ≡ result.0 }
 {
@@ -49,7 +49,7 @@ fn expect_offered(rt: &impl Abort, offered: Result<Reply, DeskFault>) {
     assert!(rt; offered.is_ok());
 }
 
-/// What a call comes to, in short: the id of an element that was taken, or a count.
+/// The outcome of a call, in short: the id of an element that was taken, or a count.
 fn number_of(reply: &Result<Reply, DeskFault>) -> Result<Option<u64>, DeskFault> {
     match reply {
         Ok(Reply::Item(element)) => Ok(Some(element.id)),
@@ -59,7 +59,7 @@ fn number_of(reply: &Result<Reply, DeskFault>) -> Result<Option<u64>, DeskFault>
     }
 }
 
-/// Makes a call, and looks at what it comes to.
+/// Makes a call, and compares its outcome.
 pub fn expect<D: Desk>(
     rt: &impl Abort,
     desk: &mut D,
@@ -81,7 +81,7 @@ fn expect_number_of(
     expect_same(rt, number_of(&reply), number);
 }
 
-/// Sets a desk's clock, and looks at what it answers.
+/// Sets a desk's clock, and compares the answer.
 pub fn expect_set<D: Desk>(rt: &impl Abort, desk: &mut D, moment: u64, wanted: Option<u64>)
     ensures name { D.name (D.state desk.new) ≡ D.name (D.state desk.old) }
 {
@@ -93,7 +93,7 @@ fn expect_moment(rt: &impl Abort, moment: Option<u64>, wanted: Option<u64>) {
     expect_same(rt, moment, wanted);
 }
 
-/// Room for so many jobs.
+/// Room for this many jobs.
 pub fn room(rt: &impl Abort, alloc: Global, count: usize) -> Vec<Job>
     ensures empty { vec_len result ≡ 0 }
     ensures capacity { vec_capacity result ≡ count }

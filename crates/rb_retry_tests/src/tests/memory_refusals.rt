@@ -340,7 +340,7 @@ fn held(jobs: &[Job]) -> (usize, Option<Element>) {
     (jobs.len(), jobs.last().map(|job| *job.element()))
 }
 
-// Memory of the test's own. It is asked for again where it was refused.
+// Memory of the test's own. It is asked for again after a refusal.
 fn room(alloc: Global) -> Result<Vec<Job>, AllocError> {
     match Vec::with_capacity(alloc, 100) {
         Ok(jobs) => Ok(jobs),
@@ -414,7 +414,7 @@ fn expect_state(rt: &impl Abort, found: KeptState, wanted: KeptState) {
     expect_same(rt, found, wanted);
 }
 
-// The same once more where it was refused, which has left the numbers, each event and the jobs. The
+// The same again after a refusal, which has left the numbers, each event and the jobs. The
 // elements are shown by the deeds after it. Answers how often it was refused.
 fn has_done_kept<T: Timer>(
     rt: &impl Abort,
@@ -449,14 +449,14 @@ fn expect_numbers(rt: &impl Abort, audit: Audit, totals: Totals) {
     );
 }
 
-// What all deeds come to.
+// The outcome of all deeds.
 fn expect_all(rt: &impl Abort, history: &[Event], audit: Audit, totals: Totals) {
     expect_number(rt, history.len() as u64, DEEDS);
     expect_history(rt, history);
     expect_numbers(rt, audit, totals);
 }
 
-// Does all deeds at desks over a kept queue, and answers how often one was refused.
+// Does all deeds at desks over a kept queue, and returns how often one was refused.
 fn has_done_all_kept<T: Timer>(
     rt: &impl Abort,
     kept: &mut Kept<T>,
@@ -501,7 +501,7 @@ fn expect_shared_state(rt: &impl Abort, found: SharedState, wanted: SharedState)
     expect_same(rt, found, wanted);
 }
 
-// The same once more where it was refused, which has left the pass's calls, the bell and the jobs. The
+// The same again after a refusal, which has left the pass's calls, the bell and the jobs. The
 // history is shown at the end. Answers how often it was refused.
 fn has_done_shared<R: Wait + time::Clock + Abort>(
     rt: &R,
@@ -526,7 +526,7 @@ fn has_done_shared<R: Wait + time::Clock + Abort>(
     }
 }
 
-// Does all deeds at desks over a shared queue, and answers how often one was refused.
+// Does all deeds at desks over a shared queue, and returns how often one was refused.
 fn has_done_all_shared<R: Wait + time::Clock + Abort>(
     rt: &R,
     shared: &ListShared,
@@ -611,7 +611,7 @@ fn count(runs: &mut [u32], job: u64) {
     }
 }
 
-// Offers once more where the offer was refused: this part of the test is not about it.
+// Offers again after a refusal: this part of the test is not about it.
 fn offers_at_last<D: Desk>(desk: &mut D, offer: Ask)
     ensures name { D.name (D.state desk.new) ≡ D.name (D.state desk.old) }
 {

@@ -33,7 +33,7 @@ fn taken(rt: &impl Abort, job: Result<Job, DeskFault>) -> Job {
     job.ok().expect(rt, "a job")
 }
 
-/// Takes a job, lets it fail at this moment, and looks at what became of it.
+/// Takes a job, lets it fail at this moment, and compares what became of it.
 pub fn expect_end<D: Desk>(rt: &impl Abort, desk: &mut D, now: u64, wanted: End) {
     let job = taken(rt, take(desk));
     let ended = fail(desk, &two_attempts(rt), job, now);

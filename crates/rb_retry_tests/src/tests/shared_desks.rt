@@ -73,7 +73,7 @@ fn expect_history(rt: &impl Abort, history: &[Event]) {
     }
 }
 
-// The kept queue, where this pass made the whole history.
+// The kept queue, if this pass made the whole history.
 fn closed<R: Wait + Abort>(rt: &R, shared: ListShared, pass: ListPass) -> Kept<ListTimer>
     requires { pass.table ≡ shared }
 {
@@ -103,7 +103,7 @@ fn expect_three(rt: &impl Abort, found: (u64, u64, u64), wanted: (u64, u64, u64)
     expect_same(rt, found, wanted);
 }
 
-// An offer alone rings, and the gate is asked where a wait finds nothing.
+// Only an offer rings, and the gate is asked if a wait finds nothing.
 #[test]
 fn a_shared_desk_waits_by_its_gate(rt: HostRuntime) {
     let (shared, mut pass) = opened(&rt, rt.alloc(), 4);

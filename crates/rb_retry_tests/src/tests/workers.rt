@@ -60,7 +60,7 @@ fn count(counts: &mut [u64], id: u64) {
     }
 }
 
-// So many jobs at moment 0, and how many attempts each has. Nothing lies between two of them.
+// This many jobs at moment 0, and how many attempts each has. No time passes between two of them.
 #[derive(Clone, Copy)]
 struct Jobs {
     count: u64,
@@ -78,7 +78,7 @@ fn worked_off<D: Desk, W: Work>(rt: &impl Abort, desk: &mut D, jobs: Jobs, work:
     work_off(desk, &policy(rt, jobs.attempts), work)
 }
 
-// Works the jobs off where there is room for so many calls.
+// Works the jobs off if there is room for this many calls.
 fn report_of<W: Work>(
     rt: &impl Abort,
     alloc: Global,
@@ -105,7 +105,7 @@ fn expect_report(rt: &impl Abort, found: WorkReport, wanted: WorkReport) {
     expect_same(rt, found, wanted);
 }
 
-// One job, of which each run answers the same.
+// One job, whose runs all give the same answer.
 fn expect_always(
     rt: &impl Abort,
     alloc: Global,

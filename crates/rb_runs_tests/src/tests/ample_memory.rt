@@ -100,7 +100,7 @@ impl Dialogue {
     }
 }
 
-// All elements stand.
+// All elements are in the queue.
 const BETWEEN: [(&str, &str); 4] = [
     ("SIZE", "SIZE 2503"),
     (
@@ -111,7 +111,7 @@ const BETWEEN: [(&str, &str); 4] = [
     ("AT 18446744073709551615", "NOW 18446744073709551615"),
 ];
 
-// None stands.
+// None is in the queue.
 const AT_LAST: [(&str, &str); 4] = [
     ("POLL", "NONE"),
     ("SIZE", "SIZE 0"),

@@ -24,7 +24,7 @@ pub const AT_END: Result<Ended, BrokerFault> = Ok(Ended::EndOfInput { lost: 0 })
 
 pub const AT_QUIT: Result<Ended, BrokerFault> = Ok(Ended::Quit { lost: 0 });
 
-/// What one call of a reader or a writer does in place of its work.
+/// What one call of a reader or a writer does instead of its work.
 #[derive(Clone, Copy, PartialEq, Eq)]
 pub enum Fault {
     Fails,
@@ -39,7 +39,7 @@ pub struct FaultAt {
     pub fault: Fault,
 }
 
-/// What comes behind the last byte of a reader.
+/// What follows the last byte of a reader.
 #[derive(Clone, Copy, PartialEq, Eq)]
 pub enum End {
     Comes,
@@ -55,7 +55,7 @@ pub struct Client<'a> {
     pub replies: &'a [u8],
 }
 
-/// Gives its bytes in pieces of `most` bytes.
+/// Gives its bytes in pieces of at most `most` bytes.
 #[derive(Drop)]
 pub struct Source<'a> {
     pub rest: &'a [u8],
@@ -87,14 +87,14 @@ impl<'a> Source<'a> {
         source
     }
 
-    /// Ends in another way than by an end.
+    /// Ends otherwise than by the end of the input.
     pub fn ending(rest: &'a [u8], end: End) -> Source<'a> {
         let mut source = Source::of(rest, usize::MAX);
         source.end = end;
         source
     }
 
-    /// Gives a request when the replies to those before have come, and else fails.
+    /// Gives a request once the replies to those before have come, and otherwise fails.
     pub fn asking(rest: &'a [u8], most: usize, client: Client<'a>) -> Source<'a> {
         let mut source = Source::of(rest, most);
         source.client = Some(client);
@@ -166,7 +166,7 @@ impl Read for Source<'_> {
     }
 }
 
-/// Holds what is written, up to its room. Where it is full a write takes nothing, or fails. Writes and
+/// Holds what is written, up to its room. If it is full, a write takes nothing or fails. Writes and
 /// flushes are counted together.
 #[derive(Drop)]
 pub struct Sink<'a> {
@@ -204,7 +204,7 @@ impl<'a> Sink<'a> {
         sink
     }
 
-    /// Has room for so many bytes. Behind them a write fails where it is closed, and else takes nothing.
+    /// Has room for this many bytes. After them a write fails if it is closed, and otherwise takes nothing.
     pub fn bounded(alloc: Global, room: usize, is_closed: bool) -> Sink<'a> {
         let mut sink = Sink::new(alloc);
         sink.room = room;
@@ -212,7 +212,7 @@ impl<'a> Sink<'a> {
         sink
     }
 
-    /// Counts the bytes that came to a client.
+    /// Counts the bytes that a client got.
     pub fn received(alloc: Global, received: &'a Cell<usize>) -> Sink<'a> {
         let mut sink = Sink::new(alloc);
         sink.received = Some(received);
@@ -322,7 +322,7 @@ pub fn ran(
     recorded(rt, alloc, timer, calls, source, sink, &mut nothing)
 }
 
-/// Runs a script from the start, and writes its history, where something is to have it.
+/// Runs a script from the start, and writes its history, if there is a device for it.
 pub fn recorded(
     rt: &impl Abort,
     alloc: Global,

@@ -78,7 +78,7 @@ fn a_hundred_takes_of_a_script_are_one_write(rt: HostRuntime) -> Result<(), Fail
     Ok(())
 }
 
-// Runs the conversation over a writer with room for so many bytes.
+// Runs the conversation over a writer with room for this many bytes.
 fn expect_first_bytes(rt: &impl Abort, alloc: Global, room: usize, is_closed: bool) {
     let source = Source::of(REQUESTS, usize::MAX);
     let sink = Sink::bounded(alloc, room, is_closed);
@@ -101,7 +101,7 @@ fn an_output_may_be_full_or_closed_at_any_byte(rt: HostRuntime) {
     }
 }
 
-// Runs a request whose second read fails, over a writer with room for so many bytes.
+// Runs a request whose second read fails, over a writer with room for this many bytes.
 fn broken_off(rt: &impl Abort, alloc: Global, room: usize) -> Outcome {
     let source = Source::ending(b"SIZE\n", End::Fails);
     let sink = Sink::bounded(alloc, room, true);
@@ -120,7 +120,7 @@ fn a_late_write_fault_is_no_read_fault(rt: HostRuntime) {
     expect_bytes(&rt, &outcome.bytes, b"SIZE 0\n", 0);
 }
 
-// What a session came to whose writer has room for five bytes.
+// How a session came out whose writer has room for five bytes.
 #[derive(Drop)]
 struct Cut {
     ended: Result<Ended, SessionFault>,
@@ -158,7 +158,7 @@ fn held_jobs_fail_after_a_late_write_fault(rt: HostRuntime) -> Result<(), Fail> 
     Ok(())
 }
 
-// What a take would fetch stays in the queue where the replies before it can't be handed on.
+// What a take would fetch stays in the queue if the replies before it can't be handed on.
 #[test]
 fn a_take_behind_a_write_fault_is_not_served(rt: HostRuntime) -> Result<(), Fail> {
     let script = b"OFFER 0 a\nTAKE\n";

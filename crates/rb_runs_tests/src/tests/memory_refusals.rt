@@ -72,7 +72,7 @@ const REFUSED: [Run<'static>; 5] = [
     },
 ];
 
-// Room for a text, asked for once more where it was refused.
+// Room for a text, asked for again after a refusal.
 fn page(alloc: Global) -> Result<Vec<u8>, AllocError> {
     match Vec::with_capacity(alloc, PAGE_BYTES) {
         Ok(page) => Ok(page),
