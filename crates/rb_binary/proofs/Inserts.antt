@@ -9,6 +9,7 @@ use Rattle.std.specs.FinMap as finite
 use Rattle.rb_timer.specs.Slots.{content_of, content_of-insert}
 use Rattle.rb_binary.specs.declared.heap.Entry.{Entry}
 use Rattle.rb_binary.specs.Layout.{no_entry, slot_at, expiry_at, place_of, expiries, note, Agrees, IsPutAt}
+use Rattle.rb_binary.proofs.Contents.{place_of-absent}
 use Rattle.rb_binary.proofs.Expiries.{length-expiries, same_shown, row_is_set}
 
 -- how many places are noted after one more is
@@ -20,12 +21,15 @@ count_noted places slot place within free =
     omega (arith, counted)
 
 module _ (heap : List Entry) (places : List (Option ℕ)) (entry : Entry) (agrees : Agrees heap places)
-    (free : place_of places entry.slot ≡ None) (within : entry.slot < length places) where
+    (absent : finite.get (content_of (expiries heap places)) entry.slot ≡ None) (within : entry.slot < length places) where
   abbrev pushed : List Entry
   pushed = heap ++ entry ∷ []
 
   abbrev noted : List (Option ℕ)
   noted = set places entry.slot (Some (length heap))
+
+  free : place_of places entry.slot ≡ None
+  free = place_of-absent heap places entry.slot absent
 
   at_end : get_or pushed (length heap) no_entry ≡ entry
   at_end = get_or_push heap entry no_entry (length heap) refl

@@ -60,8 +60,22 @@ count_noted_again places slot old new noted =
     let counted = rw noted at (sum_by-set (λ p. cond (is_some p) 1 0) places slot (Some new) None within) in
     omega (arith, counted)
 
-module _ (heap after : List Entry) (places : List (Option ℕ)) (slot place : ℕ) (agrees : Agrees heap places)
-    (noted : place_of places slot ≡ Some place) (takes : TakesOut heap after place) where
+-- the entry of a slot was taken out, from the place that is noted of it
+pub record TakesEntry (heap after : List Entry) (places : List (Option ℕ)) (slot place : ℕ) : Type 0 where
+  pub agrees : Agrees heap places
+  pub noted : place_of places slot ≡ Some place
+  pub takes : TakesOut heap after place
+
+module _ {heap after : List Entry} {places : List (Option ℕ)} {slot place : ℕ} (taken : TakesEntry heap after places slot place) where
+  abbrev agrees : Agrees heap places
+  agrees = taken.agrees
+
+  abbrev noted : place_of places slot ≡ Some place
+  noted = taken.noted
+
+  abbrev takes : TakesOut heap after place
+  takes = taken.takes
+
   abbrev forgotten : List (Option ℕ)
   forgotten = set places slot None
 
@@ -219,7 +233,7 @@ module _ (heap after : List Entry) (places : List (Option ℕ)) (slot place : �
     inner_shown other off = ⊎_elim
         (λ e. subst (λ s. shown_at after renoted s ≡ shown_at heap places s) (sym e)
         (ap (option_map (expiry_at after)) renoted_mover
-        ∙ ap (λ (taken : Entry). Some taken.expiry) (takes.moved inner)
+        ∙ ap (λ (e : Entry). Some e.expiry) (takes.moved inner)
         ∙ sym (ap (option_map (expiry_at heap)) mover_noted)))
         (λ off_mover. let same = renoted_other other off_mover ∙ forgotten_other other off in
         ap (option_map (expiry_at after)) same

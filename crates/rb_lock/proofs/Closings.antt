@@ -19,32 +19,47 @@ use Rattle.rb_lock.proofs.LongerHistories.{grown_none}
 use Rattle.rb_lock.proofs.CountedCalls.{all_counted, not_counted}
 use Rattle.rb_lock.proofs.RestingPasses.{learned, seen_as, found_pair, HasLooked, looked_counted}
 
-module _ {T : Type 0} (pass : Seen) (seat0 seat1 : LockSeat T) (rest : seat0 ≡ (idle pass, [])) (got : TakesLock seat0 seat1)
-    (pair : Pair T) (out : seat1.1 ≡ (0, Some pair) ∷ []) (legal : IsLegal pair.kept.opening pair.kept.history) (fits : length pair.kept.history ≤ pair.kept.capacity)
-    (counts : AreCounts (totals_of pair.kept.history)) where
+-- the pass took the lock, took the pair out of its slot, and has its share of the totals beside those of the books
+pub record HasTotals {T : Type 0} (pass : Seen) (seat0 seat1 : LockSeat T) (pair : Pair T) (share books : Totals) : Type 0 where
+  pub rest : seat0 ≡ (idle pass, [])
+  pub got : TakesLock seat0 seat1
+  pub out : seat1.1 ≡ (0, Some pair) ∷ []
+  pub legal : IsLegal pair.kept.opening pair.kept.history
+  pub fits : length pair.kept.history ≤ pair.kept.capacity
+  pub share_is : share ≡ tally_of pass
+  pub books_are : books ≡ totals_of pair.kept.history
+  pub counts : AreCounts books
+
+module _ {T : Type 0} {pass : Seen} {seat0 seat1 : LockSeat T} {pair : Pair T} {share books : Totals} (has : HasTotals pass seat0 seat1 pair share books) where
+  abbrev got : TakesLock seat0 seat1
+  got = has.got
+
   home_is : pair ≡ pair_of got.log got.names
-  home_is = found_pair pass seat0 seat1 (Some pair) pair rest got out refl
+  home_is = found_pair pass seat0 seat1 has.rest got (Some pair) pair has.out refl
 
   kept_is : pair.kept ≡ got.log
   kept_is = ap (λ (h : Pair T). h.kept) home_is
 
   looked : HasLooked pass got.names pair.kept
   looked = record {
-    found = subst (λ (l : Log). Noted l got.names (idle pass)) (sym kept_is) (subst (λ (m : LockSeat T). Noted got.log got.names m.0) rest got.found);
-    legal = legal;
-    few = fits;
+    found = subst (λ (l : Log). Noted l got.names (idle pass)) (sym kept_is) (subst (λ (m : LockSeat T). Noted got.log got.names m.0) has.rest got.found);
+    legal = has.legal;
+    few = has.fits;
   }
 
   -- no name stands twice among the pass and those folded into it
   different : AreDifferent (names_of (all_records pass))
   different name = omega (arith, looked.found.once name, times_in-append name (names_of pass.folded) [])
 
-  pub has_all_calls : tally_of pass ≡ totals_of pair.kept.history → HasCallsOf pair.kept (all_records pass)
+  counts : AreCounts (totals_of pair.kept.history)
+  counts = subst AreCounts has.books_are has.counts
+
+  pub has_all_calls : share ≡ books → HasCallsOf pair.kept (all_records pass)
   has_all_calls same = record {
-    legal = legal;
+    legal = has.legal;
     are_records = looked.found.fits.records;
     different = different;
-    all = all_counted pair.kept.history (all_records pass) looked.found.fits.records different counts same;
+    all = all_counted pair.kept.history (all_records pass) looked.found.fits.records different counts (sym has.share_is ∙ same ∙ has.books_are);
   }
 
   -- the pair is in its slot again
@@ -52,7 +67,7 @@ module _ {T : Type 0} (pass : Seen) (seat0 seat1 : LockSeat T) (rest : seat0 ≡
     seat2_is : seat2 ≡ (holder_of (idle pass) pair.kept.history got.names, (0, Some (pair_of pair.kept got.names)) ∷ [])
     seat2_is =
         let view : seat1.0 ≡ holder_of (idle pass) pair.kept.history got.names =
-        got.view ∙ (λ i. holder_of (rest i).0 (sym kept_is i).history got.names) in
+        got.view ∙ (λ i. holder_of (has.rest i).0 (sym kept_is i).history got.names) in
         back ∙ (λ i. (view i, (0, Some (record { kept = pair.kept; names = (home_is i).names })) ∷ []))
 
     pub back_may_give : MayGive seat2
@@ -76,12 +91,12 @@ module _ {T : Type 0} (pass : Seen) (seat0 seat1 : LockSeat T) (rest : seat0 ≡
       view_is : pass_of table seat3.0 ≡ learned pass got.names pair.kept.history
       view_is = seen_as table seat3 (learned pass got.names pair.kept.history) of_pass seat3_is
 
-      pub refused : (share books : Totals) → share ≡ tally_of pass → books ≡ totals_of pair.kept.history → ¬ (share ≡ books) → IsNotAll (pass_of table seat3.0) share books
-      refused share books share_is books_is other =
+      pub refused : ¬ (share ≡ books) → IsNotAll (pass_of table seat3.0) share books
+      refused other =
           subst (λ (p : Seen). IsNotAll p share books) (sym view_is)
           (record {
-            share = looked_counted pass got.names pair.kept looked share share_is;
-            books = books_is;
-            fewer = subst (λ (t : Totals × Totals). t.0.calls < t.1.calls) (λ i. (sym share_is i, sym books_is i))
-                (not_counted pair.kept.history (all_records pass) looked.found.fits.records different counts (λ same. other (share_is ∙ same ∙ sym books_is)));
+            share = looked_counted pass got.names pair.kept looked share has.share_is;
+            books = has.books_are;
+            fewer = subst (λ (t : Totals × Totals). t.0.calls < t.1.calls) (λ i. (sym has.share_is i, sym has.books_are i))
+                (not_counted pair.kept.history (all_records pass) looked.found.fits.records different counts (λ same. other (has.share_is ∙ same ∙ sym has.books_are)));
           })

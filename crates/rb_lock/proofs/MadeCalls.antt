@@ -162,15 +162,28 @@ module _ (pass : Seen) (try : Try) (step : Result Outcome CallFault) (share shar
   pub answered : Answered pass (learned pass names new.history) try step
   answered = answered_by pass try step names log new made.grows.more found_log made.steps made.grows.log mine_more made.found.fits.begins (sym more_counted)
 
+-- a pass at rest took the lock, and called the queue in its hand under its own name
+pub record CallsInHand {T : Type 0} (pass : Seen) (try : Try) (step : Result Outcome CallFault) (share share' : Totals) (seat0 seat1 seat2 : LockSeat T) : Type 0 where
+  pub rest : seat0 ≡ (idle pass, [])
+  pub got : TakesLock seat0 seat1
+  pub acts : ActsIn try step share share' seat1 seat2
+  pub named : try.seat ≡ pass.name
+
 -- From the seat at rest to the seat that has given the lock back.
-module _ {T : Type 0} (pass : Seen) (try : Try) (step : Result Outcome CallFault) (share share' : Totals) (seat0 seat1 seat2 : LockSeat T)
-    (rest : seat0 ≡ (idle pass, [])) (got : TakesLock seat0 seat1) (acts : ActsIn try step share share' seat1 seat2) (named : try.seat ≡ pass.name) where
+module _ {T : Type 0} {pass : Seen} {try : Try} {step : Result Outcome CallFault} {share share' : Totals} {seat0 seat1 seat2 : LockSeat T}
+    (call : CallsInHand pass try step share share' seat0 seat1 seat2) where
+  abbrev got : TakesLock seat0 seat1
+  got = call.got
+
+  abbrev acts : ActsIn try step share share' seat1 seat2
+  acts = call.acts
+
   before_is : acts.acts.before ≡ pair_of got.log got.names
-  before_is = found_pair pass seat0 seat1 acts.slot acts.acts.before rest got acts.was acts.acts.was
+  before_is = found_pair pass seat0 seat1 call.rest got acts.slot acts.acts.before acts.was acts.acts.was
 
   pub made : IsMade pass try step share share' got.names got.log acts.acts.after.kept
   made = record {
-    found = subst (λ (m : LockSeat T). Noted got.log got.names m.0) rest got.found;
+    found = subst (λ (m : LockSeat T). Noted got.log got.names m.0) call.rest got.found;
     legal = subst (λ (h : Pair T). IsLegal h.kept.opening h.kept.history) before_is acts.acts.legal;
     steps = subst (λ (h : Pair T). StepsTo h.kept try step acts.acts.after.kept) before_is acts.acts.steps;
     grows = subst (λ (h : Pair T). Grows h.kept acts.acts.after.kept share share') before_is acts.acts.grows;
@@ -183,7 +196,7 @@ module _ {T : Type 0} (pass : Seen) (try : Try) (step : Result Outcome CallFault
 
   seat2_is : seat2 ≡ (holder_of (idle pass) got.log.history got.names, (0, Some (pair_of acts.acts.after.kept got.names)) ∷ [])
   seat2_is =
-      let view : seat1.0 ≡ holder_of (idle pass) got.log.history got.names = got.view ∙ ap (λ (m : LockSeat T). holder_of m.0 got.log.history got.names) rest in
+      let view : seat1.0 ≡ holder_of (idle pass) got.log.history got.names = got.view ∙ ap (λ (m : LockSeat T). holder_of m.0 got.log.history got.names) call.rest in
       acts.is ∙ (λ i. (view i, (0, after_is i) ∷ []))
 
   pub may_give : MayGive seat2
@@ -193,9 +206,9 @@ module _ {T : Type 0} (pass : Seen) (try : Try) (step : Result Outcome CallFault
     new = acts.acts.after.kept;
     names = got.names;
     is = seat2_is;
-    capacity = same_capacity pass try step share share' got.names got.log acts.acts.after.kept made named;
-    opening = same_opening pass try step share share' got.names got.log acts.acts.after.kept made named;
-    grown = grown pass try step share share' got.names got.log acts.acts.after.kept made named;
+    capacity = same_capacity pass try step share share' got.names got.log acts.acts.after.kept made call.named;
+    opening = same_opening pass try step share share' got.names got.log acts.acts.after.kept made call.named;
+    grown = grown pass try step share share' got.names got.log acts.acts.after.kept made call.named;
     few = got.found.few;
   }
 
@@ -211,14 +224,15 @@ module _ {T : Type 0} (pass : Seen) (try : Try) (step : Result Outcome CallFault
     called_pass name is was sound = record {
       rest = seat3_is ∙ sym (ap (λ (m : LockSeat T). (idle (pass_of table m.0), [])) seat3_is);
       name_is = is ∙ sym (ap (λ (m : LockSeat T). m.0.name) seat3_is);
-      counted = counted pass try step share share' got.names got.log acts.acts.after.kept made named was ∙ sym (ap tally_of view3);
-      sound = subst IsSoundPass (sym view3) (learns pass try step share share' got.names got.log acts.acts.after.kept made named sound).sound;
+      counted = counted pass try step share share' got.names got.log acts.acts.after.kept made call.named was ∙ sym (ap tally_of view3);
+      sound = subst IsSoundPass (sym view3) (learns pass try step share share' got.names got.log acts.acts.after.kept made call.named sound).sound;
     }
 
     pub called_learns : IsSoundPass pass → Learns pass (pass_of table seat3.0)
-    called_learns sound = subst (Learns pass) (sym view3) (learns pass try step share share' got.names got.log acts.acts.after.kept made named sound)
+    called_learns sound = subst (Learns pass) (sym view3) (learns pass try step share share' got.names got.log acts.acts.after.kept made call.named sound)
 
-    pub called_answered : Answered pass (pass_of table seat3.0) try step
+    pub called_answered : Answered pass (pass_of table seat3.0) (record try { seat = pass.name }) step
     called_answered =
-        subst (λ (p : Seen). Answered pass p try step) (sym view3)
-        (answered pass try step share share' got.names got.log acts.acts.after.kept made named)
+        subst (λ (n : ℕ). Answered pass (pass_of table seat3.0) (record try { seat = n }) step) call.named
+        (subst (λ (p : Seen). Answered pass p try step) (sym view3)
+        (answered pass try step share share' got.names got.log acts.acts.after.kept made call.named))

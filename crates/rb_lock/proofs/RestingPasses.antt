@@ -34,13 +34,19 @@ module _ {T : Type 0} (table : TableId) (seat : LockSeat T) (pass : Seen) (of_pa
     sound = subst IsSoundPass (sym seen_as) sound;
   }
 
--- the pair that lies in the slot in hand is the one that was found
-pub found_pair : {T : Type 0} (pass : Seen) (seat0 seat1 : LockSeat T) (slot : Option (Pair T)) (before : Pair T) → seat0 ≡ (idle pass, []) → (got : TakesLock seat0 seat1)
-    → seat1.1 ≡ (0, slot) ∷ [] → slot ≡ Some before → before ≡ pair_of got.log got.names
-found_pair {T} pass seat0 seat1 slot before rest got was is =
-    let pair : Option (Pair T) = Some (pair_of {T = T} got.log got.names) in
-    let found : slot ≡ pair = same_slot seat1.1 [] pair slot (got.hand ∙ ap (λ (m : LockSeat T). (0, pair) ∷ m.1) rest) was in
-    same_pair before (pair_of got.log got.names) (sym is ∙ found)
+module _ {T : Type 0} (pass : Seen) (seat0 seat1 : LockSeat T) (rest : seat0 ≡ (idle pass, [])) (got : TakesLock seat0 seat1) where
+  -- the pass that took the lock has the pair that it found in hand
+  pub found_in_hand : (pair : Pair T) × (seat1.1 ≡ (0, Some pair) ∷ [])
+  found_in_hand =
+      let pair : Pair T = pair_of got.log got.names in
+      (pair, got.hand ∙ ap (λ (m : LockSeat T). (0, Some pair) ∷ m.1) rest)
+
+  -- the pair that lies in the slot in hand is the one that was found
+  pub found_pair : (slot : Option (Pair T)) (before : Pair T) → seat1.1 ≡ (0, slot) ∷ [] → slot ≡ Some before → before ≡ pair_of got.log got.names
+  unfolding found_in_hand
+  found_pair slot before was is =
+      let pair : Pair T = pair_of got.log got.names in
+      same_pair before pair (sym is ∙ same_slot seat1.1 [] (Some pair) slot found_in_hand.1 was)
 
 -- a pass took the lock, and found a legal history with room
 pub record HasLooked (pass : Seen) (names : ℕ) (log : Log) : Type 0 where

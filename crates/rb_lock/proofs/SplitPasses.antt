@@ -22,7 +22,7 @@ module _ {T : Type 0} (pass : Seen) (seat0 seat1 seat2 : LockSeat T) (rest : sea
 
   module _ (given : Option ℕ) (naming : NamesIn given seat1 seat2) where
     before_is : naming.names.before ≡ pair_of got.log got.names
-    before_is = found_pair pass seat0 seat1 naming.slot naming.names.before rest got naming.was naming.names.was
+    before_is = found_pair pass seat0 seat1 rest got naming.slot naming.names.before naming.was naming.names.was
 
     seat2_is : seat2 ≡ (holder_of (idle pass) got.log.history got.names, (0, Some naming.names.after) ∷ [])
     seat2_is = naming.is ∙ (λ i. (view_is i, (0, naming.names.is i) ∷ []))

@@ -181,11 +181,11 @@ module _ (old new : Slab Element) (content content' : Content) (directory direct
   distinct-insert one other a b here there same =
       same_Some one other (sym (listed-insert one a here) ∙ ap (slot_of directory') same ∙ listed-insert other b there)
 
-  pub bag-insert : bag_of new.slots ≡ map.insert (bag_of old.slots) element.id element
+  bag-insert : bag_of new.slots ≡ map.insert (bag_of old.slots) element.id element
   bag-insert = Holds-unique new.slots _ _ (Holds-bag_of new.slots distinct-insert)
       (Holds-insert old.slots new.slots slot element (bag_of old.slots) (lying old content directory sound) updates.others vacant updates.changed absent)
 
-  pub sound-insert : slab_len new ≡ slab_len old + 1 → IsFiled new content' directory'
+  sound-insert : slab_len new ≡ slab_len old + 1 → IsFiled new content' directory'
   sound-insert len = record {
     timed = λ place. timed_at place (same_or_not place slot);
     listed = listed-insert;
@@ -221,6 +221,10 @@ module _ (old new : Slab Element) (content content' : Content) (directory direct
           of_old (e, there, named) =
               let elsewhere : place ≢ slot = λ same. let clash : get old place ≡ None = ap (get old) same ∙ vacant in cc in
               has_and _ _ e (updates.others place elsewhere ∙ there) named
+
+  -- the three agree again, and the bag has the element
+  pub added : slab_len new ≡ slab_len old + 1 → IsFiled new content' directory' × (bag_of new.slots ≡ map.insert (bag_of old.slots) element.id element)
+  added len = (sound-insert len, bag-insert)
 
 -- one element fewer
 module _ (old new : Slab Element) (content content' : Content) (directory directory' : Directory) (slot : ℕ) (element : Element)

@@ -1,19 +1,13 @@
 -- With a name left it is drawn and the seat cut in two; with none the lock is just given back.
-use Rattle.std.proofs.Common.{arith, sym, ap, ◌∙◌, ◌∷◌}
-use Rattle.std.specs.Prelude.{Some}
-use Rattle.rb_lock.specs.LockSteps.{LockSeat}
+use Rattle.std.proofs.Common.{arith, sym, ap, ◌∙◌}
 use Rattle.rb_lock.specs.Passes.{Seen}
 use Rattle.rb_lock.specs.Views.{pass_of}
-use Rattle.rb_lock.specs.Rule.{pair_of}
+use Rattle.rb_lock.proofs.RestingPasses.{found_in_hand}
 use Rattle.rb_lock.proofs.SplitPasses.{none_may_give, may_draw, may_cut}
 use Rattle.rb_lock.proofs.shared.Shared.split.Goals as goal
 
 pub next_name-requires-clause-hand : goal.next_name-requires-clause-hand
-next_name-requires-clause-hand g c =
-    let got = c.take.ensures.taken in (
-      pair_of {T = g.row.T.Denot} got.log got.names,
-      got.hand ∙ ap (λ (m : LockSeat g.row.T.Denot). (0, Some (pair_of {T = g.row.T.Denot} got.log got.names)) ∷ m.1) c.pass.invariant.rest,
-    )
+next_name-requires-clause-hand g c = found_in_hand {T = g.row.T.Denot} (pass_of c.pass.inside.seat.table_id c.pass.inside.seat.me.0) _ _ c.pass.invariant.rest c.take.ensures.taken
 
 pub give-requires-clause-holds : goal.give-requires-clause-holds
 give-requires-clause-holds g c =
