@@ -4,7 +4,7 @@ use thiserror::Error;
 /// Why a kept queue could not be shared.
 #[derive(Clone, Copy, Debug, PartialEq, Eq, Error)]
 pub enum OpenFault {
-    /// There is no memory for the lock.
+    /// There is not enough memory for the lock.
     #[error("out of memory")]
     Memory,
 }
@@ -23,9 +23,9 @@ pub enum CloseFault {
     /// The pass, with all that were folded into it, has fewer calls than the books.
     #[error("a pass with calls is not folded in")]
     NotAll {
-        /// What the pass and those folded into it come to.
+        /// The totals of the pass and those folded into it.
         counted: Totals,
-        /// What the whole history comes to.
+        /// The totals of the whole history.
         booked: Totals,
     },
 }

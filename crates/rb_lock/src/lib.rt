@@ -1,7 +1,7 @@
 //! One kept queue for many threads, and one legal history for all of them.
 //!
-//! Each thread calls through a pass of its own. A pass stores no event: what it has seen and made is known
-//! to the proofs alone, and so is that the histories of all passes are beginnings of one.
+//! Each thread calls through a pass of its own. A pass stores no event: only the proofs know what
+//! it has seen and made, and that the histories of all passes are beginnings of one.
 #![tactic(auto)]
 
 mod fault;

@@ -28,8 +28,8 @@ const SLEPT_ON: u64 = 2;
 // a sleep would begin.
 const LOOKS: u32 = 100;
 
-/// Takes the lock, and with it the pair in its slot. A lost try looks for a while whether the lock is given
-/// back, and then sleeps until it is.
+/// Takes the lock, and with it the pair in its slot. If another seat holds it, it watches for a
+/// while whether the lock is given back, and then sleeps until it is.
 pub(crate) fn take<T: Timer, R: Wait>(table: &LockTable<T>, rt: &R, seat: &mut PassSeat<T>)
     requires lock { HasOneWord table.now.table_id }
     requires table { seat.old.table_id ≡ table.now.table_id }
@@ -112,7 +112,7 @@ pub(crate) fn wake<T: Timer>(table: &LockTable<T>, found: u64)
     }
 }
 
-/// Calls the kept queue where it lies, in the slot that the seat has in hand.
+/// Calls the kept queue in place, in the slot that the seat has in hand.
 pub(crate) fn act<T: Timer>(
     table: &LockTable<T>,
     seat: &mut PassSeat<T>,
@@ -146,8 +146,8 @@ fn act_on<T: Timer>(
     pair.kept.act(tally, name, asked, ask)
 }
 
-/// The next name of the pair in the slot that the seat has in hand, which is given with this. `None` where
-/// all are given.
+/// The next name of the pair in the slot that the seat has in hand, which is thereby given. `None`
+/// if all are given.
 pub(crate) fn next_name<T: Timer>(table: &LockTable<T>, seat: &mut PassSeat<T>) -> Option<u64>
     requires table { seat.old.table_id ≡ table.now.table_id }
     requires hand { (pair : Pair T) × (seat.old.me.1 ≡ (0, Some pair) ∷ []) }

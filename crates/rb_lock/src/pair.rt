@@ -4,10 +4,10 @@ ghost use Rattle.rb_queue.specs.History.{IsLegal};
 use rb_kept::Kept;
 use rb_timer::Timer;
 
-/// How many names the passes of one queue get at most.
+/// The greatest number of names that the passes of one queue get.
 pub const MOST_NAMES: u64 = 65_536;
 
-/// What lies in the slot of the lock: the kept queue, and how many names of passes have been given.
+/// What the slot of the lock holds: the kept queue, and how many names of passes have been given.
 #[derive(Drop)]
 pub(crate) struct Pair<T: Timer> {
     pub(crate) kept: Kept<T>,
@@ -17,7 +17,7 @@ pub(crate) struct Pair<T: Timer> {
 impl<T: Timer> Pair<T> {
     ghost use Rattle.rb_lock.specs.LockSteps.{GivesName};
 
-    /// The next name, which is given with this. `None` where all are given.
+    /// The next name, which is thereby given. `None` if all are given.
     pub(crate) fn next_name(&mut self) -> Option<u64>
         ensures gives { GivesName self.old result self.new }
         ensures legal { IsLegal self.old.kept.opening self.old.kept.history }

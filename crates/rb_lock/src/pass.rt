@@ -8,8 +8,8 @@ use std::marker::Model;
 
 /// The right of one thread to call a shared queue, under a name of its own.
 ///
-/// It keeps the share of the totals that its calls came to. Contracts see what it has seen of the history,
-/// its own calls, and the passes that were folded into it; none of that is stored.
+/// It keeps its calls' share of the totals. Contracts see what it has seen of the history, its own
+/// calls, and the passes that were folded into it; none of that is stored.
 #[derive(Drop)]
 pub struct Pass<T: Timer> {
     pub(crate) seat: PassSeat<T>,
@@ -41,7 +41,7 @@ impl<T: Timer> Pass<T> {
         self.name
     }
 
-    /// The calls that were answered to it and to the passes folded into it.
+    /// The calls of this pass and of those folded into it that got a reply.
     pub fn calls(&self) -> u64
         ensures { result ≡ (tally_of self.now).calls }
     {

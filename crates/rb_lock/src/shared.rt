@@ -25,8 +25,9 @@ use std::sync::Wait;
 
 /// A kept queue that many threads call, each through a pass of its own.
 ///
-/// The queue lies in the one slot of a table, and the table's one word says whether it is at home. It is
-/// taken and given back by single exchanges of the word; only who took it touches the slot.
+/// The queue is in the one slot of a table, and the table's one word says whether it is at home. It
+/// is taken and given back by single exchanges of the word; only the seat that took it touches the
+/// slot.
 #[derive(Drop)]
 pub struct Shared<T: Timer> {
     table: Table<Option<Pair<T>>, View, Snapshot<Kept<T>>, LockRule, Global>,
@@ -47,9 +48,9 @@ impl<T: Timer> Model for Shared<T> {
 }
 
 impl<T: Timer> Shared<T> {
-    /// Shares a queue that was not called yet, and gives its first pass, of name 0.
+    /// Shares a queue that has not been called yet, and returns its first pass, of name 0.
     ///
-    /// It takes memory for the lock alone. A fault hands both back.
+    /// It takes memory only for the lock. A fault hands both back.
     pub fn open(
         alloc: Global,
         kept: Kept<T>,
@@ -84,7 +85,7 @@ impl<T: Timer> Shared<T> {
     /// Splits a new pass off, under the next name, which was never given before. It waits while another pass
     /// calls.
     ///
-    /// The new pass has seen what this one has, and has made no call. `Names` is answered only where all
+    /// The new pass has seen what this one has, and has made no call. `Names` comes only if all
     /// 65,536 names are given. Either way this pass may have seen more of the history.
     pub fn split<R: Wait>(&self, rt: &R, pass: &mut Pass<T>) -> Result<Pass<T>, SplitFault>
         requires pass { pass.old.table ≡ self.now }
@@ -139,12 +140,13 @@ impl<T: Timer> Shared<T> {
         learn(table, &mut second.seat, &mut first.seat);
     }
 
-    /// Makes one call, as `Kept::act`, with the pass's name as seat. It waits while another pass calls.
+    /// Makes one call, like `Kept::act`, with the pass's name as seat. It waits while another pass
+    /// calls.
     ///
-    /// After a reply the pass has seen a legal history that begins with all that it had seen and ends with
-    /// this call, whose reply is that of the history. Otherwise no event is made: after `Later` the pass
-    /// has seen a history from which the ask would wait, after `Full` one with `capacity` events; `Memory`
-    /// is answered to an offer and a drain alone.
+    /// After a reply the pass has seen a legal history that begins with all that it had seen and
+    /// ends with this call, and the reply is that of the history. Otherwise no event was made:
+    /// after `Later` the pass has seen a history from which the ask would wait, after `Full` one
+    /// with `capacity` events; `Memory` comes for an offer and a drain alone.
     pub fn call<R: Wait>(
         &self,
         rt: &R,
@@ -170,11 +172,11 @@ impl<T: Timer> Shared<T> {
         outcome
     }
 
-    /// Ends the sharing, where every pass with calls is this one, or folded into it. It
-    /// waits while another pass calls, and takes no memory.
+    /// Ends the sharing, if every pass with calls is this one or folded into it. It waits while
+    /// another pass calls, and takes no memory.
     ///
-    /// The history that comes back has the calls of these passes and no other. `NotAll` is answered exactly
-    /// where the pass's totals are not those of the whole history, and all is handed back.
+    /// The history that comes back has the calls of these passes and no other. `NotAll` comes if
+    /// the pass's totals are not those of the whole history, and hands everything back.
     pub fn close<R: Wait>(
         self,
         rt: &R,

@@ -1,4 +1,5 @@
-//! What each step of the lock tells, and how seats are cut and joined. These types are for the proofs alone.
+//! What each step of the lock changes, and how seats are cut and joined. These types are only for
+//! proofs.
 use crate::pair::Pair;
 use crate::view::View;
 use atomic_table::{Join, Play, Split};
@@ -64,7 +65,7 @@ impl Split<View> for Note {
     ghost right = { note_of };
 }
 
-/// A note is held beside what another seat has seen.
+/// A note is compared with what another seat has seen.
 pub(crate) struct Compare;
 
 impl Join<View> for Compare {

@@ -1,7 +1,7 @@
-//! A timer whose entries hang together as a pairing heap, linked by slot.
+//! A timer whose entries form a pairing heap, linked by slot.
 //!
 //! An insert touches a constant number of entries, and taking an entry out costs a logarithm in the
-//! long run, whichever entry it is. Where expiries rise from insert to insert both are a constant.
+//! long run, whichever entry it is. If expiries rise from insert to insert, both cost a constant.
 //! No step recurses, however large the heap is.
 #![tactic(auto)]
 

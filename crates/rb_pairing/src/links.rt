@@ -138,10 +138,11 @@ impl Nodes {
         Some(self.join_back(parent, last))
     }
 
-    /// Takes an entry out of its tree. What those under it are joined into gets its place, and is
-    /// given.
+    /// Takes an entry out of its tree. The children are joined into one, which takes its place and
+    /// is returned.
     ///
-    /// Nothing has to be compared for that place: what is above it expires no later than the entry did.
+    /// Nothing has to be compared for that place, since what is above it expires no later than the
+    /// entry did.
     pub(crate) fn unlink(&mut self, slot: usize) -> Option<usize>
         requires linked { LieAsTrees self.old }
         requires in_room { slot < length self.old }
@@ -155,7 +156,7 @@ impl Nodes {
         Some(heir)
     }
 
-    /// Hangs the later of two entries that are in no row under the other, which it gives.
+    /// Hangs the later of two entries that are in no row under the other, and returns that one.
     pub(crate) fn meld(&mut self, one: Option<usize>, other: Option<usize>) -> Option<usize>
         requires linked { LieAsTrees self.old }
         requires one { (slot : ℕ) → one ≡ Some slot → IsTop self.old slot }

@@ -141,7 +141,7 @@ impl Node {
         self.previous = link_to(previous);
     }
 
-    /// Notes what the entry stands between.
+    /// Notes which entries this one is between.
     pub(crate) fn set_place(&mut self, previous: Option<usize>, next: Option<usize>)
         requires previous { (slot : ℕ) → previous ≡ Some slot → slot < VACANT }
         requires next { (slot : ℕ) → next ≡ Some slot → slot < VACANT }

@@ -5,7 +5,7 @@ ghost use Rattle.rb_pairing.specs.Forest.{LieAsTrees, IsTree, IsEntry};
 use crate::nodes::Nodes;
 
 impl Nodes {
-    /// Adds an entry to the tree at a slot that has none, and gives the root then.
+    /// Adds an entry to the tree at a slot that has none, and returns the root.
     ///
     /// It is put under the newest entry, unless it expires earlier.
     pub(crate) fn add(
@@ -33,7 +33,7 @@ impl Nodes {
         self.meld(root, Some(slot))
     }
 
-    /// The newest entry, or where that is the slot's the one before it, if there is one.
+    /// The newest entry or, if that is the slot's, the one before it, if there is one.
     pub(crate) fn newest_but(&self, newest: Option<usize>, slot: usize) -> Option<usize>
         requires linked { LieAsTrees self.now }
         requires newest { IsEntry self.now newest }
@@ -48,7 +48,7 @@ impl Nodes {
         }
     }
 
-    /// Takes an entry out of the tree, and gives the root of the others.
+    /// Takes an entry out of the tree, and returns the root of the others.
     pub(crate) fn take_out(&mut self, root: Option<usize>, slot: usize) -> Option<usize>
         requires tree { IsTree self.old root }
         requires in_room { slot < length self.old }

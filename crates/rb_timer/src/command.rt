@@ -1,4 +1,4 @@
-/// What a timer may be asked for.
+/// A command to a timer.
 #[derive(Clone, Copy, Debug, PartialEq, Eq)]
 pub enum TimerCommand {
     /// Add an entry: its slot, then its expiry in nanoseconds.
@@ -13,7 +13,7 @@ pub enum TimerCommand {
     Clear,
 }
 
-/// What a timer answers.
+/// The answer to a command.
 #[derive(Clone, Copy, Debug, PartialEq, Eq)]
 pub enum TimerAnswer {
     /// The entry was added.
@@ -24,6 +24,7 @@ pub enum TimerAnswer {
     Entry(Option<(usize, u64)>),
     /// Every entry was taken out.
     Cleared,
-    /// The slot was not below the room, or had an entry already, or had none. Nothing changed.
+    /// The slot was not below the room or had an entry already (insert), or had none (remove).
+    /// Nothing changed.
     Refused,
 }

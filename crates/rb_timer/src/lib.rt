@@ -1,9 +1,9 @@
 //! Which slot expires first: the contract of all timers, a run over any of them, and the plain timer.
 //!
-//! A timer is seen as a finite map from slot to expiry, with a room that every slot is below. A
-//! slot is a number that the timer's owner chose, and an expiry a moment in nanoseconds. `reserve`
-//! alone may fail for want of memory, so whoever has made room cannot fail later. `link` has what
-//! timers store slots in.
+//! Contracts see a timer as a finite map from slot to expiry, with a room that every slot is below.
+//! A slot is a number that the timer's owner chose, and an expiry a moment in nanoseconds. Only
+//! `reserve` may fail for want of memory, so an owner that has made room cannot fail later. `link`
+//! has what timers store slots in.
 #![tactic(auto)]
 
 mod command;

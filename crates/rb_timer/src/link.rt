@@ -1,17 +1,17 @@
 //! An optional slot in one word.
 //!
-//! Timers note at each slot of their room where its entry is, or which slot comes next to it. An
-//! `Option<usize>` takes two words, and such notes are most of what a timer stores.
+//! A timer notes for each slot of its room where the slot's entry is, or which slot comes next to
+//! it. An `Option<usize>` takes two words, and such notes are most of what a timer stores.
 ghost use Rattle.std.specs.Prelude.{◌≡◌, ◌<◌, Some, None};
 
 use std::marker::Model;
 
-/// The word of a link to no slot. Every slot that is linked to is below it.
+/// The word of a link to no slot. Every slot that can be linked to is below it.
 pub const NONE: usize = usize::MAX;
 
 /// A slot, or none, in one word. Contracts see an option.
 ///
-/// Each call costs a constant: it reads or writes that word.
+/// Each call costs a constant, and reads or writes that one word.
 #[derive(Clone, Copy, Debug)]
 pub struct Link {
     word: usize,
@@ -49,7 +49,7 @@ impl Link {
         Link { word: slot }
     }
 
-    /// The slot that it leads to, if it does.
+    /// The slot that it leads to, if any.
     pub fn slot(self) -> Option<usize>
         ensures { result ≡ self }
     {
@@ -60,7 +60,7 @@ impl Link {
         }
     }
 
-    /// The slot that it led to, if it did. Now it leads to none.
+    /// The slot that it led to, if any. Afterwards it leads to none.
     pub fn take(&mut self) -> Option<usize>
         ensures value { result ≡ self.old }
         ensures after { self.new ≡ None }

@@ -7,9 +7,8 @@ use std::alloc::{AllocError, Global};
 
 /// Runs commands in order, with an answer for each, on any timer.
 ///
-/// `Refused` is answered exactly where the condition of `insert` or `remove` fails, and that
-/// command changes nothing. Room for the answers is asked for first: after an `Err` nothing has
-/// changed.
+/// `Refused` comes exactly if the condition of `insert` or `remove` fails, and that command changes
+/// nothing. It asks for room for the answers first: on `Err` nothing has changed.
 pub fn run_timer<T: Timer>(
     alloc: Global,
     timer: &mut T,

@@ -17,7 +17,7 @@ pub trait Timer: Drop {
     /// The entries: each slot with its expiry.
     ghost content: { Self → Content };
 
-    /// What every slot is below.
+    /// The number that every slot is below.
     ghost room: { Self → ℕ };
 
     /// An empty timer with no room, which takes no memory until `reserve`.
@@ -37,8 +37,8 @@ pub trait Timer: Drop {
     fn get(&self, slot: usize) -> Option<u64>
         ensures { result ≡ map.get (content self.now) slot };
 
-    /// Makes the room `wanted` where it is less. The one call that takes memory; where memory is
-    /// refused nothing changes.
+    /// Makes the room at least `wanted`. This is the only call that takes memory. If memory is
+    /// refused, nothing changes.
     fn reserve(&mut self, wanted: usize) -> Result<(), AllocError>
         ensures ok { OnOk result (room self.new ≡ max (room self.old) wanted) }
         ensures err { OnErr result (room self.new ≡ room self.old) }
@@ -51,20 +51,22 @@ pub trait Timer: Drop {
         ensures content { content self.new ≡ map.insert (content self.old) slot expiry }
         ensures room { room self.new ≡ room self.old };
 
-    /// Takes out the entry at a slot that has one, and gives its expiry.
+    /// Takes out the entry at a slot that has one, and returns its expiry, in nanoseconds.
     fn remove(&mut self, slot: usize) -> u64
         requires { IsSome (map.get (content self.old) slot) }
         ensures value { map.get (content self.old) slot ≡ Some result }
         ensures content { content self.new ≡ map.remove (content self.old) slot }
         ensures room { room self.new ≡ room self.old };
 
-    /// An entry of least expiry, or `None` exactly where there is no entry.
+    /// An entry of least expiry. `None` exactly if there is no entry.
     fn least(&self) -> Option<(usize, u64)>
         ensures { IsLeastEntry (content self.now) result };
 
-    /// An entry of least expiry if that is at most `now`, or `None` exactly where no entry's is.
+    /// An entry of least expiry, if that is at most `now`, in nanoseconds. `None` exactly if every
+    /// expiry is later.
     ///
-    /// The body may tidy itself up, but the content stays. `now` may be less than in an earlier call.
+    /// An implementation may rearrange itself, but the content stays. `now` may be earlier than in
+    /// an earlier call.
     fn due(&mut self, now: u64) -> Option<(usize, u64)>
         ensures due { IsDueEntry (content self.old) now result }
         ensures content { content self.new ≡ content self.old }

@@ -12,8 +12,8 @@ use rb_timer::link::Link;
 use std::alloc::{AllocError, Global};
 use std::marker::Model;
 
-/// The slots: each may have an entry, whose expiry stands here, and lies in at most one cell. For
-/// each cell there is a list of the slots in it, linked both ways.
+/// The slots: each may have an entry, whose expiry is kept here, and is in at most one cell. Each
+/// cell has a list of its slots, linked both ways.
 #[derive(Debug, Drop)]
 pub(crate) struct Lists {
     // The first slot of each cell's list. There are none until the first `reserve`.
@@ -61,7 +61,7 @@ impl Lists {
         self.nodes.get(slot)?.expiry()
     }
 
-    /// Makes room for `wanted` slots. Where memory is refused nothing changes.
+    /// Makes room for `wanted` slots. If memory is refused, nothing changes.
     pub(crate) fn reserve(&mut self, wanted: usize) -> Result<(), AllocError>
         ensures expiries { OnOk result (self.new.expiries ≡ self.old.expiries ++ replicate (wanted - length self.old.expiries) None) }
         ensures cells { OnOk result (self.new.cells ≡ self.old.cells ++ replicate (wanted - length self.old.cells) None) }

@@ -5,8 +5,8 @@ ghost use Rattle.rb_wheel.specs.Wheel.{LieRight, SameInCells, ExpireTogether, Is
 use crate::cells::DIGITS;
 use crate::lists::Lists;
 
-/// The first entry of the cells, after a slot was taken out of its cell: the one so far, or, where that
-/// was of this slot, the next.
+/// The first entry of the cells, after a slot was taken out of its cell: the one so far or, if that
+/// was of this slot, the next one.
 pub(crate) fn first_without(
     lists: &mut Lists,
     base: &mut u64,

@@ -66,7 +66,7 @@ impl Node {
     }
 }
 
-/// Notes what the slot is preceded by, where there is a slot.
+/// Notes which slot precedes this one, if there is one.
 pub(crate) fn set_previous(nodes: &mut [Node], slot: Link, previous: Link)
     requires { IfSome slot (λ slot. slot < length nodes.old) }
     ensures { nodes.new ≡ with_previous nodes.old slot previous }
@@ -76,7 +76,7 @@ pub(crate) fn set_previous(nodes: &mut [Node], slot: Link, previous: Link)
     }
 }
 
-/// Notes what the slot is followed by, where there is a slot.
+/// Notes which slot follows this one, if there is one.
 pub(crate) fn set_next(nodes: &mut [Node], slot: Link, next: Link)
     requires { IfSome slot (λ slot. slot < length nodes.old) }
     ensures { nodes.new ≡ with_next nodes.old slot next }

@@ -6,7 +6,7 @@ use rb_timer::Timer;
 use std::alloc::{AllocError, Global};
 use std::marker::Model;
 
-/// A hierarchical wheel whose early entries stand in a pairing heap.
+/// A hierarchical wheel whose early entries are kept in a pairing heap.
 pub type WheelTimer = Wheel<PairingTimer>;
 
 /// A hierarchical timing wheel: a moment has 11 digits in base 64, and each level of the wheel has
