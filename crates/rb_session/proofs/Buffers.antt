@@ -1,6 +1,6 @@
 -- Lines in lists of bytes: where they end, and what is left.
 use Rattle.std.proofs.Common.{◌≡◌, ◌≢◌, ℕ, suc, ◌+◌, ◌-◌, ◌<◌, ◌≤◌, List, [], ◌∷◌, ◌++◌, refl, sym, ap, ◌∙◌, arith, length, get_or, take, drop, cond, Bool, true, false, nat_eq, length-append, length-take-le, length-drop, append_assoc}
-use Rattle.std.proofs.lemmas.List.{take-append-drop, drop-take, drop-drop, take-append-le, drop-append-le, append-nil}
+use Rattle.std.proofs.lemmas.List.{take-append-drop, drop-take, drop-drop, take-append-le, drop-append-le}
 use Rattle.std.proofs.lemmas.Bool.Decides.{nat_tests}
 use Rattle.std.proofs.Math.Seq.{drop-cons, take-append-add}
 use Rattle.std.specs.Prelude.{slice_range, MatchBool}
@@ -94,11 +94,6 @@ first_line true most held bytes len within none feed (dropped, none_before, many
   omega (arith, length-append dropped (take len held), many),
 )
 first_line false most held bytes len within none feed is = (take len held, is ∙ cut_at held len within feed, none, refl)
-
-pub range_same : (xs buf post : List ℕ) (start end : ℕ) → start ≤ end → end ≤ length xs → slice_range (take end xs ++ (buf ++ post)) start end ≡ slice_range xs start end
-range_same xs buf post start end before within =
-    let whole : end ≡ end + 0 = omega arith in
-    ap (slice_range (take end xs ++ (buf ++ post)) start) whole ∙ range_more xs buf post start end 0 before within (omega arith) ∙ append-nil (slice_range xs start end)
 
 -- what a write into the back of a list leaves has the list's length
 pub length-written : (xs buf : List ℕ) (end : ℕ) → end ≤ length xs → length buf ≡ length xs - end

@@ -1,5 +1,6 @@
 -- The lemmas of this crate, by subject: how lines are read and served, and how replies are sent.
 pub mod Sending
+pub mod LongerExchanges
 pub mod Buffers
 pub mod LineFeeds
 pub mod PlainCalls

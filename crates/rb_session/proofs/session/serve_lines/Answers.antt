@@ -1,11 +1,36 @@
 -- Each line served adds its turn to those before it; a failed write or a quit ends them there.
-use Rattle.std.proofs.Common.{◌≡◌, [], inl, inr, refl, sym, ◌∙◌, true, false}
-use Rattle.std.proofs.KnownBytes.{Appends-nil, Appends-trans, Appends-kept}
+use Rattle.std.proofs.Common.{◌≡◌, ℕ, List, [], inl, inr, refl, sym, ◌∙◌, true, false}
+use Rattle.std.proofs.KnownBytes.{Appends-nil, Appends-kept}
+use Rattle.rb_session.specs.Buffer.{IsUnserved}
+use Rattle.rb_session.specs.Progress.{replies_of}
 use Rattle.rb_session.specs.Turn.{point}
 use Rattle.rb_session.proofs.Sending.{sends_failed, sends_done}
-use Rattle.rb_session.proofs.Turns.{stands_first, stands_turn, quits, fails}
+use Rattle.rb_session.proofs.Turns.{IsNextTurn, stands_first, goes_on, quits, fails}
 use Rattle.rb_session.proofs.Outlets.{failed}
+use Rattle.rb_session.proofs.session.serve_lines.Given.{Over}
 use Rattle.rb_session.proofs.session.serve_lines.Goals as goal
+use Rattle.rb_session.proofs.session.serve_lines.Goals.{After-answer-reply}
+
+-- the line that was taken gets its turn
+next_turn : (g : Over) (c : After-answer-reply g) (bytes : List ℕ) → IsUnserved c.args.buffer.now bytes
+    → IsNextTurn g.D.Desk.gives g.D.Desk.Sets g.D.Desk.Steps c.args.policy.now (point (g.D.Desk.state c.args.desk.now) c.args.held.now)
+    (point (g.D.Desk.state c.answer-reply.new.desk) c.answer-reply.new.held) bytes (g.O.Outlet.contents c.args.outlet.now) (g.O.Outlet.contents c.clear_for_wait.new.outlet)
+    c.in-Some.reading (replies_of c.answer-reply.result c.answer-reply.new.held) c.next_request.new.self
+next_turn g c bytes unserved =
+    let at = c.loop-reading.invariant.stands bytes unserved in
+    let line = c.in-Some.ensures.line at.2.rest at.3 in
+    record {
+      sent = at.0;
+      appended = Appends-kept _ _ _ _ at.1 c.clear_for_wait.ensures.kept;
+      here = _;
+      stands = at.2;
+      raw = line.0;
+      rest = line.1;
+      split = line.2;
+      line = (line.3, line.4);
+      is_turn = c.answer-reply.ensures.turn;
+      unserved = line.5;
+    }
 
 pub loop-reading-init : goal.loop-reading-init
 unfolding stands_first
@@ -31,41 +56,21 @@ returns-then-is_err-clause-becomes g c = g.met.O.Outlet.goes_on _ _ _ c.loop-rea
 
 pub returns-then-is_err-2-clause-served : goal.returns-then-is_err-2-clause-served
 returns-then-is_err-2-clause-served g c bytes unserved =
-    let at = c.loop-reading.invariant.stands bytes unserved in
-    let line = c.in-Some.ensures.line at.2.rest at.3 in
-    let part = sends_failed c.send_replies.result _ _ _ (sym c.is_err-in-Some.ensures.value ∙ c.if-is_err-2.true) c.send_replies.ensures.sent in (
-      _,
-      Appends-trans _ _ _ _ _ (Appends-kept _ _ _ _ at.1 c.clear_for_wait.ensures.kept) part.3,
-      inl (fails g.D.Desk.gives g.D.Desk.Sets g.D.Desk.Steps c.args.policy.now _ _ (point (g.D.Desk.state c.answer-reply.new.desk) c.answer-reply.new.held) bytes at.0 line.0 line.1 at.2
-          c.in-Some.reading _ line.2 (line.3, line.4) c.answer-reply.ensures.turn part.0 part.1 part.2),
-    )
+    let served = fails _ _ _ _ (next_turn g (goal.at.returns-then-is_err-2-clause-served g c).After-answer-reply bytes unserved) (g.O.Outlet.contents c.send_replies.new.outlet)
+    (sends_failed c.send_replies.result _ _ _ (sym c.is_err-in-Some.ensures.value ∙ c.if-is_err-2.true) c.send_replies.ensures.sent) in
+    (served.0, served.1, inl served.2)
 
 pub returns-then-quits-clause-served : goal.returns-then-quits-clause-served
 returns-then-quits-clause-served g c bytes unserved =
-    let at = c.loop-reading.invariant.stands bytes unserved in
-    let line = c.in-Some.ensures.line at.2.rest at.3 in
-    let all = sends_done c.send_replies.result _ _ _ (sym c.is_err-in-Some.ensures.value ∙ c.if-is_err-2.false) c.send_replies.ensures.sent in (
-      _,
-      Appends-trans _ _ _ _ _ (Appends-kept _ _ _ _ at.1 c.clear_for_wait.ensures.kept) all,
-      quits g.D.Desk.gives g.D.Desk.Sets g.D.Desk.Steps c.args.policy.now _ _ (point (g.D.Desk.state c.answer-reply.new.desk) c.answer-reply.new.held) bytes at.0 line.0 line.1 at.2
-          c.in-Some.reading _ line.2 (line.3, line.4) c.answer-reply.ensures.turn
-          (c.is_quit-quits.ensures.0 c.if-quits.true),
-    )
+    quits _ _ _ _ (next_turn g (goal.at.returns-then-quits-clause-served g c).After-answer-reply bytes unserved) (g.O.Outlet.contents c.send_replies.new.outlet)
+    (sends_done c.send_replies.result _ _ _ (sym c.is_err-in-Some.ensures.value ∙ c.if-is_err-2.false) c.send_replies.ensures.sent) (c.is_quit-quits.ensures.0 c.if-quits.true)
 
 pub loop-reading-preserved : goal.loop-reading-preserved
-unfolding stands_turn
 loop-reading-preserved g c = record {
   stands = λ bytes unserved.
-      let at = c.loop-reading.invariant.stands bytes unserved in
-      let line = c.in-Some.ensures.line at.2.rest at.3 in
-      let all = sends_done c.send_replies.result _ _ _ (sym c.is_err-in-Some.ensures.value ∙ c.if-is_err-2.false) c.send_replies.ensures.sent in (
-        _,
-        Appends-trans _ _ _ _ _ (Appends-kept _ _ _ _ at.1 c.clear_for_wait.ensures.kept) all,
-        stands_turn g.D.Desk.gives g.D.Desk.Sets g.D.Desk.Steps c.args.policy.now _ _ (point (g.D.Desk.state c.answer-reply.new.desk) c.answer-reply.new.held) bytes at.0 line.0 line.1 at.2
-            c.in-Some.reading _ line.2 (line.3, line.4) c.answer-reply.ensures.turn
-            (λ quit. let clash : true ≡ false = sym (c.is_quit-quits.ensures.1 quit) ∙ c.if-quits.false in absurd (cc)),
-        line.5,
-      );
+      goes_on _ _ _ _ (next_turn g (goal.at.loop-reading-preserved g c).After-answer-reply bytes unserved) (g.O.Outlet.contents c.send_replies.new.outlet)
+      (sends_done c.send_replies.result _ _ _ (sym c.is_err-in-Some.ensures.value ∙ c.if-is_err-2.false) c.send_replies.ensures.sent)
+      (λ quit. let clash : true ≡ false = sym (c.is_quit-quits.ensures.1 quit) ∙ c.if-quits.false in absurd (cc));
   room = c.send_replies.ensures.room;
   becomes = g.met.O.Outlet.goes_on _ _ _ (g.met.O.Outlet.goes_on _ _ _ c.loop-reading.invariant.becomes c.clear_for_wait.ensures.becomes) c.send_replies.ensures.becomes;
   name = c.answer-reply.ensures.name ∙ c.loop-reading.invariant.name;

@@ -1,28 +1,41 @@
 -- What is unserved grows at its end by the bytes that were read, and stays where the read failed.
-use Rattle.std.proofs.Common.{◌<◌, ◌≤◌, ◌-◌, ◌++◌, List, ℕ, ◌+◌, length, take, ap, ◌∙◌, arith}
+use Rattle.std.proofs.Common.{◌≡◌, ◌<◌, ◌≤◌, ◌-◌, ◌++◌, List, ℕ, ◌+◌, length, take, drop, refl, ap, ◌∙◌, arith}
 use borrow.Rule.Slice.PartMut.{post_of}
 use Rattle.std.specs.Prelude.{slice_range}
 use Rattle.rb_session.specs.Buffer.{held_by}
 use Rattle.rb_session.specs.declared.line_buffer.TheConstants.{MOST_RAW_BYTES}
-use Rattle.rb_session.proofs.Buffers.{range_more, range_same, unserved_more, unserved_same, length-written}
-use Rattle.std.proofs.lemmas.List.{with_items_is, length-take-le}
+use Rattle.rb_session.proofs.Buffers.{range_more, unserved_more, unserved_same, length-written}
+use Rattle.std.proofs.lemmas.List.{with_items_is, length-take-le, append-nil}
+use Rattle.rb_session.proofs.line_buffer.LineBuffer.read_from.Given.{Over}
 use Rattle.rb_session.proofs.line_buffer.LineBuffer.read_from.Goals as goal
+use Rattle.rb_session.proofs.line_buffer.LineBuffer.read_from.Goals.{After-read}
+
+abbrev written : (g : Over) → After-read g → List ℕ
+written g c =
+    let xs = c.deref_mut.result.now in
+    take c.make_room.new.self.end xs ++ (c.read.new.buf ++ post_of c.make_room.new.self.end (length xs - c.make_room.new.self.end) xs)
+
+-- what is held with the first bytes of those that were read
+held_more : (g : Over) (c : After-read g) (count end : ℕ) → end ≡ c.make_room.new.self.end + count → count ≤ length c.read.new.buf
+    → slice_range (take c.make_room.new.self.bytes.len (written g c ++ drop (length (written g c)) c.make_room.new.self.bytes.items)) c.make_room.new.self.start end
+    ≡ held_by c.make_room.new.self ++ take count c.read.new.buf
+held_more g c count end is fits =
+    let before = c.make_room.new.self in
+    let xs = c.deref_mut.result.now in
+    let within : before.end ≤ length xs = omega (arith, c.make_room.ensures.room, c.deref_mut.ensures.len) in
+    let long = length-written xs c.read.new.buf before.end within (omega arith) ∙ c.deref_mut.ensures.len in
+    ap (λ (ys : List ℕ). slice_range ys before.start end) (with_items_is before.bytes (written g c) long) ∙ ap (slice_range (written g c) before.start) is
+    ∙ range_more xs c.read.new.buf (post_of before.end (length xs - before.end) xs) before.start before.end count before.ordered within fits
+    ∙ ap (λ (ys : List ℕ). slice_range ys before.start before.end ++ take count c.read.new.buf) c.deref_mut.ensures.value
 
 pub returns-in-Ok : goal.returns-in-Ok
 returns-in-Ok g c bytes unserved none =
     let before = c.make_room.new.self in
-    let xs = c.deref_mut.result.now in
-    let kept = c.make_room.ensures.kept bytes unserved none in
     let room : 0 < length c.read.new.buf = omega (arith, c.make_room.ensures.room, c.deref_mut.ensures.len) in
-    let within : before.end ≤ length xs = omega (arith, c.make_room.ensures.room, c.deref_mut.ensures.len) in
-    let ws = take before.end xs ++ (c.read.new.buf ++ post_of before.end (length xs - before.end) xs) in
-    let written = with_items_is before.bytes ws (length-written xs c.read.new.buf before.end within (omega arith) ∙ c.deref_mut.ensures.len) in
-    let grows = ap (λ (ys : List ℕ). slice_range ys before.start (before.end + c.in-Ok.count)) written
-    ∙ range_more xs c.read.new.buf (post_of before.end (length xs - before.end) xs) before.start before.end c.in-Ok.count before.ordered within c.in-Ok.ensures.bound.0
-    ∙ ap (λ (ys : List ℕ). slice_range ys before.start before.end ++ take c.in-Ok.count c.read.new.buf) c.deref_mut.ensures.value in (
+    let grows = held_more g (goal.at.returns-in-Ok g c).After-read c.in-Ok.count _ refl c.in-Ok.ensures.bound.0 in (
       take c.in-Ok.count c.read.new.buf,
       c.in-Ok.ensures.bytes.0,
-      unserved_more before.is_long MOST_RAW_BYTES (held_by before) _ _ bytes grows kept,
+      unserved_more before.is_long MOST_RAW_BYTES (held_by before) _ _ bytes grows (c.make_room.ensures.kept bytes unserved none),
       length-take-le c.in-Ok.count c.read.new.buf c.in-Ok.ensures.bound.0,
       λ zero. c.in-Ok.ensures.bytes.1 zero room,
     )
@@ -30,12 +43,5 @@ returns-in-Ok g c bytes unserved none =
 pub returns-in-Err : goal.returns-in-Err
 returns-in-Err g c bytes unserved none =
     let before = c.make_room.new.self in
-    let xs = c.deref_mut.result.now in
-    let kept = c.make_room.ensures.kept bytes unserved none in
-    let within : before.end ≤ length xs = omega (arith, c.make_room.ensures.room, c.deref_mut.ensures.len) in
-    let ws = take before.end xs ++ (c.read.new.buf ++ post_of before.end (length xs - before.end) xs) in
-    let written = with_items_is before.bytes ws (length-written xs c.read.new.buf before.end within (omega arith) ∙ c.deref_mut.ensures.len) in
-    let same = ap (λ (ys : List ℕ). slice_range ys before.start before.end) written
-    ∙ range_same xs c.read.new.buf (post_of before.end (length xs - before.end) xs) before.start before.end before.ordered within
-    ∙ ap (λ (ys : List ℕ). slice_range ys before.start before.end) c.deref_mut.ensures.value in
-    (c.in-Err.ensures.bytes, unserved_same before.is_long MOST_RAW_BYTES (held_by before) _ bytes same kept)
+    let same = held_more g (goal.at.returns-in-Err g c).After-read 0 before.end (omega arith) (omega arith) ∙ append-nil (held_by before) in
+    (c.in-Err.ensures.bytes, unserved_same before.is_long MOST_RAW_BYTES (held_by before) _ bytes same (c.make_room.ensures.kept bytes unserved none))
