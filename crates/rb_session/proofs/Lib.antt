@@ -11,3 +11,5 @@ pub mod StreamRuns
 pub mod Outlets
 pub mod Gatherings
 pub mod KnownDevices
+pub mod Events
+pub mod KeptEvents
