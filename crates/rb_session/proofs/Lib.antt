@@ -1,4 +1,5 @@
--- The lemmas of this crate, by subject: how lines are read and served, and how replies are sent.
+-- The lemmas of this crate, by subject: how lines are read and served, how replies are sent, and devices that tell
+-- their bytes.
 pub mod Sending
 pub mod LongerExchanges
 pub mod Buffers
@@ -10,3 +11,6 @@ pub mod Turns
 pub mod StreamRuns
 pub mod Outlets
 pub mod Gatherings
+pub mod KnownDevices
+pub mod Events
+pub mod KeptEvents

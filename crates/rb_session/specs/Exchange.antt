@@ -1,6 +1,6 @@
 -- What came from a reader, and what a writer was sent.
-use Rattle.std.specs.Prelude.{◌≡◌, ℕ, List, ◌++◌, Option, Result, Ok, Err}
-use Rattle.std.specs.Io.KnownBytes.{Appends, Consumes}
+use Rattle.std.specs.Prelude.{◌≡◌, ℕ, List, ◌++◌, Option, Some, Result, Ok, Err}
+use Rattle.std.specs.Io.KnownBytes.{Appends, Consumes, IsAtEnd}
 use Rattle.rb_session.specs.declared.send.WriteFault.{WriteFault}
 
 -- These bytes came and these were sent, and of the two this holds. A device that tells its bytes had what
@@ -17,3 +17,12 @@ pub record Exchanges (left left' got got' : Option (List ℕ)) (Holds : List ℕ
 abbrev pub Sends : {T : Type 0} → Result T WriteFault → Option (List ℕ) → List ℕ → Option (List ℕ) → Type 0
 Sends (Ok _) got text got' = Appends got got' text
 Sends (Err fault) got text got' = (sent : List ℕ) × (unsent : List ℕ) × (text ≡ sent ++ unsent) × Appends got got' sent
+
+-- the law of readers that tell their bytes: these were what came, and then what is left
+abbrev pub CameFirst : Type 0
+CameFirst = (stream came : List ℕ) (left' : Option (List ℕ)) → Consumes (Some stream) left' came
+    → ((rest : List ℕ) × (left' ≡ Some rest) × (stream ≡ came ++ rest)) × (IsAtEnd left' → stream ≡ came)
+
+-- the law of writers that tell what they have got: that is what they had got, and then what was sent
+abbrev pub SentLast : Type 0
+SentLast = (before sent : List ℕ) (got' : Option (List ℕ)) → Appends (Some before) got' sent → got' ≡ Some (before ++ sent)

@@ -10,6 +10,7 @@ pub mod Turn
 pub mod Session
 pub mod Exchange
 pub mod Closing
+pub mod Events
 pub mod Ran
 pub mod Outlet
 pub mod Buffer

@@ -1,0 +1,110 @@
+-- At a kept desk the history grows by what a session makes, and the clock stands at the latest moment that was set.
+use Rattle.std.proofs.Common.{◌≡◌, ℕ, ◌≤◌, List, [], ◌∷◌, ◌++◌, Option, Some, Result, Ok, Err, refl, sym, ap, subst, ◌∙◌, inl, inr, arith}
+use Rattle.std.proofs.lemmas.List.{map-append}
+use Rattle.std.specs.Prelude.{map}
+use Rattle.rb_queue.specs.declared.ask.Ask.{Ask}
+use Rattle.rb_queue.specs.declared.event.Event.{Event}
+use Rattle.rb_queue.specs.declared.opening.Opening.{Opening}
+use Rattle.rb_queue.specs.declared.reply.Reply.{Reply}
+use Rattle.rb_retry.specs.Made.{Made, made_after}
+use Rattle.rb_retry.specs.KeptSteps.{KeptState, KeptSteps, SetsKept, made_at}
+use Rattle.rb_retry.specs.KeptLaws.{kept_makes, kept_refuses, kept_stays}
+use Rattle.rb_retry.specs.declared.desk_fault.DeskFault.{DeskFault}
+use Rattle.rb_retry.specs.declared.policy.Policy.{Policy}
+use Rattle.rb_retry.specs.declared.verdict.Verdict.{Verdict}
+use Rattle.rb_retry.specs.declared.verdict.Verdict.TheVariants.{Again, Dead}
+use Rattle.rb_retry.specs.Asked.{Makes, MayGet}
+use Rattle.rb_retry.specs.Jobs.{FailsTo}
+use Rattle.rb_kept.specs.declared.fault.CallFault.{CallFault}
+use Rattle.rb_delayed.specs.declared.element.Element.{Element}
+use Rattle.rb_protocol.specs.declared.request.Request.{Request}
+use Rattle.rb_protocol.specs.declared.line_fault.LineFault.{LineFault}
+use Rattle.rb_protocol.specs.declared.line_reply.LineReply.{LineReply}
+use Rattle.rb_session.specs.Turn.{Point}
+use Rattle.rb_session.specs.Session.{Turn, Serves}
+use Rattle.rb_session.specs.Closing.{Closes}
+use Rattle.rb_session.specs.Events.{moment_after, latest, events_of, RecordsByLines, RecordsByClosing}
+use Rattle.rb_session.proofs.Events.{Way, way_of, makes_by_lines, makes_by_closing}
+
+-- the desk as if it had been made before the first event
+abbrev whole : KeptState → KeptState
+whole state = record state { before = 0 }
+
+steps_whole : (old new : KeptState) (handed : ℕ) (ask : Ask) (result : Result Reply DeskFault)
+    → KeptSteps old handed ask result new → KeptSteps (whole old) handed ask result (whole new)
+steps_whole old new handed ask result steps = record {
+  earlier = omega arith;
+  outcome = steps.outcome;
+  answers = steps.answers;
+  steps = steps.steps;
+  counts = steps.counts;
+  stays = ap whole steps.stays;
+}
+
+-- the events of what was made are the events that it was made of
+events_in : (opening : Opening) (before events : List Event) → events_of (made_after opening before events) ≡ events
+events_in opening before [] = refl
+events_in opening before (event ∷ events) = ap (λ (rest : List Event). event ∷ rest) (events_in opening (before ++ event ∷ []) events)
+
+abbrev kept_gives : KeptState → ℕ → Type 0
+kept_gives state moment = moment ≡ state.moment
+
+-- all that was made at the desk's queue
+abbrev whole_mine : KeptState → List Made
+whole_mine state = made_at (whole state)
+
+makes_whole : (old new : KeptState) (asked : ℕ) (ask : Ask) (reply : Reply) → KeptSteps old asked ask (Ok reply) new
+    → Makes (kept_gives old) asked ask reply (whole_mine old) (whole_mine new)
+makes_whole old new asked ask reply steps = kept_makes (whole old) (whole new) asked ask reply (steps_whole old new asked ask (Ok reply) steps)
+
+refuses_whole : (old new : KeptState) (asked : ℕ) (ask : Ask) (fault : DeskFault) → KeptSteps old asked ask (Err fault) new
+    → MayGet ask fault × (whole_mine new ≡ whole_mine old)
+refuses_whole old new asked ask fault steps = kept_refuses (whole old) (whole new) asked ask fault (steps_whole old new asked ask (Err fault) steps)
+
+stays_whole : (old new : KeptState) (moment : ℕ) (result : Option ℕ) → SetsKept old moment result new → whole_mine new ≡ whole_mine old
+stays_whole old new moment result sets = ap whole_mine sets.1
+
+-- what was made makes the history grow
+history_grows : (from to : KeptState) (made : List Made) → whole_mine to ≡ whole_mine from ++ made → to.log.history ≡ from.log.history ++ events_of made
+history_grows from to made is =
+    sym (events_in to.log.opening [] to.log.history) ∙ ap events_of is
+    ∙ map-append (λ (m : Made). m.event) (whole_mine from) made
+    ∙ ap (λ (events : List Event). events ++ events_of made) (events_in from.log.opening [] from.log.history)
+
+-- the moment after one line
+moment_of : (reading : Result Request LineFault) (replies : List LineReply) (old new : KeptState)
+    → Way kept_gives SetsKept KeptSteps reading replies old new → new.moment ≡ moment_after old.moment reading
+moment_of reading replies old new (inl leaves) = ap (λ (s : KeptState). s.moment) leaves.same ∙ sym (leaves.stands old.moment)
+moment_of reading replies old new (inr (inl calls)) = ap (λ (s : KeptState). s.moment) calls.steps.stays ∙ sym (calls.stands old.moment)
+moment_of reading replies old new (inr (inr sets)) = ap (λ (s : KeptState). s.moment) sets.sets.1 ∙ ap (moment_after old.moment) (sym sets.read)
+
+latest_moment : (policy : Policy) (from to : Point KeptState) (turns : List Turn)
+    → Serves kept_gives SetsKept KeptSteps policy from turns to → to.desk.moment ≡ latest from.desk.moment turns
+latest_moment policy from to [] same = ap (λ (p : Point KeptState). p.desk.moment) same
+latest_moment policy from to (turn ∷ turns) (between, is_line, goes_on, is_turn, rest) =
+    latest_moment policy between to turns rest
+    ∙ ap (λ (m : ℕ). latest m turns) (moment_of turn.reading turn.replies from.desk between.desk
+    (way_of kept_gives SetsKept KeptSteps policy turn.reading from between turn.replies is_turn))
+
+pub records_by_lines : RecordsByLines kept_gives SetsKept KeptSteps
+records_by_lines policy from to turns serves =
+    let made = makes_by_lines kept_gives SetsKept KeptSteps whole_mine makes_whole refuses_whole stays_whole policy from to turns serves in
+    (made.0, history_grows from.desk to.desk made.0 made.1, made.2, latest_moment policy from to turns serves)
+
+-- no failure sets the clock
+same_moment : (policy : Policy) (element : Element) (now : ℕ) (old new : KeptState) (result : Result Verdict (Element × CallFault))
+    → FailsTo KeptSteps policy element now old result new → new.moment ≡ old.moment
+same_moment policy element now old new (Ok (Again again)) (draft, retry, steps) = ap (λ (s : KeptState). s.moment) steps.stays
+same_moment policy element now old new (Ok (Dead dead)) (retry, is_dead, same) = ap (λ (s : KeptState). s.moment) same
+same_moment policy element now old new (Err (back, fault)) (draft, retry, steps, is_back) = ap (λ (s : KeptState). s.moment) steps.stays
+
+closing_moment : (policy : Policy) (from to : KeptState) (held : List Element) (lost : ℕ)
+    → Closes kept_gives KeptSteps policy from held lost to → to.moment ≡ from.moment
+closing_moment policy from to [] lost (zero, same) = ap (λ (s : KeptState). s.moment) same
+closing_moment policy from to (element ∷ held) lost (now, is_now, result, between, fails, fewer, rest, sum) =
+    closing_moment policy between to held fewer rest ∙ same_moment policy element now from between result fails
+
+pub records_by_closing : RecordsByClosing kept_gives SetsKept KeptSteps
+records_by_closing policy from to held lost closes =
+    let made = makes_by_closing kept_gives SetsKept KeptSteps whole_mine makes_whole refuses_whole stays_whole policy from to held lost closes in
+    (made.0, history_grows from to made.0 made.1, made.2, closing_moment policy from to held lost closes)

@@ -1,0 +1,127 @@
+-- Which events a session makes at its desk: at most one for each line, and each has the reply that the line got.
+use Rattle.std.specs.Prelude.{◌≡◌, ℕ, ◌+◌, ◌≤◌, ◌⊎◌, max, List, [], ◌∷◌, ◌++◌, map, Option, Some, Result, Ok, Err}
+use Rattle.rb_delayed.specs.declared.element.Element.{Element}
+use Rattle.rb_queue.specs.declared.ask.Ask.{Ask}
+use Rattle.rb_queue.specs.declared.ask.Ask.TheVariants as asks
+use Rattle.rb_queue.specs.declared.event.Event.{Event}
+use Rattle.rb_queue.specs.declared.reply.Reply.{Reply}
+use Rattle.rb_queue.specs.declared.reply.Reply.TheVariants.{Offered}
+use Rattle.rb_kept.specs.Tries.{IsActOf}
+use Rattle.rb_retry.specs.Made.{Made}
+use Rattle.rb_retry.specs.KeptSteps.{KeptState}
+use Rattle.rb_retry.specs.declared.desk_fault.DeskFault.{DeskFault}
+use Rattle.rb_retry.specs.declared.policy.Policy.{Policy}
+use Rattle.rb_protocol.specs.declared.request.Request.{Request}
+use Rattle.rb_protocol.specs.declared.request.Request.TheVariants as requests
+use Rattle.rb_protocol.specs.declared.line_fault.LineFault.{LineFault}
+use Rattle.rb_protocol.specs.declared.line_reply.LineReply.{LineReply}
+use Rattle.rb_protocol.specs.declared.line_reply.LineReply.TheVariants as lines
+use Rattle.rb_session.specs.Turn.{Point, IsFirstDraft, lines_for}
+use Rattle.rb_session.specs.Session.{Turn, Serves}
+use Rattle.rb_session.specs.Closing.{Closes}
+
+-- the ask is one that the request makes
+abbrev pub Asks : Request → Ask → Type 0
+Asks (requests.Offer delay payload) (asks.Offer draft) = (expiry : ℕ) × IsFirstDraft draft expiry payload
+Asks (requests.OfferAt expiry payload) (asks.Offer draft) = IsFirstDraft draft expiry payload
+Asks requests.Poll asks.Poll = Unit {0}
+Asks (requests.PollFor timeout) (asks.PollFor start within) = within ≡ timeout
+Asks requests.Take asks.Take = Unit {0}
+Asks requests.Peek asks.Peek = Unit {0}
+Asks (requests.Remove id) (asks.Remove removed) = removed ≡ id
+Asks (requests.Drain most) (asks.Drain drained) = drained ≤ most
+Asks requests.Clear asks.Clear = Unit {0}
+Asks requests.Size asks.Size = Unit {0}
+Asks (requests.Fail id) (asks.Offer draft) = (origin : ℕ) × (draft.origin ≡ Some origin)
+Asks _ _ = ⊥
+
+-- the lines that a request got tell of an event with this reply
+abbrev pub TellsOf : Request → Reply → List LineReply → Type 0
+TellsOf (requests.Fail id) (Offered again) replies = replies ≡ lines.Again again.id again.expiry ∷ []
+TellsOf (requests.Fail id) _ replies = ⊥
+TellsOf _ reply replies = replies ≡ lines_for (Ok reply)
+
+-- the line tells of no event
+abbrev pub TellsOfNone : LineReply → Type 0
+TellsOfNone (lines.Error word) = Unit {0}
+TellsOfNone lines.Stopped = Unit {0}
+TellsOfNone (lines.Now moment) = Unit {0}
+TellsOfNone (lines.Done id) = Unit {0}
+TellsOfNone (lines.Dead id) = Unit {0}
+TellsOfNone lines.Bye = Unit {0}
+TellsOfNone _ = ⊥
+
+-- One event was made by a line: it is of what the line's request asks, and the line's replies tell of it.
+pub record IsOfLine (reading : Result Request LineFault) (replies : List LineReply) (made : Made) : Type 0 where
+  pub request : Request
+  pub read : reading ≡ Ok request
+  pub ask : Ask
+  pub asks : Asks request ask
+  pub act : IsActOf ask made.event.act
+  pub reply : Reply
+  pub replied : made.reply ≡ Some reply
+  pub tells : TellsOf request reply replies
+
+-- what a line made: an event of which its replies tell, or none, and then they tell of none
+abbrev pub AreOfLine : Result Request LineFault → List LineReply → List Made → Type 0
+AreOfLine reading replies [] = (line : LineReply) × (replies ≡ line ∷ []) × TellsOfNone line
+AreOfLine reading replies (made ∷ []) = IsOfLine reading replies made
+AreOfLine reading replies _ = ⊥
+
+-- what these lines made, one after the other
+abbrev pub AreOfLines : List Turn → List Made → Type 0
+AreOfLines [] made = made ≡ []
+AreOfLines (turn ∷ turns) made =
+    (here : List Made) × (more : List Made) × (made ≡ here ++ more)
+    × AreOfLine turn.reading turn.replies here × AreOfLines turns more
+
+-- an offer that came of a job that was held: of the same origin, one attempt later
+abbrev pub IsNextOf : Element → Made → Type 0
+IsNextOf element made = (again : Element) × (made.reply ≡ Some (Offered again))
+    × (again.origin ≡ element.origin) × (again.attempt ≡ element.attempt + 1) × (again.payload ≡ element.payload)
+
+-- what the failures of these held jobs made: of each one offer at most, in their order
+abbrev pub AreOfClosing : List Element → List Made → Type 0
+AreOfClosing [] made = made ≡ []
+AreOfClosing (element ∷ held) made =
+    AreOfClosing held made
+    ⊎ ((first : Made) × (more : List Made) × (made ≡ first ∷ more) × IsNextOf element first × AreOfClosing held more)
+
+-- the moment after a line of a desk whose clock stands still until it is set
+abbrev pub moment_after : ℕ → Result Request LineFault → ℕ
+moment_after moment (Ok (requests.At set)) = max set moment
+moment_after moment _ = moment
+
+-- the moment after these lines
+abbrev pub latest : ℕ → List Turn → ℕ
+latest moment [] = moment
+latest moment (turn ∷ turns) = latest (moment_after moment turn.reading) turns
+
+module _ {S : Type 0} (gives : S → ℕ → Type 0) (Sets : S → ℕ → Option ℕ → S → Type 0)
+    (Steps : S → ℕ → Ask → Result Reply DeskFault → S → Type 0) (mine : S → List Made) where
+  -- the law of lines that are served: what the desk made is what these lines made
+  abbrev pub MakesByLines : Type 0
+  MakesByLines = (policy : Policy) (from to : Point S) (turns : List Turn) → Serves gives Sets Steps policy from turns to
+      → (made : List Made) × (mine to.desk ≡ mine from.desk ++ made) × AreOfLines turns made
+
+  -- the law of jobs that are held at the end
+  abbrev pub MakesByClosing : Type 0
+  MakesByClosing = (policy : Policy) (from to : S) (held : List Element) (lost : ℕ) → Closes gives Steps policy from held lost to
+      → (made : List Made) × (mine to ≡ mine from ++ made) × AreOfClosing held made
+
+-- the events of what was made
+abbrev pub events_of : List Made → List Event
+events_of mades = map (λ (made : Made). made.event) mades
+
+module _ (gives : KeptState → ℕ → Type 0) (Sets : KeptState → ℕ → Option ℕ → KeptState → Type 0)
+    (Steps : KeptState → ℕ → Ask → Result Reply DeskFault → KeptState → Type 0) where
+  -- the law of lines at a kept desk: the history grows by what they made, and the clock stands at the latest moment
+  abbrev pub RecordsByLines : Type 0
+  RecordsByLines = (policy : Policy) (from to : Point KeptState) (turns : List Turn) → Serves gives Sets Steps policy from turns to
+      → (made : List Made) × (to.desk.log.history ≡ from.desk.log.history ++ events_of made) × AreOfLines turns made
+      × (to.desk.moment ≡ latest from.desk.moment turns)
+
+  -- the law of jobs that are held at the end of a session at a kept desk
+  abbrev pub RecordsByClosing : Type 0
+  RecordsByClosing = (policy : Policy) (from to : KeptState) (held : List Element) (lost : ℕ) → Closes gives Steps policy from held lost to
+      → (made : List Made) × (to.log.history ≡ from.log.history ++ events_of made) × AreOfClosing held made × (to.moment ≡ from.moment)

@@ -1,0 +1,30 @@
+ghost use Rattle.rb_session.specs.Exchange.{CameFirst, SentLast};
+ghost use Rattle.rb_session.specs.Events.{MakesByLines, MakesByClosing, RecordsByLines, RecordsByClosing};
+
+use rb_retry::{Desk, KeptDesk};
+use rb_timer::Timer;
+
+/// What a reader that tells its bytes had left is what came, and then what it has left. At its end that is
+/// all that came.
+pub fn came_first()
+    ensures { CameFirst }
+{}
+
+/// What a writer that tells its bytes has got is what it had got before, and then what was sent.
+pub fn sent_last()
+    ensures { SentLast }
+{}
+
+/// What a session makes at a desk of any kind, in order: at most one event for each line that is served, of
+/// which the line's replies tell, and at the end at most one for each job that is still held.
+pub fn events_of_session<D: Desk>()
+    ensures lines { MakesByLines D.gives D.Sets D.Steps D.mine }
+    ensures closing { MakesByClosing D.gives D.Sets D.Steps D.mine }
+{}
+
+/// The history of a kept queue grows by what a session at its desk makes, in order, and by nothing else. The
+/// desk's moment is then the latest of its moment before and those that the served `AT` lines named.
+pub fn history_of_session<'a, T: Timer + 'a>()
+    ensures lines { RecordsByLines ⟦<KeptDesk<'a, T> as Desk>⟧.gives ⟦<KeptDesk<'a, T> as Desk>⟧.Sets ⟦<KeptDesk<'a, T> as Desk>⟧.Steps }
+    ensures closing { RecordsByClosing ⟦<KeptDesk<'a, T> as Desk>⟧.gives ⟦<KeptDesk<'a, T> as Desk>⟧.Sets ⟦<KeptDesk<'a, T> as Desk>⟧.Steps }
+{}

@@ -1,0 +1,11 @@
+// Which events a session makes is a law of every desk, and of the kept one.
+
+use rb_binary::BinaryTimer;
+use rb_retry::KeptDesk;
+use rb_session::{events_of_session, history_of_session};
+
+#[test]
+fn the_laws_hold_of_a_kept_desk(_rt: HostRuntime) {
+    events_of_session::<KeptDesk<'_, BinaryTimer>>();
+    history_of_session::<BinaryTimer>();
+}
