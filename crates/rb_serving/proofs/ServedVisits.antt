@@ -14,6 +14,7 @@ use Rattle.rb_session.specs.declared.session_fault.SessionFault.{SessionFault}
 use Rattle.rb_serving.specs.VisitCounts.{both_counts, ended_visit, refused_visit, lost_in, faults_in}
 use Rattle.rb_serving.specs.Serving.{WorksOff}
 use Rattle.rb_serving.specs.Visits.{Served, RanVisit, AreVisits, IsVisit, IsWorker, AreWorkers, all_visits, counts_of, faults_of, lost_of}
+use Rattle.rb_serving.specs.declared.visit.Visit.{Visit}
 use Rattle.rb_serving.specs.declared.visit_counts.VisitCounts.{VisitCounts}
 
 -- what is counted of some visits, and then of others
@@ -59,47 +60,47 @@ pub all_visits-more : (visits : List (List (Option Served))) (own : List (Option
 all_visits-more [] own = append-nil own
 all_visits-more (first ∷ visits) own = ap (λ v. first ++ v) (all_visits-more visits own) ∙ sym (append_assoc first (all_visits visits) own)
 
-module _ {I O G C : Type 0} (remaining : I → Option (List ℕ)) (contents : O → Option (List ℕ)) (gives : C → ℕ → Type 0) (stops : G → ℕ → Type 0) (policy : Policy) (clock : C) where
+module _ {I O G C : Type 0} (lets_in : Visit I O G → Type 0) (turns_away : Type 0) (remaining : I → Option (List ℕ)) (contents : O → Option (List ℕ)) (gives : C → ℕ → Type 0) (stops : G → ℕ → Type 0) (policy : Policy) (clock : C) where
   -- one visit more was served
-  pub visits_served : (old mid new : Seen) (visits : List (Option Served)) (visit : Served) → AreVisits remaining contents gives stops policy clock old visits mid
-      → IsVisit remaining contents gives stops policy clock mid visit new → AreVisits remaining contents gives stops policy clock old (visits ++ Some visit ∷ []) new
-  visits_served old mid new [] visit same one = (new, subst (λ pass. IsVisit remaining contents gives stops policy clock pass visit new) same one, refl)
-  visits_served old mid new (None ∷ visits) visit are one = visits_served old mid new visits visit are one
+  pub visits_served : (old mid new : Seen) (visits : List (Option Served)) (visit : Served) → AreVisits lets_in turns_away remaining contents gives stops policy clock old visits mid
+      → IsVisit lets_in turns_away remaining contents gives stops policy clock mid visit new → AreVisits lets_in turns_away remaining contents gives stops policy clock old (visits ++ Some visit ∷ []) new
+  visits_served old mid new [] visit same one = (new, subst (λ pass. IsVisit lets_in turns_away remaining contents gives stops policy clock pass visit new) same one, refl)
+  visits_served old mid new (None ∷ visits) visit (away, are) one = (away, visits_served old mid new visits visit are one)
   visits_served old mid new (Some first ∷ visits) visit (between, is, are) one = (between, is, visits_served between mid new visits visit are one)
 
   -- one visitor more was refused
-  pub visits_refused : (old new : Seen) (visits : List (Option Served)) → AreVisits remaining contents gives stops policy clock old visits new
-      → AreVisits remaining contents gives stops policy clock old (visits ++ None ∷ []) new
-  visits_refused old new [] same = same
-  visits_refused old new (None ∷ visits) are = visits_refused old new visits are
-  visits_refused old new (Some first ∷ visits) (between, is, are) = (between, is, visits_refused between new visits are)
+  pub visits_refused : (old new : Seen) (visits : List (Option Served)) → AreVisits lets_in turns_away remaining contents gives stops policy clock old visits new
+      → turns_away → AreVisits lets_in turns_away remaining contents gives stops policy clock old (visits ++ None ∷ []) new
+  visits_refused old new [] same refused = (refused, same)
+  visits_refused old new (None ∷ visits) (away, are) refused = (away, visits_refused old new visits are refused)
+  visits_refused old new (Some first ∷ visits) (between, is, are) refused = (between, is, visits_refused between new visits are refused)
 
   -- one worker more
-  pub workers_more : (visits : List (List (Option Served))) (records : List Record) (own : List (Option Served)) (pass : Seen) → AreWorkers remaining contents gives stops policy clock visits records
-      → IsWorker remaining contents gives stops policy clock own pass → AreWorkers remaining contents gives stops policy clock (visits ++ own ∷ []) (records ++ record_of pass ∷ [])
+  pub workers_more : (visits : List (List (Option Served))) (records : List Record) (own : List (Option Served)) (pass : Seen) → AreWorkers lets_in turns_away remaining contents gives stops policy clock visits records
+      → IsWorker lets_in turns_away remaining contents gives stops policy clock own pass → AreWorkers lets_in turns_away remaining contents gives stops policy clock (visits ++ own ∷ []) (records ++ record_of pass ∷ [])
   workers_more [] [] own pass are worker = ((pass, worker, refl), tt)
   workers_more [] (one ∷ records) own pass are worker = absurd are
   workers_more (first ∷ visits) [] own pass are worker = absurd are
   workers_more (first ∷ visits) (one ∷ records) own pass (is, are) worker = (is, workers_more visits records own pass are worker)
 
   -- one visitor more was refused, and is counted
-  pub works_refused : (old new : Seen) (counts visit next : VisitCounts) → WorksOff remaining contents gives stops policy clock old new counts
-      → visit ≡ refused_visit → next ≡ both_counts counts visit → WorksOff remaining contents gives stops policy clock old new next
-  works_refused old new counts visit next works refused is = record {
+  pub works_refused : (old new : Seen) (counts visit next : VisitCounts) → WorksOff lets_in turns_away remaining contents gives stops policy clock old new counts
+      → turns_away → visit ≡ refused_visit → next ≡ both_counts counts visit → WorksOff lets_in turns_away remaining contents gives stops policy clock old new next
+  works_refused old new counts visit next works away refused is = record {
     visits = works.visits ++ None ∷ [];
-    served = visits_refused old new works.visits works.served;
+    served = visits_refused old new works.visits works.served away;
     counted = is ∙ ap₂ both_counts works.counted refused ∙ counts_refused works.visits;
   }
 
   -- one visit more was served, and is counted
-  pub works_served : (old mid new : Seen) (counts visit next : VisitCounts) (ended : Result Ended SessionFault) (reader reader_left : I) (writer writer_left : O) (gate : G)
-      → WorksOff remaining contents gives stops policy clock old mid counts
+  pub works_served : (old mid new : Seen) (counts more next : VisitCounts) (ended : Result Ended SessionFault) (reader reader_left : I) (writer writer_left : O) (gate : G)
+      → WorksOff lets_in turns_away remaining contents gives stops policy clock old mid counts → lets_in (record { reader = reader; writer = writer; gate = gate })
       → Exchanges (remaining reader) (remaining reader_left) (contents writer) (contents writer_left) (λ came sent. RanVisit gives stops policy clock gate (IsAtEnd (remaining reader_left)) mid came sent ended new)
-      → visit ≡ ended_visit ended → next ≡ both_counts counts visit → WorksOff remaining contents gives stops policy clock old new next
-  works_served old mid new counts visit next ended reader reader_left writer writer_left gate works ran ends is =
+      → more ≡ ended_visit ended → next ≡ both_counts counts more → WorksOff lets_in turns_away remaining contents gives stops policy clock old new next
+  works_served old mid new counts more next ended reader reader_left writer writer_left gate works let_in ran ends is =
       let served : Served = record { came = ran.came; sent = ran.sent; ended = ended } in record {
         visits = works.visits ++ Some served ∷ [];
         served = visits_served old mid new works.visits served works.served
-            (record { reader = reader; reader_left = reader_left; writer = writer; writer_left = writer_left; gate = gate; consumed = ran.consumed; appended = ran.appended; ran = ran.holds });
+            (record { visit = record { reader = reader; writer = writer; gate = gate }; let_in = let_in; reader_left = reader_left; writer_left = writer_left; consumed = ran.consumed; appended = ran.appended; ran = ran.holds });
         counted = is ∙ ap₂ both_counts works.counted ends ∙ counts_served works.visits served;
       }

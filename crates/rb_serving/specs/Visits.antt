@@ -10,6 +10,7 @@ use Rattle.rb_session.specs.declared.ended.Ended.{Ended}
 use Rattle.rb_session.specs.declared.session_fault.SessionFault.{SessionFault}
 use Rattle.rb_session.specs.Gathered.{RanGathered}
 use Rattle.rb_serving.specs.VisitCounts.{lost_in, faults_in}
+use Rattle.rb_serving.specs.declared.visit.Visit.{Visit}
 use Rattle.rb_serving.specs.declared.visit_counts.VisitCounts.{VisitCounts}
 
 -- A visit that was served: what came of the client, what it was sent, and how the session ended.
@@ -61,24 +62,23 @@ pub record RanVisit {C G : Type 0} (gives : C → ℕ → Type 0) (stops : G →
   pub ran : RanGathered (λ desk moment. gives desk.clock moment) SetsShared (SharedSteps gives stops) policy Over from came sent ended to
   pub seen : to.pass ≡ new
 
-module _ {I O G C : Type 0} (remaining : I → Option (List ℕ)) (contents : O → Option (List ℕ)) (gives : C → ℕ → Type 0) (stops : G → ℕ → Type 0) (policy : Policy) (clock : C) where
-  -- The visit's session was run: what came was read from the visit's reader, what was sent went to its writer,
-  -- and its gate could end the waits.
-  pub record IsVisit (old : Seen) (visit : Served) (new : Seen) : Type 0 where
-    pub reader : I
+module _ {I O G C : Type 0} (lets_in : Visit I O G → Type 0) (turns_away : Type 0) (remaining : I → Option (List ℕ)) (contents : O → Option (List ℕ)) (gives : C → ℕ → Type 0) (stops : G → ℕ → Type 0) (policy : Policy) (clock : C) where
+  -- A visitor was let in, and the session of this visit was run: what came was read from its reader, what was sent
+  -- went to its writer, and its gate could end the waits.
+  pub record IsVisit (old : Seen) (served : Served) (new : Seen) : Type 0 where
+    pub visit : Visit I O G
+    pub let_in : lets_in visit
     pub reader_left : I
-    pub writer : O
     pub writer_left : O
-    pub gate : G
-    pub consumed : Consumes (remaining reader) (remaining reader_left) visit.came
-    pub appended : Appends (contents writer) (contents writer_left) visit.sent
-    pub ran : RanVisit gives stops policy clock gate (IsAtEnd (remaining reader_left)) old visit.came visit.sent visit.ended new
+    pub consumed : Consumes (remaining visit.reader) (remaining reader_left) served.came
+    pub appended : Appends (contents visit.writer) (contents writer_left) served.sent
+    pub ran : RanVisit gives stops policy clock visit.gate (IsAtEnd (remaining reader_left)) old served.came served.sent served.ended new
 
   -- The pass served those who were let in, one after the other, and did nothing else.
   abbrev pub AreVisits : Seen → List (Option Served) → Seen → Type 0
   AreVisits old [] new = new ≡ old
-  AreVisits old (None ∷ visits) new = AreVisits old visits new
-  AreVisits old (Some visit ∷ visits) new = (between : Seen) × IsVisit old visit between × AreVisits between visits new
+  AreVisits old (None ∷ visits) new = turns_away × AreVisits old visits new
+  AreVisits old (Some served ∷ visits) new = (between : Seen) × IsVisit old served between × AreVisits between visits new
 
   -- a worker's pass: it had made no call, and served these visits
   pub record IsWorker (visits : List (Option Served)) (pass : Seen) : Type 0 where

@@ -1,3 +1,6 @@
+ghost use Rattle.std.specs.Prelude.{OnErr, IfOk, IfSome};
+ghost use Rattle.rb_serving.specs.declared.visit.Visit.{Visit};
+
 use crate::visit::Visit;
 use rb_blocking::Gate;
 use std::io::{Read, Write};
@@ -8,6 +11,10 @@ use std::sync::Wait;
 pub struct DoorFault;
 
 /// Where visits come from.
+///
+/// `lets_in` tells which visits the door may let in, and `turns_away` that it may refuse a visitor. Code over
+/// any door learns them in no other way than by asking for the next visit: so where a contract says one of
+/// them, the door answered so.
 pub trait Door {
     /// What a visitor's requests are read from.
     type Reader: Read + Drop + Send;
@@ -18,9 +25,15 @@ pub trait Door {
     /// What may end a visitor's waits.
     type Gate: Gate + Drop + Send;
 
+    ghost lets_in: { Self → Visit Self.Reader Self.Writer Self.Gate → Type 0 };
+
+    ghost turns_away: { Self → Type 0 };
+
     /// The next visit, which no other caller gets, or `None` where there are no more. It may wait for one.
     fn next<R: Wait>(
         &self,
         rt: &R,
-    ) -> Option<Result<Visit<Self::Reader, Self::Writer, Self::Gate>, DoorFault>>;
+    ) -> Option<Result<Visit<Self::Reader, Self::Writer, Self::Gate>, DoorFault>>
+        ensures let_in { IfSome result (λ visit. IfOk visit (lets_in self.now)) }
+        ensures turned_away { IfSome result (λ visit. OnErr visit (turns_away self.now)) };
 }

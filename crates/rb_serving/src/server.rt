@@ -39,7 +39,7 @@ pub fn serve_door<
     options: &RunOptions,
     opening: Opening,
 ) -> Result<ServeReport<T>, BrokerFault>
-    ensures served { IfOk result (λ report. IsServersRun D.Reader.remaining D.Writer.contents C.gives D.Gate.stops options.now.policy clock.now opening options.now.calls options.now.workers report.kept report.audit (record { sessions = report.sessions; faults = report.faults; lost = report.lost })) }
+    ensures served { IfOk result (λ report. IsServersRun (D.lets_in door.now) (D.turns_away door.now) D.Reader.remaining D.Writer.contents C.gives D.Gate.stops options.now.policy clock.now opening options.now.calls options.now.workers report.kept report.audit (record { sessions = report.sessions; faults = report.faults; lost = report.lost })) }
     ensures fault { IfErr result EndsServing }
 {
     // The number of calls is in range, so that memory alone can be missing.

@@ -58,6 +58,11 @@ impl Door for TcpDoor {
 
     type Gate = TurnGate;
 
+    // A client's waits end after the door's turns.
+    ghost lets_in = { λ door visit. visit.gate.limit ≡ door.turns };
+
+    ghost turns_away = { λ door. Unit {0} };
+
     fn next<R: Wait>(
         &self,
         _rt: &R,

@@ -28,7 +28,7 @@ pub(crate) fn work<T: Timer, D: Door, C: Clock, R: Wait + time::Clock>(
 ) -> (Pass<T>, VisitCounts)
     requires pass { pass.table ≡ service.now.shared.now }
     ensures worked { IsWorked pass result.0 }
-    ensures visits { WorksOff D.Reader.remaining D.Writer.contents C.gives D.Gate.stops service.now.policy.now service.now.clock.now pass result.0 result.1 }
+    ensures visits { WorksOff (D.lets_in service.now.door.now) (D.turns_away service.now.door.now) D.Reader.remaining D.Writer.contents C.gives D.Gate.stops service.now.policy.now service.now.clock.now pass result.0 result.1 }
 {
     let mut counts = VisitCounts::none();
     for _ in rt.forever() {

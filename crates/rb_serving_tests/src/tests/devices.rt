@@ -194,6 +194,10 @@ impl<'a, R: Wait + time::Clock + Sync> Door for PlannedDoor<'a, R> {
 
     type Gate = NotedGate<'a>;
 
+    ghost lets_in = { λ door visit. Unit {0} };
+
+    ghost turns_away = { λ door. Unit {0} };
+
     fn next<H: Wait>(
         &self,
         _rt: &H,
