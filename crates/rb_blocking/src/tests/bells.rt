@@ -1,12 +1,12 @@
 // A bell by itself: counts, and rests that a ring ends or that nothing ends.
 
+use crate::Bell;
 use crate::tests::fixtures::{await_more, expect, expect_number};
-use crate::{Bell, Clock as _, MachineClock};
 use std::process::Abort;
 use std::sync::Wait;
 use std::sync::atomic::{AtomicU64, Ordering};
 use std::test::Fail;
-use std::thread::{Threads, join, sleep, yield_now};
+use std::thread::{Threads, join, yield_now};
 use std::time::{Clock, Duration};
 
 // How often one thread rings between another's look at the count and its rest, or in the rest.
@@ -45,90 +45,6 @@ fn a_ring_ends_a_rest(rt: HostRuntime) -> Result<(), Fail> {
     for round in 0..200 {
         expect_rung(&rt, &bell, round);
     }
-    Ok(())
-}
-
-// One of two threads rests, once it has told that it is about to. The count after it.
-fn rest_told<R: Wait + Clock>(rt: &R, bell: &Bell, looks: &AtomicU64) -> u64 {
-    let seen = bell.count(rt);
-    looks.fetch_add(1, Ordering::SeqCst);
-    bell.rest_at_most(rt, seen, Duration::from_secs(MISSED))
-}
-
-// The same, as a call that waits for an element does.
-fn rest_as_call<R: Wait + Clock>(rt: &R, bell: &Bell, looks: &AtomicU64) -> u64 {
-    let seen = bell.count(rt);
-    looks.fetch_add(1, Ordering::SeqCst);
-    bell.rest_until(rt, seen, u64::MAX, Duration::from_secs(MISSED))
-        .count
-}
-
-// Rings once, when so many threads have had time to fall asleep.
-fn ring_late<R: Wait + Clock>(rt: &R, bell: &Bell, looks: &AtomicU64, sleepers: u64) {
-    await_more(rt, looks, sleepers.saturating_sub(1));
-    sleep(rt, Duration::from_millis(20));
-    bell.ring(rt);
-}
-
-// The counts after the rests of two threads, and of two that wait for an element.
-fn counts_of_four<R: Threads + Wait + Clock + Sync>(rt: &R, bell: &Bell) -> [u64; 4] {
-    let looks = &AtomicU64::new(0);
-    let ((one, two), ((three, four), _)) = join(
-        rt,
-        || {
-            join(
-                rt,
-                || rest_told(rt, bell, looks),
-                || rest_told(rt, bell, looks),
-            )
-        },
-        || {
-            join(
-                rt,
-                || {
-                    join(
-                        rt,
-                        || rest_as_call(rt, bell, looks),
-                        || rest_as_call(rt, bell, looks),
-                    )
-                },
-                || ring_late(rt, bell, looks, 4),
-            )
-        },
-    );
-    [one, two, three, four]
-}
-
-fn expect_all(rt: &impl Abort, counts: [u64; 4], wanted: u64) {
-    assert_eq!(rt; counts, [wanted; 4]);
-}
-
-#[test]
-fn one_ring_wakes_all(rt: HostRuntime) -> Result<(), Fail> {
-    let bell = Bell::new();
-    expect_all(&rt, counts_of_four(&rt, &bell), 1);
-    Ok(())
-}
-
-// The shortest of some rests that nothing ends, in milliseconds.
-fn shortest_rest<R: Wait + Clock>(rt: &R, bell: &Bell) -> u64 {
-    let mut shortest = u64::MAX;
-    for _ in 0..5 {
-        let watch = MachineClock::new(rt);
-        bell.rest(rt, 0);
-        shortest = shortest.min(watch.now() / 1_000_000);
-    }
-    shortest
-}
-
-fn expect_about_20(rt: &impl Abort, shortest: u64) {
-    assert!(rt; shortest >= 20);
-    assert!(rt; shortest < 60);
-}
-
-#[test]
-fn a_rest_lasts_about_20_milliseconds(rt: HostRuntime) -> Result<(), Fail> {
-    expect_about_20(&rt, shortest_rest(&rt, &Bell::new()));
     Ok(())
 }
 

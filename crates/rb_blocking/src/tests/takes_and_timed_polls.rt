@@ -3,14 +3,13 @@
 ghost use Rattle.std.specs.Prelude.{◌≡◌};
 
 use crate::tests::fixtures::{
-    CountingClock, CountingGate, FixedClock, ListPass, ListShared, draft, element, expect_number,
-    expect_offered, expect_polled, expect_taken, opened, split_off,
+    CountingGate, FixedClock, ListPass, ListShared, draft, element, expect_number, expect_offered,
+    expect_polled, expect_taken, opened,
 };
 use crate::{Bell, TurnGate, WaitFault, offer_ring, poll_for, take};
 use rb_delayed::Element;
 use std::process::Abort;
 use std::sync::Wait;
-use std::sync::atomic::Ordering;
 use std::test::Fail;
 use std::time;
 
@@ -75,50 +74,10 @@ fn expect_poll<R: Wait + time::Clock + Abort>(
     expect_number(rt, gate.asked, asked);
 }
 
-// How often the gate was asked and the clock read by a take that finds nothing.
-fn asked_and_read<R: Wait + time::Clock + Abort>(
-    rt: &R,
-    shared: &ListShared,
-    pass: &mut ListPass,
-    limit: u64,
-) -> (u64, u64)
-    requires { pass.old.table ≡ shared.now }
-    ensures { pass.new.table ≡ pass.old.table }
-{
-    let (clock, mut gate) = (CountingClock::new(), CountingGate::new(limit));
-    let taken = take(rt, shared, pass, &clock, &mut gate, &Bell::new());
-    expect_taken(rt, taken, Err(WaitFault::Stopped));
-    (gate.asked, clock.readings.load(Ordering::SeqCst))
-}
-
-fn expect_both(rt: &impl Abort, found: (u64, u64), wanted: u64) {
-    expect_number(rt, found.0, wanted);
-    expect_number(rt, found.1, wanted);
-}
-
-// The name of the pass that is split off next.
-fn next_name<R: Wait + Abort>(rt: &R, shared: &ListShared, pass: &mut ListPass) -> u64
-    requires { pass.old.table ≡ shared.now }
-{
-    split_off(rt, shared, pass).name()
-}
-
-// The gate is asked after each try and not again, and there is no try after its no. No name is given.
-#[test]
-fn each_try_reads_the_clock_once(rt: HostRuntime) -> Result<(), Fail> {
-    let (shared, mut pass) = opened(rt.alloc(), 4)?;
-    for limit in 0..4 {
-        let found = asked_and_read(&rt, &shared, &mut pass, limit);
-        expect_both(&rt, found, limit.saturating_add(1));
-    }
-    expect_number(&rt, next_name(&rt, &shared, &mut pass), 1);
-    Ok(())
-}
-
 #[test]
 fn polls_until_the_deadline(rt: HostRuntime) -> Result<(), Fail> {
     let (shared, mut pass) = opened(rt.alloc(), 4)?;
-    let mut gate = CountingGate::new(3);
+    let mut gate = CountingGate { limit: 3, asked: 0 };
     expect_poll(&rt, &shared, &mut pass, &mut gate, 0, Ok(None), 0);
     let stopped = Err(WaitFault::Stopped);
     expect_poll(&rt, &shared, &mut pass, &mut gate, 5, stopped, 4);
