@@ -1,5 +1,5 @@
 -- What a pass has learned in several calls, one after the other.
-use Rattle.std.proofs.Common.{List, [], ◌++◌, refl, sym, ap, ◌∙◌, append_assoc}
+use Rattle.std.proofs.Common.{arith, List, [], ◌++◌, refl, sym, ap, ◌∙◌, append_assoc}
 use mathlib.Core.List.{IsPrefix}
 use Rattle.rb_lock.specs.Passes.{Seen, IsSoundPass, Learns}
 use Rattle.std.proofs.lemmas.List.{append-nil}
@@ -15,6 +15,7 @@ learns_nothing pass sound = record {
   capacity = refl;
   opening = refl;
   folded = refl;
+  noted = omega arith;
   begins = ([], append-nil pass.seen);
   sound = sound;
 }
@@ -28,6 +29,7 @@ module _ (first old new : Seen) (before : Learns first old) where
     capacity = call.capacity ∙ before.capacity;
     opening = call.opening ∙ before.opening;
     folded = call.folded ∙ before.folded;
+    noted = omega (arith, before.noted, call.noted);
     begins = prefix_trans first.seen old.seen new.seen before.begins call.begins;
     sound = call.sound;
   }

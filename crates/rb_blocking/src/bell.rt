@@ -1,7 +1,12 @@
+ghost use Rattle.std.specs.Prelude.{◌<◌, IfSome};
+
+use crate::bell_state::{BellState, PLACES};
+use crate::rested::Rested;
 use crossbeam_utils::CachePadded;
-use std::sync::{Condvar, CondvarTimeouts, Mutex, Wait};
-use std::time;
+use std::fmt::{self, Debug, Formatter};
+use std::sync::{Condvar, CondvarTimeouts, Mutex, MutexGuard, Wait};
 use std::time::Duration;
+use std::{array, time};
 
 // The longest rest, in milliseconds.
 const LONGEST_REST: u64 = 20;
@@ -11,39 +16,49 @@ const LONGEST_REST: u64 = 20;
 /// A thread that waits reads the count before it looks for what it waits for, and rests only while the count
 /// is still the same. So a ring between the look and the rest is seen: the count has changed, and the rest
 /// ends at once.
+///
+/// An offer raises the count, and of the waiting calls that rest it wakes one that would look again only after
+/// the element has expired, if there is such a call. A call that gives up when it was woken wakes another in
+/// its place. Whatever else becomes of a wake, each call looks again by itself after 20 ms at most, so that no
+/// wake is lost for longer than one rest.
 #[derive(Drop)]
 pub struct Bell {
-    // How often it was rung. It has its own cache lines, as all threads that offer write it. Who rings changes
-    // it under the lock, and who rests compares it under the lock and lets go of the lock only by falling
-    // asleep: so no ring falls between the comparison and the sleep.
-    count: CachePadded<Mutex<u64>>,
-    // Where threads sleep. A notification calls the system only where one sleeps.
+    // It has its own cache lines, as all threads that offer write it. Who rings changes it under the lock, and
+    // who rests compares it under the lock and lets go of the lock only by falling asleep: so no ring falls
+    // between the comparison and the sleep.
+    state: CachePadded<Mutex<BellState>>,
+    // Where threads sleep that rest for no element. A notification calls the system only where one sleeps.
     rung: Condvar,
+    // Where waiting calls sleep, for each place one.
+    woken: [Condvar; PLACES],
 }
 
 impl Bell {
     /// A bell that was not rung yet.
     pub fn new() -> Bell {
         Bell {
-            count: CachePadded::new(Mutex::new(0)),
+            state: CachePadded::new(Mutex::new(BellState::new())),
             rung: Condvar::new(),
+            woken: array::from_fn(|_| Condvar::new()),
         }
     }
 
     /// Raises the count, which goes from 2^64 - 1 to 0, and wakes all that rest. It waits while another
     /// thread has the count.
     pub fn ring<R: Wait>(&self, rt: &R) {
-        let count: &Mutex<u64> = &self.count;
-        let mut now = count.lock(rt);
-        *now = now.wrapping_add(1);
-        drop(now);
+        let mut state = self.locked(rt);
+        state.rise(0);
+        state.wake_all();
+        drop(state);
         self.rung.notify_all();
+        for woken in &self.woken {
+            woken.notify_all();
+        }
     }
 
     /// How often it was rung. It waits while another thread has the count.
     pub fn count<R: Wait>(&self, rt: &R) -> u64 {
-        let count: &Mutex<u64> = &self.count;
-        *count.lock(rt)
+        self.locked(rt).count
     }
 
     /// Waits until the count is not `seen`, at most about 20 ms, and gives it.
@@ -58,11 +73,85 @@ impl Bell {
         seen: u64,
         most: Duration,
     ) -> u64 {
-        let count: &Mutex<u64> = &self.count;
-        let (now, _) = self
+        let (state, _) = self
             .rung
-            .wait_timeout_while(rt, count.lock(rt), most, |now| *now == seen);
-        *now
+            .wait_timeout_while(rt, self.locked(rt), most, |state| state.count == seen);
+        state.count
+    }
+
+    /// Raises the count for an element that was offered, and wakes a waiting call that would look again only
+    /// after it has expired.
+    pub(crate) fn announce<R: Wait>(&self, rt: &R, expiry: u64) {
+        let mut state = self.locked(rt);
+        state.rise(expiry);
+        let woken = state.wake_one(expiry);
+        drop(state);
+        self.rung.notify_all();
+        self.notify(woken);
+    }
+
+    /// Wakes a waiting call that would look again only after this expiry, in the place of one that was woken
+    /// and gives up.
+    pub(crate) fn wake_one<R: Wait>(&self, rt: &R, expiry: u64) {
+        let woken = self.locked(rt).wake_one(expiry);
+        self.notify(woken);
+    }
+
+    /// A waiting call rests until it is woken, at most about so long. It looks again by itself at the moment
+    /// `until`, and does not rest at all where there was a ring for what expires before that, since the count
+    /// was `seen`. Where the clock can't be read it returns at once.
+    pub(crate) fn rest_until<R: Wait + time::Clock>(
+        &self,
+        rt: &R,
+        seen: u64,
+        until: u64,
+        most: Duration,
+    ) -> Rested {
+        let mut state = self.locked(rt);
+        if state.has_missed(seen, until) {
+            return Rested {
+                count: state.count,
+                woken: false,
+            };
+        }
+        let place = state.enter(until);
+        let (mut state, _) = self.woken[place].wait_timeout_while(
+            rt,
+            state,
+            most,
+            |state| !state.is_woken(place),
+        );
+        Rested {
+            woken: state.leave(place),
+            count: state.count,
+        }
+    }
+
+    fn locked<R: Wait>(&self, rt: &R) -> MutexGuard<'_, BellState> {
+        let state: &Mutex<BellState> = &self.state;
+        state.lock(rt)
+    }
+
+    // Notifies who sleeps at a place.
+    fn notify(&self, place: Option<usize>)
+        requires { IfSome place (λ at. at < PLACES) }
+    {
+        if let Some(place) = place {
+            self.woken[place].notify_one();
+        }
+    }
+}
+
+impl Default for Bell {
+    fn default() -> Bell {
+        Bell::new()
+    }
+}
+
+// Its count can't be seen without waiting for it.
+impl Debug for Bell {
+    fn fmt<W: fmt::Write>(&self, f: &mut Formatter<W>) -> fmt::Result {
+        f.debug_struct("Bell").finish_non_exhaustive()
     }
 }
 

@@ -5,11 +5,14 @@
 #![tactic(auto)]
 
 mod bell;
+mod bell_state;
 mod clock;
 mod fault;
 mod gate;
 mod machine_clock;
 mod offers;
+mod place;
+mod rested;
 mod rests;
 #[cfg(test)]
 mod tests;

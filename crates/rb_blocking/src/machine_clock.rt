@@ -1,4 +1,5 @@
 use crate::clock::Clock;
+use std::fmt::{self, Debug, Formatter};
 use std::time;
 use std::time::{Duration, Instant};
 
@@ -23,6 +24,14 @@ impl<'a, R: time::Clock> MachineClock<'a, R> {
 
     fn elapsed(&self) -> Option<Duration> {
         self.start?.elapsed(self.rt).ok()
+    }
+}
+
+impl<'a, R: time::Clock> Debug for MachineClock<'a, R> {
+    fn fmt<W: fmt::Write>(&self, f: &mut Formatter<W>) -> fmt::Result {
+        f.debug_struct("MachineClock")
+            .field("start", &self.start)
+            .finish_non_exhaustive()
     }
 }
 

@@ -12,9 +12,9 @@ use rb_queue::{Ask, Draft, Reply};
 use rb_timer::Timer;
 use std::sync::Wait;
 
-/// Offers an element as `Shared::call` does, and rings where it was inserted, so that a call that waits tries
-/// again. It waits while another pass calls.
+/// Offers an element as `Shared::call` does, and rings where it was inserted. It waits while another pass calls.
 ///
+/// The ring wakes one waiting call, and only one that would try again by itself after the element has expired.
 /// The faults are those of the call: `Full` where the history has as many events as its capacity, `Memory`
 /// where there is none for the element. Then nothing was offered, and nothing is rung.
 pub fn offer_ring<T: Timer, R: Wait>(
@@ -35,6 +35,15 @@ pub fn offer_ring<T: Timer, R: Wait>(
     let Reply::Offered(element) = reply else {
         unreachable!()
     };
-    bell.ring(rt);
+    bell.announce(rt, due_at(&element, asked));
     Ok(element)
+}
+
+// From when on an element that was offered at the moment `asked` can be taken: at once where it has expired.
+fn due_at(element: &Element, asked: u64) -> u64 {
+    if element.expiry <= asked {
+        0
+    } else {
+        element.expiry
+    }
 }

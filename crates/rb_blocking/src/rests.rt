@@ -1,41 +1,86 @@
-use crate::bell::longest_rest;
+use crate::bell::{Bell, longest_rest};
+use crate::fault::WaitFault;
 use rb_delayed::add_capped;
-use rb_queue::Ask;
+use rb_queue::{Ask, Reply};
+use std::sync::Wait;
+use std::time;
 use std::time::Duration;
 
-/// How long a waiting call rests between two tries.
+/// The rests of a waiting call between its tries.
 #[derive(Drop)]
 pub(crate) struct Rests {
     // From when on the call has nothing to wait for, in nanoseconds.
     deadline: u64,
-    // The reading of the try before, if there was one.
-    before: Option<u64>,
+    // The bell's count before the next try.
+    seen: u64,
+    // The reading of the last try, if there was one.
+    asked: Option<u64>,
+    // The least expiry that it found.
+    least: Option<u64>,
+    // How long the call rests after it.
+    most: Duration,
+    // Whether another call ended the last rest.
+    pub(crate) woken: bool,
 }
 
 impl Rests {
-    pub(crate) fn new(ask: &Ask) -> Rests {
+    /// The rests of a call with this ask, where the bell's count was this before the first try.
+    pub(crate) fn new(ask: &Ask, seen: u64) -> Rests {
         let deadline = match *ask {
             Ask::PollFor { start, timeout } => add_capped(start, timeout),
             _ => u64::MAX,
         };
         Rests {
             deadline,
-            before: None,
+            seen,
+            asked: None,
+            least: None,
+            most: longest_rest(),
+            woken: false,
         }
     }
 
-    /// How long to rest after a try at this reading, where the least expiry is this: until then or the
-    /// deadline, and no longer than the longest rest.
+    /// A try at this reading has found nothing expired, and this as the least expiry. The rest after it lasts
+    /// until then or the deadline, and no longer than the longest rest.
     ///
     /// Where the clock did not go on since the try before, it may not reach that moment either. Then the
     /// rest is the longest, so that a clock that stands still does not make the call try without a rest.
-    pub(crate) fn rest_after(&mut self, asked: u64, expiry: Option<u64>) -> Duration {
-        let goes_on = self.before.is_none_or(|before| before < asked);
-        self.before = Some(asked);
-        if !goes_on {
-            return longest_rest();
+    pub(crate) fn learn(&mut self, asked: u64, expiry: Option<u64>) {
+        let goes_on = self.asked.is_none_or(|before| before < asked);
+        self.asked = Some(asked);
+        self.least = expiry;
+        self.most = longest_rest();
+        if goes_on {
+            let until = self.deadline.min(expiry.unwrap_or(u64::MAX));
+            let left = Duration::from_nanos(until.saturating_sub(asked));
+            self.most = self.most.min(left);
         }
-        let until = self.deadline.min(expiry.unwrap_or(u64::MAX));
-        longest_rest().min(Duration::from_nanos(until.saturating_sub(asked)))
+    }
+
+    /// Rests after the last try.
+    pub(crate) fn rest<R: Wait + time::Clock>(&mut self, rt: &R, bell: &Bell) {
+        let most = u64::try_from(self.most.as_nanos()).unwrap_or(u64::MAX);
+        let until = add_capped(self.asked.unwrap_or(0), most);
+        let rested = bell.rest_until(rt, self.seen, until, self.most);
+        self.seen = rested.count;
+        self.woken = rested.woken;
+    }
+
+    /// The call has ended so. Where it was woken and takes no element, it wakes another in its place, which
+    /// may take what it was woken for.
+    pub(crate) fn hand_on<R: Wait>(&self, rt: &R, bell: &Bell, waited: &Result<Reply, WaitFault>) {
+        if !self.woken {
+            return;
+        }
+        match waited {
+            Ok(Reply::Item(_)) => {}
+            // Its last try has told the least expiry.
+            Err(WaitFault::Stopped) => {
+                if let Some(expiry) = self.least {
+                    bell.wake_one(rt, expiry);
+                }
+            }
+            Ok(_) | Err(WaitFault::Full) => bell.wake_one(rt, 0),
+        }
     }
 }

@@ -1,4 +1,4 @@
-ghost use Rattle.std.specs.Prelude.{◌≤◌};
+ghost use Rattle.std.specs.Prelude.{◌≡◌, ◌↔◌, ℕ, ◌≤◌, ◌<◌, true, false};
 
 use crate::gate::Gate;
 
@@ -12,7 +12,12 @@ pub struct TurnGate {
 impl Gate for TurnGate {
     ghost stops = { λ gate turns. gate.limit ≤ turns };
 
-    fn turn(&mut self, turns: u64) -> bool {
+    // It says no exactly after as many turns as its limit is, or more.
+    fn turn(&mut self, turns: u64) -> bool
+        ensures stops { result ≡ false → self.old.limit ≤ turns }
+        ensures same { (n : ℕ) → (self.new.limit ≤ n) ↔ (self.old.limit ≤ n) }
+        ensures exact { (result ≡ true) ↔ (turns < self.old.limit) }
+    {
         turns < self.limit
     }
 }

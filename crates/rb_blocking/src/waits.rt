@@ -70,10 +70,8 @@ pub fn poll_for<T: Timer, C: Clock, G: Gate, R: Wait + time::Clock>(
     }
 }
 
-// Tries an ask until it is answered, or refused for want of room, or the gate says no.
-//
-// The lock is held during a try alone. The bell's count is read before the try, so that a ring between the try
-// and the rest is seen.
+// Tries an ask until it is answered, or refused for want of room, or the gate says no. A call that was woken
+// and takes nothing wakes another.
 fn wait<T: Timer, C: Clock, G: Gate, R: Wait + time::Clock>(
     rt: &R,
     shared: &Shared<T>,
@@ -89,12 +87,36 @@ fn wait<T: Timer, C: Clock, G: Gate, R: Wait + time::Clock>(
     ensures waited { Waited (C.gives clock.now) (G.stops gate.old) pass.old pass.new ask.now result }
     ensures gate { (turns : ℕ) → G.stops gate.new turns ↔ G.stops gate.old turns }
 {
+    let mut rests = Rests::new(ask, bell.count(rt));
+    let waited = try_often(rt, shared, pass, clock, gate, bell, ask, &mut rests);
+    rests.hand_on(rt, bell, &waited);
+    waited
+}
+
+// The tries of a wait, with its rests between them.
+//
+// The lock is held during a try alone. The bell's count was read before the try, so that a ring between the
+// try and the rest is seen.
+fn try_often<T: Timer, C: Clock, G: Gate, R: Wait + time::Clock>(
+    rt: &R,
+    shared: &Shared<T>,
+    pass: &mut Pass<T>,
+    clock: &C,
+    gate: &mut G,
+    bell: &Bell,
+    ask: &Ask,
+    rests: &mut Rests,
+) -> Result<Reply, WaitFault>
+    requires pass { pass.old.table ≡ shared.now }
+    requires memory { TakesMemory ask.now → ⊥ }
+    ensures learns { Learns pass.old pass.new }
+    ensures waited { Waited (C.gives clock.now) (G.stops gate.old) pass.old pass.new ask.now result }
+    ensures gate { (turns : ℕ) → G.stops gate.new turns ↔ G.stops gate.old turns }
+{
     // The proof reads here that the pass has seen a legal history.
     let _ = pass.name();
-    let mut rests = Rests::new(ask);
     let mut turns: u64 = 0;
     for _ in rt.forever() {
-        let seen = bell.count(rt);
         let asked = clock.now();
         let expiry = match shared.call(rt, pass, asked, *ask) {
             Ok(Outcome::Done(reply)) => return Ok(reply),
@@ -102,11 +124,12 @@ fn wait<T: Timer, C: Clock, G: Gate, R: Wait + time::Clock>(
             Err(CallFault::Full) => return Err(WaitFault::Full),
             Err(CallFault::Memory) => unreachable!(),
         };
+        rests.learn(asked, expiry);
         if !gate.turn(turns) {
             return Err(WaitFault::Stopped);
         }
         turns = turns.saturating_add(1);
-        bell.rest_at_most(rt, seen, rests.rest_after(asked, expiry));
+        rests.rest(rt, bell);
     }
     unreachable!()
 }

@@ -57,7 +57,7 @@ pub notes : {T : Type 0} (id : ℕ) (pass : Seen) → Splits (Locked {T = T}) id
 notes id pass s law at =
     let fits = law.fits id (idle pass) at in
     cut_in_two s law id (idle pass) at (idle pass) (note_of (idle pass)) (λ n. omega arith) refl fits
-    (record { capacity = fits.capacity; opening = fits.opening; begins = fits.begins; records = tt; stage = tt })
+    (record { capacity = fits.capacity; opening = fits.opening; begins = fits.begins; records = tt; noted = fits.noted; stage = tt })
 
 -- a note of another pass is held beside what this one has seen
 pub meets : {T : Type 0} (id other : ℕ) (one two : Seen) → Joins (Locked {T = T}) id (idle one) other (note_of (idle two)) (meeting (idle one) (note_of (idle two))) nobody
@@ -78,6 +78,7 @@ meets id other one two s law at apart there =
         },
         first.records.1,
       );
+      noted = first.noted;
       stage = (first.begins, second.begins, second.capacity tt, second.opening tt);
     }) (spent_fits law.log law.names)
 
@@ -99,7 +100,7 @@ compares {T} slots id pass other room start s law many at small =
       keeps,
       tt,
       unmoved s law id v at (slice_set s.words 0 n) s.homes w (λ name. refl)
-          (record { capacity = fits.capacity; opening = fits.opening; begins = fits.begins; records = fits.records; stage = tt })
+          (record { capacity = fits.capacity; opening = fits.opening; begins = fits.begins; records = fits.records; noted = fits.noted; stage = tt })
           (⊎_elim (λ (free : IsFree law.log law.names s).
           inl (record {
             words = (λ i. slice_set (free.words i) 0 (slice_index (free.words i) 0));

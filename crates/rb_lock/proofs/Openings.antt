@@ -19,6 +19,7 @@ first_fits start empty = record {
   opening = λ live. refl;
   begins = prefix_none start.history;
   records = (record { begins = prefix_none start.history; known = refl; all = subst (λ (h : List Event). events_of h 0 ≡ []) (sym empty) refl }, tt);
+  noted = omega arith;
   stage = tt;
 }
 

@@ -113,6 +113,7 @@ module _ {T : Type 0} (pass : Seen) (found new : Log) (names after : ℕ) (next 
         opening = λ live. fits.opening live ∙ same_start;
         begins = begins_stay pass.name law.log.history new.history grown_now u.seen fits.begins;
         records = records_stay pass.name law.log.history new.history grown_now (records_of u) (omega (arith, split, away)) fits.records;
+        noted = omega (arith, fits.noted, goes.more, own.stage.1);
         stage = stage_stays u.noted u.stage (not_held by u other there) (omega (arith, split, away)) fits.stage;
       }
 
@@ -139,6 +140,7 @@ module _ {T : Type 0} (pass : Seen) (found new : Log) (names after : ℕ) (next 
           record { begins = prefix_self new.history; known = refl; all = refl },
           records_stay pass.name law.log.history new.history grown_now pass.folded folded_none own.records.1,
         );
+        noted = goes.more;
         stage = (goes.stage (λ n above. strangers_stay n (subst (λ (m : ℕ). m ≤ n) names_is above)));
       }
 

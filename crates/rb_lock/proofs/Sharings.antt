@@ -25,12 +25,13 @@ cuts id pass name s law at =
     let fits = law.fits id (drawing pass name) at in
     cut_in_two s law id (drawing pass name) at (rested (drawing pass name)) (cut_off (drawing pass name))
     (λ n. omega (arith, times_in-append n (names_of pass.folded) [], times_in-append n (names_of pass.folded) (name ∷ []))) refl
-    (record { capacity = fits.capacity; opening = fits.opening; begins = fits.begins; records = fits.records; stage = tt })
+    (record { capacity = fits.capacity; opening = fits.opening; begins = fits.begins; records = fits.records; noted = fits.noted; stage = tt })
     (record {
       capacity = fits.capacity;
       opening = fits.opening;
       begins = fits.begins;
       records = (record { begins = fits.begins; known = none_before pass.seen law.log.history name fits.begins fits.stage.1; all = fits.stage.1 }, tt);
+      noted = fits.noted;
       stage = tt;
     })
 
@@ -43,7 +44,7 @@ AreRecords-append history [] ys none all = all
 AreRecords-append history (x ∷ xs) ys (one, rest) all = (one, AreRecords-append history xs ys rest all)
 
 pub spent_fits : (log : Log) (names : ℕ) → Fits log names nobody
-spent_fits log names = record { capacity = λ there. absurd there; opening = λ there. absurd there; begins = prefix_none log.history; records = tt; stage = tt }
+spent_fits log names = record { capacity = λ there. absurd there; opening = λ there. absurd there; begins = prefix_none log.history; records = tt; noted = omega arith; stage = tt }
 
 -- the records of one pass follow those of another
 pub folds : {T : Type 0} (id other : ℕ) (one two : Seen) → Joins (Locked {T = T}) id (idle one) other (idle two) (folding (idle one) (idle two)) nobody
@@ -62,5 +63,6 @@ folds id other one two s law at apart there =
       opening = first.opening;
       begins = first.begins;
       records = (first.records.0, AreRecords-append law.log.history one.folded (all_records two) first.records.1 second.records);
+      noted = first.noted;
       stage = tt;
     }) (spent_fits law.log law.names)

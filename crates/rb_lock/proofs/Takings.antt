@@ -61,7 +61,7 @@ module _ {T : Type 0} (s : State (Option (Pair T)) View) (law : Locked s) (id : 
         takes 0 pair,
         ap (λ (hs : List (maybe.Option (Option (Pair T)))). get_elem? hs 0) free.homes,
         unmoved s law id (idle pass) at (slice_set s.words 0 (f n)) (slice_set s.homes 0 none) w (λ name. refl)
-            (record { capacity = fits.capacity; opening = fits.opening; begins = fits.begins; records = fits.records; stage = (refl, refl) })
+            (record { capacity = fits.capacity; opening = fits.opening; begins = fits.begins; records = fits.records; noted = omega arith; stage = (refl, refl) })
             (inr (record {
               word = f n;
               words = ap (λ ws. slice_set ws 0 (f n)) free.words;

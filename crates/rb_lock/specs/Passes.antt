@@ -89,14 +89,15 @@ pub record IsSoundPass (pass : Seen) : Type 0 where
   pub most : pass.capacity ≤ MOST_CALLS
   pub own : events_of pass.seen pass.name ≡ pass.mine
 
--- The pass has seen a history that begins with all that it had seen. Its queue, its name and what was folded
--- into it are as before.
+-- The pass has seen a history that begins with all that it had seen, and noted at least as many names. Its
+-- queue, its name and what was folded into it are as before.
 pub record Learns (old new : Seen) : Type 0 where
   pub table : new.table ≡ old.table
   pub name : new.name ≡ old.name
   pub capacity : new.capacity ≡ old.capacity
   pub opening : new.opening ≡ old.opening
   pub folded : new.folded ≡ old.folded
+  pub noted : old.noted ≤ new.noted
   pub begins : IsPrefix old.seen new.seen
   pub sound : IsSoundPass new
 

@@ -32,12 +32,14 @@ IsThere (Meets one other room start) = Unit {0}
 IsThere Gone = ⊥
 
 -- A view fits the current log and the number of names: one that is not spent has this run's capacity and
--- opening, the history begins with what it has seen, and all its records are of this history.
+-- opening, the history begins with what it has seen, all its records are of this history, and it has noted no
+-- more names than are given.
 pub record Fits (log : Log) (names : ℕ) (v : View) : Type 0 where
   pub capacity : IsThere v.stage → v.capacity ≡ log.capacity
   pub opening : IsThere v.stage → v.opening ≡ log.opening
   pub begins : IsPrefix v.seen log.history
   pub records : AreRecords log.history (records_of v)
+  pub noted : v.noted ≤ names
   pub stage : AtStage log names v.noted v.stage
 
 module _ {T : Type 0} where

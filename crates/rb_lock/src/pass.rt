@@ -4,6 +4,7 @@ ghost use Rattle.rb_lock.specs.Passes.{IsSoundPass, tally_of};
 use crate::rule::PassSeat;
 use rb_ledger::Tally;
 use rb_timer::Timer;
+use std::fmt::{self, Debug, Formatter};
 use std::marker::Model;
 
 /// The right of one thread to call a shared queue, under a name of its own.
@@ -46,5 +47,14 @@ impl<T: Timer> Pass<T> {
         ensures { result ≡ (tally_of self.now).calls }
     {
         self.tally.calls()
+    }
+}
+
+impl<T: Timer> Debug for Pass<T> {
+    fn fmt<W: fmt::Write>(&self, f: &mut Formatter<W>) -> fmt::Result {
+        f.debug_struct("Pass")
+            .field("name", &self.name)
+            .field("tally", &self.tally)
+            .finish_non_exhaustive()
     }
 }

@@ -1,4 +1,4 @@
-ghost use Rattle.std.specs.Prelude.{◌≡◌, [], ◌∷◌, ℕ, Some, IfOk, IfErr, OnErr};
+ghost use Rattle.std.specs.Prelude.{◌≡◌, ◌≤◌, ◌<◌, [], ◌∷◌, ℕ, Some, IfOk, IfErr, OnErr};
 ghost use Rattle.rb_ledger.specs.Totals.{nothing};
 ghost use Rattle.rb_queue.specs.Counts.{events_of, audit_of};
 ghost use Rattle.rb_lock.specs.Passes.{first_pass, split_from, folded_with, all_records, tally_of, Learns};
@@ -19,6 +19,7 @@ use rb_ledger::{Tally, Totals};
 use rb_queue::{Ask, Audit};
 use rb_timer::Timer;
 use std::alloc::Global;
+use std::fmt::{self, Debug, Formatter};
 use std::marker::Model;
 use std::snapshot::Snapshot;
 use std::sync::Wait;
@@ -85,7 +86,8 @@ impl<T: Timer> Shared<T> {
     /// Splits a new pass off, under the next name, which was never given before. It waits while another pass
     /// calls.
     ///
-    /// The new pass has seen what this one has, and has made no call. `Names` comes only if all
+    /// The new pass has seen what this one has, and has made no call. Its name is below 65,536, and none of those
+    /// that this pass had noted. `Names` comes only if all
     /// 65,536 names are given. Either way this pass may have seen more of the history.
     pub fn split<R: Wait>(&self, rt: &R, pass: &mut Pass<T>) -> Result<Pass<T>, SplitFault>
         requires pass { pass.old.table ≡ self.now }
@@ -93,6 +95,8 @@ impl<T: Timer> Shared<T> {
         ensures mine { pass.new.mine ≡ pass.old.mine }
         ensures child { IfOk result (λ child. child ≡ split_from pass.new) }
         ensures unheard { IfOk result (λ child. events_of child.seen child.name ≡ []) }
+        ensures later { IfOk result (λ child. pass.old.noted ≤ child.name) }
+        ensures few { IfOk result (λ child. child.name < MOST_NAMES) }
         ensures names { OnErr result (pass.new.noted ≡ MOST_NAMES) }
     {
         let table = &self.table.shared;
@@ -212,6 +216,13 @@ impl<T: Timer> Shared<T> {
         give(table, &mut seat);
         let pass = Pass { seat, name, tally };
         Err((self, pass, CloseFault::NotAll { counted, booked }))
+    }
+}
+
+// What lies in the lock can't be seen without taking it.
+impl<T: Timer> Debug for Shared<T> {
+    fn fmt<W: fmt::Write>(&self, f: &mut Formatter<W>) -> fmt::Result {
+        f.debug_struct("Shared").finish_non_exhaustive()
     }
 }
 

@@ -34,6 +34,7 @@ impl<'a, T: Timer> KeptDesk<'a, T> {
     pub fn new(kept: &'a mut Kept<T>, tally: &'a mut Tally) -> KeptDesk<'a, T>
         ensures state { ⟦<KeptDesk<'a, T> as Desk>⟧.state result
             ≡ record { name = kept.entry.ghost_name; log = kept.old; share = tally.old; moment = kept.old.opening.last_at; before = length kept.old.history } }
+        ensures few { length (made_at (⟦<KeptDesk<'a, T> as Desk>⟧.state result)) ≤ MOST_CALLS }
     {
         // The proof learns here how long the history may get.
         let _ = kept.capacity();

@@ -25,4 +25,4 @@ pub use kept_desk::KeptDesk;
 pub use policy::{Pace, Policy};
 pub use verdict::Verdict;
 pub use work_report::WorkReport;
-pub use worker::{Work, work_off};
+pub use worker::{Work, work_off as work};

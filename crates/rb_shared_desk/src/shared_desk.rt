@@ -1,4 +1,5 @@
 ghost use Rattle.std.specs.Prelude.{◌≡◌, ◌≤◌, length};
+ghost use Rattle.rb_kept.specs.declared.kept.TheConstants.{MOST_CALLS};
 ghost use Rattle.rb_shared_desk.specs.SharedSteps.{SharedState, SharedName, SharedSteps, SetsShared, fault_of_wait, made_through, name_of};
 ghost use Rattle.rb_shared_desk.specs.SharedLaws.{shared_makes, shared_refuses, shared_stays};
 
@@ -44,7 +45,10 @@ impl<'a, T: Timer, C: Clock, G: Gate, R: Wait + time::Clock> SharedDesk<'a, T, C
         requires pass { pass.old.table ≡ shared.now }
         ensures state { ⟦<SharedDesk<'a, T, C, G, R> as Desk>⟧.state result
             ≡ record { reference = pass.entry.ghost_name; pass = pass.old; clock = clock.now; gate = gate.old; before = length pass.old.mine } }
+        ensures few { length (made_through (⟦<SharedDesk<'a, T, C, G, R> as Desk>⟧.state result)) ≤ MOST_CALLS }
     {
+        // The proof reads here that the pass has seen a legal history.
+        let _ = pass.name();
         let start = Snapshot::of(&*pass);
         SharedDesk {
             rt,

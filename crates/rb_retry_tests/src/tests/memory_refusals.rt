@@ -14,7 +14,7 @@ use rb_ledger::{Tally, Totals};
 use rb_lock::{CloseFault, Shared};
 use rb_queue::{Act, Ask, Audit, Draft, Event, Reply};
 use rb_retry::{
-    Desk, DeskFault, Job, KeptDesk, Policy, Verdict, Work, WorkReport, drain, fail, poll, work_off,
+    Desk, DeskFault, Job, KeptDesk, Policy, Verdict, Work, WorkReport, drain, fail, poll,
 };
 use rb_shared_desk::SharedDesk;
 use rb_timer::{ListTimer, Timer};
@@ -652,7 +652,7 @@ fn works_off<D: Desk, C: Desk>(rt: &impl Abort, desk: &mut D, work: &Failing<C>)
     ensures name { D.name (D.state desk.new) ≡ D.name (D.state desk.old) }
 {
     offers_jobs(rt, desk);
-    let report = work_off(desk, &two_at_once(rt), work);
+    let report = rb_retry::work(desk, &two_at_once(rt), work);
     expect_report(rt, report, &work.runs.get());
     let fillers = if work.crowd.is_some() { report.runs } else { 0 };
     expect_left(rt, desk, fillers);

@@ -3,7 +3,7 @@ ghost use Rattle.std.specs.Prelude.{◌≡◌};
 use crate::tests::devices::expect_same;
 use crate::tests::fixtures::{kept, offer};
 use rb_delayed::Element;
-use rb_retry::{Desk, KeptDesk, Policy, Work, WorkReport, work_off};
+use rb_retry::{Desk, KeptDesk, Policy, Work, WorkReport};
 use rb_timer::ListTimer;
 use std::alloc::Global;
 use std::cell::Cell;
@@ -75,7 +75,7 @@ fn worked_off<D: Desk, W: Work>(rt: &impl Abort, desk: &mut D, jobs: Jobs, work:
     for _ in 0..jobs.count {
         offer(rt, desk, 0, 0);
     }
-    work_off(desk, &policy(rt, jobs.attempts), work)
+    rb_retry::work(desk, &policy(rt, jobs.attempts), work)
 }
 
 // Works the jobs off if there is room for this many calls.

@@ -1,7 +1,7 @@
 -- The pass has learned and made no call, and the gate stops where it did when the wait began.
 use Rattle.std.proofs.Common.{◌≡◌, ◌↔◌, ℕ}
 use Rattle.rb_lock.specs.Passes.{Learns}
-use Rattle.rb_blocking.proofs.waits.wait.Given as goal
+use Rattle.rb_blocking.proofs.waits.try_often.Given as goal
 
 abbrev pub invariant-loop : goal.invariant-loop
 invariant-loop g l =

@@ -5,7 +5,7 @@ use Rattle.rb_kept.specs.declared.fault.CallFault.{CallFault}
 use Rattle.rb_lock.specs.SharedCalls.{Answered}
 use Rattle.rb_blocking.specs.WaitingCalls.{try_of}
 use Rattle.rb_blocking.proofs.LearnedPasses.{learns_nothing, learns_on}
-use Rattle.rb_blocking.proofs.waits.wait.Goals as goal
+use Rattle.rb_blocking.proofs.waits.try_often.Goals as goal
 
 pub loop-init : goal.loop-init
 loop-init g c = (learns_nothing c.args.pass.now c.name.ensures.sound, refl, λ n. (λ stops. stops, λ stops. stops))

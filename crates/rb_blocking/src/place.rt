@@ -1,0 +1,62 @@
+ghost use Rattle.std.specs.Prelude.{◌≡◌, ◌<◌, true};
+
+/// Where calls rest at a bell: one call, or several where more rest than there are places.
+#[derive(Clone, Copy, Debug, Default)]
+pub(crate) struct Place {
+    // How many calls rest here.
+    resting: u64,
+    // How many of them were woken and still have to notice it.
+    woken: u64,
+    // When the last of them looks again by itself, if nothing wakes it. It may be later than that where
+    // others have left.
+    latest: u64,
+}
+
+impl Place {
+    /// How many calls rest here.
+    pub(crate) fn resting(&self) -> u64
+        ensures { result ≡ self.now.resting }
+    {
+        self.resting
+    }
+
+    /// Whether some call here was woken and has not noticed it.
+    pub(crate) fn is_woken(&self) -> bool {
+        self.woken > 0
+    }
+
+    /// One call more rests here. It looks again by itself at the moment `until`.
+    pub(crate) fn enter(&mut self, until: u64) {
+        self.resting = self.resting.saturating_add(1);
+        self.latest = self.latest.max(until);
+    }
+
+    /// A call ends its rest. Whether it was woken.
+    pub(crate) fn leave(&mut self) -> bool {
+        let woken = self.is_woken();
+        self.resting = self.resting.saturating_sub(1);
+        self.woken = self.woken.saturating_sub(1).min(self.resting);
+        if self.resting == 0 {
+            self.latest = 0;
+        }
+        woken
+    }
+
+    /// Wakes a call that would look again only after this expiry. Whether there was one.
+    pub(crate) fn wake_one(&mut self, expiry: u64) -> bool
+        ensures { result ≡ true → expiry < self.old.latest }
+    {
+        if self.woken >= self.resting || self.latest <= expiry {
+            return false;
+        }
+        self.woken += 1;
+        true
+    }
+
+    /// Wakes all that rest here.
+    pub(crate) fn wake_all(&mut self)
+        ensures { self.new.woken ≡ self.old.resting }
+    {
+        self.woken = self.resting;
+    }
+}

@@ -1,0 +1,8 @@
+/// How a rest ended.
+#[derive(Clone, Copy, Debug)]
+pub(crate) struct Rested {
+    /// The bell's count then.
+    pub(crate) count: u64,
+    /// Whether another call woke this one, for an element that it may take.
+    pub(crate) woken: bool,
+}
