@@ -11,11 +11,11 @@ use std::{array, time};
 // The longest rest, in milliseconds.
 const LONGEST_REST: u64 = 20;
 
-/// What a thread rests at until another rings.
+/// Where a thread rests until another one rings.
 ///
-/// A thread that waits reads the count before it looks for what it waits for, and rests only while the count
-/// is still the same. So a ring between the look and the rest is seen: the count has changed, and the rest
-/// ends at once.
+/// A thread that waits reads the count before it looks for what it waits for, and rests only while
+/// the count is still the same. So a ring between the look and the rest is noticed: the count has
+/// changed, and the rest ends at once.
 ///
 /// An offer raises the count, and of the waiting calls that rest it wakes one that would look again only after
 /// the element has expired, if there is such a call. A call that gives up when it was woken wakes another in
@@ -34,7 +34,7 @@ pub struct Bell {
 }
 
 impl Bell {
-    /// A bell that was not rung yet.
+    /// A bell that has not been rung.
     pub fn new() -> Bell {
         Bell {
             state: CachePadded::new(Mutex::new(BellState::new())),
@@ -43,8 +43,8 @@ impl Bell {
         }
     }
 
-    /// Raises the count, which goes from 2^64 - 1 to 0, and wakes all that rest. It waits while another
-    /// thread has the count.
+    /// Raises the count, from 2^64 - 1 to 0, and wakes all threads that rest. It waits while
+    /// another thread holds the count.
     pub fn ring<R: Wait>(&self, rt: &R) {
         let mut state = self.locked(rt);
         state.rise(0);
@@ -56,12 +56,12 @@ impl Bell {
         }
     }
 
-    /// How often it was rung. It waits while another thread has the count.
+    /// How often it was rung, modulo 2^64. It waits while another thread holds the count.
     pub fn count<R: Wait>(&self, rt: &R) -> u64 {
         self.locked(rt).count
     }
 
-    /// Waits until the count is not `seen`, at most about 20 ms, and gives it.
+    /// Waits until the count is not `seen`, for at most about 20 ms, and returns the count.
     pub fn rest<R: Wait + time::Clock>(&self, rt: &R, seen: u64) -> u64 {
         self.rest_at_most(rt, seen, longest_rest())
     }
@@ -155,7 +155,7 @@ impl Debug for Bell {
     }
 }
 
-/// How long a rest lasts where nothing ends it sooner.
+/// How long a rest lasts if nothing ends it sooner.
 pub(crate) fn longest_rest() -> Duration {
     Duration::from_millis(LONGEST_REST)
 }

@@ -1,9 +1,9 @@
 ghost use Rattle.std.specs.Prelude.{ℕ};
 
-/// What a waiting call reads the moment from, in nanoseconds.
+/// The clock of a waiting call, in nanoseconds.
 ///
-/// `gives` tells the numbers that the clock may read. Code over any clock has no other way to such a number,
-/// so that where a contract says `gives`, the clock was read.
+/// `gives` says which numbers the clock may read. Code over any clock gets such a number in no
+/// other way, so if a contract says `gives`, the clock was read.
 pub trait Clock {
     ghost gives: { Self → ℕ → Type 0 };
 

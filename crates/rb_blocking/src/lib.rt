@@ -1,7 +1,7 @@
 //! Calls of a shared queue that wait: for an element to expire, for a deadline, or for another thread's offer.
 //!
-//! A call waits by trying again. Each try is at a fresh reading of a clock, and holds the lock as any other
-//! call does; between two tries the caller rests at a bell, and a gate may end its wait.
+//! A call waits by trying again. Each try is at a fresh reading of a clock, and holds the lock like
+//! any other call; between two tries the caller rests at a bell, and a gate may end the wait.
 #![tactic(auto)]
 
 mod bell;

@@ -5,7 +5,7 @@ use std::time::{Duration, Instant};
 
 /// The machine's monotonic clock, in nanoseconds since this value was made.
 ///
-/// A clock that can't be read stands at 0. Nothing is claimed of its numbers.
+/// A clock that can't be read stays at 0. Nothing is claimed of its numbers.
 #[derive(Drop)]
 pub struct MachineClock<'a, R: time::Clock> {
     rt: &'a R,
@@ -14,7 +14,7 @@ pub struct MachineClock<'a, R: time::Clock> {
 }
 
 impl<'a, R: time::Clock> MachineClock<'a, R> {
-    /// A clock that reads 0 now.
+    /// A clock that begins at 0 now.
     pub fn new(rt: &'a R) -> MachineClock<'a, R> {
         MachineClock {
             rt,

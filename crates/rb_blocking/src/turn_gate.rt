@@ -2,7 +2,7 @@ ghost use Rattle.std.specs.Prelude.{◌≡◌, ◌↔◌, ℕ, ◌≤◌, ◌<�
 
 use crate::gate::Gate;
 
-/// A gate that ends a wait after so many turns.
+/// A gate that ends a wait after a number of turns.
 #[derive(Clone, Copy, Debug, PartialEq, Eq)]
 pub struct TurnGate {
     /// How many turns a wait may make.

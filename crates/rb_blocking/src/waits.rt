@@ -19,10 +19,11 @@ use std::time;
 
 /// Takes an element that has expired, and waits while there is none.
 ///
-/// Each try is at a fresh reading of the clock; after one that finds nothing expired the gate is asked, and the
-/// call rests at the bell. A reply is that of one `Shared::call` with `Take` at a reading: the pass has seen a
-/// legal history that begins with all that it had seen and ends with this call. After `Stopped`, which only
-/// the gate's no gives, and after `Full` no event is made. It takes no memory.
+/// Each try is at a fresh reading of the clock. After a try that finds nothing expired the gate is
+/// asked, and the call rests at the bell. The reply is that of one `Shared::call` with `Take` at a
+/// reading: the pass has seen a legal history that begins with all that it had seen and ends with
+/// this call. After `Stopped`, which only the gate's no causes, and after `Full` no event was made.
+/// It takes no memory.
 pub fn take<T: Timer, C: Clock, G: Gate, R: Wait + time::Clock>(
     rt: &R,
     shared: &Shared<T>,
@@ -42,11 +43,11 @@ pub fn take<T: Timer, C: Clock, G: Gate, R: Wait + time::Clock>(
     }
 }
 
-/// Takes an element that has expired, and waits while there is none until `timeout` nanoseconds after the
-/// moment `start`.
+/// Takes an element that has expired, and waits while there is none, until `timeout` nanoseconds
+/// after the moment `start`.
 ///
-/// It is as `take`, by a call with `PollFor`: it gives `None` only where at the deadline or after it nothing
-/// is expired.
+/// It is like `take`, by a call with `PollFor`: it returns `None` only at the deadline or later, if
+/// nothing has expired.
 pub fn poll_for<T: Timer, C: Clock, G: Gate, R: Wait + time::Clock>(
     rt: &R,
     shared: &Shared<T>,

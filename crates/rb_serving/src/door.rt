@@ -6,7 +6,7 @@ use rb_blocking::Gate;
 use std::io::{Read, Write};
 use std::sync::Wait;
 
-/// A visitor came and could not be let in.
+/// A visitor came but could not be let in.
 #[derive(Clone, Copy, Debug, PartialEq, Eq)]
 pub struct DoorFault;
 
@@ -29,7 +29,8 @@ pub trait Door {
 
     ghost turns_away: { Self → Type 0 };
 
-    /// The next visit, which no other caller gets, or `None` where there are no more. It may wait for one.
+    /// The next visit, which no other caller gets, or `None` if there are no more. It may wait for
+    /// one.
     fn next<R: Wait>(
         &self,
         rt: &R,

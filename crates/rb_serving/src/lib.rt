@@ -1,7 +1,7 @@
-//! A server of the queue: workers, each with a pass of its own, serve the visits of a door until there are
-//! no more.
+//! A server of the queue: workers, each with a pass of its own, serve the visits of a door until
+//! there are no more.
 //!
-//! A door is where visits come from: the clients of a TCP listener, or what a test hands in.
+//! A door is where visits come from: the clients of a TCP listener, or what a test provides.
 #![tactic(auto)]
 
 mod door;

@@ -7,10 +7,11 @@ use rb_timer::Timer;
 use std::alloc::Global;
 use std::io::Write;
 
-/// Writes the history of a server's run, where something is to have it, and then prints what the run came
-/// to.
+/// Writes the history of a server's run, if there is a device for it, and then prints the counts of
+/// the run.
 ///
-/// That is printed also where the history could not be written, which is the fault that is answered.
+/// They are printed even if the history could not be written, which is then the fault that is
+/// returned.
 pub fn end_server<T: Timer, W: Write, H: Write>(
     alloc: Global,
     report: &ServeReport<T>,

@@ -2,16 +2,16 @@ use rb_kept::Kept;
 use rb_queue::Audit;
 use rb_timer::Timer;
 
-/// What serving visits came to.
+/// The outcome of serving visits.
 #[derive(Drop)]
 pub struct ServeReport<T: Timer> {
-    /// How many visits there were. This and the next two numbers stay at 2^64 - 1 once there.
+    /// How many visits there were. This and the next two numbers are at most 2^64 - 1.
     pub sessions: u64,
     /// How many of them were refused at the door, or ended by a fault.
     pub faults: u64,
     /// How many jobs were lost at the ends of sessions: those whose next attempt was refused.
     pub lost: u64,
-    /// What the history comes to.
+    /// The counts of the history.
     pub audit: Audit,
     /// The queue as all workers left it, with the history of their calls.
     pub kept: Kept<T>,

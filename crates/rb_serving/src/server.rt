@@ -19,13 +19,13 @@ use std::sync::Wait;
 use std::thread::Threads;
 use std::time;
 
-/// Serves the visits of a door over one queue, until it has no more: each worker one visit after the other,
-/// through a pass of its own.
+/// Serves the visits of a door over one queue until it has no more: each worker serves one visit
+/// after the other, through a pass of its own.
 ///
-/// All waits read the one clock. The history that comes back is legal and has exactly the workers' calls, and
-/// these are the calls of the sessions that each served; the counts are those of all visits.
-/// Memory is taken for the history at the start, and then for each session as it begins and for what is
-/// offered and drained.
+/// All waits read the same clock. The history that comes back is legal and has exactly the workers'
+/// calls, which are the calls of the sessions that each served; the counts are those of all visits.
+/// Memory is taken for the history at the start, then for each session as it begins, and for what
+/// is offered and drained.
 pub fn serve_door<
     T: Timer + Send,
     D: Door + Sync,

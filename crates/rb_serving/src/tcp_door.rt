@@ -8,9 +8,9 @@ use std::net::{TcpListener, TcpStream};
 use std::sync::Wait;
 use std::sync::atomic::{AtomicU64, Ordering};
 
-/// A door that lets in the clients of a TCP listener, and no more than so many.
+/// A door that lets in the clients of a TCP listener, up to a number of sessions.
 ///
-/// A client that can't be let in counts among them.
+/// A client that can't be let in counts as one of them.
 #[derive(Drop)]
 pub struct TcpDoor {
     listener: TcpListener,
@@ -22,7 +22,7 @@ pub struct TcpDoor {
 }
 
 impl TcpDoor {
-    /// A door for so many sessions, each of whose waits ends after so many turns.
+    /// A door for this many sessions, each of whose waits ends after this many turns.
     pub fn new(listener: TcpListener, sessions: u64, turns: u64) -> TcpDoor
         ensures sessions { result.sessions ≡ sessions }
         ensures turns { result.turns ≡ turns }

@@ -3,7 +3,7 @@ ghost use Rattle.rb_serving.specs.VisitCounts.{no_visit, refused_visit, ended_vi
 
 use rb_session::{Ended, SessionFault};
 
-/// What visits come to. Each number stays at 2^64 - 1 once there.
+/// The counts of visits, each at most 2^64 - 1.
 #[derive(Clone, Copy, Debug, PartialEq, Eq)]
 pub struct VisitCounts {
     /// How many visits there were.
@@ -37,7 +37,7 @@ impl VisitCounts {
         }
     }
 
-    /// A visit whose session ended so.
+    /// A visit whose session ended like this.
     pub fn of_session(outcome: &Result<Ended, SessionFault>) -> VisitCounts
         ensures { result ≡ ended_visit outcome.now }
     {
@@ -48,7 +48,7 @@ impl VisitCounts {
         }
     }
 
-    /// Both together.
+    /// The sum of the two.
     pub fn with(self, other: VisitCounts) -> VisitCounts
         ensures { result ≡ both_counts self other }
     {

@@ -19,8 +19,8 @@ use std::time;
 
 /// Serves one visit after the other, until the door has no more.
 ///
-/// The pass makes all their calls and no other, and what was folded into it stays. It waits for visits, and
-/// while another pass calls.
+/// The pass makes all their calls and no others, and what was folded into it stays. It waits for
+/// visits, and while another pass calls.
 pub(crate) fn work<T: Timer, D: Door, C: Clock, R: Wait + time::Clock>(
     rt: &R,
     service: &Service<'_, T, D, C>,

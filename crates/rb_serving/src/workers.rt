@@ -23,10 +23,10 @@ impl<'a, T: Timer, D: Door, C: Clock> Promise<(Pass<T>, VisitCounts)> for OfServ
     ghost kept_by = { λ promise worked. (worked.0.table ≡ promise.0.now.shared.now) × IsDone (D.lets_in promise.0.now.door.now) (D.turns_away promise.0.now.door.now) D.Reader.remaining D.Writer.contents C.gives D.Gate.stops promise.0.now.policy.now promise.0.now.clock.now worked.0 worked.1 };
 }
 
-/// Runs so many workers at once, and folds the pass of each into this one.
+/// Runs this many workers at once, and folds the pass of each into this one.
 ///
-/// Each has a pass of its own, split off this one. Where one can't be started, those that were started are
-/// waited for.
+/// Each has a pass of its own, split off this one. If one can't be started, it waits for those that
+/// were started.
 pub(crate) fn serve_all<
     T: Timer + Send,
     D: Door + Sync,

@@ -12,10 +12,10 @@ use rb_protocol::{ErrorWord, LineFault, LineReply, Request};
 use rb_queue::Ask;
 use rb_retry::{Desk, Policy};
 
-/// Answers one line: the first line of its reply. Where that is a drain's, the elements that it took
-/// are the last that are held.
+/// Answers one line with the first line of its reply. If that is a drain's, the elements that it
+/// took are the last that are held.
 ///
-/// The desk's clock is read once for each request. Where the request may wait, nothing that the client
+/// The desk's clock is read once for each request. If the request may wait, nothing that the client
 /// may need may be held back.
 pub(crate) fn answer<O: Outlet, D: Desk>(
     _outlet: &O,

@@ -14,7 +14,7 @@ use rb_protocol::{ErrorWord, LineReply};
 use rb_queue::{Ask, Draft, Reply};
 use rb_retry::{Desk, DeskFault};
 
-/// Makes one call that fetches nothing, and gives its line.
+/// Makes one call that fetches nothing, and returns its reply line.
 pub(crate) fn call<D: Desk>(desk: &mut D, now: u64, ask: Ask) -> LineReply
     ensures call { (answer : Result Reply DeskFault) × D.Steps (D.state desk.old) now ask answer (D.state desk.new) × (result ≡ answer_line answer) }
     ensures name { D.name (D.state desk.new) ≡ D.name (D.state desk.old) }

@@ -5,7 +5,7 @@ use crate::outlet::Outlet;
 use crate::send::{WriteFault, flush, send_line};
 use std::io::Write;
 
-/// An outlet that holds nothing back: the writer has each line at once.
+/// An outlet that holds nothing back: it passes each line to the writer at once.
 #[derive(Drop)]
 pub(crate) struct Direct<'a, W: Write> {
     pub(crate) writer: &'a mut W,

@@ -26,8 +26,8 @@ pub(crate) fn finish_job(held: &mut HeldJobs, id: u64) -> LineReply
     }
 }
 
-/// The job of this id fails now, if it is held. Where its next attempt is refused it is held on, at its
-/// place.
+/// Lets the job of this id fail now, if it is held. If its next attempt is refused, it stays held,
+/// in its place.
 pub(crate) fn fail_job<D: Desk>(
     desk: &mut D,
     held: &mut HeldJobs,
@@ -57,8 +57,8 @@ pub(crate) fn fail_job<D: Desk>(
     }
 }
 
-/// All that is held fails, in the order of the fetches, at the desk's moment. The number of those that
-/// are lost, since their next attempt was refused.
+/// Lets every job that is held fail at the desk's moment, in the order in which they were fetched.
+/// Returns how many are lost, since their next attempt was refused.
 pub(crate) fn fail_all<D: Desk>(desk: &mut D, policy: &Policy, held: HeldJobs) -> u64
     ensures closes { Closes D.gives D.Steps policy.now (D.state desk.old) held result (D.state desk.new) }
     ensures name { D.name (D.state desk.new) ≡ D.name (D.state desk.old) }

@@ -22,7 +22,7 @@ pub(crate) fn poll_job<D: Desk>(desk: &mut D, held: &mut HeldJobs, now: u64) -> 
     hold(held, fetched)
 }
 
-/// Fetches the head, once there is one until `timeout` nanoseconds after now, if there is room for it.
+/// Fetches the head, waiting for it until `timeout` nanoseconds from now, if there is room for it.
 pub(crate) fn poll_job_for<D: Desk>(
     desk: &mut D,
     held: &mut HeldJobs,
@@ -39,7 +39,7 @@ pub(crate) fn poll_job_for<D: Desk>(
     hold(held, fetched)
 }
 
-/// Fetches the head, once there is one, if there is room for it.
+/// Fetches the head, waiting for it, if there is room for it.
 pub(crate) fn take_job<D: Desk>(desk: &mut D, held: &mut HeldJobs) -> LineReply
     ensures fetched { IsFetch D.Steps (point (D.state desk.old) held.old) 0 asks.Take (replies_of result held.new) (point (D.state desk.new) held.new) }
     ensures name { D.name (D.state desk.new) ≡ D.name (D.state desk.old) }

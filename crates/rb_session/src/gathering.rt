@@ -10,13 +10,13 @@ use crate::outlet::Outlet;
 use crate::send::{WriteFault, flush, send_at_once, write_out};
 use std::io::Write;
 
-/// How many bytes are gathered at most.
+/// The greatest number of bytes that are gathered.
 pub(crate) const GATHERED_BYTES: usize = 64 * 1024;
 
-/// An outlet that gathers what is sent to it. The writer gets that when there is no room for another
-/// line, and when it has to be handed on.
+/// An outlet that gathers what is sent to it. The writer gets that when there is no room for
+/// another line, and when it has to be handed on.
 ///
-/// What was sent is what the writer has got, and behind that what is gathered.
+/// What was sent is what the writer has got, followed by what is gathered.
 #[derive(Drop)]
 pub struct Gathering<'a, W: Write> {
     writer: &'a mut W,

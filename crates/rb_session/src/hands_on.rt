@@ -1,4 +1,4 @@
-/// When gathered replies are handed on, beside the end and a reply that finds no room.
+/// When gathered replies are handed on, besides at the end and when a reply finds no room.
 #[derive(Clone, Copy)]
 pub enum HandsOn {
     /// Before each read. For a desk at which no request waits.

@@ -8,13 +8,13 @@ use rb_retry::{Desk, DeskFault, Job, drain};
 use std::alloc::{AllocError, Global};
 use std::marker::Model;
 
-/// How many jobs a session holds at most.
+/// The greatest number of jobs that a session holds.
 pub const MOST_HELD: usize = 64;
 
 /// The jobs that a session holds, in the order of their fetches, at most 64.
 ///
-/// The room for all of them is taken at once: no fetch may want memory for its job. Contracts see the
-/// elements.
+/// The room for all of them is taken at once, so no fetch can want memory for its job. Contracts
+/// see the elements.
 #[derive(Drop)]
 pub(crate) struct HeldJobs {
     jobs: Vec<Job>,
@@ -60,14 +60,14 @@ impl HeldJobs {
         self.jobs.iter().position(|job| job.element().id == id)
     }
 
-    /// The last `count` jobs that were fetched, in their order, or all where there are fewer.
+    /// The last `count` jobs that were fetched, in their order, or all if there are fewer.
     pub(crate) fn last(&self, count: usize) -> &[Job]
         ensures { result.now ≡ drop (length self.now - count) self.now }
     {
         &self.jobs[self.jobs.len().saturating_sub(count)..]
     }
 
-    /// Holds a job behind the others.
+    /// Holds a job after the others.
     pub(crate) fn hold(&mut self, job: Job)
         requires { length self.old < MOST_HELD }
         ensures { self.new ≡ self.old ++ job ∷ [] }
@@ -85,7 +85,7 @@ impl HeldJobs {
         self.jobs.remove(place)
     }
 
-    /// Holds a job that was taken out at its place again.
+    /// Holds a job that was taken out again, in its old place.
     pub(crate) fn put_back(&mut self, place: usize, job: Job)
         requires within { place ≤ length self.old }
         requires room { length self.old < MOST_HELD }
@@ -94,7 +94,7 @@ impl HeldJobs {
         self.jobs.insert(place, job).unwrap();
     }
 
-    /// Fetches at most `max` expired elements, and holds them behind the others.
+    /// Fetches at most `max` expired elements, and holds them after the others.
     pub(crate) fn drain<D: Desk>(
         &mut self,
         desk: &mut D,

@@ -1,7 +1,7 @@
-//! A client's session: lines of requests are read, served at a desk, and answered by lines.
+//! A client's session: it reads lines of requests, serves them at a desk, and replies with lines.
 //!
-//! A session holds what it fetched until that is done or fails. However it ends, what it still holds
-//! fails then. The desk may be of any kind.
+//! A session holds what it fetched until that is done or fails. However it ends, what it still
+//! holds then fails. The desk may be of any kind.
 #![tactic(auto)]
 
 mod answer;

@@ -9,16 +9,17 @@ use std::alloc::{AllocError, Global};
 use std::io;
 use std::io::Read;
 
-/// How many bytes are read at once at most.
+/// The greatest number of bytes that one read gets.
 const BUFFER_BYTES: usize = 64 * 1024;
 
-/// How many bytes before a line feed may still be a request: the longest line, and a carriage return.
+/// The greatest number of bytes before a line feed that may still be a request: the longest line,
+/// and a carriage return.
 const MOST_RAW_BYTES: usize = MOST_LINE_BYTES + 1;
 
 /// Bytes that were read and are not served yet.
 ///
-/// What stands before the first line feed is kept until its end comes. Where it is too long to be a
-/// request it is dropped, and only that is remembered: so no line needs more room than the buffer.
+/// The beginning of a line is kept until its line feed comes. If it is too long to be a request, it
+/// is dropped, and only the fact is remembered, so no line needs more room than the buffer.
 #[derive(Drop)]
 pub struct LineBuffer {
     bytes: Vec<u8>,
@@ -46,7 +47,7 @@ impl LineBuffer {
         })
     }
 
-    /// Takes the first whole line out and reads it, or `None` exactly where there is no line feed.
+    /// Takes out the first whole line and reads it. `None` exactly if there is no line feed.
     pub fn next_request(&mut self) -> Option<Result<Request, LineFault>>
         ensures line { (bytes : List ℕ) → IsUnserved self.old bytes → TakesLine bytes result self.new }
         ensures shorter { IfSome result (λ _. self.new.end - self.new.start < self.old.end - self.old.start) }
@@ -63,7 +64,8 @@ impl LineBuffer {
         Some(reading)
     }
 
-    /// Reads once, after the bytes that are held. The number of bytes is 0 at the end of the input.
+    /// Reads once, and appends what comes to the bytes that are held. Returns how many bytes came:
+    /// 0 at the end of the input.
     pub fn read_from<R: Read>(&mut self, reader: &mut R) -> io::Result<usize>
         ensures { (bytes : List ℕ) → IsUnserved self.old bytes → HasNoLineFeed bytes
             → TakesMore bytes (R.remaining reader.old) result self.new (R.remaining reader.new) }
@@ -79,7 +81,7 @@ impl LineBuffer {
         }
     }
 
-    /// Whether there are bytes that no line feed ends.
+    /// Whether there are bytes after the last line feed.
     pub fn has_rest(&self) -> bool
         ensures { (bytes : List ℕ) → IsUnserved self.now bytes → IsTrue result ↔ (0 < length bytes) }
     {

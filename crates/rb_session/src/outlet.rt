@@ -4,15 +4,15 @@ ghost use Rattle.rb_session.specs.Exchange.{Sends};
 
 use crate::send::WriteFault;
 
-/// Where the replies of a session go. An outlet may hold back what was sent to it, until it is told to
-/// hand that on.
+/// Where the replies of a session go. An outlet may hold back what was sent to it until it is told
+/// to hand that on.
 ///
-/// A session sends each reply line in one piece and flushes after each request. What is held back has
-/// to be handed on before each read, so that no client waits for a reply that lies here, and at the
-/// session's end. Before it serves a request that may wait it says so, and the outlet decides what has
-/// to be handed on then.
+/// A session sends each reply line in one piece and flushes after each request. What is held back
+/// has to be handed on at the session's end and before each read, so that no client waits for a
+/// reply that is held back. Before it serves a request that may wait, the session says so, and the
+/// outlet decides what has to be handed on.
 pub trait Outlet {
-    /// The bytes that were sent, behind those that lay before them, where they are known.
+    /// The bytes that were sent, after those that were there before, if they are known.
     ghost contents: { Self → Option (List ℕ) };
 
     /// Nothing is held back.
@@ -34,7 +34,8 @@ pub trait Outlet {
         ensures sent { Sends result (contents self.old) line.now (contents self.new) }
         ensures becomes { Becomes self.old self.new };
 
-    /// The replies to a request are sent. What that means to what is held back is the outlet's own.
+    /// The replies to a request have been sent. The outlet decides what that means for what is held
+    /// back.
     fn flush(&mut self) -> Result<(), WriteFault>
         ensures kept { Keeps (contents self.old) (contents self.new) }
         ensures becomes { Becomes self.old self.new };
@@ -56,6 +57,6 @@ pub trait Outlet {
     /// An outlet may stay as it is.
     ghost stays: { (outlet : Self) → Becomes outlet outlet };
 
-    /// What becomes of what became of an outlet became of it.
+    /// What an outlet becomes in two steps it may become.
     ghost goes_on: { (one two three : Self) → Becomes one two → Becomes two three → Becomes one three };
 }

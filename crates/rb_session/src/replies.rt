@@ -11,8 +11,8 @@ use crate::send::WriteFault;
 use rb_protocol::{LineReply, REPLY_ROOM, write_reply};
 use rb_retry::Job;
 
-/// Sends the lines of a reply, each in one piece, and flushes. Behind a drain's line come the last
-/// jobs that are held.
+/// Sends the lines of a reply, each in one piece, and flushes. A drain's line is followed by those
+/// of the last jobs that are held.
 ///
 /// After an `Err` the outlet has taken the first bytes of the lines, perhaps none.
 pub(crate) fn send_replies<O: Outlet>(

@@ -8,8 +8,8 @@ use std::io::{ErrorKind, Write};
 #[derive(Clone, Copy, Debug, PartialEq, Eq)]
 pub struct WriteFault;
 
-/// Writes a line, by one write where that takes the whole line, and else again for what was not
-/// taken. A write that was interrupted is made again.
+/// Writes a line: by one write if that takes the whole line, and otherwise by further writes of the
+/// rest. An interrupted write is made again.
 ///
 /// After an `Err` the writer has got the first bytes of the line, perhaps none.
 pub fn send_line<W: Write>(writer: &mut W, line: &[u8]) -> Result<(), WriteFault>
@@ -29,10 +29,11 @@ pub fn send_at_once<W: Write>(writer: &mut W, line: &[u8]) -> Result<(), WriteFa
     flush(writer)
 }
 
-/// Writes bytes, by one write where that takes all of them, and else again for what was not taken. A
-/// write that was interrupted is made again.
+/// Writes bytes: by one write if that takes all of them, and otherwise by further writes of the
+/// rest. An interrupted write is made again.
 ///
-/// How many of the first bytes the writer has got: all of them, unless a write failed or took none.
+/// Returns how many of the first bytes the writer has got: all of them, unless a write failed or
+/// took none.
 pub fn write_out<W: Write>(writer: &mut W, bytes: &[u8]) -> usize
     ensures within { result ≤ length bytes.now }
     ensures taken { Appends (W.contents writer.old) (W.contents writer.new) (take result bytes.now) }

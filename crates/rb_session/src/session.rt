@@ -25,14 +25,15 @@ use rb_retry::{Desk, Policy};
 use std::alloc::Global;
 use std::io::{self, ErrorKind, Read, Write};
 
-/// How often a session reads at most.
+/// The greatest number of reads of a session.
 const MOST_READS: u64 = 10_000_000;
 
 /// Serves the lines of a reader until one of them is `QUIT`, or there are no more.
 ///
-/// However the session ends, the jobs that it holds then fail at the desk's moment, in the order of
-/// their fetches, and nothing is written of that. All memory but that of what is offered and drained is
-/// taken before the first read. Each reply line is one write, and each request's replies are flushed.
+/// However the session ends, the jobs that it holds then fail at the desk's moment, in the order in
+/// which they were fetched, and no reply reports that. All memory except that for what is offered
+/// and drained is taken before the first read. Each reply line is one write, and each request's
+/// replies are flushed.
 pub fn run_session<R: Read, W: Write, D: Desk>(
     alloc: Global,
     reader: &mut R,
@@ -48,11 +49,12 @@ pub fn run_session<R: Read, W: Write, D: Desk>(
     run_session_through(alloc, reader, &mut outlet, desk, policy)
 }
 
-/// Runs a session as `run_session` does, whose replies go through an outlet.
+/// Runs a session like `run_session`, but sends its replies through an outlet.
 ///
-/// What the outlet holds back is handed on before each read, and at the end: so a read that fails, and
-/// each end that is no fault, find nothing held back. It is told before each request that may wait, a
-/// take or a timed poll. Where it can't hand on, a write failed, and that request is not served.
+/// What the outlet holds back is handed on before each read, and at the end. So nothing is held
+/// back when a read fails, nor after an end that is no fault. The outlet is told before each
+/// request that may wait, a take or a timed poll. If it can't hand on what it must, a write failed,
+/// and that request is not served.
 pub fn run_session_through<R: Read, O: Outlet, D: Desk>(
     alloc: Global,
     reader: &mut R,

@@ -1,10 +1,10 @@
 use thiserror::Error;
 
-/// Why a session ended early, and how many of the jobs that it still held were lost: those whose next
-/// attempt was refused. The first that happens is answered.
+/// Why a session ended early, and how many of the jobs that it still held were lost: those whose
+/// next attempt was refused. The fault that happened first is returned.
 #[derive(Clone, Copy, Debug, PartialEq, Eq, Error)]
 pub enum SessionFault {
-    /// There is no memory for the buffers and the jobs. Nothing was read or written.
+    /// There is not enough memory for the buffers and the jobs. Nothing was read or written.
     #[error("out of memory")]
     Memory,
     /// A read failed.

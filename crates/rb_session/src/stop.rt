@@ -9,6 +9,6 @@ pub(crate) enum Stop {
     Read,
     /// A write or a flush failed, or a write took no byte.
     Write,
-    /// The input had no end within the reads that a session makes.
+    /// The input had no end within the session's greatest number of reads.
     ReadTurns,
 }
