@@ -2,3 +2,4 @@ pub use Rattle.rb_retry.specs.Retry
 pub mod TimerKind
 pub mod Arguments
 pub mod CommandLine
+pub mod RightValues

@@ -1,4 +1,4 @@
-ghost use Rattle.std.specs.Prelude.{◌≡◌, ℕ, List, IfOk, false};
+ghost use Rattle.std.specs.Prelude.{◌≡◌, ℕ, List, [], ◌∷◌, map, codes, IfOk, false};
 ghost use Rattle.std.specs.Borrow.{Bor};
 ghost use Rattle.clap.specs.Words.{rule_of};
 ghost use Rattle.rb_arguments.specs.Arguments.{AreTimerNames, attempts_option, calls_option, chains_flag, delay_option, file_argument, from_option, history_option, port_option, rate_option, sessions_option, timer_option, turns_option, workers_option};
@@ -51,10 +51,11 @@ pub fn delay_option<'a>(alloc: Global) -> Arg<'a>
         .default_value("1000")
 }
 
-/// `--rate N`
+/// `--rate N`, which stands in the place of a delay: it conflicts with that option, and no other two do.
 pub fn rate_option<'a>(alloc: Global) -> Result<Arg<'a>, AllocError>
     ensures rule { IfOk result (λ arg. rule_of arg ≡ rate_option) }
     ensures local { IfOk result (λ arg. arg.global ≡ false) }
+    ensures conflicts { IfOk result (λ arg. map (λ id. id.now) arg.conflicts.items ≡ codes "delay" ∷ []) }
 {
     Arg::new(alloc, "rate")
         .long("rate")

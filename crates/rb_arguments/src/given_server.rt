@@ -3,6 +3,7 @@ ghost use Rattle.clap.specs.Words.{first_value, found_of, one_text, rows_of};
 ghost use Rattle.rb_delayed.specs.declared.element.TheConstants.{GREATEST_ATTEMPT};
 ghost use Rattle.rb_kept.specs.declared.kept.TheConstants.{MOST_CALLS};
 ghost use Rattle.rb_arguments.specs.CommandLine.{HasNumberWithin, HasPace, IsAskedBy, number_in, pace_in};
+ghost use Rattle.rb_arguments.specs.RightValues.{AreServerValues};
 ghost use Rattle.rb_arguments.specs.TimerKind.{timer_name};
 ghost use Rattle.rb_arguments.specs.declared.run_options.TheConstants.{MOST_WORKERS};
 ghost use Rattle.rb_arguments.specs.declared.serve_options.TheConstants.{MOST_SESSIONS, MOST_TURNS};
@@ -16,9 +17,10 @@ use clap::ArgMatches;
 use rb_kept::MOST_CALLS;
 use std::alloc::{AllocError, Global};
 
-/// What the values of `serve` ask for, if each is there and within its range.
+/// What the values of `serve` ask for. `None` only if one is not there or not in its range.
 pub(crate) fn serve(alloc: Global, given: &ArgMatches<'_>) -> Result<Option<Words>, AllocError>
-    ensures { IfOk result (λ asked. IfSome asked (IsAskedBy (codes "serve") (rows_of (found_of given.now)))) }
+    ensures asked { IfOk result (λ asked. IfSome asked (IsAskedBy (codes "serve") (rows_of (found_of given.now)))) }
+    ensures taken { AreServerValues (found_of given.now) → IfOk result (λ asked. IsSome asked) }
 {
     let Some(options) = serve_options(given) else {
         return Ok(None);

@@ -4,6 +4,7 @@ ghost use Rattle.rb_delayed.specs.declared.moment.TheConstants.{GREATEST_MOMENT}
 ghost use Rattle.rb_delayed.specs.declared.element.TheConstants.{GREATEST_ATTEMPT};
 ghost use Rattle.rb_retry.specs.Retry.{AreAttempts};
 ghost use Rattle.rb_arguments.specs.CommandLine.{FoundChains, HasNumberWithin, HasPace, IsAskedBy, number_in, pace_in};
+ghost use Rattle.rb_arguments.specs.RightValues.{AreReplayValues, AreRightFor, AreScriptValues};
 ghost use Rattle.rb_arguments.specs.TimerKind.{timer_name};
 
 use crate::given_server::serve;
@@ -16,7 +17,7 @@ use rb_kept::MOST_CALLS;
 use rb_retry::{Pace, Policy};
 use std::alloc::{AllocError, Global};
 
-/// What a subcommand's name and values ask for, if each value is there and within its range.
+/// What a subcommand's name and values ask for. `None` only if a value is not there or not in its range.
 ///
 /// clap has already refused all other values. But its contracts promise the ranges only for a
 /// command's own options, and not for those of a subcommand, so they are tested here again.
@@ -25,7 +26,8 @@ pub fn asked_by(
     name: &str,
     given: &ArgMatches<'_>,
 ) -> Result<Option<Words>, AllocError>
-    ensures { IfOk result (λ asked. IfSome asked (IsAskedBy name.now (rows_of (found_of given.now)))) }
+    ensures asked { IfOk result (λ asked. IfSome asked (IsAskedBy name.now (rows_of (found_of given.now)))) }
+    ensures taken { AreRightFor name.now (found_of given.now) → IfOk result (λ asked. IsSome asked) }
 {
     match name {
         "script" => script(alloc, given),
@@ -36,7 +38,8 @@ pub fn asked_by(
 }
 
 fn script(alloc: Global, given: &ArgMatches<'_>) -> Result<Option<Words>, AllocError>
-    ensures { IfOk result (λ asked. IfSome asked (IsAskedBy (codes "script") (rows_of (found_of given.now)))) }
+    ensures asked { IfOk result (λ asked. IfSome asked (IsAskedBy (codes "script") (rows_of (found_of given.now)))) }
+    ensures taken { AreScriptValues (found_of given.now) → IfOk result (λ asked. IsSome asked) }
 {
     let Some(options) = script_options(given) else {
         return Ok(None);
@@ -51,7 +54,8 @@ fn script(alloc: Global, given: &ArgMatches<'_>) -> Result<Option<Words>, AllocE
 }
 
 fn replay(alloc: Global, given: &ArgMatches<'_>) -> Result<Option<Words>, AllocError>
-    ensures { IfOk result (λ asked. IfSome asked (IsAskedBy (codes "replay") (rows_of (found_of given.now)))) }
+    ensures asked { IfOk result (λ asked. IfSome asked (IsAskedBy (codes "replay") (rows_of (found_of given.now)))) }
+    ensures taken { AreReplayValues (found_of given.now) → IfOk result (λ asked. IsSome asked) }
 {
     let Some(options) = replay_options(given) else {
         return Ok(None);

@@ -19,7 +19,9 @@ pub mod FirstTexts
 pub mod OneTexts
 pub mod FaultlessTexts
 pub mod EachReadings
+pub mod ReadAgain
 pub mod WholeTexts
 pub mod AttemptIndexes
 pub mod ChainedHistories
 pub mod OneFaults
+pub mod RightValues

@@ -3,12 +3,12 @@ use Rattle.std.proofs.Common.{◌≡◌, ◌≢◌, ℕ, List, [], ◌∷◌, �
 use Rattle.std.proofs.lemmas.List.{length-map, take_at}
 use Rattle.rb_delayed.specs.declared.element.Element.{Element}
 use Rattle.rb_queue.specs.declared.event.Event.{Event}
-use Rattle.rb_replay.specs.BodyReading.{IsRightHistory, TellsRun, RunFails}
+use Rattle.rb_replay.specs.BodyReading.{TellsRun, RunFails}
 use Rattle.rb_replay.specs.EventText.{act_words, event_words, keep_words, header_words, end_words}
 use Rattle.rb_replay.specs.HistoryText.{line_text, lines_text, opening_lines}
 use Rattle.rb_replay.specs.Readings.{MayBegin, IsTextIn, Reads}
 use Rattle.rb_replay.specs.Settling.{SettlesElements, SettlesEvents, HasFirsts, IsSettled}
-use Rattle.rb_replay.specs.Ranges.{IsWord}
+use Rattle.rb_replay.specs.Ranges.{IsWord, IsRightHistory}
 use Rattle.rb_replay.specs.declared.firsts.Firsts.{Firsts}
 use Rattle.rb_replay.specs.declared.history.History.{History}
 use Rattle.rb_replay.specs.declared.text_fault.TextFault.{TextFault}

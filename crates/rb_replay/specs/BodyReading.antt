@@ -8,7 +8,7 @@ use Rattle.rb_replay.specs.EventText.{event_words, keep_words, end_words}
 use Rattle.rb_replay.specs.HistoryText.{line_text, lines_text, opening_lines}
 use Rattle.rb_replay.specs.Feeds.{HasNoLineFeed}
 use Rattle.rb_replay.specs.OpeningReading.{MayOpen, numbers_words}
-use Rattle.rb_replay.specs.Ranges.{IsWord, IsRightElement, IsRightOpening, AreRightElements, AreRightEvents}
+use Rattle.rb_replay.specs.Ranges.{IsWord, IsRightElement, IsRightOpening, IsRightHistory, AreRightElements}
 use Rattle.rb_replay.specs.Readings.{MayBegin}
 use Rattle.rb_replay.specs.TextFaults.{HasOtherKeep, OpenFault, KeepFault, BodyFault}
 use Rattle.rb_replay.specs.declared.history.History.{History}
@@ -86,10 +86,6 @@ OpeningFails version text Memory = Unit {0}
 abbrev pub line_behind : Version → Opening → ℕ
 line_behind One opening = 2
 line_behind version opening = 3 + length opening.elements
-
--- all values are in their ranges
-abbrev pub IsRightHistory : History → Type 0
-IsRightHistory history = IsRightOpening history.opening × AreRightEvents history.events
 
 -- the lines tell this history, up to what follows of first expiries
 pub record TellsRun (version : Version) (text : List ℕ) (history : History) : Type 0 where

@@ -18,6 +18,7 @@ pub mod OpeningReading
 pub mod Offers
 pub mod Firsts
 pub mod Readings
+pub mod WrittenHistories
 pub mod BodyReading
 pub mod Settling
 pub mod GivenElements

@@ -6,6 +6,7 @@ use Rattle.rb_queue.specs.declared.act.Act.{Act}
 use Rattle.rb_queue.specs.declared.act.Act.TheVariants.{Offer, Poll, Take, PollFor, Peek, Remove, Drain, Clear, Size}
 use Rattle.rb_queue.specs.declared.event.Event.{Event}
 use Rattle.rb_queue.specs.declared.opening.Opening.{Opening}
+use Rattle.rb_replay.specs.declared.history.History.{History}
 
 abbrev pub IsWord : ℕ → Type 0
 IsWord number = number < 2 ^ 64
@@ -51,3 +52,7 @@ AreRightEvents events = All IsRightEvent events
 pub record IsRightOpening (opening : Opening) : Type 0 where
   pub last_at : IsWord opening.last_at
   pub elements : AreRightElements opening.elements
+
+-- all values of a history are in their ranges
+abbrev pub IsRightHistory : History → Type 0
+IsRightHistory history = IsRightOpening history.opening × AreRightEvents history.events

@@ -6,12 +6,11 @@ use Rattle.rb_delayed.specs.declared.element.Element.{Element}
 use Rattle.rb_queue.specs.Effect.{effect_of, inserted}
 use Rattle.rb_queue.specs.Opening.{ids_of}
 use Rattle.rb_queue.specs.declared.event.Event.{Event}
-use Rattle.rb_replay.specs.BodyReading.{IsRightHistory}
 use Rattle.rb_replay.specs.EventText.{keep_words, event_words}
 use Rattle.rb_replay.specs.Firsts.{earliest, HaveEarliest, FirstsFollow}
 use Rattle.rb_replay.specs.HistoryText.{opening_lines}
 use Rattle.rb_replay.specs.Offers.{offers_in}
-use Rattle.rb_replay.specs.Ranges.{IsWord, IsRightEvent, AreRightElements, AreRightEvents}
+use Rattle.rb_replay.specs.Ranges.{IsWord, IsRightEvent, IsRightHistory, AreRightElements, AreRightEvents}
 use Rattle.rb_replay.specs.declared.firsts.Firsts.{Firsts}
 use Rattle.rb_replay.specs.declared.history.History.{History}
 use Rattle.rb_replay.specs.declared.version.Version.{Version}

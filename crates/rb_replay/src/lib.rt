@@ -44,7 +44,7 @@ pub use chain_fault::ChainFault;
 pub use chain_reason::ChainReason;
 pub use history::History;
 pub use history_fault::HistoryFault;
-pub use laws::{no_fault_of_text, no_text_of_two, one_fault, one_text_each};
+pub use laws::{no_fault_of_text, no_text_of_two, one_fault, one_text_each, written_is_read};
 pub use opening_fault::OpeningFault;
 pub use read::read_history;
 pub use reason::Reason;

@@ -1,6 +1,6 @@
 ghost use Rattle.std.specs.Prelude.{◌≤◌, length, IfOk};
 ghost use Rattle.rb_replay.specs.Readings.{Reads, ReadsEach};
-ghost use Rattle.rb_replay.specs.BodyReading.{IsRightHistory};
+ghost use Rattle.rb_replay.specs.Ranges.{IsRightHistory};
 ghost use Rattle.rb_replay.specs.Settling.{IsSettled, HasFirsts};
 
 use crate::firsts::Firsts;
@@ -25,6 +25,7 @@ use std::alloc::{AllocError, Global};
 pub fn read_history(alloc: Global, text: &[u8]) -> Result<History, TextFault>
     ensures reads { Reads text.now result }
     ensures each { ReadsEach text.now result }
+    ensures right { IfOk result IsRightHistory }
     ensures few { IfOk result (λ history. length history.events ≤ MOST_EVENTS) }
 {
     read_right(alloc, text)

@@ -1,7 +1,9 @@
 ghost use Rattle.std.specs.Prelude.{◌≡◌, ◌∷◌, [], ◌++◌, codes, decimal, map, OnOk, if◌then◌else◌};
+ghost use Rattle.rb_queue.specs.declared.act.Act.TheVariants as acts;
 ghost use Rattle.rb_replay.specs.EventText.{whole_element_words, given_words, act_words, event_words};
 ghost use Rattle.rb_replay.specs.HistoryText.{line_text};
 ghost use Rattle.rb_protocol.specs.Line.{spaced};
+ghost use Rattle.rb_replay.specs.Ranges.{IsWord, AreWords, IsRightElement, IsRightGiven, IsRightAct, IsRightEvent};
 ghost use Rattle.rb_replay.specs.Tails.{tails};
 ghost use Rattle.rb_replay.specs.declared.version.Version.TheVariants.{Three};
 
@@ -13,7 +15,8 @@ use std::alloc::AllocError;
 
 /// Appends the line of an event.
 pub(crate) fn push_event(text: &mut Vec<u8>, event: &Event) -> Result<(), AllocError>
-    ensures { OnOk result (text.new.items ≡ text.old.items ++ line_text (event_words Three event.now)) }
+    ensures line { OnOk result (text.new.items ≡ text.old.items ++ line_text (event_words Three event.now)) }
+    ensures right { OnOk result (IsRightEvent event.now) }
 {
     push_number(text, b"", event.seat)?;
     push_number(text, b" ", event.asked)?;
@@ -24,7 +27,8 @@ pub(crate) fn push_event(text: &mut Vec<u8>, event: &Event) -> Result<(), AllocE
 
 // Appends what was done, with a space in front.
 fn push_act(text: &mut Vec<u8>, act: &Act) -> Result<(), AllocError>
-    ensures { OnOk result (text.new.items ≡ text.old.items ++ tails (act_words Three act.now)) }
+    ensures words { OnOk result (text.new.items ≡ text.old.items ++ tails (act_words Three act.now)) }
+    ensures right { OnOk result (IsRightAct act.now) }
 {
     match act {
         Act::Offer(element) => push_element(text, b" offer ", element),
@@ -49,8 +53,9 @@ pub(crate) fn push_element(
     front: &[u8],
     element: &Element,
 ) -> Result<(), AllocError>
-    ensures { OnOk result (text.new.items
+    ensures words { OnOk result (text.new.items
         ≡ text.old.items ++ (front.now ++ spaced (whole_element_words Three element.now))) }
+    ensures right { OnOk result (IsRightElement element.now) }
 {
     push_number(text, front, element.id)?;
     push_number(text, b" ", element.expiry)?;
@@ -63,8 +68,9 @@ pub(crate) fn push_element(
 
 // Appends a front, and the id or that there was none.
 fn push_given(text: &mut Vec<u8>, front: &[u8], given: Option<u64>) -> Result<(), AllocError>
-    ensures { OnOk result (text.new.items
+    ensures words { OnOk result (text.new.items
         ≡ text.old.items ++ (front.now ++ tails (given_words given))) }
+    ensures right { IsRightGiven given }
 {
     push_bytes(text, front)?;
     match given {
@@ -80,8 +86,9 @@ fn push_poll_for(
     timeout: u64,
     got: Option<u64>,
 ) -> Result<(), AllocError>
-    ensures { OnOk result (text.new.items ≡ text.old.items
+    ensures words { OnOk result (text.new.items ≡ text.old.items
         ++ tails (codes "pollfor" ∷ decimal start ∷ decimal timeout ∷ given_words got)) }
+    ensures right { OnOk result (IsRightAct (acts.PollFor start timeout got)) }
 {
     push_number(text, b" pollfor ", start)?;
     push_number(text, b" ", timeout)?;
@@ -100,8 +107,9 @@ fn push_remove(text: &mut Vec<u8>, id: u64, found: bool) -> Result<(), AllocErro
 
 // Appends a drain.
 fn push_drain(text: &mut Vec<u8>, max: u64, ids: &[u64]) -> Result<(), AllocError>
-    ensures { OnOk result (text.new.items ≡ text.old.items
+    ensures words { OnOk result (text.new.items ≡ text.old.items
         ++ tails (codes "drain" ∷ decimal max ∷ map decimal ids.now)) }
+    ensures right { OnOk result (AreWords ids.now) }
 {
     push_number(text, b" drain ", max)?;
     for id in ids {
@@ -112,7 +120,8 @@ fn push_drain(text: &mut Vec<u8>, max: u64, ids: &[u64]) -> Result<(), AllocErro
 
 /// Appends a front and the digits of a number.
 pub(crate) fn push_number(text: &mut Vec<u8>, front: &[u8], number: u64) -> Result<(), AllocError>
-    ensures { OnOk result (text.new.items ≡ text.old.items ++ (front.now ++ decimal number)) }
+    ensures digits { OnOk result (text.new.items ≡ text.old.items ++ (front.now ++ decimal number)) }
+    ensures right { IsWord number }
 {
     let mut buffer = Buffer::new();
     push_bytes(text, front)?;

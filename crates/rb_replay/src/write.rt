@@ -1,5 +1,6 @@
-ghost use Rattle.std.specs.Prelude.{◌≤◌, length};
+ghost use Rattle.std.specs.Prelude.{◌≤◌, length, OnOk};
 ghost use Rattle.rb_replay.specs.HistoryText.{history_text};
+ghost use Rattle.rb_replay.specs.Ranges.{IsRightOpening, AreRightEvents};
 ghost use Rattle.rb_replay.specs.Written.{Writes};
 
 use crate::history_fault::HistoryFault;
@@ -16,6 +17,8 @@ pub const MOST_EVENTS: usize = 1_000_000;
 ///
 /// Memory for the whole text is taken before the first byte is written: after `Memory` the writer is as
 /// before, and after `Write` it has got the first part of the text.
+///
+/// What it wrote is read again: its values are in the ranges that the laws of texts ask for.
 pub fn write_history<W: Write>(
     alloc: Global,
     opening: &Opening,
@@ -23,7 +26,9 @@ pub fn write_history<W: Write>(
     writer: &mut W,
 ) -> Result<(), HistoryFault>
     requires { length events.now ≤ MOST_EVENTS }
-    ensures { Writes result (W.contents writer.old) (history_text opening.now events.now) (W.contents writer.new) }
+    ensures writes { Writes result (W.contents writer.old) (history_text opening.now events.now) (W.contents writer.new) }
+    ensures opening { OnOk result (IsRightOpening opening.now) }
+    ensures events { OnOk result (AreRightEvents events.now) }
 {
     let Ok(text) = history_bytes(alloc, opening, events) else {
         return Err(HistoryFault::Memory);

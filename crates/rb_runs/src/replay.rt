@@ -1,7 +1,6 @@
-ghost use Rattle.std.specs.Prelude.{◌≡◌, ◌≤◌, List, length, IfOk, IfErr, string_bytes};
+ghost use Rattle.std.specs.Prelude.{◌≡◌, List, IfOk, IfErr, string_bytes};
 ghost use Rattle.rb_queue.specs.declared.event.Event.{Event};
 ghost use Rattle.rb_queue.specs.declared.opening.Opening.{Opening};
-ghost use Rattle.rb_replay.specs.declared.write.TheConstants.{MOST_EVENTS};
 ghost use Rattle.rb_replay.specs.Ranges.{IsRightOpening, AreRightEvents};
 ghost use Rattle.rb_replay.specs.Readings.{IsTextOf};
 ghost use Rattle.rb_runs.specs.Verdict.{IsVerdictOf, IsVerdictOn, Tells};
@@ -47,9 +46,8 @@ fn verdict_of(alloc: Global, options: &ReplayOptions, text: &[u8]) -> Result<Ver
     }
 }
 
-// The verdict on the history, which has at most 1,000,000 events.
+// The verdict on the history.
 fn judged(alloc: Global, options: &ReplayOptions, history: &History) -> Result<Verdict, BrokerFault>
-    requires { length history.now.events ≤ MOST_EVENTS }
     ensures verdict { IfOk result (IsVerdictOn options.now.chains history.now.opening history.now.events) }
     ensures fault { IfErr result (λ fault. fault ≡ BrokerFault.Memory) }
 {

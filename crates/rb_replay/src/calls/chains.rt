@@ -1,4 +1,4 @@
-ghost use Rattle.std.specs.Prelude.{◌≡◌, ◌+◌, ◌≤◌, ◌<◌, length, MatchResult};
+ghost use Rattle.std.specs.Prelude.{◌≤◌, ◌<◌, MatchResult};
 ghost use Rattle.rb_queue.specs.Bag.{Bag};
 ghost use Rattle.rb_queue.specs.History.{IsLegal};
 ghost use Rattle.rb_replay.specs.Tests.{NoTest};
@@ -11,14 +11,13 @@ use crate::attempt::Attempt;
 use crate::attempt_index::AttemptIndex;
 use crate::chain_fault::ChainFault;
 use crate::chain_reason::ChainReason;
-use crate::write::MOST_EVENTS;
 use rb_delayed::Element;
 use rb_queue::{Act, Event, Opening};
 use rb_retry::Policy;
 use std::alloc::Global;
 
-/// Whether each element that a legal history of at most 1,000,000 events offers is a job's first
-/// attempt, or what the policy offers after the attempt before.
+/// Whether each element that a legal history offers is a job's first attempt, or what the policy offers
+/// after the attempt before.
 ///
 /// `At` names the first event that offers another one, and the first of its reasons. Memory is taken
 /// for each element that came in, and each event takes time that grows with the logarithm of their
@@ -29,8 +28,7 @@ pub fn chains(
     events: &[Event],
     policy: &Policy,
 ) -> Result<(), ChainFault>
-    requires legal { IsLegal opening.now events.now }
-    requires few { length events.now ≤ MOST_EVENTS }
+    requires { IsLegal opening.now events.now }
     ensures { Chains policy.now opening.now events.now result }
 {
     let Ok(mut attempts) = AttemptIndex::new_from(alloc, opening) else {

@@ -1,11 +1,10 @@
-ghost use Rattle.std.specs.Prelude.{◌≡◌, ◌≤◌, length};
+ghost use Rattle.std.specs.Prelude.{◌≡◌};
 ghost use Rattle.rb_replay.specs.Opens.{Opens, opening_fault};
 
 use crate::history::History;
 use crate::opening_fault::OpeningFault;
 use crate::replay::replay;
 use crate::replay_fault::ReplayFault;
-use crate::write::MOST_EVENTS;
 use rb_queue::Opening;
 use std::alloc::Global;
 
@@ -15,7 +14,6 @@ use std::alloc::Global;
 /// `At` is answered as `check` does, and `TooLarge` exactly where a legal history leads past a limit of
 /// openings.
 pub fn opening_of(alloc: Global, history: &History) -> Result<Opening, OpeningFault>
-    requires { length history.now.events ≤ MOST_EVENTS }
     ensures { Opens history.now.opening history.now.events result }
 {
     let end = match replay(alloc, history.opening(), history.events()) {

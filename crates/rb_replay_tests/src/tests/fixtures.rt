@@ -171,9 +171,14 @@ pub fn opening(alloc: Global, start: Start<'_>) -> Result<Opening, Fail> {
 }
 
 pub fn history(alloc: Global, start: Start<'_>, rows: &[Row]) -> Result<History, Fail> {
-    let opening = opening(alloc, start)?;
-    let events = Sequence::new(events(alloc, rows)?);
-    Ok(History { opening, events })
+    history_of(opening(alloc, start)?, events(alloc, rows)?)
+}
+
+pub fn history_of(opening: Opening, events: Vec<Event>) -> Result<History, Fail> {
+    match History::new(opening, Sequence::new(events)) {
+        Some(history) => Ok(history),
+        None => Err(Fail::from("too many events")),
+    }
 }
 
 // Each call and each comparison is a function of its own with no clause, so that a test that makes it
@@ -198,7 +203,6 @@ pub fn linked(
 }
 
 pub fn opened(rt: &impl Abort, alloc: Global, history: &History) -> Result<Opening, OpeningFault> {
-    assert!(rt; history.events().len() <= 1_000_000);
     opening_of(alloc, history)
 }
 

@@ -7,11 +7,11 @@ use crate::tests::devices::{
     Device, NEVER, Restless, expect, expect_count, expect_unreadable, expect_written, write_to,
 };
 use crate::tests::fixtures::{
-    Deed, EMPTY, Start, checked, expect_audit, expect_linked, is_read_as, linked, opened, opening,
-    opening_at, payload, push_row,
+    Deed, EMPTY, Start, checked, expect_audit, expect_linked, history_of, is_read_as, linked,
+    opened, opening, opening_at, payload, push_row,
 };
 use rb_delayed::Element;
-use rb_queue::{Act, Audit, Event, Ids, Items, Opening, Sequence};
+use rb_queue::{Act, Audit, Event, Ids, Items, Opening};
 use rb_replay::{
     ChainFault, ChainReason, History, OpeningFault, Reason, ReplayFault, TextReason, read_history,
 };
@@ -181,11 +181,14 @@ fn rounds(rt: &impl Abort, alloc: Global, count: u64) -> Result<Vec<Event>, Allo
     Ok(events)
 }
 
+// The history of these events behind the opening of all rounds.
+fn run_of(alloc: Global, events: Vec<Event>) -> Result<History, Fail> {
+    history_of(opening(alloc, Some((&[], FIRST_ID)))?, events)
+}
+
 // The history of the first rounds.
 fn run(rt: &impl Abort, alloc: Global, count: u64) -> Result<History, Fail> {
-    let opening = opening(alloc, Some((&[], FIRST_ID)))?;
-    let events = Sequence::new(rounds(rt, alloc, count)?);
-    Ok(History { opening, events })
+    run_of(alloc, rounds(rt, alloc, count)?)
 }
 
 // Appends what is left of a round.
@@ -223,8 +226,7 @@ fn polls(opening: Opening, alloc: Global) -> Result<History, Fail> {
             (0, EXPIRED, EXPIRED, Deed::Poll(Some(element.id))),
         )?;
     }
-    let events = Sequence::new(events);
-    Ok(History { opening, events })
+    history_of(opening, events)
 }
 
 // That the history has a text of so many bytes, and is read from it.
@@ -312,15 +314,13 @@ fn a_long_opening_passes_each_call(rt: HostRuntime) -> Result<(), Fail> {
 // The event of this index is the last.
 const LAST: u64 = 99_999;
 
-// The history, whose last event counts nothing where 15,000 elements stand.
-fn forged(history: History) -> History {
-    let History { opening, events } = history;
-    let mut events = events.into_vec();
+// The history of all rounds, whose last event counts nothing where 15,000 elements stand.
+fn forged(rt: &impl Abort, alloc: Global) -> Result<History, Fail> {
+    let mut events = rounds(rt, alloc, ROUNDS)?;
     if let Some(event) = events.last_mut() {
         event.act = Act::Size(0);
     }
-    let events = Sequence::new(events);
-    History { opening, events }
+    run_of(alloc, events)
 }
 
 fn expect_late_faults(rt: &impl Abort, alloc: Global, history: &History) {
@@ -337,7 +337,7 @@ fn expect_late_faults(rt: &impl Abort, alloc: Global, history: &History) {
 #[test]
 fn a_late_fault_is_told(rt: HostRuntime) -> Result<(), Fail> {
     let alloc = rt.alloc();
-    let history = forged(run(&rt, alloc, ROUNDS)?);
+    let history = forged(&rt, alloc)?;
     expect_late_faults(&rt, alloc, &history);
     Ok(())
 }
@@ -408,9 +408,7 @@ fn told_history(rt: &impl Abort, alloc: Global, start: Start<'_>) -> Result<Hist
     for id in 0..TOLD {
         push_row(&mut events, alloc, (0, 0, 0, Deed::Offer(told(rt, id))))?;
     }
-    let opening = opening(alloc, start)?;
-    let events = Sequence::new(events);
-    Ok(History { opening, events })
+    history_of(opening(alloc, start)?, events)
 }
 
 #[test]
@@ -507,8 +505,7 @@ fn drains(alloc: Global) -> Result<History, Fail> {
     for _ in 0..50 {
         push_drain(&mut events, alloc)?;
     }
-    let (opening, events) = (Opening::empty(alloc), Sequence::new(events));
-    Ok(History { opening, events })
+    history_of(Opening::empty(alloc), events)
 }
 
 // A drain's line has 19 bytes and 21 for each id. The lines round them have 10, 11 and 7.

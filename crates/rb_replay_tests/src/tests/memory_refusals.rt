@@ -64,7 +64,6 @@ fn refused_check(rt: &impl Abort, alloc: Global, opening: &Opening, events: &[Ev
 fn refused_chains(rt: &impl Abort, alloc: Global, opening: &Opening, events: &[Event]) -> bool
     requires { IsLegal opening.now events.now }
 {
-    assert!(rt; events.len() <= 1_000_000);
     let policy = Policy::fixed(1000, 3).expect(rt, "a policy");
     let answer = chains(alloc, opening, events, &policy);
     if answer == Err(ChainFault::Memory) {
@@ -76,7 +75,6 @@ fn refused_chains(rt: &impl Abort, alloc: Global, opening: &Opening, events: &[E
 }
 
 fn refused_opening(rt: &impl Abort, alloc: Global, history: &History) -> bool {
-    assert!(rt; history.events().len() <= 1_000_000);
     let fault = opening_of(alloc, history).err();
     if fault.is_some() {
         expect(rt, fault == Some(OpeningFault::Memory));

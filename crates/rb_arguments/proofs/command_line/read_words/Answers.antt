@@ -21,5 +21,5 @@ returns-clause-given c =
       name = c.in-Some.name.now;
       rows = rows;
       met = ap (λ app. subcommand_of app (map (λ word. word.now) c.args.words.now)) (sym program_is) ∙ sym read ∙ entered;
-      gives = subst (λ asked. IfSome asked (IsAskedBy c.in-Some.name.now rows)) c.in-Some-2.is c.in_ok-asked.ensures;
+      gives = subst (λ asked. IfSome asked (IsAskedBy c.in-Some.name.now rows)) c.in-Some-2.is c.in_ok-asked.ensures.asked;
     }

@@ -5,8 +5,8 @@ use Rattle.clap.proofs.WalkLemmas.{first_value-rows}
 use Rattle.rb_arguments.proofs.CommandLines.{gives_chains}
 use Rattle.rb_arguments.proofs.given_words.replay.Goals as goal
 
-pub returns-in-Some-2 : goal.returns-in-Some-2
-returns-in-Some-2 c =
+pub returns-in-Some-2-clause-asked : goal.returns-in-Some-2-clause-asked
+returns-in-Some-2-clause-asked c =
     let found = found_of c.args.given.now in (
       refl,
       record {

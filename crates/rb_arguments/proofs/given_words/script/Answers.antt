@@ -5,8 +5,8 @@ use Rattle.clap.proofs.WalkLemmas.{first_value-rows, one_text-rows}
 use Rattle.rb_arguments.specs.CommandLine.{number_in, pace_in}
 use Rattle.rb_arguments.proofs.given_words.script.Goals as goal
 
-pub returns : goal.returns
-returns c =
+pub returns-clause-asked : goal.returns-clause-asked
+returns-clause-asked c =
     let found = found_of c.args.given.now in (
       refl,
       record {

@@ -19,4 +19,4 @@ returns-in-Some g c =
     let got' = g.H.Write.contents c.write_history.new.writer in
     recorded g.H.Write.contents c.args.kept.now wrote c.args.history.now c.in-Some.device c.write_history.new.writer c.in-Some.is
     (subst (λ events. Writes wrote got (history_text c.args.kept.now.opening events) got') c.history.ensures.events
-    (subst (λ opening. Writes wrote got (history_text opening c.history.result.now) got') c.opening.ensures c.write_history.ensures))
+    (subst (λ opening. Writes wrote got (history_text opening c.history.result.now) got') c.opening.ensures c.write_history.ensures.writes))

@@ -5,9 +5,9 @@ use Rattle.rb_replay.specs.declared.version.Version.TheVariants.{Three}
 use Rattle.rb_replay.proofs.Lines.{all_lines}
 use Rattle.rb_replay.proofs.history_text.history_bytes.Goals as goal
 
-pub returns : goal.returns
-returns c =
+pub returns-clause-text : goal.returns-clause-text
+returns-clause-text c =
     all_lines _ _ _ _ _ (header_words Three) (open_words c.args.opening.now) (end_words (length c.args.events.now))
     (map (keep_words Three) c.args.opening.now.elements) (map (event_words Three) c.args.events.now)
-    c.in_ok-text.ensures.items c.in_ok-push_open.ensures (rw c.as_slice.ensures at c.in_ok-push_keeps.ensures) c.in_ok-push_events.ensures
+    c.in_ok-text.ensures.items c.in_ok-push_open.ensures.line (rw c.as_slice.ensures at c.in_ok-push_keeps.ensures.lines) c.in_ok-push_events.ensures.lines
     c.in_ok-push_end.ensures

@@ -1,8 +1,8 @@
 -- One word more is one id more; the first word that is no number shows that they are no ids.
 use Rattle.std.proofs.Common.{◌≡◌, ℕ, List, [], ◌∷◌, ◌++◌, decimal, map, sym, ap, ◌∙◌, append_assoc}
 use Rattle.std.proofs.lemmas.List.{map-append}
-use Rattle.rb_replay.specs.Ranges.{IsWord, AreWords}
 use Rattle.rb_replay.proofs.Keywords.{ids_stop}
+use Rattle.rb_replay.proofs.RightValues.{words_push}
 use Rattle.rb_replay.proofs.read_act.read_ids.Goals as goal
 
 pub returns-in_default-read_number : goal.returns-in_default-read_number
@@ -10,11 +10,6 @@ returns-in_default-read_number c = λ ids all is.
     let found = ids_stop c.loop-word.ids.items _ _ ids
     (ap (λ t. map decimal c.loop-word.ids.items ++ t) (sym c.in-Some.ensures.some) ∙ sym c.loop-word.invariant.words ∙ is) all in
     c.in_default-read_number.ensures.none found.0 (found.2, found.1)
-
--- one number more
-words_push : (ids : List ℕ) (id : ℕ) → AreWords ids → IsWord id → AreWords (ids ++ id ∷ [])
-words_push [] id all small = (small, tt)
-words_push (first ∷ ids) id all small = (all.0, words_push ids id all.1 small)
 
 -- one word more
 word_more : (words rest behind : List (List ℕ)) (word : List ℕ) (ids : List ℕ) (id : ℕ) → words ≡ map decimal ids ++ rest → rest ≡ word ∷ behind → word ≡ decimal id

@@ -3,8 +3,8 @@ use Rattle.std.proofs.lemmas.Result.{on_ok_weaker}
 use Rattle.rb_replay.proofs.Lines.{event_line}
 use Rattle.rb_replay.proofs.text.push_event.Goals as goal
 
-pub returns : goal.returns
-returns c =
+pub returns-clause-line : goal.returns-clause-line
+returns-clause-line c =
     on_ok_weaker c.push_bytes.result
-    (event_line _ _ _ _ _ _ _ _ _ _ c.in_ok-push_number.ensures c.in_ok-push_number-2.ensures c.in_ok-push_number-3.ensures c.in_ok-push_act.ensures)
+    (event_line _ _ _ _ _ _ _ _ _ _ c.in_ok-push_number.ensures.digits c.in_ok-push_number-2.ensures.digits c.in_ok-push_number-3.ensures.digits c.in_ok-push_act.ensures.words)
     c.push_bytes.ensures

@@ -18,4 +18,4 @@ loop-index-preserved c =
 pub keep-requires : goal.keep-requires
 keep-requires c =
     offers_next_id c.args.policy.now c.args.opening.now c.args.events.now c.loop-index.index c.index-events-index.result c.loop-index.attempts
-    c.requires.legal c.loop-index-test.true c.index-events-index.is c.loop-index.invariant
+    c.requires c.loop-index-test.true c.index-events-index.is c.loop-index.invariant

@@ -8,7 +8,7 @@ use Rattle.rb_replay.proofs.calls.opening_of.opening_of.Goals as goal
 
 pub returns : goal.returns
 returns c =
-    let replayed = rw (c.opening.ensures, c.events.ensures) at c.in-Ok.ensures in
+    let replayed = rw (c.opening.ensures, c.events.ensures.events) at c.in-Ok.ensures in
     let order = subst (AreInOrder c.in-Ok-elements.elements) (sym c.next_id.ensures) c.in-Ok-elements.ensures.order in
     let none : ¬ IsOpening c.in-Ok-elements.elements c.next_id.result = λ h. let some = c.in-None.ensures.opening.1 h in absurd (cc) in (
       replayed.0,
