@@ -11,13 +11,13 @@ use rb_queue::{Act, Opening};
 use std::alloc::{AllocError, Global};
 use std::collections::{BTreeMap, BTreeSet};
 
-/// What the events so far tell of the jobs.
+/// What the events so far say about the jobs.
 ///
-/// Most elements are offered, and are a job's first attempt: each stands at the place of its id, and
+/// Most elements are offered, and are a job's first attempt: each is at the place of its id, and
 /// needs no entry in a map.
 #[derive(Drop)]
 pub(crate) struct AttemptIndex {
-    /// The elements that stood at the start, under their ids.
+    /// The elements that were there at the start, by their ids.
     opened: BTreeMap<u64, Element>,
     /// The id of the first element that was offered.
     first_id: u64,
@@ -25,7 +25,7 @@ pub(crate) struct AttemptIndex {
     offers: Vec<OfferedElement>,
     /// The attempts, other than first ones, of which an element came in.
     offered: BTreeSet<Attempt>,
-    /// The element that was given first of each attempt, where no offer says that it is the one.
+    /// The element of each attempt that was given first, unless an offer says that it is the one.
     given: BTreeMap<Attempt, Element>,
 }
 
@@ -70,7 +70,7 @@ impl AttemptIndex {
         }
     }
 
-    /// Keeps what an event did, which offers no other id than the next one. After an `Err` the index
+    /// Adds what an event did, which offers no other id than the next one. After an `Err` the index
     /// has a part of it.
     pub(crate) fn keep(&mut self, act: &Act) -> Result<(), AllocError>
         requires { IsNext act.now self.old }

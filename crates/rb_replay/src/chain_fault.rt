@@ -3,9 +3,9 @@ use crate::chain_reason::ChainReason;
 /// Why a history is not chained.
 #[derive(Clone, Copy, Debug, PartialEq, Eq)]
 pub enum ChainFault {
-    /// The event of this index, from 0, is the first that offers an element that is not linked to what
-    /// came before, for the first reason.
+    /// The event of this index, counted from 0, is the first that offers an element which is not
+    /// linked to what came before. The reason is the first test that fails.
     At { index: u64, reason: ChainReason },
-    /// There is no memory for the check.
+    /// There is not enough memory for the check.
     Memory,
 }

@@ -17,7 +17,7 @@ pub enum ChainReason {
     Base,
     /// The policy gives another expiry.
     Expiry,
-    /// The same attempt of the same job was offered before, or stood at the start.
+    /// The same attempt of the same job was offered before, or was there at the start.
     Twice,
 }
 

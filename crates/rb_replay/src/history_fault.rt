@@ -1,9 +1,8 @@
 /// Why a history was not written.
 #[derive(Clone, Copy, Debug, PartialEq, Eq)]
 pub enum HistoryFault {
-    /// There is no memory for the text. Nothing was written.
+    /// There is not enough memory for the text. Nothing was written.
     Memory,
-    /// A write or a flush failed, or a write took no byte. What was written is the first part of the
-    /// text.
+    /// A write or a flush failed, or a write took no byte. A first part of the text was written.
     Write,
 }

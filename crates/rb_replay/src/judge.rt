@@ -11,16 +11,16 @@ use crate::replayed_queue::ReplayedQueue;
 use rb_delayed::{Element, add_capped};
 use rb_queue::Act;
 
-/// Why the queue did not do an act again.
+/// Why the queue did not repeat an act.
 #[derive(Clone, Copy, Debug, PartialEq, Eq)]
 pub(crate) enum JudgeFault {
     /// The queue could not have done it, for the first reason.
     Refused(Reason),
-    /// There is no memory for it.
+    /// There is not enough memory for it.
     Memory,
 }
 
-/// Lets the queue do an act again, at this moment.
+/// Makes the queue repeat an act, at this moment.
 pub(crate) fn judge(queue: &mut ReplayedQueue, now: u64, act: &Act) -> Result<(), JudgeFault>
     requires { queue.old.next_id < u64.MAX }
     ensures { Judges queue.old now act.now result queue.new }

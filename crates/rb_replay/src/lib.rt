@@ -1,8 +1,9 @@
-//! The history of a run as text, the check that it is a legal one, and that its retries are right.
+//! The history of a run as text, and the checks that it is legal and that its retries are right.
 //!
-//! A text tells what a run began with and each of its events, in order. The check accepts exactly the
-//! events that one queue in one thread may have had; that of retries, the legal histories in which each
-//! offer begins a job or goes on with one as a policy says. Moments and delays are nanoseconds.
+//! A text has what a run began with and each of its events, in order. The check accepts exactly the
+//! events that one queue in one thread could have had; the check of retries, exactly the legal
+//! histories in which each offer begins a job or continues one as a policy says. Moments and delays
+//! are nanoseconds.
 #![tactic(auto)]
 
 mod attempt;

@@ -3,7 +3,7 @@ ghost use Rattle.rb_replay.specs.Feeds.{first_feed, HasNoLineFeed};
 
 use rb_protocol::LINE_FEED;
 
-/// The first line of a text, without its end, and what stands behind. `None` exactly where no line is
+/// The first line of a text, without its end, and what follows it. `None` exactly if no line is
 /// complete.
 pub(crate) fn cut_line(text: &[u8]) -> Option<(&[u8], &[u8])>
     ensures text { IfSome result (λ cut. text.now ≡ cut.0.now ++ (LINE_FEED ∷ cut.1.now)) }

@@ -13,15 +13,15 @@ use crate::write::MOST_EVENTS;
 use rb_queue::{Items, Opening, Sequence};
 use std::alloc::{AllocError, Global};
 
-/// Reads the text of a history, in any of its versions: at most 1,000,000 events. Memory is taken for
-/// the elements and the events of the lines that are there.
+/// Reads the text of a history in any of its versions, with at most 1,000,000 events. It takes
+/// memory for the elements and the events of the lines that are there.
 ///
-/// A text that is no history's is answered by its first fault, and the number of its line from 1:
-/// `Header` where the first line is none of the headers; `Opening` where a line of the opening is none,
-/// or passes a limit; `Line` where another line is neither an event's nor the last; `Many` where an
-/// event's line stands behind 1,000,000 others; `Count` where the last line tells another number than
-/// that of the events; `Trailing` where bytes stand behind it; `End` where the text stops before its
-/// end. `Memory` is answered where there is none for what the text tells.
+/// For any other text it returns the first fault, and the number of its line, counted from 1:
+/// `Header` if the first line is none of the headers; `Opening` if a line of the opening is not
+/// one, or exceeds a limit; `Line` if another line is neither an event nor the last line; `Many` if
+/// an event follows 1,000,000 others; `Count` if the number of the last line is not that of the
+/// events; `Trailing` if bytes follow it; `End` if the text stops before its end. `Memory` means
+/// that there is not enough memory for what the text has.
 pub fn read_history(alloc: Global, text: &[u8]) -> Result<History, TextFault>
     ensures reads { Reads text.now result }
     ensures each { ReadsEach text.now result }

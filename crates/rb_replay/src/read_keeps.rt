@@ -14,9 +14,9 @@ use std::alloc::Global;
 /// The number of the first line that keeps an element.
 pub(crate) const FIRST_KEEP_LINE: u64 = 3;
 
-/// The elements that an opening's lines keep, as many as were told, and what stands behind.
+/// The elements of an opening's lines, as many as were announced, and what follows them.
 ///
-/// Memory is taken for the lines that are there, and not by the number that was told.
+/// It takes memory for the lines that are there, not for the number that was announced.
 pub(crate) fn read_keeps(
     alloc: Global,
     version: Version,

@@ -22,7 +22,7 @@ pub(crate) struct OpenLine {
     pub(crate) count: u64,
 }
 
-/// The version that a text begins with, and what stands behind its first line.
+/// The version that a text begins with, and what follows its first line.
 pub(crate) fn read_header(text: &[u8]) -> Option<(Version, &[u8])>
     ensures some { IfSome result (λ cut. text.now ≡ line_text (header_words cut.0) ++ cut.1.now) }
     ensures none { IfNone result (HasNoHeader text.now) }

@@ -15,8 +15,8 @@ use std::alloc::Global;
 // The number of the line that tells an opening's numbers, or in the first version of the first event.
 const SECOND_LINE: u64 = 2;
 
-/// What the lines behind the header tell. An element's first expiry is its own where the version does
-/// not tell it.
+/// What the lines after the header say. If the version leaves out an element's first expiry, it is
+/// the element's own.
 pub(crate) fn read_run(alloc: Global, version: Version, text: &[u8]) -> Result<History, TextFault>
     ensures ok { IfOk result (TellsRun version text.now) }
     ensures err { IfErr result (RunFails version text.now) }

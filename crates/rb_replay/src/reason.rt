@@ -8,23 +8,23 @@ pub enum Reason {
     BadMoment,
     /// The offered element's id is not the next one.
     BadId,
-    /// No element of the id stands in the queue.
+    /// No element of this id is in the queue.
     NotInQueue,
     /// Another element has a smaller expiry.
     NotLeast,
-    /// The element is not expired.
+    /// The element has not expired.
     NotExpired,
     /// There was something to give or to show.
     NotNone,
     /// The poll gave up before its deadline.
     TooEarly,
-    /// An element of the id stands in the queue and was not found, or none does and it was.
+    /// An element of this id is in the queue and was not found, or none is and it was.
     WrongFound,
     /// More elements were drained than were asked for.
     TooMany,
     /// The drain left an expired element, and took fewer than were asked for.
     NotAll,
-    /// There are more elements, or fewer.
+    /// The number of elements is another one.
     WrongSize,
 }
 

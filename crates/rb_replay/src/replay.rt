@@ -9,16 +9,16 @@ use crate::write::MOST_EVENTS;
 use rb_queue::{Event, Opening};
 use std::alloc::Global;
 
-/// What a history leads to.
+/// The state that a history leads to.
 #[derive(Drop)]
 pub(crate) struct End {
-    /// What stands in the queue.
+    /// The elements in the queue.
     pub(crate) queue: ReplayedQueue,
     /// The moment of the last event.
     pub(crate) moment: u64,
 }
 
-/// Lets a queue do all events again.
+/// Makes a queue repeat all events.
 pub(crate) fn replay(alloc: Global, opening: &Opening, events: &[Event]) -> Result<End, ReplayFault>
     requires { length events.now ≤ MOST_EVENTS }
     ensures { Replays opening.now events.now result }

@@ -18,7 +18,7 @@ use std::alloc::{AllocError, Global};
 use std::collections::BTreeMap;
 use std::marker::Model;
 
-/// What stands in the queue that a history leads to.
+/// The queue that a history leads to.
 ///
 /// The queue finds the least expiry, and the map the element of an id: both have the same elements.
 #[derive(Drop)]
@@ -43,7 +43,7 @@ impl Model for ReplayedQueue {
 }
 
 impl ReplayedQueue {
-    /// What stands before the first event.
+    /// The queue before the first event.
     pub(crate) fn new_from(alloc: Global, opening: &Opening) -> Result<Self, AllocError>
         ensures { IfOk result (λ queue. queue ≡ opening_queue opening.now) }
     {
@@ -56,7 +56,7 @@ impl ReplayedQueue {
         })
     }
 
-    /// The id that the next offer gives out.
+    /// The id that the next offer gets.
     pub(crate) fn next_id(&self) -> u64
         ensures { result ≡ self.now.next_id }
     {
@@ -70,14 +70,14 @@ impl ReplayedQueue {
         self.queue.size()
     }
 
-    /// The least expiry, in nanoseconds, or `None` exactly where nothing stands.
+    /// The least expiry, in nanoseconds. `None` exactly if the queue is empty.
     pub(crate) fn next_expiry(&self) -> Option<u64>
         ensures { IsNextExpiry self.now.bag result }
     {
         self.queue.next_expiry()
     }
 
-    /// The element of the id, if it stands.
+    /// The element of this id, if it is in the queue.
     pub(crate) fn get(&self, id: u64) -> Option<Element>
         ensures element { result ≡ map.get self.now.bag id }
         ensures named { IfSome result (λ element. element.id ≡ id) }
@@ -85,7 +85,7 @@ impl ReplayedQueue {
         self.elements.get(&id).copied()
     }
 
-    /// Takes in an element under the next id. After an `Err` nothing stands any more.
+    /// Takes in an element under the next id. After an `Err` the queue is empty.
     pub(crate) fn insert(&mut self, element: &Element) -> Result<(), AllocError>
         requires next { element.now.id ≡ self.old.next_id }
         requires left { self.old.next_id < u64.MAX }
@@ -107,7 +107,7 @@ impl ReplayedQueue {
         Err(AllocError)
     }
 
-    /// Takes out the element of an id, if it stands.
+    /// Takes out the element of this id, if it is in the queue.
     pub(crate) fn remove(&mut self, id: u64)
         ensures bag { self.new.bag ≡ map.remove self.old.bag id }
         ensures next_id { self.new.next_id ≡ self.old.next_id }

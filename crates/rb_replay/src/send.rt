@@ -7,8 +7,8 @@ use std::io::{ErrorKind, Write};
 #[derive(Clone, Copy, Debug, PartialEq, Eq)]
 pub(crate) struct WriteFault;
 
-/// Writes a text, by one write where that takes all of it, and else again for what was not taken, and
-/// flushes. A write that was interrupted is made again.
+/// Writes a text, by one write if that takes all of it, and otherwise by further writes of the
+/// rest, and flushes. An interrupted write is made again.
 ///
 /// After an `Err` the writer has got the first bytes of the text, perhaps none or all.
 pub(crate) fn send<W: Write>(writer: &mut W, text: &[u8]) -> Result<(), WriteFault>

@@ -1,20 +1,20 @@
 ghost use Rattle.std.specs.Prelude.{◌≡◌};
 ghost use Rattle.rb_replay.specs.ReasonText.{text_reason_text};
 
-/// Why a text is no history's.
+/// Why a text is not a history.
 #[derive(Clone, Copy, Debug, PartialEq, Eq)]
 pub enum TextReason {
     /// The first line is none of the headers.
     Header,
-    /// A line of the opening is none, or passes a limit.
+    /// A line of the opening is not one, or exceeds a limit.
     Opening,
-    /// A line is neither an event's nor the last.
+    /// A line is neither an event nor the last line.
     Line,
-    /// An event's line stands behind 1,000,000 others.
+    /// An event follows 1,000,000 others.
     Many,
-    /// The last line tells another number than that of the events.
+    /// The number of the last line is not that of the events.
     Count,
-    /// Bytes stand behind the last line.
+    /// Bytes follow the last line.
     Trailing,
     /// The text stops before the end of its last line.
     End,
@@ -23,9 +23,9 @@ pub enum TextReason {
 /// Why a text was not read.
 #[derive(Clone, Copy, Debug, PartialEq, Eq)]
 pub enum TextFault {
-    /// The line of this number, from 1, has the first fault.
+    /// The line of this number, counted from 1, has the first fault.
     At { line: u64, reason: TextReason },
-    /// There is no memory for what the text tells.
+    /// There is not enough memory for what the text has.
     Memory,
 }
 

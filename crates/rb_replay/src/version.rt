@@ -1,8 +1,8 @@
-/// How a history is written. The third is the one that is written, and each is read.
+/// The versions of a history's text. The third is the one that is written; all are read.
 #[derive(Clone, Copy, Debug, PartialEq, Eq)]
 pub enum Version {
-    /// The events of a run that began with an empty queue. An element's line does not tell the expiry
-    /// of its origin's first offer.
+    /// The events of a run that began with an empty queue. The line of an element leaves out the
+    /// expiry of its origin's first offer.
     One,
     /// The same after any other opening, which comes first.
     Two,

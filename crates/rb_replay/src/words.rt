@@ -11,7 +11,7 @@ use crate::version::Version;
 use rb_delayed::{Element, GREATEST_ATTEMPT, Payload};
 use rb_protocol::{SPACE, read_number};
 
-/// Takes the first of the words that are left of a line. `None` stands for no word.
+/// Takes the first of the remaining words of a line. `None` means that none is left.
 pub(crate) fn next_word(words: Option<&[u8]>) -> Option<(&[u8], Option<&[u8]>)>
     ensures some { IfSome result (λ cut. words_behind words.entry ≡ cut.0.now ∷ words_behind cut.1) }
     ensures none { IfNone result (words_behind words.entry ≡ []) }
@@ -36,7 +36,7 @@ fn first_space(text: &[u8]) -> Option<usize>
     text.iter().position(|&byte| byte == SPACE)
 }
 
-/// Takes a number, where one is the first word that is left.
+/// Takes a number, if the first remaining word is one.
 pub(crate) fn take_number(words: Option<&[u8]>) -> Option<(u64, Option<&[u8]>)>
     ensures some { IfSome result (λ cut. words_behind words.entry ≡ decimal cut.0 ∷ words_behind cut.1) }
     ensures small { IfSome result (λ cut. IsWord cut.0) }

@@ -10,13 +10,13 @@ use rb_queue::{Event, Opening};
 use std::alloc::Global;
 use std::io::Write;
 
-/// How many events a text has at most.
+/// The greatest number of events in a text.
 pub const MOST_EVENTS: usize = 1_000_000;
 
 /// Writes what a run began with and its events, at most 1,000,000, and flushes.
 ///
-/// Memory for the whole text is taken before the first byte is written: after `Memory` the writer is as
-/// before, and after `Write` it has got the first part of the text.
+/// It takes memory for the whole text before it writes the first byte: after `Memory` the writer is
+/// unchanged, and after `Write` it has got a first part of the text.
 ///
 /// What it wrote is read again: its values are in the ranges that the laws of texts ask for.
 pub fn write_history<W: Write>(
