@@ -28,10 +28,8 @@ use Rattle.rb_protocol.specs.declared.line_reply.LineReply.{LineReply}
 use Rattle.rb_protocol.specs.declared.line_reply.LineReply.TheVariants as lines
 use Rattle.rb_protocol.specs.declared.error_word.ErrorWord.TheVariants as words
 use Rattle.rb_session.specs.Held.{place_of}
-use Rattle.rb_session.specs.Turn.{Point, IsTurn, IsServed, IsCall, IsFetch, IsOffer, IsFailure, IsDone, IsSetting, AnswersAlone, fault_line, lines_for, moment_line, word_for}
-use Rattle.rb_session.specs.Session.{Turn, Serves}
-use Rattle.rb_session.specs.Closing.{Closes}
-use Rattle.rb_session.specs.Events.{IsNextOf, Asks, TellsOf, TellsOfNone, AreOfLine, AreOfLines, AreOfClosing, moment_after, latest, MakesByLines, MakesByClosing}
+use Rattle.rb_session.specs.Turn.{Point, IsTurn, IsServed, IsCall, IsFetch, IsFailure, AnswersAlone, fault_line, lines_for, moment_line, word_for}
+use Rattle.rb_session.specs.Events.{IsNextOf, Asks, TellsOf, TellsOfNone, AreOfLine, AreOfClosing, moment_after, MakesByLines, MakesByClosing}
 use Rattle.rb_session.specs.declared.held_jobs.TheConstants.{MOST_HELD}
 
 -- one of two cases

@@ -10,7 +10,7 @@ use Rattle.rb_session.specs.Turn.{Point}
 use Rattle.rb_session.specs.Session.{answers_of}
 use Rattle.rb_session.specs.Ran.{BreaksOff, Ran}
 use Rattle.rb_session.specs.Outlet.{ServesSome, FailsToSend, RanThrough, HandedOn}
-use Rattle.rb_session.specs.Progress.{Stands, Stops, IsClearAt, IsClearAtRead, AnswersEnd, ServesLines, end_of}
+use Rattle.rb_session.specs.Progress.{Stands, Stops, IsClearAt, IsClearAtRead, IsUsedUpAt, AnswersEnd, ServesLines, end_of}
 use Rattle.rb_session.specs.declared.line_buffer.LineBuffer.{LineBuffer}
 use Rattle.rb_session.specs.declared.ended.Ended.{Ended}
 use Rattle.rb_session.specs.declared.ended.Ended.TheVariants as ends
@@ -44,9 +44,26 @@ clear_at_end clear stops.Read bytes sent ends = absurd ends
 clear_at_end clear stops.Write bytes sent ends = tt
 clear_at_end clear stops.ReadTurns bytes sent ends = tt
 
+-- the end of the input is not one read too many
+pub unused_at_end : (left : ℕ) (stop : Stop) (bytes sent : List ℕ) → AnswersEnd stop bytes sent → IsUsedUpAt left stop
+unused_at_end left stops.Quit bytes sent ends = tt
+unused_at_end left stops.EndOfInput bytes sent ends = tt
+unused_at_end left stops.Read bytes sent ends = tt
+unused_at_end left stops.Write bytes sent ends = tt
+unused_at_end left stops.ReadTurns bytes sent ends = absurd ends
+
 module _ {S : Type 0} (gives : S → ℕ → Type 0) (Sets : S → ℕ → Option ℕ → S → Type 0)
     (Steps : S → ℕ → Ask → Result Reply DeskFault → S → Type 0) (policy : Policy) where
   -- nor is a line
+  pub unused_at_line : (left : ℕ) (HoldsBack : Type 0) (from to : Point S) (bytes sent : List ℕ) (stop : Stop) (buffer : LineBuffer)
+      → ServesLines gives Sets Steps policy HoldsBack from bytes sent (Some stop) buffer to → IsUsedUpAt left stop
+  unused_at_line left HoldsBack from to bytes sent stops.Quit buffer served = tt
+  unused_at_line left HoldsBack from to bytes sent stops.EndOfInput buffer served = tt
+  unused_at_line left HoldsBack from to bytes sent stops.Read buffer served = tt
+  unused_at_line left HoldsBack from to bytes sent stops.Write buffer served = tt
+  unused_at_line left HoldsBack from to bytes sent stops.ReadTurns buffer served = absurd served
+
+  -- nor a failing read
   pub clear_at_line : (clear HoldsBack : Type 0) (from to : Point S) (bytes sent : List ℕ) (stop : Stop) (buffer : LineBuffer)
       → ServesLines gives Sets Steps policy HoldsBack from bytes sent (Some stop) buffer to → IsClearAtRead clear stop
   clear_at_line clear HoldsBack from to bytes sent stops.Quit buffer served = tt

@@ -100,6 +100,7 @@ module _ {S : Type 0} (gives : S → ℕ → Type 0) (Sets : S → ℕ → Optio
       raw = session.raw;
       unserved = session.unserved;
       split = later session.turns _ session.split;
+      few = session.few;
       quit = session.quit;
       serves = serves_on gives Sets Steps policy from here to stands.turns session.turns stands.serves session.serves;
       answers = text_later session.turns _ session.answers;

@@ -1,5 +1,5 @@
 -- Lines that are served one after the other, and the line at which that ends.
-use Rattle.std.proofs.Common.{◌≡◌, ◌≢◌, ℕ, List, [], ◌∷◌, ◌++◌, Option, Result, Ok, refl, sym, ap, subst, ◌∙◌, append_assoc}
+use Rattle.std.proofs.Common.{◌≡◌, ◌≢◌, ℕ, ◌<◌, length, List, [], ◌∷◌, ◌++◌, Option, Result, Ok, refl, sym, ap, subst, ◌∙◌, append_assoc}
 use Rattle.std.proofs.lemmas.List.{append-nil}
 use Rattle.std.proofs.KnownBytes.{Appends-trans}
 use Rattle.std.specs.Io.KnownBytes.{Appends}
@@ -19,6 +19,7 @@ use Rattle.rb_session.specs.Turn.{Point, IsTurn}
 use Rattle.rb_session.specs.Session.{Turn, IsLine, Serves, ServesToQuit, bytes_of, answers_of, texts_of}
 use Rattle.rb_session.specs.Progress.{Stands, FailsAtLine}
 use Rattle.rb_session.specs.declared.line_buffer.LineBuffer.{LineBuffer}
+use Rattle.rb_session.specs.declared.line_buffer.TheConstants.{BUFFER_BYTES}
 
 -- the bytes of lines, one behind the other
 pub bytes_of-append : (one two : List Turn) → bytes_of (one ++ two) ≡ bytes_of one ++ bytes_of two
@@ -73,6 +74,7 @@ module _ {S : Type 0} (gives : S → ℕ → Type 0) (Sets : S → ℕ → Optio
     pub line : IsLine raw reading
     pub is_turn : IsTurn gives Sets Steps policy here reading replies after
     pub unserved : IsUnserved buffer rest
+    pub few : length rest < BUFFER_BYTES
 
   module _ {from after : Point S} {bytes : List ℕ} {got got' : Option (List ℕ)} {reading : Result Request LineFault} {replies : List LineReply} {buffer : LineBuffer}
       (next : IsNextTurn from after bytes got got' reading replies buffer) (got'' : Option (List ℕ)) where
@@ -107,6 +109,7 @@ module _ {S : Type 0} (gives : S → ℕ → Type 0) (Sets : S → ℕ → Optio
             raw = next.raw;
             unserved = next.rest;
             split = stands.split ∙ ap (λ b. bytes_of stands.turns ++ b) next.split;
+            few = next.few;
             quit = subst (IsLine next.raw) quit next.line;
             serves = subst (λ p. Serves gives Sets Steps policy from stands.turns p) (sym bye.2.1) stands.serves;
             answers = ap (λ t. t ++ texts_of replies) stands.answers

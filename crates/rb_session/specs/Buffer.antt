@@ -7,7 +7,7 @@ use Rattle.rb_protocol.specs.Reading.{IsReading}
 use Rattle.rb_protocol.specs.declared.request.Request.{Request}
 use Rattle.rb_protocol.specs.declared.line_fault.LineFault.{LineFault}
 use Rattle.rb_session.specs.declared.line_buffer.LineBuffer.{LineBuffer}
-use Rattle.rb_session.specs.declared.line_buffer.TheConstants.{MOST_RAW_BYTES}
+use Rattle.rb_session.specs.declared.line_buffer.TheConstants.{BUFFER_BYTES, MOST_RAW_BYTES}
 
 -- the bytes that it holds
 abbrev pub held_by : LineBuffer → List ℕ
@@ -20,11 +20,12 @@ IsUnserved buffer bytes = MatchBool buffer.is_long
     ((dropped : List ℕ) × HasNoLineFeed dropped × (MOST_RAW_BYTES < length dropped) × (bytes ≡ dropped ++ held_by buffer))
     (bytes ≡ held_by buffer)
 
--- the first line of the bytes is taken and read, or there is none
+-- The first line of the bytes is taken and read, or there is none. What stands behind it came with its end, in one
+-- read.
 abbrev pub TakesLine : List ℕ → Option (Result Request LineFault) → LineBuffer → Type 0
 TakesLine bytes None new = HasNoLineFeed bytes × IsUnserved new bytes
 TakesLine bytes (Some reading) new = (raw rest : List ℕ)
-    × (bytes ≡ raw ++ 10 ∷ rest) × HasNoLineFeed raw × IsReading (line_of raw) reading × IsUnserved new rest
+    × (bytes ≡ raw ++ 10 ∷ rest) × HasNoLineFeed raw × IsReading (line_of raw) reading × IsUnserved new rest × (length rest < BUFFER_BYTES)
 
 -- so many bytes came and stand behind those that are not served, none only where the input is over
 abbrev pub TakesMore : List ℕ → Option (List ℕ) → Result ℕ Error → LineBuffer → Option (List ℕ) → Type 0

@@ -1,5 +1,5 @@
 -- Which events a session makes at its desk: at most one for each line, and each has the reply that the line got.
-use Rattle.std.specs.Prelude.{◌≡◌, ℕ, ◌+◌, ◌≤◌, ◌⊎◌, max, List, [], ◌∷◌, ◌++◌, map, Option, Some, Result, Ok, Err}
+use Rattle.std.specs.Prelude.{◌≡◌, ℕ, ◌+◌, ◌≤◌, ◌⊎◌, max, List, [], ◌∷◌, ◌++◌, map, Option, Some, Result, Ok}
 use Rattle.rb_delayed.specs.declared.element.Element.{Element}
 use Rattle.rb_queue.specs.declared.ask.Ask.{Ask}
 use Rattle.rb_queue.specs.declared.ask.Ask.TheVariants as asks

@@ -17,3 +17,4 @@ pub mod Buffer
 pub mod Progress
 pub mod Growth
 pub mod Gathered
+pub mod Delivered

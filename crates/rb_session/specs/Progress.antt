@@ -55,6 +55,11 @@ abbrev pub IsClearAtRead : Type 0 → Stop → Type 0
 IsClearAtRead clear Read = clear
 IsClearAtRead clear stop = Unit {0}
 
+-- there were too many reads only where none is left
+abbrev pub IsUsedUpAt : ℕ → Stop → Type 0
+IsUsedUpAt left ReadTurns = left ≡ 0
+IsUsedUpAt left stop = Unit {0}
+
 -- how a session ends that stopped so
 abbrev pub end_of : Stop → ℕ → Result Ended SessionFault
 end_of Quit lost = Ok (ends.Quit lost)

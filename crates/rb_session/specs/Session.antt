@@ -1,5 +1,5 @@
 -- What a session answers to the bytes that it reads.
-use Rattle.std.specs.Prelude.{◌≡◌, ◌≢◌, ℕ, List, [], ◌∷◌, ◌++◌, Option, Result, Ok}
+use Rattle.std.specs.Prelude.{◌≡◌, ◌≢◌, ℕ, ◌<◌, List, [], ◌∷◌, ◌++◌, length, Option, Result, Ok}
 use Rattle.rb_queue.specs.declared.ask.Ask.{Ask}
 use Rattle.rb_queue.specs.declared.reply.Reply.{Reply}
 use Rattle.rb_retry.specs.declared.desk_fault.DeskFault.{DeskFault}
@@ -14,6 +14,7 @@ use Rattle.rb_protocol.specs.declared.line_reply.LineReply.{LineReply}
 use Rattle.rb_protocol.specs.declared.line_reply.LineReply.TheVariants as lines
 use Rattle.rb_protocol.specs.declared.error_word.ErrorWord.TheVariants as words
 use Rattle.rb_session.specs.Lines.{HasNoLineFeed, line_of}
+use Rattle.rb_session.specs.declared.line_buffer.TheConstants.{BUFFER_BYTES}
 use Rattle.rb_session.specs.Turn.{Point, IsTurn}
 
 -- A line that was served: its bytes before the line feed, what they were read as, and its replies.
@@ -66,12 +67,14 @@ module _ {S : Type 0} (gives : S → ℕ → Type 0) (Sets : S → ℕ → Optio
     pub serves : Serves from turns to
     pub answers : sent ≡ answers_of turns ++ rest_text rest
 
-  -- What came is served to a line that ends the session. What came behind that one is not served.
+  -- What came is served to a line that ends the session. What came behind that one is not served, and is less
+  -- than one read gets: nothing is read once that line has come.
   pub record ServesToQuit (from : Point S) (came sent : List ℕ) (to : Point S) : Type 0 where
     pub turns : List Turn
     pub raw : List ℕ
     pub unserved : List ℕ
     pub split : came ≡ bytes_of turns ++ (raw ++ LINE_FEED ∷ unserved)
+    pub few : length unserved < BUFFER_BYTES
     pub quit : IsLine raw (Ok Quit)
     pub serves : Serves from turns to
     pub answers : sent ≡ answers_of turns ++ text_of lines.Bye

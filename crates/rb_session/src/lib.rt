@@ -6,6 +6,8 @@
 
 mod answer;
 mod calls;
+mod delivered;
+mod delivery;
 mod direct;
 mod ended;
 mod endings;
@@ -15,6 +17,7 @@ mod gathering;
 mod hands_on;
 mod held_jobs;
 mod laws;
+mod limited_reader;
 mod line_buffer;
 mod outlet;
 mod replies;
@@ -23,6 +26,8 @@ mod session;
 mod session_fault;
 mod stop;
 
+pub use delivered::run_delivered;
+pub use delivery::Delivery;
 pub use ended::Ended;
 pub use gathered::run_gathered;
 pub use hands_on::HandsOn;

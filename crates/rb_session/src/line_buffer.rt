@@ -1,8 +1,10 @@
 ghost use Rattle.std.specs.Prelude.{◌≡◌, ℕ, ◌+◌, ◌<◌, ◌≤◌, List, [], ◌∷◌, ◌++◌, ◌↔◌, length, take, slice_index, ◌-◌, IfOk, IfSome, IsTrue, MatchOption, vec_len};
 ghost use Rattle.rb_session.specs.Lines.{HasNoLineFeed, line_of};
 ghost use Rattle.rb_protocol.specs.Reading.{IsReading};
-ghost use Rattle.rb_session.specs.declared.line_buffer.TheConstants.{MOST_RAW_BYTES};
+ghost use Rattle.rb_session.specs.declared.line_buffer.TheConstants.{BUFFER_BYTES, MOST_RAW_BYTES};
 
+use crate::limited_reader::LimitedReader;
+use crate::outlet::Outlet;
 use memchr::memchr;
 use rb_protocol::{LINE_FEED, LineFault, MOST_LINE_BYTES, Request, read_request};
 use std::alloc::{AllocError, Global};
@@ -30,6 +32,7 @@ pub struct LineBuffer {
     ghost ordered: { start ≤ end },
     ghost within: { end ≤ vec_len bytes },
     ghost roomy: { MOST_RAW_BYTES < vec_len bytes },
+    ghost small: { vec_len bytes ≤ BUFFER_BYTES },
 }
 
 impl LineBuffer {
@@ -66,13 +69,21 @@ impl LineBuffer {
 
     /// Reads once, and appends what comes to the bytes that are held. Returns how many bytes came:
     /// 0 at the end of the input.
-    pub fn read_from<R: Read>(&mut self, reader: &mut R) -> io::Result<usize>
-        ensures { (bytes : List ℕ) → IsUnserved self.old bytes → HasNoLineFeed bytes
-            → TakesMore bytes (R.remaining reader.old) result self.new (R.remaining reader.new) }
+    pub fn read_from<R: Read, O: Outlet>(
+        &mut self,
+        reader: &mut LimitedReader<'_, R>,
+        outlet: &O,
+    ) -> io::Result<usize>
+        requires clear { O.IsClear outlet.now }
+        requires some_left { 0 < reader.old.left }
+        ensures taken { (bytes : List ℕ) → IsUnserved self.old bytes → HasNoLineFeed bytes
+            → TakesMore bytes (R.remaining reader.old.inner.now) result self.new (R.remaining reader.new.inner.now) }
+        ensures counted { reader.new.left + 1 ≡ reader.old.left }
+        ensures same_reference { reader.new.inner.ghost_name ≡ reader.old.inner.ghost_name }
     {
         self.make_room();
         let end = self.end;
-        match reader.read(&mut self.bytes[end..]) {
+        match reader.read(outlet, &mut self.bytes[end..]) {
             Ok(count) => {
                 self.end += count;
                 Ok(count)

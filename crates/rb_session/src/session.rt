@@ -1,19 +1,19 @@
 ghost use Rattle.std.specs.Prelude.{◌≡◌, ◌≤◌, ◌↔◌, ℕ, List, [], Ok, OnOk, OnErr, IsTrue, vec_capacity};
 ghost use Rattle.std.specs.Io.KnownBytes.{Appends, IsAtEnd, Keeps};
 ghost use Rattle.rb_protocol.specs.declared.request.Request.TheVariants.{Quit};
-ghost use Rattle.rb_session.specs.Buffer.{IsUnserved, TakesMore};
-ghost use Rattle.rb_session.specs.Lines.{HasNoLineFeed};
+ghost use Rattle.rb_session.specs.Buffer.{IsUnserved};
 ghost use Rattle.rb_session.specs.Turn.{point, AsksToWait};
 ghost use Rattle.rb_session.specs.Exchange.{Exchanges};
 ghost use Rattle.rb_session.specs.Ran.{Ran};
 ghost use Rattle.rb_session.specs.Outlet.{RanThrough, HandedOn};
-ghost use Rattle.rb_session.specs.Progress.{ServesLines, AnswersEnd, Stops, IsClearAt, IsClearAtRead, end_of};
+ghost use Rattle.rb_session.specs.Progress.{ServesLines, AnswersEnd, Stops, IsClearAt, IsClearAtRead, IsUsedUpAt, end_of};
 
 use crate::answer::answer;
 use crate::direct::Direct;
 use crate::ended::Ended;
 use crate::endings::fail_all;
 use crate::held_jobs::HeldJobs;
+use crate::limited_reader::LimitedReader;
 use crate::line_buffer::LineBuffer;
 use crate::outlet::Outlet;
 use crate::replies::send_replies;
@@ -23,10 +23,7 @@ use crate::stop::Stop;
 use rb_protocol::{ErrorWord, LineFault, LineReply, REPLY_ROOM, Request};
 use rb_retry::{Desk, Policy};
 use std::alloc::Global;
-use std::io::{self, ErrorKind, Read, Write};
-
-/// The greatest number of reads of a session.
-const MOST_READS: u64 = 10_000_000;
+use std::io::{ErrorKind, Read, Write};
 
 /// Serves the lines of a reader until one of them is `QUIT`, or there are no more.
 ///
@@ -77,8 +74,9 @@ pub fn run_session_through<R: Read, O: Outlet, D: Desk>(
     let Ok(mut held) = HeldJobs::new(alloc) else {
         return Err(SessionFault::Memory);
     };
+    let mut limited = LimitedReader::new(reader);
     let stop = serve(
-        reader,
+        &mut limited,
         outlet,
         &mut buffer,
         &mut text,
@@ -93,7 +91,7 @@ pub fn run_session_through<R: Read, O: Outlet, D: Desk>(
 // Serves what is read until something stops it, and then hands on what is held back. A read is made
 // with nothing held back, and a write that failed is not tried again.
 fn serve<R: Read, O: Outlet, D: Desk>(
-    reader: &mut R,
+    reader: &mut LimitedReader<'_, R>,
     outlet: &mut O,
     buffer: &mut LineBuffer,
     text: &mut Vec<u8>,
@@ -103,8 +101,10 @@ fn serve<R: Read, O: Outlet, D: Desk>(
 ) -> Stop
     requires room { REPLY_ROOM ≤ vec_capacity text.old }
     requires fresh { IsUnserved buffer.old [] }
-    ensures stops { Exchanges (R.remaining reader.old) (R.remaining reader.new) (O.contents outlet.old) (O.contents outlet.new) (λ came sent.
-        Stops D.gives D.Sets D.Steps policy.now O.HoldsBack (IsAtEnd (R.remaining reader.new)) (point (D.state desk.old) held.old) came sent result (point (D.state desk.new) held.new)) }
+    ensures stops { Exchanges (R.remaining reader.old.inner.now) (R.remaining reader.new.inner.now) (O.contents outlet.old) (O.contents outlet.new) (λ came sent.
+        Stops D.gives D.Sets D.Steps policy.now O.HoldsBack (IsAtEnd (R.remaining reader.new.inner.now)) (point (D.state desk.old) held.old) came sent result (point (D.state desk.new) held.new)) }
+    ensures used_up { IsUsedUpAt reader.new.left result }
+    ensures same_reference { reader.new.inner.ghost_name ≡ reader.old.inner.ghost_name }
     ensures clear { IsClearAt (O.IsClear outlet.new) result }
     ensures becomes { O.Becomes outlet.old outlet.new }
     ensures name { D.name (D.state desk.new) ≡ D.name (D.state desk.old) }
@@ -121,7 +121,7 @@ fn serve<R: Read, O: Outlet, D: Desk>(
 
 // Serves what is read until something stops it. Nothing is held back while a read is made.
 fn serve_reads<R: Read, O: Outlet, D: Desk>(
-    reader: &mut R,
+    reader: &mut LimitedReader<'_, R>,
     outlet: &mut O,
     buffer: &mut LineBuffer,
     text: &mut Vec<u8>,
@@ -131,17 +131,19 @@ fn serve_reads<R: Read, O: Outlet, D: Desk>(
 ) -> Stop
     requires room { REPLY_ROOM ≤ vec_capacity text.old }
     requires fresh { IsUnserved buffer.old [] }
-    ensures stops { Exchanges (R.remaining reader.old) (R.remaining reader.new) (O.contents outlet.old) (O.contents outlet.new) (λ came sent.
-        Stops D.gives D.Sets D.Steps policy.now O.HoldsBack (IsAtEnd (R.remaining reader.new)) (point (D.state desk.old) held.old) came sent result (point (D.state desk.new) held.new)) }
+    ensures stops { Exchanges (R.remaining reader.old.inner.now) (R.remaining reader.new.inner.now) (O.contents outlet.old) (O.contents outlet.new) (λ came sent.
+        Stops D.gives D.Sets D.Steps policy.now O.HoldsBack (IsAtEnd (R.remaining reader.new.inner.now)) (point (D.state desk.old) held.old) came sent result (point (D.state desk.new) held.new)) }
+    ensures used_up { IsUsedUpAt reader.new.left result }
+    ensures same_reference { reader.new.inner.ghost_name ≡ reader.old.inner.ghost_name }
     ensures clear { IsClearAtRead (O.IsClear outlet.new) result }
     ensures becomes { O.Becomes outlet.old outlet.new }
     ensures name { D.name (D.state desk.new) ≡ D.name (D.state desk.old) }
 {
-    for _ in 0..MOST_READS {
+    while reader.may_read() {
         if outlet.hand_on().is_err() {
             return Stop::Write;
         }
-        match read_more(reader, outlet, buffer) {
+        match buffer.read_from(reader, outlet) {
             Ok(0) => return finish(buffer, outlet, text, held),
             Ok(_) => {}
             Err(error) if error.kind() == ErrorKind::Interrupted => continue,
@@ -152,19 +154,6 @@ fn serve_reads<R: Read, O: Outlet, D: Desk>(
         }
     }
     Stop::ReadTurns
-}
-
-// Reads once. Nothing may be held back then, so that no client waits for a reply that it has not got.
-fn read_more<R: Read, O: Outlet>(
-    reader: &mut R,
-    _outlet: &O,
-    buffer: &mut LineBuffer,
-) -> io::Result<usize>
-    requires { O.IsClear _outlet.now }
-    ensures { (bytes : List ℕ) → IsUnserved buffer.old bytes → HasNoLineFeed bytes
-        → TakesMore bytes (R.remaining reader.old) result buffer.new (R.remaining reader.new) }
-{
-    buffer.read_from(reader)
 }
 
 // Serves each whole line of the buffer, until one stops the session.

@@ -5,6 +5,7 @@ use crate::tests::devices::{
 use rb_binary::BinaryTimer;
 use rb_kept::{Kept, NewFault};
 use rb_ledger::Tally;
+use rb_queue::{Act, Event};
 use rb_session::{Ended, SessionFault};
 use std::alloc::{AllocError, Global};
 use std::process::Abort;
@@ -18,6 +19,9 @@ const REFUSED: &[u8] = b"ERR 7 memory\n";
 
 // How many jobs are held before the first of them fails.
 const JOBS: u64 = 64;
+
+// How many elements stand at most when the one job fails.
+const MOST_STANDING: u64 = 64;
 
 // Memory of the test's own. It is asked for again where it was refused.
 fn roomy(alloc: Global) -> Result<Vec<u8>, AllocError> {
@@ -145,6 +149,20 @@ struct Session {
     text: Vec<u8>,
     calls: (usize, usize),
     offered: u64,
+    /// The id, the origin and the attempt of the element that the last event offered.
+    last: Option<(u64, u64, u32)>,
+}
+
+fn last_offer(kept: &Kept<BinaryTimer>) -> Option<(u64, u64, u32)> {
+    match kept.history().last() {
+        Some(
+            Event {
+                act: Act::Offer(element),
+                ..
+            },
+        ) => Some((element.id, element.origin, element.attempt)),
+        _ => None,
+    }
 }
 
 fn session_at_last(rt: &impl Abort, alloc: Global, script: &[u8]) -> Result<Session, Fail> {
@@ -157,6 +175,7 @@ fn session_at_last(rt: &impl Abort, alloc: Global, script: &[u8]) -> Result<Sess
         calls: (reader.calls, writer.calls),
         text: writer.bytes,
         offered: kept.audit().offered,
+        last: last_offer(&kept),
     })
 }
 
@@ -230,15 +249,76 @@ fn endings_refused(
     u32::from(lost == 1)
 }
 
+// A job is fetched, so many others are offered, and the job fails. Its replies are those before the failure.
+fn failure_among(alloc: Global, standing: u64) -> Result<Dialogue, AllocError> {
+    let (mut script, mut replies) = (roomy(alloc)?, roomy(alloc)?);
+    script.extend_from_slice(b"AT 100\nOFFER 0 j\nPOLL\n")?;
+    replies.extend_from_slice(b"NOW 100\nOFFERED 0 100\nITEM 0 100 1 j\n")?;
+    for id in 1..=standing {
+        script.extend_from_slice(b"OFFER 9 b\n")?;
+        push_line(&mut replies, b"OFFERED ", id, b" 109\n")?;
+    }
+    script.extend_from_slice(b"FAIL 0\n")?;
+    Ok(Dialogue { script, replies })
+}
+
+// A failure that was refused takes no id: the job is held on, and the end of the session offers it under the
+// next one.
+fn failure_refused(
+    rt: &impl Abort,
+    session: &Session,
+    wanted: &[u8],
+    standing: u64,
+    line: &mut Vec<u8>,
+) -> Result<u32, AllocError> {
+    expect_end(rt, session.ended, Ok(Ended::EndOfInput { lost: 0 }), 0);
+    let Some(reply) = session.text.strip_prefix(wanted) else {
+        // An offer was refused.
+        return Ok(refused_lines(&session.text));
+    };
+    let next_id = standing.saturating_add(1);
+    expect(rt, session.last == Some((next_id, 0, 2)));
+    if reply == REFUSED {
+        return Ok(1);
+    }
+    push_line(line, b"AGAIN ", next_id, b" 1100\n")?;
+    expect_bytes(rt, reply, line, 0);
+    Ok(0)
+}
+
+fn refused_failure_among(rt: &impl Abort, alloc: Global, standing: u64) -> Result<u32, Fail> {
+    let dialogue = failure_among(alloc, standing)?;
+    let session = session_at_last(rt, alloc, &dialogue.script)?;
+    if is_memory(&session.ended) {
+        return Ok(no_calls(rt, session.calls));
+    }
+    let mut line = roomy(alloc)?;
+    let replies = &dialogue.replies;
+    Ok(failure_refused(rt, &session, replies, standing, &mut line)?)
+}
+
+fn expect_refusals(rt: &impl Abort, refusals: u32) {
+    assert_eq!(rt; refusals, REFUSALS);
+}
+
+// One job fails while no element stands, one, and so on up to 64.
+fn refused_failures_among(rt: &impl Abort, alloc: Global) -> Result<u32, Fail> {
+    let mut refused = 0_u32;
+    for standing in 0..=MOST_STANDING {
+        let met = refused_failure_among(rt, alloc, standing)?;
+        refused = refused.saturating_add(met);
+    }
+    Ok(refused)
+}
+
 #[test]
 fn a_refused_allocation_refuses_one_request(rt: HostRuntime) -> Result<(), Fail> {
     let alloc = rt.alloc();
     let offers = refused_offer(&rt, alloc)?;
     let failures = refused_failures(&rt, alloc)?;
     let endings = refused_endings(&rt, alloc)?;
-    assert_eq!(rt;
-        offers.saturating_add(failures).saturating_add(endings),
-        REFUSALS
-    );
+    let among = refused_failures_among(&rt, alloc)?;
+    let refusals = offers.saturating_add(failures).saturating_add(endings);
+    expect_refusals(&rt, refusals.saturating_add(among));
     Ok(())
 }

@@ -1,11 +1,12 @@
 -- Wherever the lines stopped, what was held then failed: the two together are the session.
-use Rattle.std.proofs.Common.{ℕ, List, [], Option, Result, sym, subst}
+use Rattle.std.proofs.Common.{rules, ℕ, List, [], Option, Result, sym, ap, subst, ◌∙◌}
 use Rattle.rb_delayed.specs.declared.element.Element.{Element}
 use Rattle.rb_queue.specs.declared.ask.Ask.{Ask}
 use Rattle.rb_queue.specs.declared.reply.Reply.{Reply}
 use Rattle.rb_retry.specs.declared.desk_fault.DeskFault.{DeskFault}
 use Rattle.rb_retry.specs.declared.policy.Policy.{Policy}
-use Rattle.std.specs.Io.KnownBytes.{IsAtEnd}
+use Rattle.std.specs.Io.KnownBytes.{Consumes, IsAtEnd}
+use Rattle.rb_session.specs.Exchange.{Exchanges}
 use Rattle.rb_session.specs.Turn.{point}
 use Rattle.rb_session.specs.Closing.{Closes}
 use Rattle.rb_session.specs.Outlet.{RanThrough, HandedOn}
@@ -35,17 +36,21 @@ returns-clause-ran g c =
     let from = g.D.Desk.state c.args.desk.now in
     let served = c.serve-stop in
     let last = g.D.Desk.state served.new.desk in
-    let Over = IsAtEnd (g.R.Read.remaining served.new.reader) in
+    let left = g.R.Read.remaining served.new.reader.inner.now in
     let did = served.ensures.stops in
-    let stopped = subst (λ (held : List Element). Stops gives Sets Steps c.args.policy.now g.O.Outlet.HoldsBack Over (point from held) did.came did.sent served.result (point last served.new.held))
-    c.in-Ok-new.ensures did.holds in record {
+    let stopped = subst (λ (held : List Element). Stops gives Sets Steps c.args.policy.now g.O.Outlet.HoldsBack (IsAtEnd left) (point from held) did.came did.sent served.result (point last served.new.held))
+    c.in-Ok-new.ensures did.holds in
+    let whole : Exchanges (g.R.Read.remaining c.args.reader.now) left (g.O.Outlet.contents c.args.outlet.now) (g.O.Outlet.contents served.new.outlet) (λ came sent.
+    RanThrough gives Sets Steps c.args.policy.now g.O.Outlet.HoldsBack (IsAtEnd left) from came sent c.end_of.result (g.D.Desk.state c.fail_all-lost.new.desk)) = record {
       came = did.came;
       sent = did.sent;
-      consumed = did.consumed;
+      consumed = subst (λ (old : Option (List ℕ)). Consumes old left did.came) (ap g.R.Read.remaining c.new-limited.ensures.same) did.consumed;
       appended = did.appended;
-      holds = subst (λ (r : Result Ended SessionFault). RanThrough gives Sets Steps c.args.policy.now g.O.Outlet.HoldsBack Over from did.came did.sent r (g.D.Desk.state c.fail_all-lost.new.desk)) (sym c.end_of.ensures)
-          (ran gives Sets Steps c.args.policy.now g.O.Outlet.HoldsBack Over from last (g.D.Desk.state c.fail_all-lost.new.desk) served.new.held did.came did.sent served.result c.fail_all-lost.result stopped c.fail_all-lost.ensures.closes);
-    }
+      holds = subst (λ (r : Result Ended SessionFault). RanThrough gives Sets Steps c.args.policy.now g.O.Outlet.HoldsBack (IsAtEnd left) from did.came did.sent r (g.D.Desk.state c.fail_all-lost.new.desk)) (sym c.end_of.ensures)
+          (ran gives Sets Steps c.args.policy.now g.O.Outlet.HoldsBack (IsAtEnd left) from last (g.D.Desk.state c.fail_all-lost.new.desk) served.new.held did.came did.sent served.result c.fail_all-lost.result stopped c.fail_all-lost.ensures.closes);
+    } in
+    let name = sym (served.ensures.same_reference ∙ c.new-limited.ensures.same_reference) in
+    search rules
 
 pub returns-clause-handed_on : goal.returns-clause-handed_on
 returns-clause-handed_on g c =

@@ -13,6 +13,6 @@ returns-in-Err-clause-stops g c =
       sent = ran.sent;
       consumed = ran.consumed;
       appended = Appends-kept _ _ _ _ ran.appended c.hand_on.ensures.kept;
-      holds = stops_late g.D.Desk.gives g.D.Desk.Sets g.D.Desk.Steps c.args.policy.now g.O.Outlet.HoldsBack (IsAtEnd (g.R.Read.remaining served.new.reader)) c.in-Err.ensures.late
+      holds = stops_late g.D.Desk.gives g.D.Desk.Sets g.D.Desk.Steps c.args.policy.now g.O.Outlet.HoldsBack (IsAtEnd (g.R.Read.remaining served.new.reader.inner.now)) c.in-Err.ensures.late
           served.result _ (point (g.D.Desk.state served.new.desk) served.new.held) ran.came ran.sent ran.holds;
     }

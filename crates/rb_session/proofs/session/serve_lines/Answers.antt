@@ -30,6 +30,7 @@ next_turn g c bytes unserved =
       line = (line.3, line.4);
       is_turn = c.answer-reply.ensures.turn;
       unserved = line.5;
+      few = line.6;
     }
 
 pub loop-reading-init : goal.loop-reading-init

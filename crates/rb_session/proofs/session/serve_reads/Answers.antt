@@ -11,36 +11,36 @@ use Rattle.rb_session.specs.Progress.{ServesLines, AnswersEnd}
 use Rattle.rb_session.proofs.LongerExchanges.{exchanges_same, exchanges_more}
 use Rattle.rb_session.proofs.Turns.{stands_first}
 use Rattle.rb_session.proofs.StreamRuns.{breaks_off, ran_end, stands_on, stopped}
-use Rattle.rb_session.proofs.Outlets.{failed, went, stands_late, clear_at_end, clear_at_line}
+use Rattle.rb_session.proofs.Outlets.{failed, went, stands_late, clear_at_end, clear_at_line, unused_at_end, unused_at_line}
 use Rattle.rb_session.proofs.session.serve_reads.Given.{Over}
 use Rattle.rb_session.proofs.session.serve_reads.Goals as goal
-use Rattle.rb_session.proofs.session.serve_reads.Goals.{After-read_more, In-Some}
+use Rattle.rb_session.proofs.session.serve_reads.Goals.{After-read_from, In-Some}
 
 no_bytes : (more : List ℕ) → length more ≡ 0 → more ≡ []
 no_bytes [] none = refl
 no_bytes (byte ∷ more) none = absurd (omega arith)
 
 -- what the read did, by its result
-read_took : (g : Over) (c : After-read_more g) (result : Result ℕ Error) → c.read_more.result ≡ result
-    → TakesMore c.loop.invariant.stands.holds.0.rest (g.R.Read.remaining c.loop.reader) result c.read_more.new.buffer (g.R.Read.remaining c.read_more.new.reader)
+read_took : (g : Over) (c : After-read_from g) (result : Result ℕ Error) → c.read_from.result ≡ result
+    → TakesMore c.loop-outlet.invariant.stands.holds.0.rest (g.R.Read.remaining c.loop-outlet.reader.inner.now) result c.read_from.new.self (g.R.Read.remaining c.read_from.new.reader.inner.now)
 read_took g c result is =
-    let at = c.loop.invariant.stands.holds in
-    subst (λ (r : Result ℕ Error). TakesMore at.0.rest (g.R.Read.remaining c.loop.reader) r c.read_more.new.buffer (g.R.Read.remaining c.read_more.new.reader)) is
-    (c.read_more.ensures at.0.rest at.2 at.1)
+    let at = c.loop-outlet.invariant.stands.holds in
+    subst (λ (r : Result ℕ Error). TakesMore at.0.rest (g.R.Read.remaining c.loop-outlet.reader.inner.now) r c.read_from.new.self (g.R.Read.remaining c.read_from.new.reader.inner.now)) is
+    (c.read_from.ensures.taken at.0.rest at.2 at.1)
 
 -- a read brought more, and one of the lines stopped the session
-line_stopped : (g : Over) (c : In-Some g) → (more : List ℕ) × Consumes (g.R.Read.remaining c.loop.reader) (g.R.Read.remaining c.read_more.new.reader) more
+line_stopped : (g : Over) (c : In-Some g) → (more : List ℕ) × Consumes (g.R.Read.remaining c.loop-outlet.reader.inner.now) (g.R.Read.remaining c.read_from.new.reader.inner.now) more
     × (sent : List ℕ) × Appends (g.O.Outlet.contents c.hand_on.new.self) (g.O.Outlet.contents c.serve_lines.new.outlet) sent
-    × ServesLines g.D.Desk.gives g.D.Desk.Sets g.D.Desk.Steps c.args.policy.now g.O.Outlet.HoldsBack (point (g.D.Desk.state c.loop.desk) c.loop.held)
-    (c.loop.invariant.stands.holds.0.rest ++ more) sent (Some c.in-Some.stop) c.serve_lines.new.buffer (point (g.D.Desk.state c.serve_lines.new.desk) c.serve_lines.new.held)
+    × ServesLines g.D.Desk.gives g.D.Desk.Sets g.D.Desk.Steps c.args.policy.now g.O.Outlet.HoldsBack (point (g.D.Desk.state c.loop-outlet.desk) c.loop-outlet.held)
+    (c.loop-outlet.invariant.stands.holds.0.rest ++ more) sent (Some c.in-Some.stop) c.serve_lines.new.buffer (point (g.D.Desk.state c.serve_lines.new.desk) c.serve_lines.new.held)
 line_stopped g c =
-    let more = read_took g (goal.at.In-Some g c).After-read_more _ c.in-Ok.is in
+    let more = read_took g (goal.at.In-Some g c).After-read_from _ c.in-Ok.is in
     let on = c.serve_lines.ensures.served _ more.2 in
     (more.0, more.1, on.0, on.1, rw c.in-Some.is at on.2)
 
-pub loop-init : goal.loop-init
+pub loop-outlet-init : goal.loop-outlet-init
 unfolding stands_first
-loop-init g c = record {
+loop-outlet-init g c = record {
   stands = record {
     came = [];
     sent = [];
@@ -49,6 +49,7 @@ loop-init g c = record {
     holds = (stands_first g.D.Desk.gives g.D.Desk.Sets g.D.Desk.Steps c.args.policy.now (point (g.D.Desk.state c.args.desk.now) c.args.held.now) [], tt, c.requires.fresh);
   };
   room = c.requires.room;
+  same_reference = refl;
   becomes = g.met.O.Outlet.stays c.args.outlet.now;
   name = refl;
 }
@@ -56,32 +57,39 @@ loop-init g c = record {
 -- the input is over
 pub returns-in-Ok-eq0-clause-stops : goal.returns-in-Ok-eq0-clause-stops
 returns-in-Ok-eq0-clause-stops g c =
-    let s = c.loop.invariant.stands in
+    let s = c.loop-outlet.invariant.stands in
     let at = s.holds in
-    let more = read_took g (goal.at.returns-in-Ok-eq0-clause-stops g c).After-read_more _ c.in-Ok-eq0.is in
+    let more = read_took g (goal.at.returns-in-Ok-eq0-clause-stops g c).After-read_from _ c.in-Ok-eq0.is in
     let ends = c.finish.ensures.ends (at.0.rest ++ more.0) more.2 in
     let zero : c.in-Ok-eq0.field-0 ≡ 0 = grind (arith, nat_tests, c.in-Ok-eq0.field-0-test) in
     let none = no_bytes more.0 (more.3 ∙ zero) in
     let rest = ap (λ m. at.0.rest ++ m) none ∙ append-nil at.0.rest in
     let came = ap (λ m. s.came ++ m) none ∙ append-nil s.came in
     exchanges_more s _ c.hand_on.ensures.kept more.0 ends.0 _ more.1 ends.1
-    (rw came (ran_end _ _ _ _ _ (point (g.D.Desk.state c.loop.desk) c.loop.held) s.came s.sent at.0 g.O.Outlet.HoldsBack (IsAtEnd (g.R.Read.remaining c.read_more.new.reader))
+    (rw came (ran_end _ _ _ _ _ (point (g.D.Desk.state c.loop-outlet.desk) c.loop-outlet.held) s.came s.sent at.0 g.O.Outlet.HoldsBack (IsAtEnd (g.R.Read.remaining c.read_from.new.reader.inner.now))
     (more.4 zero) at.1 c.finish.result ends.0 (subst (λ bytes. AnswersEnd c.finish.result bytes ends.0) rest ends.2)))
 
 -- the replies so far could not be handed on
 pub returns-then-is_err-clause-stops : goal.returns-then-is_err-clause-stops
 returns-then-is_err-clause-stops g c =
-    let s = c.loop.invariant.stands in
+    let s = c.loop-outlet.invariant.stands in
     let late = failed c.hand_on.result g.O.Outlet.HoldsBack (sym c.is_err.ensures.value ∙ c.if-is_err.true) c.hand_on.ensures.late in
     exchanges_same s _ c.hand_on.ensures.kept (Keeps-refl _)
-    (inr (late, stands_late _ _ _ _ (IsAtEnd (g.R.Read.remaining c.loop.reader)) _ (point (g.D.Desk.state c.loop.desk) c.loop.held) s.came s.sent s.holds.0))
+    (inr (late, stands_late _ _ _ _ (IsAtEnd (g.R.Read.remaining c.loop-outlet.reader.inner.now)) _ (point (g.D.Desk.state c.loop-outlet.desk) c.loop-outlet.held) s.came s.sent s.holds.0))
 
 -- the end of the input is no failing read
 pub returns-in-Ok-eq0-clause-clear : goal.returns-in-Ok-eq0-clause-clear
 returns-in-Ok-eq0-clause-clear g c =
-    let more = read_took g (goal.at.returns-in-Ok-eq0-clause-clear g c).After-read_more _ c.in-Ok-eq0.is in
-    let ends = c.finish.ensures.ends (c.loop.invariant.stands.holds.0.rest ++ more.0) more.2 in
+    let more = read_took g (goal.at.returns-in-Ok-eq0-clause-clear g c).After-read_from _ c.in-Ok-eq0.is in
+    let ends = c.finish.ensures.ends (c.loop-outlet.invariant.stands.holds.0.rest ++ more.0) more.2 in
     clear_at_end _ c.finish.result _ ends.0 ends.2
+
+-- and uses up no reads
+pub returns-in-Ok-eq0-clause-used_up : goal.returns-in-Ok-eq0-clause-used_up
+returns-in-Ok-eq0-clause-used_up g c =
+    let more = read_took g (goal.at.returns-in-Ok-eq0-clause-used_up g c).After-read_from _ c.in-Ok-eq0.is in
+    let ends = c.finish.ensures.ends (c.loop-outlet.invariant.stands.holds.0.rest ++ more.0) more.2 in
+    unused_at_end _ c.finish.result _ ends.0 ends.2
 
 -- all was handed on before the read
 pub returns-in-Err-2-clause-clear : goal.returns-in-Err-2-clause-clear
@@ -90,60 +98,67 @@ returns-in-Err-2-clause-clear g c = went c.hand_on.result _ (sym c.is_err.ensure
 -- nor is a line
 pub returns-in-Some-clause-clear : goal.returns-in-Some-clause-clear
 returns-in-Some-clause-clear g c =
-    clear_at_line g.D.Desk.gives g.D.Desk.Sets g.D.Desk.Steps c.args.policy.now _ g.O.Outlet.HoldsBack (point (g.D.Desk.state c.loop.desk) c.loop.held)
+    clear_at_line g.D.Desk.gives g.D.Desk.Sets g.D.Desk.Steps c.args.policy.now _ g.O.Outlet.HoldsBack (point (g.D.Desk.state c.loop-outlet.desk) c.loop-outlet.held)
     (point (g.D.Desk.state c.serve_lines.new.desk) c.serve_lines.new.held) _ _ c.in-Some.stop _ (line_stopped g (goal.at.returns-in-Some-clause-clear g c).In-Some).4
 
+pub returns-in-Some-clause-used_up : goal.returns-in-Some-clause-used_up
+returns-in-Some-clause-used_up g c =
+    unused_at_line g.D.Desk.gives g.D.Desk.Sets g.D.Desk.Steps c.args.policy.now _ g.O.Outlet.HoldsBack (point (g.D.Desk.state c.loop-outlet.desk) c.loop-outlet.held)
+    (point (g.D.Desk.state c.serve_lines.new.desk) c.serve_lines.new.held) _ _ c.in-Some.stop _ (line_stopped g (goal.at.returns-in-Some-clause-used_up g c).In-Some).4
+
 -- a read that was interrupted took nothing
-pub loop-preserved-in-Err : goal.loop-preserved-in-Err
-loop-preserved-in-Err g c = record {
+pub loop-outlet-preserved-in-Err : goal.loop-outlet-preserved-in-Err
+loop-outlet-preserved-in-Err g c = record {
   stands =
-      let unread = read_took g (goal.at.loop-preserved-in-Err g c).After-read_more _ c.in-Err.is in
-      let at = c.loop.invariant.stands.holds in
-      exchanges_same c.loop.invariant.stands _ c.hand_on.ensures.kept unread.0 (at.0, at.1, unread.1);
-  room = c.loop.invariant.room;
-  becomes = g.met.O.Outlet.goes_on _ _ _ c.loop.invariant.becomes c.hand_on.ensures.becomes;
-  name = c.loop.invariant.name;
+      let unread = read_took g (goal.at.loop-outlet-preserved-in-Err g c).After-read_from _ c.in-Err.is in
+      let at = c.loop-outlet.invariant.stands.holds in
+      exchanges_same c.loop-outlet.invariant.stands _ c.hand_on.ensures.kept unread.0 (at.0, at.1, unread.1);
+  room = c.loop-outlet.invariant.room;
+  same_reference = c.read_from.ensures.same_reference ∙ c.loop-outlet.invariant.same_reference;
+  becomes = g.met.O.Outlet.goes_on _ _ _ c.loop-outlet.invariant.becomes c.hand_on.ensures.becomes;
+  name = c.loop-outlet.invariant.name;
 }
 
 -- a read failed
 pub returns-in-Err-2-clause-stops : goal.returns-in-Err-2-clause-stops
 returns-in-Err-2-clause-stops g c =
-    let s = c.loop.invariant.stands in
-    let unread = read_took g (goal.at.returns-in-Err-2-clause-stops g c).After-read_more _ c.in-Err-2.is in
-    exchanges_same s _ c.hand_on.ensures.kept unread.0 (breaks_off _ _ _ _ _ (point (g.D.Desk.state c.loop.desk) c.loop.held) s.came s.sent s.holds.0 s.holds.1)
+    let s = c.loop-outlet.invariant.stands in
+    let unread = read_took g (goal.at.returns-in-Err-2-clause-stops g c).After-read_from _ c.in-Err-2.is in
+    exchanges_same s _ c.hand_on.ensures.kept unread.0 (breaks_off _ _ _ _ _ (point (g.D.Desk.state c.loop-outlet.desk) c.loop-outlet.held) s.came s.sent s.holds.0 s.holds.1)
 
 -- a line stopped the session
 pub returns-in-Some-clause-stops : goal.returns-in-Some-clause-stops
 returns-in-Some-clause-stops g c =
-    let s = c.loop.invariant.stands in
+    let s = c.loop-outlet.invariant.stands in
     let on = line_stopped g (goal.at.returns-in-Some-clause-stops g c).In-Some in
     exchanges_more s _ c.hand_on.ensures.kept on.0 on.2 _ on.1 on.3
-    (stopped g.D.Desk.gives g.D.Desk.Sets g.D.Desk.Steps c.args.policy.now _ (point (g.D.Desk.state c.loop.desk) c.loop.held) s.came s.sent s.holds.0 on.0 on.2
+    (stopped g.D.Desk.gives g.D.Desk.Sets g.D.Desk.Steps c.args.policy.now _ (point (g.D.Desk.state c.loop-outlet.desk) c.loop-outlet.held) s.came s.sent s.holds.0 on.0 on.2
     (point (g.D.Desk.state c.serve_lines.new.desk) c.serve_lines.new.held) g.O.Outlet.HoldsBack _ c.in-Some.stop _ on.4)
 
-pub loop-preserved : goal.loop-preserved
+pub loop-outlet-preserved : goal.loop-outlet-preserved
 unfolding stands_on
-loop-preserved g c = record {
+loop-outlet-preserved g c = record {
   stands =
-      let s = c.loop.invariant.stands in
-      let more = read_took g (goal.at.loop-preserved g c).After-read_more _ c.in-Ok.is in
+      let s = c.loop-outlet.invariant.stands in
+      let more = read_took g (goal.at.loop-outlet-preserved g c).After-read_from _ c.in-Ok.is in
       let on = c.in_default.ensures.served _ more.2 in
-      let stands = stands_on g.D.Desk.gives g.D.Desk.Sets g.D.Desk.Steps c.args.policy.now _ (point (g.D.Desk.state c.loop.desk) c.loop.held) s.came s.sent s.holds.0 more.0 on.0
+      let stands = stands_on g.D.Desk.gives g.D.Desk.Sets g.D.Desk.Steps c.args.policy.now _ (point (g.D.Desk.state c.loop-outlet.desk) c.loop-outlet.held) s.came s.sent s.holds.0 more.0 on.0
       (point (g.D.Desk.state c.serve_lines.new.desk) c.serve_lines.new.held) on.2.0 in
       exchanges_more s _ c.hand_on.ensures.kept more.0 on.0 _ more.1 on.1 (stands, on.2.1, on.2.2);
   room = c.serve_lines.ensures.room;
-  becomes = g.met.O.Outlet.goes_on _ _ _ (g.met.O.Outlet.goes_on _ _ _ c.loop.invariant.becomes c.hand_on.ensures.becomes) c.serve_lines.ensures.becomes;
-  name = c.serve_lines.ensures.name ∙ c.loop.invariant.name;
+  same_reference = c.read_from.ensures.same_reference ∙ c.loop-outlet.invariant.same_reference;
+  becomes = g.met.O.Outlet.goes_on _ _ _ (g.met.O.Outlet.goes_on _ _ _ c.loop-outlet.invariant.becomes c.hand_on.ensures.becomes) c.serve_lines.ensures.becomes;
+  name = c.serve_lines.ensures.name ∙ c.loop-outlet.invariant.name;
 }
 
 pub returns-clause-stops : goal.returns-clause-stops
 returns-clause-stops g c =
-    let s = c.loop.invariant.stands in
-    exchanges_same s _ (Keeps-refl _) (Keeps-refl _) (breaks_off _ _ _ _ _ (point (g.D.Desk.state c.loop.desk) c.loop.held) s.came s.sent s.holds.0 s.holds.1)
+    let s = c.loop-outlet.invariant.stands in
+    exchanges_same s _ (Keeps-refl _) (Keeps-refl _) (breaks_off _ _ _ _ _ (point (g.D.Desk.state c.loop-outlet.desk) c.loop-outlet.held) s.came s.sent s.holds.0 s.holds.1)
 
 pub returns-then-is_err-clause-becomes : goal.returns-then-is_err-clause-becomes
-returns-then-is_err-clause-becomes g c = g.met.O.Outlet.goes_on _ _ _ c.loop.invariant.becomes c.hand_on.ensures.becomes
+returns-then-is_err-clause-becomes g c = g.met.O.Outlet.goes_on _ _ _ c.loop-outlet.invariant.becomes c.hand_on.ensures.becomes
 
 -- all was handed on before the read
-pub read_more-requires : goal.read_more-requires
-read_more-requires g c = went c.hand_on.result _ (sym c.is_err.ensures.value ∙ c.if-is_err.false) c.hand_on.ensures.clear
+pub read_from-requires-clause-clear : goal.read_from-requires-clause-clear
+read_from-requires-clause-clear g c = went c.hand_on.result _ (sym c.is_err.ensures.value ∙ c.if-is_err.false) c.hand_on.ensures.clear

@@ -9,12 +9,17 @@ use Rattle.rb_session.specs.Turn.{point}
 use Rattle.rb_session.specs.Progress.{Stands}
 use Rattle.rb_session.proofs.session.serve_reads.Given as goal
 
-abbrev pub invariant-loop : goal.invariant-loop
-invariant-loop g l = record {
-  stands : Exchanges (g.R.Read.remaining l.fn.reader) (g.R.Read.remaining l.reader) (g.O.Outlet.contents l.fn.outlet) (g.O.Outlet.contents l.outlet) (λ came sent.
+abbrev pub invariant-loop-outlet : goal.invariant-loop-outlet
+invariant-loop-outlet g l = record {
+  stands : Exchanges (g.R.Read.remaining l.fn.reader.inner.now) (g.R.Read.remaining l.reader.inner.now) (g.O.Outlet.contents l.fn.outlet) (g.O.Outlet.contents l.outlet) (λ came sent.
       (stands : Stands g.D.Desk.gives g.D.Desk.Sets g.D.Desk.Steps l.policy (point (g.D.Desk.state l.fn.desk) l.fn.held) came sent (point (g.D.Desk.state l.desk) l.held))
       × HasNoLineFeed stands.rest × IsUnserved l.buffer stands.rest);
   room : REPLY_ROOM ≤ vec_capacity l.text;
+  same_reference : l.reader.inner.ghost_name ≡ l.fn.reader.inner.ghost_name;
   becomes : g.O.Outlet.Becomes l.fn.outlet l.outlet;
   name : g.D.Desk.name (g.D.Desk.state l.desk) ≡ g.D.Desk.name (g.D.Desk.state l.fn.desk);
 }
+
+-- each turn reads once
+abbrev pub decreases-loop-outlet : goal.decreases-loop-outlet
+decreases-loop-outlet g l = l.reader.left

@@ -1,5 +1,5 @@
 -- The first line feed ends the first line, which is read as it stands or was too long already.
-use Rattle.std.proofs.Common.{◌≡◌, ◌+◌, ◌<◌, List, ℕ, Err, ◌-◌, length, length-take, take, drop, ap, refl, sym, subst, ◌∙◌, arith, Bool, true, false, Result}
+use Rattle.std.proofs.Common.{◌≡◌, ◌+◌, ◌<◌, List, ℕ, Err, ◌-◌, length, length-drop, length-take, take, drop, ap, refl, sym, subst, ◌∙◌, arith, Bool, true, false, Result}
 use Rattle.std.specs.Prelude.{slice_range, MatchBool}
 use Rattle.rb_session.specs.Buffer.{held_by}
 use Rattle.rb_session.specs.Lines.{line_of}
@@ -43,4 +43,5 @@ returns-clause-line c bytes unserved =
                 (subst (λ (bytes : List ℕ). IsReading bytes w.read_request-reading.result) line w.read_request-reading.ensures)
           ]),
       sym left,
+      omega (arith, feed.0, length-drop (c.in_ok-len.len + 1) (held_by self), length-take (self.end - self.start) (drop self.start self.bytes.items), self.ordered, self.within, self.small),
     )

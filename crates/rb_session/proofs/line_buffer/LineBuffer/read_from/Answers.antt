@@ -28,11 +28,11 @@ held_more g c count end is fits =
     ∙ range_more xs c.read.new.buf (post_of before.end (length xs - before.end) xs) before.start before.end count before.ordered within fits
     ∙ ap (λ (ys : List ℕ). slice_range ys before.start before.end ++ take count c.read.new.buf) c.deref_mut.ensures.value
 
-pub returns-in-Ok : goal.returns-in-Ok
-returns-in-Ok g c bytes unserved none =
+pub returns-in-Ok-clause-taken : goal.returns-in-Ok-clause-taken
+returns-in-Ok-clause-taken g c bytes unserved none =
     let before = c.make_room.new.self in
     let room : 0 < length c.read.new.buf = omega (arith, c.make_room.ensures.room, c.deref_mut.ensures.len) in
-    let grows = held_more g (goal.at.returns-in-Ok g c).After-read c.in-Ok.count _ refl c.in-Ok.ensures.bound.0 in (
+    let grows = held_more g (goal.at.returns-in-Ok-clause-taken g c).After-read c.in-Ok.count _ refl c.in-Ok.ensures.bound.0 in (
       take c.in-Ok.count c.read.new.buf,
       c.in-Ok.ensures.bytes.0,
       unserved_more before.is_long MOST_RAW_BYTES (held_by before) _ _ bytes grows (c.make_room.ensures.kept bytes unserved none),
@@ -40,8 +40,8 @@ returns-in-Ok g c bytes unserved none =
       λ zero. c.in-Ok.ensures.bytes.1 zero room,
     )
 
-pub returns-in-Err : goal.returns-in-Err
-returns-in-Err g c bytes unserved none =
+pub returns-in-Err-clause-taken : goal.returns-in-Err-clause-taken
+returns-in-Err-clause-taken g c bytes unserved none =
     let before = c.make_room.new.self in
-    let same = held_more g (goal.at.returns-in-Err g c).After-read 0 before.end (omega arith) (omega arith) ∙ append-nil (held_by before) in
+    let same = held_more g (goal.at.returns-in-Err-clause-taken g c).After-read 0 before.end (omega arith) (omega arith) ∙ append-nil (held_by before) in
     (c.in-Err.ensures.bytes, unserved_same before.is_long MOST_RAW_BYTES (held_by before) _ bytes same (c.make_room.ensures.kept bytes unserved none))

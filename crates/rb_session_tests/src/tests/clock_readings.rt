@@ -1,0 +1,129 @@
+ghost use Rattle.rb_retry.specs.KeptLaws.{kept_makes, kept_refuses, kept_stays};
+ghost use Rattle.rb_retry.specs.KeptSteps.{KeptState, KeptSteps, SetsKept, made_at};
+ghost use Rattle.std.specs.Prelude.{◌≡◌, ℕ};
+
+use crate::tests::devices::{NEVER, Sheet, expect_bytes, expect_end, expect_number};
+use rb_binary::BinaryTimer;
+use rb_kept::Kept;
+use rb_queue::{Ask, Reply};
+use rb_retry::{Desk, DeskFault, KeptDesk, Policy};
+use rb_session::{Ended, SessionFault, run_session};
+use rb_timer::Timer;
+use std::alloc::Global;
+use std::cell::Cell;
+use std::process::Abort;
+use std::test::Fail;
+
+/// A kept desk that counts how often its clock is read.
+#[derive(Drop)]
+pub struct CountingDesk<'a, T: Timer> {
+    desk: KeptDesk<'a, T>,
+    readings: Cell<u64>,
+}
+
+impl<'a, T: Timer> Desk for CountingDesk<'a, T> {
+    ghost State = { KeptState };
+
+    ghost state = { λ counting. ⟦<KeptDesk<'a, T> as Desk>⟧.state counting.desk };
+
+    ghost Name = { ℕ };
+
+    ghost name = { λ state. state.name };
+
+    ghost mine = { made_at };
+
+    ghost gives = { λ state moment. moment ≡ state.moment };
+
+    ghost Sets = { SetsKept };
+
+    ghost Steps = { KeptSteps };
+
+    fn now(&self) -> u64 {
+        self.readings.set(self.readings.get().saturating_add(1));
+        self.desk.now()
+    }
+
+    fn set(&mut self, moment: u64) -> Option<u64> {
+        self.desk.set(moment)
+    }
+
+    fn call(&mut self, asked: u64, ask: Ask) -> Result<Reply, DeskFault> {
+        self.desk.call(asked, ask)
+    }
+
+    ghost makes = { kept_makes };
+
+    ghost refuses = { kept_refuses };
+
+    ghost stays = { kept_stays };
+}
+
+// How a session came out, and how often it read the desk's clock.
+#[derive(Drop)]
+struct Outcome {
+    ended: Result<Ended, SessionFault>,
+    text: Vec<u8>,
+    readings: u64,
+}
+
+fn ran(rt: &impl Abort, alloc: Global, script: &[u8]) -> Result<Outcome, Fail> {
+    let (mut kept, mut tally) = Kept::<BinaryTimer>::new(alloc, 100)?;
+    let mut writer = Sheet::new(alloc, NEVER);
+    let mut reader = script;
+    let policy = Policy::fixed(1_000, 3).expect(rt, "a policy");
+    let mut desk = CountingDesk {
+        desk: KeptDesk::new(&mut kept, &mut tally),
+        readings: Cell::new(0),
+    };
+    let ended = run_session(alloc, &mut reader, &mut writer, &mut desk, &policy);
+    Ok(Outcome {
+        ended,
+        text: writer.bytes,
+        readings: desk.readings.get(),
+    })
+}
+
+fn expect_readings(
+    rt: &impl Abort,
+    alloc: Global,
+    (script, replies): (&[u8], &[u8]),
+    ended: Ended,
+    readings: u64,
+) -> Result<(), Fail> {
+    let outcome = ran(rt, alloc, script)?;
+    expect_end(rt, outcome.ended, Ok(ended), 0);
+    expect_bytes(rt, &outcome.text, replies, 0);
+    expect_number(rt, outcome.readings, readings, 0);
+    Ok(())
+}
+
+// Each of the requests.
+const SCRIPT: &[u8] =
+    b"AT 100\nOFFER 0 a\nOFFERAT 99 b\nOFFER 9 c\nPEEK\nPOLL\nPOLLFOR 5\nPOLL\nTAKE\nDONE 1\nFAIL 0\nFAIL 7\nREMOVE 2\nSIZE\nDRAIN 3\nCLEAR\nQUIT\n";
+
+const REPLIES: &[u8] =
+    b"NOW 100\nOFFERED 0 100\nOFFERED 1 99\nOFFERED 2 109\nHEAD 1 99 1 b\nITEM 1 99 1 b\nITEM 0 100 1 a\nNONE\nSTOPPED\nDONE 1\nAGAIN 3 1100\nERR 5 not-held\nREMOVED yes\nSIZE 1\nDRAINED 0\nCLEARED\nBYE\n";
+
+#[test]
+fn a_request_reads_the_clock_once(rt: HostRuntime) -> Result<(), Fail> {
+    let ended = Ended::Quit { lost: 0 };
+    expect_readings(&rt, rt.alloc(), (SCRIPT, REPLIES), ended, 17)
+}
+
+#[test]
+fn what_is_no_request_reads_no_clock(rt: HostRuntime) -> Result<(), Fail> {
+    let script = b"poll\nDONE 01\nOFFER 1 \xff\nSIZE".as_slice();
+    let replies = b"ERR 1 syntax\nERR 2 number\nERR 4 payload\nERR 8 line\n".as_slice();
+    let ended = Ended::EndOfInput { lost: 0 };
+    expect_readings(&rt, rt.alloc(), (script, replies), ended, 0)
+}
+
+// At the end the clock is read once for each job that is still held.
+#[test]
+fn a_job_that_is_held_at_the_end_reads_the_clock_once(rt: HostRuntime) -> Result<(), Fail> {
+    let script = b"OFFERAT 0 a\nOFFERAT 1 b\nAT 1\nDRAIN 9\n".as_slice();
+    let replies =
+        b"OFFERED 0 0\nOFFERED 1 1\nNOW 1\nDRAINED 2\nITEM 0 0 1 a\nITEM 1 1 1 b\n".as_slice();
+    let ended = Ended::EndOfInput { lost: 0 };
+    expect_readings(&rt, rt.alloc(), (script, replies), ended, 6)
+}

@@ -1,0 +1,49 @@
+use crate::tests::devices::{Slip, expect_bytes, expect_end};
+use rb_binary::BinaryTimer;
+use rb_kept::Kept;
+use rb_retry::{KeptDesk, Policy};
+use rb_session::{Ended, HandsOn, SessionFault, run_gathered};
+use std::alloc::{AllocError, Global};
+use std::process::Abort;
+use std::test::Fail;
+
+// A line so often.
+fn repeated(alloc: Global, line: &[u8], count: usize) -> Result<Vec<u8>, AllocError> {
+    let mut text = Vec::new(alloc);
+    for _ in 0..count {
+        text.extend_from_slice(line)?;
+    }
+    Ok(text)
+}
+
+type Slipped = (Result<Ended, SessionFault>, Vec<u8>);
+
+fn slipped(rt: &impl Abort, alloc: Global, script: &[u8]) -> Result<Slipped, Fail> {
+    let (mut kept, mut tally) = Kept::<BinaryTimer>::new(alloc, 1)?;
+    let bytes = Vec::new(alloc);
+    let (mut reader, mut writer) = (script, Slip { bytes });
+    let policy = Policy::fixed(1_000, 3).expect(rt, "a policy");
+    let mut desk = KeptDesk::new(&mut kept, &mut tally);
+    let hands_on = HandsOn::BeforeReads;
+    let ended = run_gathered(
+        alloc,
+        &mut reader,
+        &mut writer,
+        &mut desk,
+        &policy,
+        hands_on,
+    );
+    Ok((ended, writer.bytes))
+}
+
+// All replies are gathered, and go out in as many writes as they have bytes.
+#[test]
+fn a_batch_may_be_taken_a_byte_at_a_time(rt: HostRuntime) -> Result<(), Fail> {
+    let alloc = rt.alloc();
+    let script = repeated(alloc, b"AT 7\n", 10_000)?;
+    let replies = repeated(alloc, b"NOW 7\n", 10_000)?;
+    let (ended, bytes) = slipped(&rt, alloc, &script)?;
+    expect_end(&rt, ended, Ok(Ended::EndOfInput { lost: 0 }), 0);
+    expect_bytes(&rt, &bytes, &replies, 0);
+    Ok(())
+}

@@ -1,0 +1,34 @@
+use crate::tests::devices::{expect, expect_bytes, expect_count};
+use rb_protocol::{LineReply, write_reply};
+use std::alloc::{AllocError, Global};
+use std::process::Abort;
+use std::test::Fail;
+
+// A megabyte and more, in lines of 26 bytes.
+const LINES: usize = 50_000;
+
+const LINE: &[u8] = b"SIZE 18446744073709551615\n";
+
+fn text_of_lines(alloc: Global) -> Result<Vec<u8>, AllocError> {
+    let mut text = Vec::new(alloc);
+    for _ in 0..LINES {
+        write_reply(&LineReply::Size(u64::MAX), &mut text)?;
+    }
+    Ok(text)
+}
+
+fn expect_lines(rt: &impl Abort, text: &[u8]) {
+    expect_count(rt, text.len(), LINES.saturating_mul(LINE.len()), 0);
+    for line in text.split_inclusive(|&byte| byte == b'\n') {
+        expect_bytes(rt, line, LINE, 0);
+    }
+}
+
+// However long the text is, one more reply is written behind it.
+#[test]
+fn a_reply_is_written_behind_a_megabyte(rt: HostRuntime) -> Result<(), Fail> {
+    let text = text_of_lines(rt.alloc())?;
+    expect(&rt, text.len() > 1 << 20);
+    expect_lines(&rt, &text);
+    Ok(())
+}
