@@ -8,7 +8,7 @@ use crate::source::Source;
 use rb_arguments::{ScriptOptions, Words, read_words};
 use rb_ending::BrokerFault;
 use rb_queue::Opening;
-use rb_runs::{opening_in, run_script};
+use rb_runs::{opening_in, run_script_gathered};
 use rb_session::Ended;
 use std::alloc::{AllocError, Global};
 
@@ -114,7 +114,7 @@ fn run(
     let mut recorder = recorder_of(alloc, case);
     let ended = match opening_of(alloc, case) {
         Ok(opening) => {
-            run_script(
+            run_script_gathered(
                 alloc,
                 options,
                 opening,

@@ -3,11 +3,13 @@ use Rattle.std.proofs.Common.{◌≡◌, ℕ, List, Result, Err, inl, inr, subst
 use Rattle.rb_queue.specs.declared.event.Event.{Event}
 use Rattle.rb_queue.specs.declared.opening.Opening.{Opening}
 use Rattle.rb_replay.specs.Opens.{Opens}
+use Rattle.rb_replay.specs.Readings.{IsTextOf}
 use Rattle.rb_replay.specs.declared.opening_fault.OpeningFault.{OpeningFault}
 use Rattle.rb_replay.specs.declared.opening_fault.OpeningFault.TheVariants.{At, TooLarge}
 use Rattle.rb_replay.specs.declared.reason.Reason.{Reason}
-use Rattle.rb_runs.specs.Beginning.{Continues, HasNoNext}
+use Rattle.rb_runs.specs.Beginning.{BeginsIn, Continues, HasNoNext}
 use Rattle.rb_ending.specs.declared.broker_fault.BrokerFault.{BrokerFault}
+use Rattle.rb_ending.specs.declared.broker_fault.BrokerFault.TheVariants.{BadOpening}
 
 -- what goes on behind a history goes on so behind the same one
 pub goes_on_same : {one other : Opening} {events others : List Event} (result : Result Opening BrokerFault)
@@ -25,3 +27,8 @@ refused {from = from} {events = events} {index = index} {reason = reason} is ope
 pub too_large : {from : Opening} {events : List Event} {fault : OpeningFault}
     → fault ≡ TooLarge → Opens from events (Err fault) → HasNoNext from events
 too_large {from = from} {events = events} is opens = inr (subst (λ fault. Opens from events (Err fault)) is opens)
+
+-- no run begins in the text of a history that has no next run
+pub begins_nowhere : {text : List ℕ} (from : Opening) (events : List Event)
+    → IsTextOf from events text → HasNoNext from events → BeginsIn text (Err BadOpening)
+begins_nowhere from events reads none = inr (from, events, reads, none)

@@ -11,7 +11,8 @@ use Rattle.rb_session.specs.declared.session_fault.SessionFault.{SessionFault}
 use Rattle.rb_session.specs.declared.session_fault.SessionFault.TheVariants.{Memory}
 use Rattle.rb_ending.specs.BrokerFault.{fault_of_session, fault_of_history}
 use Rattle.rb_ending.specs.Recording.{RecordsRun}
-use Rattle.rb_session.specs.Gathered.{RanGathered}
+use Rattle.rb_session.specs.Delivered.{RanDelivered}
+use Rattle.rb_session.specs.declared.delivery.Delivery.{Delivery}
 use Rattle.rb_ending.specs.declared.broker_fault.BrokerFault.{BrokerFault}
 
 -- a log that begins with this opening, with no call yet and room for this many
@@ -46,11 +47,11 @@ Finishes contents log (Ok ended) result device left =
     (wrote : Result (Unit {0}) HistoryFault) × RecordsRun contents log wrote device left × (result ≡ ends_as ended wrote)
 
 -- The run went from a new desk to some other, whose log has its history. What came and what was sent are
--- those of a session on this way whose replies are gathered.
-pub record RanScript {H : Type 0} (contents : H → Option (List ℕ)) (policy : Policy) (calls : ℕ) (Over : Type 0) (opening : Opening) (came sent : List ℕ) (result : Result Ended BrokerFault) (device left : Option H) : Type 0 where
+-- those of a session on this way, whose replies were delivered so.
+pub record RanScript {H : Type 0} (contents : H → Option (List ℕ)) (policy : Policy) (calls : ℕ) (delivery : Delivery) (Over : Type 0) (opening : Opening) (came sent : List ℕ) (result : Result Ended BrokerFault) (device left : Option H) : Type 0 where
   pub from : KeptState
   pub new : IsNew from opening calls
   pub to : KeptState
   pub ended : Result Ended SessionFault
-  pub ran : RanGathered (λ desk moment. moment ≡ desk.moment) SetsKept KeptSteps policy Over from came sent ended to
+  pub ran : RanDelivered (λ desk moment. moment ≡ desk.moment) SetsKept KeptSteps policy delivery Over from came sent ended to
   pub finishes : Finishes contents to.log ended result device left

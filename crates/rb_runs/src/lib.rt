@@ -12,4 +12,4 @@ mod verdict;
 pub use opening::opening_in;
 pub use reading::read_all;
 pub use replay::run_replay;
-pub use script::run_script;
+pub use script::{run_script, run_script_gathered};

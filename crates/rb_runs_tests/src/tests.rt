@@ -6,4 +6,5 @@ mod gathering;
 mod history_files;
 mod memory_refusals;
 mod reading_devices;
+mod replies_at_once;
 mod writing_devices;

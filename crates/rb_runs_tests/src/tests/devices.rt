@@ -4,7 +4,7 @@ use rb_arguments::{ScriptOptions, TimerKind};
 use rb_ending::BrokerFault;
 use rb_queue::Opening;
 use rb_retry::Policy;
-use rb_runs::run_script;
+use rb_runs::{run_script, run_script_gathered};
 use rb_session::Ended;
 use std::alloc::Global;
 use std::cell::Cell;
@@ -335,7 +335,27 @@ pub fn recorded(
     let (mut source, mut sink) = (source, sink);
     let options = options(rt, timer, calls);
     let opening = Opening::empty(alloc);
+    let ended = run_script_gathered(alloc, &options, opening, &mut source, &mut sink, history);
+    outcome_of(ended, source, sink)
+}
+
+/// Runs a script of at most 100 calls from the start, each of whose replies is written at once, and
+/// writes its history.
+pub fn replied_at_once(
+    rt: &impl Abort,
+    alloc: Global,
+    source: Source<'_>,
+    sink: Sink<'_>,
+    history: &mut Option<Sink<'static>>,
+) -> Outcome {
+    let (mut source, mut sink) = (source, sink);
+    let options = options(rt, TimerKind::Heap, 100);
+    let opening = Opening::empty(alloc);
     let ended = run_script(alloc, &options, opening, &mut source, &mut sink, history);
+    outcome_of(ended, source, sink)
+}
+
+fn outcome_of(ended: Result<Ended, BrokerFault>, source: Source<'_>, sink: Sink<'_>) -> Outcome {
     Outcome {
         ended,
         reads: source.calls,

@@ -1,6 +1,6 @@
 use crate::tests::devices::{
     AT_END, End, Fault, KINDS, Sink, Source, expect_bytes, expect_count, expect_end, feeds_of,
-    first_lines, ran,
+    first_lines, ran, recorded,
 };
 use rb_arguments::TimerKind;
 use rb_ending::BrokerFault;
@@ -68,15 +68,27 @@ fn a_read_takes_64_kib(rt: HostRuntime) -> Result<(), Fail> {
     Ok(())
 }
 
-// A read that is interrupted counts as one that gives a byte.
+// The history of a run in which a job is held at the end.
+const HELD: &[u8] =
+    b"history 3\nopen 0 0 0\n0 0 0 offer 0 0 0 0 1 a\n0 0 0 poll 0\n0 0 0 offer 1 1000 0 0 2 a\nend 3\n";
+
+fn expect_history(rt: &impl Abort, history: &Option<Sink<'static>>, wanted: &[u8]) {
+    let history = history.as_ref().expect(rt, "a device");
+    expect_bytes(rt, &history.bytes, wanted, 0);
+}
+
+// A read that is interrupted counts as one that gives a byte. The history is written all the same.
 #[test]
 fn an_input_without_an_end_is_given_up(rt: HostRuntime) {
-    let source = Source::ending(b"", End::NeverComes);
     let alloc = rt.alloc();
-    let outcome = ran(&rt, alloc, TimerKind::Heap, 1, source, Sink::new(alloc));
+    let source = Source::ending(b"OFFER 0 a\nPOLL\n", End::NeverComes);
+    let (sink, mut history) = (Sink::new(alloc), Some(Sink::new(alloc)));
+    let outcome = recorded(&rt, alloc, TimerKind::Heap, 3, source, sink, &mut history);
     expect_end(&rt, outcome.ended, Err(BrokerFault::ReadTurns), 0);
     expect_count(&rt, outcome.reads, 10_000_000, 0);
-    expect_count(&rt, outcome.calls, 0, 0);
+    expect_bytes(&rt, &outcome.bytes, b"OFFERED 0 0\nITEM 0 0 1 a\n", 0);
+    expect_count(&rt, outcome.calls, 2, 0);
+    expect_history(&rt, &history, HELD);
 }
 
 // A job with three attempts, whose third failure is its last.

@@ -5,7 +5,11 @@ use Rattle.rb_ledger.specs.Totals.{nothing}
 use Rattle.rb_ledger.specs.declared.totals.Totals.{Totals}
 use Rattle.rb_queue.specs.declared.opening.Opening.{Opening}
 use Rattle.rb_kept.specs.Log.{Log}
-use Rattle.rb_retry.specs.KeptSteps.{KeptState}
+use Rattle.rb_retry.specs.KeptSteps.{KeptState, KeptSteps, SetsKept}
+use Rattle.rb_retry.specs.declared.policy.Policy.{Policy}
+use Rattle.rb_session.specs.Delivered.{RanDelivered}
+use Rattle.rb_session.specs.declared.delivery.Delivery.{Delivery}
+use Rattle.rb_session.specs.declared.delivery.Delivery.TheVariants.{AtOnce, Gathered}
 use Rattle.rb_session.specs.declared.session_fault.SessionFault.TheVariants.{Memory}
 use Rattle.rb_runs.specs.Script.{Finishes, IsFresh, IsNew}
 use Rattle.rb_runs.proofs.script.run_on.Goals as goal
@@ -39,6 +43,12 @@ desk_over name calls opening log share fresh none = record {
   before = ap length fresh.history;
 }
 
+-- a session that found no memory did nothing, whichever way its replies go
+unbegun : (policy : Policy) (delivery : Delivery) (Over : Type 0) (desk : KeptState)
+    → RanDelivered (λ desk moment. moment ≡ desk.moment) SetsKept KeptSteps policy delivery Over desk [] [] (Err Memory) desk
+unbegun policy AtOnce Over desk = (refl, refl, refl)
+unbegun policy (Gathered _) Over desk = (refl, refl, refl)
+
 pub returns-in_default : goal.returns-in_default
 unfolding new_desk
 returns-in_default g c = record {
@@ -51,7 +61,7 @@ returns-in_default g c = record {
     new = is_new c.args.opening c.args.calls;
     to = new_desk c.args.opening c.args.calls;
     ended = Err Memory;
-    ran = (refl, refl, refl);
+    ran = unbegun c.args.policy.now c.args.delivery _ (new_desk c.args.opening c.args.calls);
     finishes = (refl, record { unbegun = λ _. refl; begun = λ other. absurd (other refl) });
   };
 }
@@ -59,9 +69,9 @@ returns-in_default g c = record {
 pub returns : goal.returns
 returns g c =
     let made = c.in-Ok.ensures in
-    let did = c.run_gathered-ended.ensures.ran in
-    let same = c.run_gathered-ended.ensures.name ∙ ap (λ (state : KeptState). state.name) c.new-desk.ensures.state in
-    let finishes : Finishes g.H.Write.contents c.run_gathered-ended.new.desk.kept.now c.run_gathered-ended.result c.finish.result c.args.history.now c.finish.new.history =
+    let did = c.run_delivered-ended.ensures.ran in
+    let same = c.run_delivered-ended.ensures.name ∙ ap (λ (state : KeptState). state.name) c.new-desk.ensures.state in
+    let finishes : Finishes g.H.Write.contents c.run_delivered-ended.new.desk.kept.now c.run_delivered-ended.result c.finish.result c.args.history.now c.finish.new.history =
     search (rules, same) in
     let fresh : IsFresh c.in-Ok.kept c.args.opening c.args.calls = record { opening_is = made.opening; history = made.history; capacity = made.capacity } in record {
       came = did.came;
@@ -72,7 +82,7 @@ returns g c =
         from = _;
         new = subst (λ desk. IsNew desk c.args.opening c.args.calls) (sym c.new-desk.ensures.state) (desk_over _ c.args.calls c.args.opening c.in-Ok.kept c.in-Ok.tally fresh made.tally);
         to = _;
-        ended = c.run_gathered-ended.result;
+        ended = c.run_delivered-ended.result;
         ran = did.holds;
         finishes = finishes;
       };

@@ -1,0 +1,76 @@
+// Scripts each of whose replies is written when its request is served.
+
+use crate::tests::devices::{
+    AT_END, Sink, Source, expect_bytes, expect_count, expect_end, first_lines, replied_at_once,
+};
+use rb_ending::BrokerFault;
+use std::alloc::Global;
+use std::io::Write;
+use std::process::Abort;
+use std::test::Fail;
+
+const OFFERS: &[u8] = b"OFFER 0 a\nOFFER 0 b\nOFFER 0 c\n";
+
+// Twelve bytes each.
+const REPLIES: &[u8] = b"OFFERED 0 0\nOFFERED 1 0\nOFFERED 2 0\n";
+
+const EVENTS: &[u8] =
+    b"0 0 0 offer 0 0 0 0 1 a\n0 0 0 offer 1 0 1 0 1 b\n0 0 0 offer 2 0 2 0 1 c\n";
+
+// The history of the first of the offers.
+fn history_of(alloc: Global, offers: usize) -> Result<Vec<u8>, Fail> {
+    let mut text = Vec::new(alloc);
+    text.extend_from_slice(b"history 3\nopen 0 0 0\n")?;
+    text.extend_from_slice(first_lines(EVENTS, offers))?;
+    write!(text, "end {offers}\n")?;
+    Ok(text)
+}
+
+#[test]
+fn each_reply_is_a_write_and_a_flush(rt: HostRuntime) {
+    let alloc = rt.alloc();
+    let source = Source::of(OFFERS, usize::MAX);
+    let outcome = replied_at_once(&rt, alloc, source, Sink::new(alloc), &mut None);
+    expect_end(&rt, outcome.ended, AT_END, 0);
+    expect_bytes(&rt, &outcome.bytes, REPLIES, 0);
+    expect_count(&rt, outcome.writes, 3, 0);
+    expect_count(&rt, outcome.calls, 6, 0);
+}
+
+// What a script over a writer with room for this many bytes has offered, by its history.
+fn expect_offers(rt: &impl Abort, alloc: Global, room: usize, is_closed: bool) -> Result<(), Fail> {
+    let source = Source::of(OFFERS, usize::MAX);
+    let sink = Sink::bounded(alloc, room, is_closed);
+    let mut history = Some(Sink::new(alloc));
+    let outcome = replied_at_once(rt, alloc, source, sink, &mut history);
+    let wanted = if room < REPLIES.len() {
+        Err(BrokerFault::Write)
+    } else {
+        AT_END
+    };
+    expect_end(rt, outcome.ended, wanted, room);
+    expect_bytes(
+        rt,
+        &outcome.bytes,
+        REPLIES.get(..room).unwrap_or(REPLIES),
+        room,
+    );
+    let served = history_of(alloc, (room / 12 + 1).min(3))?;
+    expect_bytes(
+        rt,
+        &history.map(|sink| sink.bytes).unwrap_or(Vec::new(alloc)),
+        &served,
+        room,
+    );
+    Ok(())
+}
+
+// All three lines come with one read. The one whose reply does not go out is the last that is served.
+#[test]
+fn no_line_is_served_after_a_failing_write(rt: HostRuntime) -> Result<(), Fail> {
+    for room in 0..=REPLIES.len() {
+        expect_offers(&rt, rt.alloc(), room, true)?;
+        expect_offers(&rt, rt.alloc(), room, false)?;
+    }
+    Ok(())
+}
