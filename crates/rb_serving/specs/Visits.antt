@@ -8,7 +8,8 @@ use Rattle.rb_shared_desk.specs.SharedSteps.{SharedState, SharedSteps, SetsShare
 use Rattle.rb_retry.specs.declared.policy.Policy.{Policy}
 use Rattle.rb_session.specs.declared.ended.Ended.{Ended}
 use Rattle.rb_session.specs.declared.session_fault.SessionFault.{SessionFault}
-use Rattle.rb_session.specs.Gathered.{RanGathered}
+use Rattle.rb_session.specs.Delivered.{RanDelivered}
+use Rattle.rb_session.specs.declared.delivery.Delivery.{Delivery}
 use Rattle.rb_serving.specs.VisitCounts.{lost_in, faults_in}
 use Rattle.rb_serving.specs.declared.visit.Visit.{Visit}
 use Rattle.rb_serving.specs.declared.visit_counts.VisitCounts.{VisitCounts}
@@ -53,16 +54,16 @@ pub record IsDeskOf {C G : Type 0} (clock : C) (gate : G) (pass : Seen) (desk : 
   pub gate_is : desk.gate ≡ gate
   pub before : desk.before ≡ length pass.mine
 
--- A session was run over what came of the visitor, at such a desk, and its replies were gathered: from what the
--- pass had seen to what it has seen then.
-pub record RanVisit {C G : Type 0} (gives : C → ℕ → Type 0) (stops : G → ℕ → Type 0) (policy : Policy) (clock : C) (gate : G) (Over : Type 0) (old : Seen) (came sent : List ℕ) (ended : Result Ended SessionFault) (new : Seen) : Type 0 where
+-- A session was run over what came of the visitor, at such a desk, and its replies were delivered so: from what
+-- the pass had seen to what it has seen then.
+pub record RanVisit {C G : Type 0} (gives : C → ℕ → Type 0) (stops : G → ℕ → Type 0) (policy : Policy) (delivery : Delivery) (clock : C) (gate : G) (Over : Type 0) (old : Seen) (came sent : List ℕ) (ended : Result Ended SessionFault) (new : Seen) : Type 0 where
   pub from : SharedState C G
   pub begun : IsDeskOf clock gate old from
   pub to : SharedState C G
-  pub ran : RanGathered (λ desk moment. gives desk.clock moment) SetsShared (SharedSteps gives stops) policy Over from came sent ended to
+  pub ran : RanDelivered (λ desk moment. gives desk.clock moment) SetsShared (SharedSteps gives stops) policy delivery Over from came sent ended to
   pub seen : to.pass ≡ new
 
-module _ {I O G C : Type 0} (lets_in : Visit I O G → Type 0) (turns_away : Type 0) (remaining : I → Option (List ℕ)) (contents : O → Option (List ℕ)) (gives : C → ℕ → Type 0) (stops : G → ℕ → Type 0) (policy : Policy) (clock : C) where
+module _ {I O G C : Type 0} (lets_in : Visit I O G → Type 0) (turns_away : Type 0) (remaining : I → Option (List ℕ)) (contents : O → Option (List ℕ)) (gives : C → ℕ → Type 0) (stops : G → ℕ → Type 0) (policy : Policy) (delivery : Delivery) (clock : C) where
   -- A visitor was let in, and the session of this visit was run: what came was read from its reader, what was sent
   -- went to its writer, and its gate could end the waits.
   pub record IsVisit (old : Seen) (served : Served) (new : Seen) : Type 0 where
@@ -72,7 +73,7 @@ module _ {I O G C : Type 0} (lets_in : Visit I O G → Type 0) (turns_away : Typ
     pub writer_left : O
     pub consumed : Consumes (remaining visit.reader) (remaining reader_left) served.came
     pub appended : Appends (contents visit.writer) (contents writer_left) served.sent
-    pub ran : RanVisit gives stops policy clock visit.gate (IsAtEnd (remaining reader_left)) old served.came served.sent served.ended new
+    pub ran : RanVisit gives stops policy delivery clock visit.gate (IsAtEnd (remaining reader_left)) old served.came served.sent served.ended new
 
   -- The pass served those who were let in, one after the other, and did nothing else.
   abbrev pub AreVisits : Seen → List (Option Served) → Seen → Type 0

@@ -5,9 +5,12 @@ use crate::visit::Visit;
 use rb_blocking::Gate;
 use std::io::{Read, Write};
 use std::sync::Wait;
+use std::time;
+use thiserror::Error;
 
 /// A visitor came but could not be let in.
-#[derive(Clone, Copy, Debug, PartialEq, Eq)]
+#[derive(Clone, Copy, Debug, PartialEq, Eq, Error)]
+#[error("a visitor could not be let in")]
 pub struct DoorFault;
 
 /// Where visits come from.
@@ -30,8 +33,8 @@ pub trait Door {
     ghost turns_away: { Self → Type 0 };
 
     /// The next visit, which no other caller gets, or `None` if there are no more. It may wait for
-    /// one.
-    fn next<R: Wait>(
+    /// one, and after a visitor that could not be let in.
+    fn next<R: Wait + time::Clock>(
         &self,
         rt: &R,
     ) -> Option<Result<Visit<Self::Reader, Self::Writer, Self::Gate>, DoorFault>>

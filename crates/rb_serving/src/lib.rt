@@ -22,6 +22,6 @@ pub use serve_clock::ServeClock;
 pub use serve_end::end_server;
 pub use serve_report::ServeReport;
 pub use serve_text::print_listening;
-pub use server::serve_door;
+pub use server::{serve_door, serve_door_gathered};
 pub use tcp_door::TcpDoor;
 pub use visit::Visit;

@@ -1,6 +1,7 @@
 use rb_kept::Kept;
 use rb_queue::Audit;
 use rb_timer::Timer;
+use std::fmt::{self, Debug, Formatter};
 
 /// The outcome of serving visits.
 #[derive(Drop)]
@@ -15,4 +16,16 @@ pub struct ServeReport<T: Timer> {
     pub audit: Audit,
     /// The queue as all workers left it, with the history of their calls.
     pub kept: Kept<T>,
+}
+
+// Of the queue it shows nothing: its history may have a million events.
+impl<T: Timer> Debug for ServeReport<T> {
+    fn fmt<W: fmt::Write>(&self, f: &mut Formatter<W>) -> fmt::Result {
+        f.debug_struct("ServeReport")
+            .field("sessions", &self.sessions)
+            .field("faults", &self.faults)
+            .field("lost", &self.lost)
+            .field("audit", &self.audit)
+            .finish_non_exhaustive()
+    }
 }

@@ -1,6 +1,11 @@
-ghost use Rattle.std.specs.Prelude.{◌≡◌, IfOk, IfErr};
+ghost use Rattle.std.specs.Prelude.{◌≡◌, ◌≤◌, [], IfOk, IfErr};
+ghost use Rattle.rb_ledger.specs.Totals.{nothing};
+ghost use Rattle.rb_kept.specs.declared.kept.TheConstants.{MOST_CALLS};
+ghost use Rattle.rb_lock.specs.Passes.{first_pass};
 ghost use Rattle.rb_serving.specs.Serving.{EndsServing, IsReport, IsServersRun};
-ghost use Rattle.rb_ending.specs.declared.broker_fault.BrokerFault.TheVariants.{NotGathered};
+ghost use Rattle.rb_session.specs.declared.delivery.Delivery.TheVariants.{AtOnce, Gathered};
+ghost use Rattle.rb_session.specs.declared.hands_on.HandsOn.TheVariants.{BeforeReadsAndWaits};
+ghost use Rattle.rb_ending.specs.declared.broker_fault.BrokerFault.TheVariants.{Memory, NotGathered};
 
 use crate::door::Door;
 use crate::serve_report::ServeReport;
@@ -11,8 +16,10 @@ use rb_arguments::RunOptions;
 use rb_blocking::{Bell, Clock};
 use rb_ending::BrokerFault;
 use rb_kept::Kept;
+use rb_ledger::Tally;
 use rb_lock::{Pass, Shared};
 use rb_queue::Opening;
+use rb_session::{Delivery, HandsOn};
 use rb_timer::Timer;
 use std::alloc::Global;
 use std::sync::Wait;
@@ -22,10 +29,11 @@ use std::time;
 /// Serves the visits of a door over one queue until it has no more: each worker serves one visit
 /// after the other, through a pass of its own.
 ///
-/// All waits read the same clock. The history that comes back is legal and has exactly the workers'
-/// calls, which are the calls of the sessions that each served; the counts are those of all visits.
-/// Memory is taken for the history at the start, then for each session as it begins, and for what
-/// is offered and drained.
+/// All waits read the same clock. Each reply is written when its request is served; after a write
+/// that failed, no further line of that visit is served. The history that comes back is legal and
+/// has exactly the workers' calls, which are the calls of the sessions that each served; the counts
+/// are those of all visits. Memory is taken for the history at the start, then for each session as
+/// it begins, and for what is offered and drained.
 pub fn serve_door<
     T: Timer + Send,
     D: Door + Sync,
@@ -39,16 +47,57 @@ pub fn serve_door<
     options: &RunOptions,
     opening: Opening,
 ) -> Result<ServeReport<T>, BrokerFault>
-    ensures served { IfOk result (λ report. IsServersRun (D.lets_in door.now) (D.turns_away door.now) D.Reader.remaining D.Writer.contents C.gives D.Gate.stops options.now.policy clock.now opening options.now.calls options.now.workers report.kept report.audit (record { sessions = report.sessions; faults = report.faults; lost = report.lost })) }
+    ensures served { IfOk result (λ report. IsServersRun (D.lets_in door.now) (D.turns_away door.now) D.Reader.remaining D.Writer.contents C.gives D.Gate.stops options.now.policy AtOnce clock.now opening options.now.calls options.now.workers report.kept report.audit (record { sessions = report.sessions; faults = report.faults; lost = report.lost })) }
     ensures fault { IfErr result EndsServing }
 {
-    // The number of calls is in range, so that memory alone can be missing.
-    let Ok((kept, tally)) = Kept::<T>::new_from(alloc, options.calls, opening) else {
-        return Err(BrokerFault::Memory);
-    };
-    let Ok((shared, pass)) = Shared::open(alloc, kept, tally) else {
-        return Err(BrokerFault::Memory);
-    };
+    serve_delivering(rt, alloc, door, clock, options, Delivery::AtOnce, opening)
+}
+
+/// Serves the visits of a door like `serve_door`, but gathers the replies of each: its writer gets
+/// them before each read, before each request that may wait, and at the end.
+///
+/// A write that fails may lose the replies to lines that were served, at most 64 KiB of them. All
+/// those lines are in the history.
+pub fn serve_door_gathered<
+    T: Timer + Send,
+    D: Door + Sync,
+    C: Clock + Sync,
+    R: Threads + Wait + time::Clock + Sync,
+>(
+    rt: &R,
+    alloc: Global,
+    door: &D,
+    clock: &C,
+    options: &RunOptions,
+    opening: Opening,
+) -> Result<ServeReport<T>, BrokerFault>
+    ensures served { IfOk result (λ report. IsServersRun (D.lets_in door.now) (D.turns_away door.now) D.Reader.remaining D.Writer.contents C.gives D.Gate.stops options.now.policy (Gathered BeforeReadsAndWaits) clock.now opening options.now.calls options.now.workers report.kept report.audit (record { sessions = report.sessions; faults = report.faults; lost = report.lost })) }
+    ensures fault { IfErr result EndsServing }
+{
+    let delivery = Delivery::Gathered(HandsOn::BeforeReadsAndWaits);
+    serve_delivering(rt, alloc, door, clock, options, delivery, opening)
+}
+
+// Serves the visits, whose replies are written when `delivery` says so.
+fn serve_delivering<
+    T: Timer + Send,
+    D: Door + Sync,
+    C: Clock + Sync,
+    R: Threads + Wait + time::Clock + Sync,
+>(
+    rt: &R,
+    alloc: Global,
+    door: &D,
+    clock: &C,
+    options: &RunOptions,
+    delivery: Delivery,
+    opening: Opening,
+) -> Result<ServeReport<T>, BrokerFault>
+    ensures served { IfOk result (λ report. IsServersRun (D.lets_in door.now) (D.turns_away door.now) D.Reader.remaining D.Writer.contents C.gives D.Gate.stops options.now.policy delivery clock.now opening options.now.calls options.now.workers report.kept report.audit (record { sessions = report.sessions; faults = report.faults; lost = report.lost })) }
+    ensures fault { IfErr result EndsServing }
+{
+    let (kept, tally) = kept_from::<T>(alloc, options.calls, opening)?;
+    let (shared, pass) = shared_from(alloc, kept, tally)?;
     let bell = Bell::new();
     let service = Service {
         alloc,
@@ -57,9 +106,47 @@ pub fn serve_door<
         clock,
         bell: &bell,
         policy: &options.policy,
+        delivery,
     };
     let (pass, visits) = serve_all(rt, &service, pass, options.workers)?;
     report_of(rt, shared, pass, visits)
+}
+
+// The queue of an opening. The number of calls is in range, so that memory alone can be missing.
+fn kept_from<T: Timer>(
+    alloc: Global,
+    calls: u64,
+    opening: Opening,
+) -> Result<(Kept<T>, Tally), BrokerFault>
+    requires from_one { 1 ≤ calls }
+    requires in_range { calls ≤ MOST_CALLS }
+    ensures opening { IfOk result (λ made. made.0.opening ≡ opening) }
+    ensures history { IfOk result (λ made. made.0.history ≡ []) }
+    ensures capacity { IfOk result (λ made. made.0.capacity ≡ calls) }
+    ensures tally { IfOk result (λ made. made.1 ≡ nothing) }
+    ensures fault { IfErr result (λ fault. fault ≡ Memory) }
+{
+    match Kept::new_from(alloc, calls, opening) {
+        Ok(made) => Ok(made),
+        Err(_) => Err(BrokerFault::Memory),
+    }
+}
+
+// Shares the queue.
+fn shared_from<T: Timer>(
+    alloc: Global,
+    kept: Kept<T>,
+    tally: Tally,
+) -> Result<(Shared<T>, Pass<T>), BrokerFault>
+    requires history { kept.history ≡ [] }
+    requires tally { tally ≡ nothing }
+    ensures pass { IfOk result (λ opened. opened.1 ≡ first_pass opened.0 kept) }
+    ensures fault { IfErr result (λ fault. fault ≡ Memory) }
+{
+    match Shared::open(alloc, kept, tally) {
+        Ok(opened) => Ok(opened),
+        Err(_) => Err(BrokerFault::Memory),
+    }
 }
 
 // Ends the sharing, and reports what there was.

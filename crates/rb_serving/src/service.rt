@@ -2,6 +2,7 @@ use crate::door::Door;
 use rb_blocking::{Bell, Clock};
 use rb_lock::Shared;
 use rb_retry::Policy;
+use rb_session::Delivery;
 use rb_timer::Timer;
 use std::alloc::Global;
 
@@ -14,4 +15,5 @@ pub(crate) struct Service<'a, T: Timer, D: Door, C: Clock> {
     pub(crate) clock: &'a C,
     pub(crate) bell: &'a Bell,
     pub(crate) policy: &'a Policy,
+    pub(crate) delivery: Delivery,
 }

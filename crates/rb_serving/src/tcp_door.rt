@@ -1,16 +1,22 @@
-ghost use Rattle.std.specs.Prelude.{◌≡◌, IfOk};
+ghost use Rattle.std.specs.Prelude.{◌≡◌, Some, Ok, Err, OnErr, IfOk};
 
 use crate::door::{Door, DoorFault};
 use crate::visit::Visit;
 use rb_blocking::TurnGate;
-use std::io;
+use std::fmt::{self, Debug, Formatter};
 use std::net::{TcpListener, TcpStream};
 use std::sync::Wait;
 use std::sync::atomic::{AtomicU64, Ordering};
+use std::time::Duration;
+use std::{io, thread, time};
+
+// How long a worker waits after a client that it could not let in, in milliseconds.
+const PAUSE: u64 = 10;
 
 /// A door that lets in the clients of a TCP listener, up to a number of sessions.
 ///
-/// A client that can't be let in counts as one of them.
+/// A client that can't be let in counts as one of them. As the system may have no descriptor left for a while, the
+/// worker first waits 10 ms, so that the sessions are not used up at once.
 #[derive(Drop)]
 pub struct TcpDoor {
     listener: TcpListener,
@@ -35,12 +41,13 @@ impl TcpDoor {
         }
     }
 
-    // Waits for a client. Its replies are sent at once, and not held back until more can go with them.
+    // Waits for a client. Its replies are sent at once, and not held back until more can go with them; a stream for
+    // which the system can't set this is served all the same.
     fn accept(&self) -> io::Result<Visit<TcpStream, TcpStream, TurnGate>>
         ensures turns { IfOk result (λ visit. visit.gate.limit ≡ self.now.turns) }
     {
         let (reader, _) = self.listener.accept()?;
-        reader.set_nodelay(true)?;
+        let _ = reader.set_nodelay(true);
         let writer = reader.try_clone()?;
         let gate = TurnGate { limit: self.turns };
         Ok(Visit {
@@ -48,6 +55,15 @@ impl TcpDoor {
             writer,
             gate,
         })
+    }
+}
+
+impl Debug for TcpDoor {
+    fn fmt<W: fmt::Write>(&self, f: &mut Formatter<W>) -> fmt::Result {
+        f.debug_struct("TcpDoor")
+            .field("sessions", &self.sessions)
+            .field("turns", &self.turns)
+            .finish_non_exhaustive()
     }
 }
 
@@ -63,13 +79,28 @@ impl Door for TcpDoor {
 
     ghost turns_away = { λ door. Unit {0} };
 
-    fn next<R: Wait>(
+    fn next<R: Wait + time::Clock>(
         &self,
-        _rt: &R,
+        rt: &R,
     ) -> Option<Result<Visit<TcpStream, TcpStream, TurnGate>, DoorFault>> {
         if self.asked.fetch_add(1, Ordering::SeqCst) >= self.sessions {
             return None;
         }
-        Some(self.accept().map_err(|_| DoorFault))
+        let accepted = self.accept();
+        if accepted.is_err() {
+            thread::sleep(rt, Duration::from_millis(PAUSE));
+        }
+        answer_of(accepted)
+    }
+}
+
+// What a worker is told of a client that came: never that no more will come.
+fn answer_of<V: Drop>(accepted: io::Result<V>) -> Option<Result<V, DoorFault>>
+    ensures let_in { IfOk accepted (λ visit. result ≡ Some (Ok visit)) }
+    ensures turned_away { OnErr accepted ((fault : DoorFault) × (result ≡ Some (Err fault))) }
+{
+    match accepted {
+        Ok(visit) => Some(Ok(visit)),
+        Err(_) => Some(Err(DoorFault)),
     }
 }

@@ -1,5 +1,5 @@
 /// One client's visit: what it sends, what it is sent, and what may end its waits.
-#[derive(Drop)]
+#[derive(Debug, Drop)]
 pub struct Visit<I, O, G> {
     pub reader: I,
     pub writer: O,

@@ -10,7 +10,7 @@ use crate::visit::Visit;
 use crate::visit_counts::VisitCounts;
 use rb_blocking::{Clock, Gate};
 use rb_lock::Pass;
-use rb_session::{Ended, HandsOn, SessionFault, run_gathered};
+use rb_session::{Ended, SessionFault, run_delivered};
 use rb_shared_desk::SharedDesk;
 use rb_timer::Timer;
 use std::io::{Read, Write};
@@ -28,7 +28,7 @@ pub(crate) fn work<T: Timer, D: Door, C: Clock, R: Wait + time::Clock>(
 ) -> (Pass<T>, VisitCounts)
     requires pass { pass.table ≡ service.now.shared.now }
     ensures worked { IsWorked pass result.0 }
-    ensures visits { WorksOff (D.lets_in service.now.door.now) (D.turns_away service.now.door.now) D.Reader.remaining D.Writer.contents C.gives D.Gate.stops service.now.policy.now service.now.clock.now pass result.0 result.1 }
+    ensures visits { WorksOff (D.lets_in service.now.door.now) (D.turns_away service.now.door.now) D.Reader.remaining D.Writer.contents C.gives D.Gate.stops service.now.policy.now service.now.delivery service.now.clock.now pass result.0 result.1 }
 {
     let mut counts = VisitCounts::none();
     for _ in rt.forever() {
@@ -46,8 +46,7 @@ pub(crate) fn work<T: Timer, D: Door, C: Clock, R: Wait + time::Clock>(
 }
 
 // Serves a visit to its end: one session at a desk of the pass, whose waits the visit's gate may end.
-// Its replies are gathered, but while a request waits none is held back. The reader and the writer come back
-// with how it ended: what was sent went to this writer.
+// The reader and the writer come back with how it ended: what was sent went to this writer.
 fn serve_visit<
     T: Timer,
     D: Door,
@@ -65,7 +64,7 @@ fn serve_visit<
     requires pass { pass.old.table ≡ service.now.shared.now }
     ensures worked { IsWorked pass.old pass.new }
     ensures ran { Exchanges (I.remaining visit.reader) (I.remaining result.1) (O.contents visit.writer) (O.contents result.2) (λ came sent.
-        RanVisit C.gives G.stops service.now.policy.now service.now.clock.now visit.gate (IsAtEnd (I.remaining result.1)) pass.old came sent result.0 pass.new) }
+        RanVisit C.gives G.stops service.now.policy.now service.now.delivery service.now.clock.now visit.gate (IsAtEnd (I.remaining result.1)) pass.old came sent result.0 pass.new) }
 {
     let Visit {
         mut reader,
@@ -80,13 +79,13 @@ fn serve_visit<
         &mut gate,
         service.bell,
     );
-    let ended = run_gathered(
+    let ended = run_delivered(
         service.alloc,
         &mut reader,
         &mut writer,
         &mut desk,
         service.policy,
-        HandsOn::BeforeReadsAndWaits,
+        service.delivery,
     );
     (ended, reader, writer)
 }

@@ -1,14 +1,18 @@
 // Batches of requests over visits that lie in memory: when their replies are handed on.
 
 use crate::tests::devices::{
-    Received, Sends, at_once, expect_audit, expect_counts, expect_number, expect_text,
-    expect_writes, planned,
+    Counts, Plan, Received, Sends, at_once, counts_of, expect_audit, expect_counts, expect_number,
+    expect_text, expect_writes, hundred_calls, planned, served_at_once,
 };
 use crate::tests::visits::{all_given, served};
 use std::alloc::Global;
 use std::io::Write;
+use std::process::Abort;
+use std::sync::Wait;
 use std::sync::atomic::AtomicU64;
 use std::test::Fail;
+use std::thread::Threads;
+use std::time;
 
 // The second take waits for an offer that another makes when it sees the replies to what was before.
 #[test]
@@ -73,5 +77,29 @@ fn a_batch_of_offers_is_one_write(rt: HostRuntime) -> Result<(), Fail> {
     expect_writes(&rt, &received, 1);
     expect_counts(&rt, counts, 1, 0, 0);
     expect_number(&rt, counts.audit.offered, 32);
+    Ok(())
+}
+
+// What one worker comes to that writes each reply at once.
+fn replied<R: Threads + Wait + time::Clock + Abort + Sync>(
+    rt: &R,
+    alloc: Global,
+    plans: &[Plan<'_>],
+) -> Counts {
+    let served = served_at_once(rt, alloc, plans, &hundred_calls(rt, 1));
+    counts_of(&served.ok().expect(rt, "a report"))
+}
+
+#[test]
+fn replies_that_are_not_gathered_are_a_write_each(rt: HostRuntime) -> Result<(), Fail> {
+    let alloc = rt.alloc();
+    let (lines, replies) = batch(alloc)?;
+    let turns = AtomicU64::new(0);
+    let received = Received::none(alloc);
+    let plans = [planned(at_once(&lines), &received, &turns)];
+    let counts = replied(&rt, alloc, &plans);
+    expect_text(&rt, &received, &replies);
+    expect_writes(&rt, &received, 32);
+    expect_counts(&rt, counts, 1, 0, 0);
     Ok(())
 }

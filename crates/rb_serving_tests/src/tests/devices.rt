@@ -4,10 +4,11 @@ ghost use Rattle.std.specs.Prelude.{◌≡◌, ◌≤◌};
 
 use rb_arguments::RunOptions;
 use rb_blocking::{Clock, Gate};
-use rb_ending::BrokerFault;
+use rb_ending::{BrokerFault, audit_line};
 use rb_queue::{Audit, Opening};
+use rb_replay::check;
 use rb_retry::Policy;
-use rb_serving::{Door, DoorFault, ServeReport, Visit, serve_door};
+use rb_serving::{Door, DoorFault, ServeReport, Visit, serve_door, serve_door_gathered};
 use rb_timer::ListTimer;
 use std::alloc::Global;
 use std::io::{Read, Write};
@@ -198,7 +199,7 @@ impl<'a, R: Wait + time::Clock + Sync> Door for PlannedDoor<'a, R> {
 
     ghost turns_away = { λ door. Unit {0} };
 
-    fn next<H: Wait>(
+    fn next<H: Wait + time::Clock>(
         &self,
         _rt: &H,
     ) -> Option<Result<Visit<Sender<'a, R>, Receiver<'a, R>, NotedGate<'a>>, DoorFault>> {
@@ -230,8 +231,30 @@ pub fn hundred_calls(rt: &impl Abort, workers: u64) -> RunOptions
     }
 }
 
-/// Serves these visits over the plain timer with these options.
+/// Serves these visits over the plain timer with these options, and gathers their replies.
 pub fn served_so<R: Threads + Wait + time::Clock + Sync>(
+    rt: &R,
+    alloc: Global,
+    plans: &[Plan<'_>],
+    options: &RunOptions,
+) -> Result<ServeReport<ListTimer>, BrokerFault> {
+    let door = PlannedDoor {
+        rt,
+        plans,
+        taken: AtomicU64::new(0),
+    };
+    serve_door_gathered(
+        rt,
+        alloc,
+        &door,
+        &SevenClock,
+        options,
+        Opening::empty(alloc),
+    )
+}
+
+/// Serves these visits like `served_so`, but writes each reply at once.
+pub fn served_at_once<R: Threads + Wait + time::Clock + Sync>(
     rt: &R,
     alloc: Global,
     plans: &[Plan<'_>],
@@ -268,8 +291,11 @@ pub fn counted<R: Threads + Wait + time::Clock + Abort + Sync>(
     plans: &[Plan<'_>],
     options: &RunOptions,
 ) -> Counts {
-    let served = served_so(rt, alloc, plans, options);
-    counts_of(&served.ok().expect(rt, "a report"))
+    let report = served_so(rt, alloc, plans, options)
+        .ok()
+        .expect(rt, "a report");
+    expect_legal(rt, alloc, &report);
+    counts_of(&report)
 }
 
 pub fn counts_of(report: &ServeReport<ListTimer>) -> Counts {
@@ -306,6 +332,20 @@ pub fn expect_counts(rt: &impl Abort, counts: Counts, sessions: u64, faults: u64
         (counts.sessions, counts.faults, counts.lost),
         (sessions, faults, lost)
     );
+}
+
+/// The history is to be legal, and the audit that of the history.
+pub fn expect_legal(rt: &impl Abort, alloc: Global, report: &ServeReport<ListTimer>) {
+    // The proof reads here that there are few events.
+    let _ = report.kept.capacity();
+    let checked = check(alloc, report.kept.opening(), report.kept.history());
+    assert_eq!(rt; checked, Ok(report.audit));
+}
+
+/// Compares an audit's line.
+pub fn expect_audit_line(rt: &impl Abort, alloc: Global, audit: &Audit, wanted: &[u8]) {
+    let line = audit_line(alloc, audit).ok().expect(rt, "memory");
+    assert_eq!(rt; line.as_bytes(), wanted);
 }
 
 pub fn expect_audit(rt: &impl Abort, audit: Audit, wanted: Audit) {

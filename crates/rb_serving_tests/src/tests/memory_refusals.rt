@@ -79,41 +79,61 @@ struct Served {
     sent: Sent,
 }
 
-// Serves as many visitors as there are workers, 1 or 2.
+// How many workers serve, 1 or 2, and how many visitors, as many or 2.
+#[derive(Clone, Copy)]
+struct Crowd {
+    workers: u64,
+    visitors: u64,
+    ghost some: { 1 ≤ workers },
+    ghost few: { workers ≤ 2 },
+}
+
+const ALONE: Crowd = Crowd {
+    workers: 1,
+    visitors: 1,
+};
+
+// The one worker serves the second visitor, whatever became of the first.
+const IN_TURN: Crowd = Crowd {
+    workers: 1,
+    visitors: 2,
+};
+
+const AT_ONCE: Crowd = Crowd {
+    workers: 2,
+    visitors: 2,
+};
+
+// Serves the visitors.
 fn served_lines<R: Threads + Wait + time::Clock + Abort + Sync>(
     rt: &R,
     alloc: Global,
-    workers: u64,
-) -> Result<Served, Fail>
-    requires some { 1 ≤ workers }
-    requires few { workers ≤ 2 }
-{
+    crowd: Crowd,
+) -> Result<Served, Fail> {
     let first = page(alloc)?;
     let second = page(alloc)?;
-    Ok(served_into(rt, alloc, workers, first, second))
+    Ok(served_into(rt, alloc, crowd, first, second))
 }
 
 fn served_into<R: Threads + Wait + time::Clock + Abort + Sync>(
     rt: &R,
     alloc: Global,
-    workers: u64,
+    crowd: Crowd,
     first: Vec<u8>,
     second: Vec<u8>,
-) -> Served
-    requires some { 1 ≤ workers }
-    requires few { workers ≤ 2 }
-{
+) -> Served {
     let turns = AtomicU64::new(0);
     let (first, second) = (Received::into(first), Received::into(second));
     let plans = [
         planned(at_once(LINES), &first, &turns),
         planned(at_once(LINES), &second, &turns),
     ];
-    let visitors = if workers == 1 { 1 } else { 2 };
-    let outcome = served_so(rt, alloc, &plans[..visitors], &hundred_calls(rt, workers));
+    let visitors = if crowd.visitors == 1 { 1 } else { 2 };
+    let options = hundred_calls(rt, crowd.workers);
+    let outcome = served_so(rt, alloc, &plans[..visitors], &options);
     let mut sent = NOBODY;
     sent.note(first.lock(rt).text.as_slice());
-    if workers == 2 {
+    if visitors == 2 {
         sent.note(second.lock(rt).text.as_slice());
     }
     Served { outcome, sent }
@@ -134,30 +154,30 @@ fn expect_report(rt: &impl Abort, counts: Counts, events: usize, sent: Sent, vis
 }
 
 // Who was started before a worker that could not be has served all.
-fn expect_fault(rt: &impl Abort, fault: BrokerFault, sent: Sent, workers: u64) {
+fn expect_fault(rt: &impl Abort, fault: BrokerFault, sent: Sent, visitors: u64) {
     if fault == BrokerFault::Memory {
-        expect_number(rt, sent.nothing, workers);
+        expect_number(rt, sent.nothing, visitors);
     } else {
         expect(rt, fault == BrokerFault::Worker);
-        expect(rt, sent.is_whole(workers) || sent.nothing == workers);
+        expect(rt, sent.is_whole(visitors) || sent.nothing == visitors);
     }
 }
 
 // The report of a server that was refused nothing.
-fn whole_report(rt: &impl Abort, served: Served, workers: u64) -> Option<ServeReport<ListTimer>> {
+fn whole_report(rt: &impl Abort, served: Served, visitors: u64) -> Option<ServeReport<ListTimer>> {
     let Served { outcome, sent } = served;
     match outcome {
         Ok(report) => {
             let events = report.kept.history().len();
-            expect_report(rt, counts_of(&report), events, sent, workers);
-            if sent.is_whole(workers) {
+            expect_report(rt, counts_of(&report), events, sent, visitors);
+            if sent.is_whole(visitors) {
                 Some(report)
             } else {
                 None
             }
         }
         Err(fault) => {
-            expect_fault(rt, fault, sent, workers);
+            expect_fault(rt, fault, sent, visitors);
             None
         }
     }
@@ -167,15 +187,13 @@ fn whole_report(rt: &impl Abort, served: Served, workers: u64) -> Option<ServeRe
 fn report_at_last<R: Threads + Wait + time::Clock + Abort + Sync>(
     rt: &R,
     alloc: Global,
-    workers: u64,
-) -> Result<(ServeReport<ListTimer>, u32), Fail>
-    requires some { 1 ≤ workers }
-    requires few { workers ≤ 2 }
-{
-    if let Some(report) = whole_report(rt, served_lines(rt, alloc, workers)?, workers) {
+    crowd: Crowd,
+) -> Result<(ServeReport<ListTimer>, u32), Fail> {
+    let visitors = crowd.visitors;
+    if let Some(report) = whole_report(rt, served_lines(rt, alloc, crowd)?, visitors) {
         return Ok((report, 0));
     }
-    match whole_report(rt, served_lines(rt, alloc, workers)?, workers) {
+    match whole_report(rt, served_lines(rt, alloc, crowd)?, visitors) {
         Some(report) => Ok((report, 1)),
         None => Err(Fail::from("it was refused twice")),
     }
@@ -250,7 +268,7 @@ fn refused_server<R: Threads + Wait + time::Clock + Abort + Sync>(
     rt: &R,
     alloc: Global,
 ) -> Result<u32, Fail> {
-    let (report, met) = report_at_last(rt, alloc, 1)?;
+    let (report, met) = report_at_last(rt, alloc, ALONE)?;
     Ok(met.saturating_add(refused_ends(rt, alloc, &report)?))
 }
 
@@ -261,7 +279,8 @@ fn expect_refusals(rt: &impl Abort, refusals: u32) {
 #[test]
 fn a_refused_allocation_is_answered(rt: HostRuntime) -> Result<(), Fail> {
     let one = refused_server(&rt, rt.alloc())?;
-    let (_, two) = report_at_last(&rt, rt.alloc(), 2)?;
-    expect_refusals(&rt, one.saturating_add(two));
+    let (_, in_turn) = report_at_last(&rt, rt.alloc(), IN_TURN)?;
+    let (_, at_once) = report_at_last(&rt, rt.alloc(), AT_ONCE)?;
+    expect_refusals(&rt, one.saturating_add(in_turn).saturating_add(at_once));
     Ok(())
 }

@@ -1,11 +1,14 @@
 // A server over TCP on loopback, both ends in one process.
 
+ghost use Rattle.std.specs.Prelude.{◌≤◌};
+
 use crate::tests::devices::{
-    Counts, SevenClock, counts_of, expect_bytes, expect_counts, expect_number,
+    Counts, SevenClock, counts_of, expect, expect_audit_line, expect_bytes, expect_counts,
+    expect_legal, expect_number, hundred_calls,
 };
 use rb_arguments::RunOptions;
+use rb_blocking::{Clock, MachineClock};
 use rb_queue::Opening;
-use rb_retry::Policy;
 use rb_serving::{TcpDoor, serve_door};
 use rb_timer::ListTimer;
 use std::alloc::Global;
@@ -16,6 +19,10 @@ use std::sync::Wait;
 use std::test::Fail;
 use std::thread::Threads;
 use std::time;
+
+// One element was offered and given.
+const AUDIT: &[u8] =
+    b"{\"calls\":2,\"cleared\":0,\"given\":1,\"left\":0,\"offered\":1,\"opening\":0,\"removed\":0}\n";
 
 // A client that has sent these lines.
 fn client(rt: &HostRuntime, server: SocketAddr, lines: &[u8]) -> Result<TcpStream, Fail> {
@@ -31,29 +38,27 @@ fn sent(alloc: Global, mut stream: TcpStream) -> Result<Vec<u8>, Fail> {
     Ok(text)
 }
 
-// Serves two clients by two workers.
+// Serves the clients of this door by so many workers.
 fn served<R: Threads + Wait + time::Clock + Abort + Sync>(
     rt: &R,
     alloc: Global,
-    listener: TcpListener,
-) -> Counts {
-    let policy = Policy::fixed(1_000, 3).expect(rt, "a policy");
-    let options = RunOptions {
-        workers: 2,
-        calls: 100,
-        policy,
-    };
-    let door = TcpDoor::new(listener, 2, 200);
+    door: &TcpDoor,
+    workers: u64,
+) -> Counts
+    requires some { 1 ≤ workers }
+    requires few { workers ≤ 16 }
+{
+    let options = hundred_calls(rt, workers);
     let opening = Opening::empty(alloc);
-    let report = serve_door::<ListTimer, _, _, _>(rt, alloc, &door, &SevenClock, &options, opening);
-    counts_of(&report.ok().expect(rt, "a report"))
+    let report = serve_door::<ListTimer, _, _, _>(rt, alloc, door, &SevenClock, &options, opening);
+    let report = report.ok().expect(rt, "a report");
+    expect_legal(rt, alloc, &report);
+    counts_of(&report)
 }
 
-fn expect_report(rt: &impl Abort, counts: Counts) {
+fn expect_report(rt: &impl Abort, alloc: Global, counts: Counts) {
     expect_counts(rt, counts, 2, 0, 0);
-    expect_number(rt, counts.audit.calls, 2);
-    expect_number(rt, counts.audit.offered, 1);
-    expect_number(rt, counts.audit.given, 1);
+    expect_audit_line(rt, alloc, &counts.audit, AUDIT);
 }
 
 fn expect_sent(rt: &impl Abort, alloc: Global, stream: TcpStream, text: &[u8]) -> Result<(), Fail> {
@@ -61,15 +66,51 @@ fn expect_sent(rt: &impl Abort, alloc: Global, stream: TcpStream, text: &[u8]) -
     Ok(())
 }
 
+fn port_of_the_system() -> SocketAddr {
+    SocketAddr::V4(SocketAddrV4::new(Ipv4Addr::LOCALHOST, 0))
+}
+
 #[test]
 fn two_clients_share_a_queue(rt: HostRuntime) -> Result<(), Fail> {
-    let port_of_the_system = SocketAddr::V4(SocketAddrV4::new(Ipv4Addr::LOCALHOST, 0));
-    let listener = TcpListener::bind(&rt, port_of_the_system)?;
+    let listener = TcpListener::bind(&rt, port_of_the_system())?;
     let server = listener.local_addr()?;
     let taker = client(&rt, server, b"TAKE\nDONE 0\nQUIT\n")?;
     let giver = client(&rt, server, b"OFFER 0 a\nQUIT\n")?;
     let alloc = rt.alloc();
-    expect_report(&rt, served(&rt, alloc, listener));
+    expect_report(
+        &rt,
+        alloc,
+        served(&rt, alloc, &TcpDoor::new(listener, 2, 200), 2),
+    );
     expect_sent(&rt, alloc, taker, b"ITEM 0 7 1 a\nDONE 0\nBYE\n")?;
     expect_sent(&rt, alloc, giver, b"OFFERED 0 7\nBYE\n")
+}
+
+// What one worker counts that serves the clients of this door, and after how many milliseconds.
+fn served_within<R: Threads + Wait + time::Clock + Abort + Sync>(
+    rt: &R,
+    alloc: Global,
+    door: &TcpDoor,
+) -> (Counts, u64) {
+    let watch = MachineClock::new(rt);
+    let counts = served(rt, alloc, door, 1);
+    (counts, watch.now() / 1_000_000)
+}
+
+fn expect_refused(rt: &impl Abort, found: (Counts, u64)) {
+    let (counts, lasted) = found;
+    expect_counts(rt, counts, 5, 5, 0);
+    expect_number(rt, counts.audit.calls, 0);
+    expect(rt, lasted >= 50);
+}
+
+// Nobody has connected and the listener does not wait, so that no client can be accepted. Each is a session and a
+// fault, after 10 ms.
+#[test]
+fn sessions_are_not_used_up_at_once(rt: HostRuntime) -> Result<(), Fail> {
+    let listener = TcpListener::bind(&rt, port_of_the_system())?;
+    listener.set_nonblocking(true)?;
+    let door = TcpDoor::new(listener, 5, 200);
+    expect_refused(&rt, served_within(&rt, rt.alloc(), &door));
+    Ok(())
 }

@@ -3,16 +3,24 @@
 ghost use Rattle.std.specs.Prelude.{◌≤◌};
 
 use crate::tests::devices::{
-    Counts, Plan, Received, Sends, after, at_once, counted, expect, expect_audit, expect_counts,
-    expect_number, expect_text, hundred_calls, planned,
+    Counts, Plan, Received, Sends, after, at_once, counted, expect, expect_audit,
+    expect_audit_line, expect_counts, expect_number, expect_text, hundred_calls, planned,
 };
 use rb_queue::Audit;
-use std::alloc::Global;
+use std::alloc::{AllocError, Global};
 use std::process::Abort;
 use std::sync::atomic::AtomicU64;
 use std::sync::{Mutex, Wait};
+use std::test::Fail;
 use std::thread::Threads;
 use std::time;
+
+// The audit lines of servers whose one or two elements were offered and given.
+const ONE_GIVEN: &[u8] =
+    b"{\"calls\":2,\"cleared\":0,\"given\":1,\"left\":0,\"offered\":1,\"opening\":0,\"removed\":0}\n";
+
+const TWO_GIVEN: &[u8] =
+    b"{\"calls\":4,\"cleared\":0,\"given\":2,\"left\":0,\"offered\":2,\"opening\":0,\"removed\":0}\n";
 
 /// What a server of so many workers comes to that serves these visits.
 pub fn served<R: Threads + Wait + time::Clock + Abort + Sync>(
@@ -72,7 +80,7 @@ fn workers_run_together(rt: HostRuntime) {
     let taker = b"ITEM 0 7 1 a\nDONE 0\nBYE\n";
     let counts = expect_two(&rt, rt.alloc(), 2, taker, b"OFFERED 0 7\nBYE\n");
     expect_counts(&rt, counts, 2, 0, 0);
-    expect_audit(&rt, counts.audit, all_given(1));
+    expect_audit_line(&rt, rt.alloc(), &counts.audit, ONE_GIVEN);
 }
 
 // One worker serves the visits one after the other, so that the take finds nothing.
@@ -119,7 +127,7 @@ fn each_taker_gets_its_own(rt: HostRuntime) {
     expect(&rt, are_sent(&rt, &first, &second, got_first, got_second));
     expect_text(&rt, &third, b"OFFERED 0 7\nOFFERED 1 7\nBYE\n");
     expect_counts(&rt, counts, 3, 0, 0);
-    expect_audit(&rt, counts.audit, all_given(2));
+    expect_audit_line(&rt, alloc, &counts.audit, TWO_GIVEN);
 }
 
 // A refused visit and one whose first read fails are two faults, and make no call.
@@ -188,6 +196,58 @@ fn each_worker_serves(rt: HostRuntime) {
     let counts = served(&rt, alloc, &plans, 5);
     expect_counts(&rt, counts, 5, 0, 0);
     expect_audit(&rt, counts.audit, all_given(4));
+}
+
+// As many visitors as a server has workers at most.
+const MOST_WORKERS: u64 = 16;
+
+const COUNTS: &[u8] = b"SIZE\nQUIT\n";
+
+const COUNTED: &[u8] = b"SIZE 0\nBYE\n";
+
+fn nothing_received(alloc: Global) -> Result<Vec<Mutex<Received>>, AllocError> {
+    let mut received = Vec::new(alloc);
+    for _ in 0..MOST_WORKERS {
+        received.push(Received::none(alloc))?;
+    }
+    Ok(received)
+}
+
+// Each visitor begins when the one after it has been served, and the last one at once.
+fn last_first<'a>(
+    alloc: Global,
+    received: &'a [Mutex<Received>],
+    turns: &'a AtomicU64,
+) -> Result<Vec<Plan<'a>>, AllocError> {
+    let mut plans = Vec::new(alloc);
+    for (place, own) in received.iter().enumerate() {
+        let sends = begins_after(received.get(place.saturating_add(1)));
+        plans.push(planned(sends, own, turns))?;
+    }
+    Ok(plans)
+}
+
+fn begins_after<'a>(next: Option<&'a Mutex<Received>>) -> Option<Sends<'a>> {
+    match next {
+        Some(next) => Some(Sends::OnceSent(COUNTS, next, COUNTED)),
+        None => at_once(COUNTS),
+    }
+}
+
+// So none of them is served before all 16 workers run.
+#[test]
+fn sixteen_workers_run_together(rt: HostRuntime) -> Result<(), Fail> {
+    let alloc = rt.alloc();
+    let received = nothing_received(alloc)?;
+    let turns = AtomicU64::new(0);
+    let plans = last_first(alloc, &received, &turns)?;
+    let counts = served(&rt, alloc, &plans, MOST_WORKERS);
+    expect_counts(&rt, counts, MOST_WORKERS, 0, 0);
+    expect_number(&rt, counts.audit.calls, MOST_WORKERS);
+    for text in &received {
+        expect_text(&rt, text, COUNTED);
+    }
+    Ok(())
 }
 
 // No client sets the clock that all share.

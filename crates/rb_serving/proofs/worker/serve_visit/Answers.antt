@@ -6,18 +6,19 @@ use Rattle.rb_shared_desk.specs.SharedSteps.{SharedState, SharedSteps, SetsShare
 use Rattle.rb_retry.specs.declared.policy.Policy.{Policy}
 use Rattle.rb_session.specs.declared.ended.Ended.{Ended}
 use Rattle.rb_session.specs.declared.session_fault.SessionFault.{SessionFault}
-use Rattle.rb_session.specs.Gathered.{RanGathered}
+use Rattle.rb_session.specs.Delivered.{RanDelivered}
+use Rattle.rb_session.specs.declared.delivery.Delivery.{Delivery}
 use Rattle.rb_serving.specs.Visits.{RanVisit}
 use Rattle.rb_serving.proofs.worker.serve_visit.Goals as goal
 
 -- what a session at a new desk of the pass does
-ran_visit : {C G : Type 0} (gives : C → ℕ → Type 0) (stops : G → ℕ → Type 0) (policy : Policy) (clock : C) (gate : G) (Over : Type 0) (reference : ℕ) (old new : Seen)
+ran_visit : {C G : Type 0} (gives : C → ℕ → Type 0) (stops : G → ℕ → Type 0) (policy : Policy) (delivery : Delivery) (clock : C) (gate : G) (Over : Type 0) (reference : ℕ) (old new : Seen)
     (came sent : List ℕ) (ended : Result Ended SessionFault) (from to : SharedState C G)
     → from ≡ record { reference = reference; pass = old; clock = clock; gate = gate; before = length old.mine }
-    → RanGathered (λ desk moment. gives desk.clock moment) SetsShared (SharedSteps gives stops) policy Over from came sent ended to
+    → RanDelivered (λ desk moment. gives desk.clock moment) SetsShared (SharedSteps gives stops) policy delivery Over from came sent ended to
     → to.pass ≡ new
-    → RanVisit gives stops policy clock gate Over old came sent ended new
-ran_visit {C} {G} gives stops policy clock gate Over reference old new came sent ended from to is ran seen = record {
+    → RanVisit gives stops policy delivery clock gate Over old came sent ended new
+ran_visit {C} {G} gives stops policy delivery clock gate Over reference old new came sent ended from to is ran seen = record {
   from = from;
   begun = record {
     pass_is = ap (λ (desk : SharedState C G). desk.pass) is;
@@ -32,12 +33,12 @@ ran_visit {C} {G} gives stops policy clock gate Over reference old new came sent
 
 pub returns-clause-ran : goal.returns-clause-ran
 returns-clause-ran g c =
-    let same = c.run_gathered-ended.ensures.name ∙ ap name_of c.new-desk.ensures.state in
-    let ran = c.run_gathered-ended.ensures.ran in record {
+    let same = c.run_delivered-ended.ensures.name ∙ ap name_of c.new-desk.ensures.state in
+    let ran = c.run_delivered-ended.ensures.ran in record {
       came = ran.came;
       sent = ran.sent;
       consumed = ran.consumed;
       appended = ran.appended;
-      holds = ran_visit g.C.Clock.gives g.G.Gate.stops c.args.service.now.policy.now c.args.service.now.clock.now c.args.visit.gate (IsAtEnd (g.I.Read.remaining c.run_gathered-ended.new.reader)) _ c.args.pass.now _ ran.came ran.sent c.run_gathered-ended.result _ _
+      holds = ran_visit g.C.Clock.gives g.G.Gate.stops c.args.service.now.policy.now c.args.service.now.delivery c.args.service.now.clock.now c.args.visit.gate (IsAtEnd (g.I.Read.remaining c.run_delivered-ended.new.reader)) _ c.args.pass.now _ ran.came ran.sent c.run_delivered-ended.result _ _
           c.new-desk.ensures.state ran.holds (search (rules, same));
     }
