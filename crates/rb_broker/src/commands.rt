@@ -1,11 +1,14 @@
+use crate::files::{check_output, device_for, make_room_for, text_of};
 use rb_arguments::{ReplayOptions, RunOptions, ScriptOptions, ServeOptions};
 use rb_ending::BrokerFault;
 use rb_queue::Opening;
-use rb_runs::{opening_in, over_timer, read_all, run_replay, run_script};
-use rb_serving::{ServeClock, ServeReport, TcpDoor, end_server, print_listening, serve_door};
+use rb_runs::{opening_in, over_timer, run_replay, run_script_gathered};
+use rb_serving::{
+    ServeClock, ServeReport, TcpDoor, end_server, print_listening, serve_door_gathered,
+};
 use rb_session::Ended;
 use rb_timer::Timer;
-use std::fs::{self, File};
+use std::fs::File;
 use std::io::Write;
 use std::net::{Ipv4Addr, SocketAddr, SocketAddrV4, TcpListener};
 use std::sync::Wait;
@@ -23,8 +26,9 @@ pub fn script(
     from: Option<&str>,
 ) -> Result<Ended, BrokerFault> {
     let opening = opening_behind(rt, from)?;
+    check_output(rt, history)?;
     let mut device = device_for(rt, history)?;
-    run_script(
+    run_script_gathered(
         rt.alloc(),
         options,
         opening,
@@ -47,9 +51,9 @@ pub fn replay(rt: &HostRuntime, options: &ReplayOptions, file: &str) -> Result<u
 /// Serves clients at a port of 127.0.0.1, writes the history of the run, and prints its counts.
 ///
 /// It reads the file `from` before anything else. It creates the file `history` before it binds the
-/// port, and empties it once the port is bound: so both may be the same, and a port in use costs no
-/// history. Then it prints the line that names the port. If the run ends without a history, the
-/// file stays empty.
+/// port, and empties it once it has printed the line that names the port: so both may be the same, and
+/// a port in use costs no history, and neither does an output that is full or closed. If the run ends
+/// without a history, the file stays empty.
 ///
 /// `handle` starts the workers, and they wait by it.
 pub fn serve<R: Threads + Wait + time::Clock + Sync>(
@@ -60,13 +64,14 @@ pub fn serve<R: Threads + Wait + time::Clock + Sync>(
     from: Option<&str>,
 ) -> Result<(), BrokerFault> {
     let opening = opening_behind(rt, from)?;
+    check_output(rt, history)?;
     make_room_for(rt, history)?;
     let address = SocketAddr::V4(SocketAddrV4::new(Ipv4Addr::LOCALHOST, options.port));
     let Ok(listener) = TcpListener::bind(rt, address) else {
         return Err(BrokerFault::Listen);
     };
-    let mut device = device_for(rt, history)?;
     print_listening(rt.alloc(), &mut rt.stdout(), options.port)?;
+    let mut device = device_for(rt, history)?;
     let door = TcpDoor::new(listener, options.sessions, options.turns);
     let run = &options.run;
     over_timer!(
@@ -86,7 +91,7 @@ fn serve_over<T: Timer + Send, R: Threads + Wait + time::Clock + Sync>(
 ) -> Result<(), BrokerFault> {
     let alloc = rt.alloc();
     let clock = ServeClock::new(handle, opening.last_at);
-    let report: ServeReport<T> = serve_door(handle, alloc, door, &clock, run, opening)?;
+    let report: ServeReport<T> = serve_door_gathered(handle, alloc, door, &clock, run, opening)?;
     end_server(alloc, &report, &mut rt.stdout(), history)
 }
 
@@ -95,46 +100,5 @@ fn opening_behind(rt: &HostRuntime, from: Option<&str>) -> Result<Opening, Broke
     match from {
         Some(path) => opening_in(rt.alloc(), &text_of(rt, path)?),
         None => Ok(Opening::empty(rt.alloc())),
-    }
-}
-
-// What the history of a run is written to, if a file is named.
-fn device_for(rt: &HostRuntime, history: Option<&str>) -> Result<Option<File>, BrokerFault> {
-    let Some(path) = history else {
-        return Ok(None);
-    };
-    // The system would give the place of a closed standard output to the next file that is opened,
-    // which would then get the replies.
-    match rt.stdout().write(&[]) {
-        Ok(_) => Ok(Some(created(rt, path)?)),
-        Err(_) => Err(BrokerFault::Write),
-    }
-}
-
-// Creates the file of a run's history, if one is named. Its contents stay: a port in use must not
-// cost the history of an earlier run.
-fn make_room_for(rt: &HostRuntime, history: Option<&str>) -> Result<(), BrokerFault> {
-    let Some(path) = history else {
-        return Ok(());
-    };
-    match File::options().write(true).create(true).open(rt, path) {
-        Ok(_) => Ok(()),
-        Err(_) => Err(BrokerFault::WriteHistory),
-    }
-}
-
-// All bytes of a file.
-fn text_of(rt: &HostRuntime, path: &str) -> Result<Vec<u8>, BrokerFault> {
-    match fs::open(rt, path) {
-        Ok(mut file) => read_all(rt.alloc(), &mut file),
-        Err(_) => Err(BrokerFault::ReadHistory),
-    }
-}
-
-// An empty file of this name.
-fn created(rt: &HostRuntime, path: &str) -> Result<File, BrokerFault> {
-    match fs::create(rt, path) {
-        Ok(file) => Ok(file),
-        Err(_) => Err(BrokerFault::WriteHistory),
     }
 }

@@ -8,11 +8,12 @@
 #![tactic(auto)]
 
 mod commands;
+mod files;
 
 ghost use Rattle.std.specs.Process.{exit_status};
 ghost use Rattle.clap.specs.Words.{kind_of};
 ghost use Rattle.rb_ending.specs.BrokerFault.{status_of};
-ghost use Rattle.std.specs.Prelude.{◌≡◌};
+ghost use Rattle.std.specs.Prelude.{◌≡◌, ◌≢◌};
 ghost use Rattle.rb_broker.specs.ExitStatus.{IsStatusOfWords, status_of_replay, status_of_run};
 
 use clap::Error;
@@ -20,6 +21,7 @@ use clap::error::ErrorKind;
 use rb_arguments::{Words, read_words};
 use rb_ending::BrokerFault;
 use std::alloc::{AllocError, Global};
+use std::io::ErrorKind as ReadKind;
 use std::process::ExitCode;
 use std::sync::Wait;
 use std::thread::Threads;
@@ -34,13 +36,7 @@ fn main(rt: HostRuntime) -> ExitCode {
             Ok(words) => run(&rt, &rt, words.as_slice()),
             Err(AllocError) => exit_with_fault(&rt, BrokerFault::Memory),
         },
-        Err(error) if error.kind() == io::ErrorKind::OutOfMemory => {
-            exit_with_fault(&rt, BrokerFault::Memory)
-        }
-        Err(_) => {
-            let _ = rt.eprintln("rb_broker: a word of the command line is not UTF-8 text");
-            ExitCode::from(WORDS_REFUSED)
-        }
+        Err(error) => exit_without_words(&rt, error.kind()),
     }
 }
 
@@ -108,6 +104,21 @@ fn exit_after_replay(rt: &HostRuntime, outcome: Result<u8, BrokerFault>) -> Exit
     match outcome {
         Ok(status) => ExitCode::from(status),
         Err(ended) => exit_with_fault(rt, ended),
+    }
+}
+
+/// Prints why the words could not be read, of which this is the kind, and returns the exit status: that of
+/// want of memory, or that of refused words for one that is not text.
+fn exit_without_words(rt: &HostRuntime, kind: ReadKind) -> ExitCode
+    ensures memory { kind ≡ ReadKind.OutOfMemory → exit_status result ≡ 4 }
+    ensures refused { kind ≢ ReadKind.OutOfMemory → exit_status result ≡ 2 }
+{
+    match kind {
+        ReadKind::OutOfMemory => exit_with_fault(rt, BrokerFault::Memory),
+        _ => {
+            let _ = rt.eprintln("rb_broker: a word of the command line is not UTF-8 text");
+            ExitCode::from(WORDS_REFUSED)
+        }
     }
 }
 
