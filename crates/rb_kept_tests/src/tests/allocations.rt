@@ -8,7 +8,7 @@ use rb_delayed::{Delayed, Element, Payload, add_capped, add_delay, is_expired};
 use rb_kept::{CallFault, Kept, Outcome};
 use rb_ledger::{Books, Tally};
 use rb_pairing::PairingTimer;
-use rb_protocol::{LineReply, read_request, write_reply};
+use rb_protocol::{ErrorWord, LineReply, read_request, write_reply};
 use rb_queue::{Act, Ask, DelayQueue, Draft, Items, Opening, Reply};
 use rb_replay::{History, read_history};
 use rb_timer::{ListTimer, Timer};
@@ -137,10 +137,11 @@ fn expect_answers(rt: &impl Abort, alloc: Global, rounds: u64) {
     expect_number(rt, books(rounds), rounds.saturating_mul(3));
     expect_number(
         rt,
-        lines(&mut things.text, rounds),
-        rounds.saturating_mul(3),
+        lines(rt, &mut things.text, rounds),
+        rounds.saturating_mul(23),
     );
-    expect_number(rt, events(&things.history, rounds), rounds);
+    let shown = histories(&things.history, rounds);
+    expect_number(rt, shown, rounds.saturating_mul(2));
     expect_over(rt, alloc, &mut things.list, rounds);
     expect_over(rt, alloc, &mut things.heap, rounds);
     expect_over(rt, alloc, &mut things.pairing, rounds);
@@ -243,29 +244,76 @@ fn book_round() -> u64 {
     ])
 }
 
-// Lines of requests, and replies into room for the longest one.
-fn lines(text: &mut Vec<u8>, rounds: u64) -> u64 {
+// Lines of each form and with each fault, and each kind of reply into room for the longest one.
+fn lines(rt: &impl Abort, text: &mut Vec<u8>, rounds: u64) -> u64 {
     let mut right = 0_u64;
     for _ in 0..rounds {
-        right = right.saturating_add(line_round(text));
+        right = right.saturating_add(request_round());
+        right = right.saturating_add(reply_round(rt, text));
     }
     right
 }
 
-fn line_round(text: &mut Vec<u8>) -> u64 {
-    text.clear();
+fn request_round() -> u64 {
     count(&[
-        read_request(b"OFFER 5 job").is_ok(),
+        read_request(b"OFFER 18446744073709551615 job").is_ok(),
+        read_request(b"OFFERAT 5 job").is_ok(),
+        read_request(b"FAIL 7").is_ok(),
+        read_request(b"QUIT").is_ok(),
         read_request(b"offer").is_err(),
-        write_reply(&LineReply::Size(u64::MAX), text).is_ok(),
+        read_request(b"FAIL 07").is_err(),
+        read_request(b"OFFER 5 \x7F").is_err(),
+        read_request(&[b'x'; 257]).is_err(),
     ])
 }
 
-// The events of a history that was read.
-fn events(history: &History, rounds: u64) -> u64 {
+// The element whose line is the longest.
+fn longest(rt: &impl Abort) -> Element {
+    Element {
+        id: u64::MAX,
+        expiry: u64::MAX,
+        origin: u64::MAX,
+        first: u64::MAX,
+        attempt: 1_000,
+        payload: payload(rt, &[b'z'; 64]),
+    }
+}
+
+fn reply_round(rt: &impl Abort, text: &mut Vec<u8>) -> u64 {
+    let (id, expiry) = (u64::MAX, u64::MAX);
+    let mut written = 0_u64;
+    for reply in &[
+        LineReply::Offered { id, expiry },
+        LineReply::Item(longest(rt)),
+        LineReply::Head(longest(rt)),
+        LineReply::Nothing,
+        LineReply::Removed(false),
+        LineReply::Drained(id),
+        LineReply::Cleared,
+        LineReply::Size(id),
+        LineReply::Done(id),
+        LineReply::Again { id, expiry },
+        LineReply::Dead(id),
+        LineReply::Now(expiry),
+        LineReply::Stopped,
+        LineReply::Bye,
+        LineReply::Error(ErrorWord::NotHeld),
+    ] {
+        text.clear();
+        let answer = write_reply(reply, text);
+        written = written.saturating_add(u64::from(answer.is_ok()));
+    }
+    written
+}
+
+// The one event of a history that was read, and its opening.
+fn histories(history: &History, rounds: u64) -> u64 {
     let mut right = 0_u64;
     for _ in 0..rounds {
-        right = right.saturating_add(history.events().len() as u64);
+        right = right.saturating_add(count(&[
+            history.events().len() == 1,
+            history.opening().next_id == 0,
+        ]));
     }
     right
 }

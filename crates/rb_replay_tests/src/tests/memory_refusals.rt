@@ -1,13 +1,14 @@
 ghost use Rattle.rb_queue.specs.History.{IsLegal};
 
 use crate::tests::devices::{expect, write_to};
+use rb_protocol::{LineReply, write_reply};
 use rb_queue::{Event, Opening};
 use rb_replay::{
     ChainFault, History, HistoryFault, OpeningFault, ReplayFault, TextFault, chains, check,
     opening_of, read_history,
 };
 use rb_retry::Policy;
-use std::alloc::Global;
+use std::alloc::{AllocError, Global};
 use std::io::{self, Write};
 use std::process::Abort;
 
@@ -117,8 +118,59 @@ fn refused(rt: &impl Abort, alloc: Global) -> u32 {
     }
 }
 
-#[test]
-fn a_refused_allocation_is_answered(rt: HostRuntime) {
-    let refusals = refused(&rt, rt.alloc());
+// A reply, and its line.
+const REPLY: LineReply = LineReply::Size(u64::MAX);
+
+const LINE: &[u8] = b"SIZE 18446744073709551615\n";
+
+// How many lines a text of replies gets, past several of its growths.
+const LINES: usize = 100;
+
+// A text of one line and no room for another. Its memory is asked for again where it was refused.
+fn full_text(alloc: Global) -> Result<Vec<u8>, AllocError> {
+    match Vec::from_slice(alloc, LINE) {
+        Ok(text) => Ok(text),
+        Err(_) => Vec::from_slice(alloc, LINE),
+    }
+}
+
+// Whether a reply was refused. It then left the text as it was, and was written again.
+fn refused_line(rt: &impl Abort, text: &mut Vec<u8>) -> bool {
+    let before = text.len();
+    let is_refused = write_reply(&REPLY, text).is_err();
+    if is_refused {
+        expect(rt, text.len() == before);
+        expect(rt, write_reply(&REPLY, text).is_ok());
+    }
+    is_refused
+}
+
+fn expect_lines(rt: &impl Abort, text: &[u8]) {
+    expect(rt, text.len() == LINES.saturating_mul(LINE.len()));
+    for line in text.chunks(LINE.len()) {
+        expect(rt, line == LINE);
+    }
+}
+
+// How many replies were refused.
+fn refused_replies(rt: &impl Abort, alloc: Global) -> Result<u32, AllocError> {
+    let mut text = full_text(alloc)?;
+    let mut refusals = 0_u32;
+    for _ in 1..LINES {
+        let refused = refused_line(rt, &mut text);
+        refusals = refusals.saturating_add(u32::from(refused));
+    }
+    expect_lines(rt, &text);
+    Ok(refusals)
+}
+
+fn expect_refusals(rt: &impl Abort, refusals: u32) {
     assert_eq!(rt; refusals, REFUSALS);
+}
+
+#[test]
+fn a_refused_allocation_is_answered(rt: HostRuntime) -> Result<(), AllocError> {
+    let replies = refused_replies(&rt, rt.alloc())?;
+    expect_refusals(&rt, refused(&rt, rt.alloc()).saturating_add(replies));
+    Ok(())
 }
