@@ -1,4 +1,5 @@
-//! The line protocol of the broker: which request a line is, and which line a reply is.
+//! The line protocol of the broker: which request a line is, and which line a reply is; and what
+//! all crates share that read lines and write them.
 //!
 //! A request is one line of words with one space between two of them, and so is each line of a
 //! reply. Lines are read without their ends, and written with them. Reading takes no memory, and
@@ -8,6 +9,7 @@
 mod error_word;
 mod format;
 mod keywords;
+mod limits;
 mod line_fault;
 mod line_reply;
 mod line_words;
@@ -16,10 +18,14 @@ mod reply_line;
 mod request;
 #[cfg(test)]
 mod tests;
+mod writing;
 
 pub use error_word::ErrorWord;
 pub use format::{LINE_FEED, SPACE};
+pub use limits::{BUFFER_BYTES, MOST_READS};
 pub use line_fault::LineFault;
 pub use line_reply::{LineReply, MOST_REPLY_BYTES, REPLY_ROOM, write_reply};
+pub use line_words::cut_word;
 pub use number::read_number;
 pub use request::{MOST_LINE_BYTES, Request, one_reading, read_request, request_has_text};
+pub use writing::{WriteFault, write_out};

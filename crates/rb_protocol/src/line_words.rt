@@ -44,8 +44,8 @@ fn read_places(rest: Option<&[u8]>) -> Option<Places<'_>>
     Some(Places::Two(word, other))
 }
 
-// The first word of a text, and what follows the space that ends it, if there is one.
-fn cut_word(text: &[u8]) -> (&[u8], Option<&[u8]>)
+/// The first word of a text, and what follows the space that ends it, if there is one.
+pub fn cut_word(text: &[u8]) -> (&[u8], Option<&[u8]>)
     ensures { words_of text.now ≡ result.0.now ∷ words_behind result.1 }
 {
     match first_space(text) {

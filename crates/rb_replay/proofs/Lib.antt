@@ -1,5 +1,4 @@
 -- The lemmas of this crate, by subject: texts written and read, histories done again and checked.
-pub mod Sending
 pub mod Lines
 pub mod Elements
 pub mod Judgements

@@ -11,6 +11,10 @@ abbrev pub ReadsAct : Version → List (List ℕ) → Option Act → Type 0
 ReadsAct version words (Some act) = (words ≡ act_words version act) × IsRightAct act
 ReadsAct version words None = (act : Act) → IsRightAct act → words ≢ act_words version act
 
+-- the words are this act, or none, in every version
+abbrev pub ReadsAlike : List (List ℕ) → Option Act → Type 0
+ReadsAlike words found = (version : Version) → ReadsAct version words found
+
 -- the words are this event, or none
 abbrev pub ReadsEvent : Version → List (List ℕ) → Option Event → Type 0
 ReadsEvent version words (Some event) = (words ≡ event_words version event) × IsRightEvent event

@@ -1,6 +1,6 @@
 ghost use Rattle.std.specs.Prelude.{◌≡◌, ◌≢◌, ℕ, List, ◌∷◌, codes, decimal, map, IfOk, MatchOption};
 ghost use Rattle.rb_protocol.specs.Words.{words_behind};
-ghost use Rattle.rb_replay.specs.LineReading.{ReadsAct};
+ghost use Rattle.rb_replay.specs.LineReading.{ReadsAct, ReadsAlike};
 ghost use Rattle.rb_replay.specs.Ranges.{AreWords};
 
 use crate::version::Version;
@@ -20,59 +20,41 @@ pub(crate) fn read_act(
     let Some((keyword, rest)) = next_word(words) else {
         return Ok(None);
     };
-    if keyword == b"drain".as_slice() {
-        return drain(alloc, version, rest);
-    }
-    Ok(read_small(keyword, version, rest))
-}
-
-// An act that takes no memory.
-fn read_small(keyword: &[u8], version: Version, rest: Option<&[u8]>) -> Option<Act>
-    requires { keyword.now ≢ codes "drain" }
-    ensures { ReadsAct version (keyword.now ∷ words_behind rest.entry) result }
-{
-    if keyword == b"offer".as_slice() {
-        offer(version, rest)
-    } else if keyword == b"poll".as_slice() {
-        poll(version, rest)
-    } else if keyword == b"take".as_slice() {
-        take(version, rest)
-    } else if keyword == b"pollfor".as_slice() {
-        poll_for(version, rest)
-    } else if keyword == b"peek".as_slice() {
-        peek(version, rest)
-    } else if keyword == b"remove".as_slice() {
-        remove(version, rest)
-    } else if keyword == b"clear".as_slice() {
-        clear(version, rest)
-    } else if keyword == b"size".as_slice() {
-        size(version, rest)
-    } else {
-        None
+    match keyword {
+        b"offer" => Ok(offer(version, rest)),
+        b"poll" => Ok(poll(rest)),
+        b"take" => Ok(take(rest)),
+        b"pollfor" => Ok(poll_for(rest)),
+        b"peek" => Ok(peek(rest)),
+        b"remove" => Ok(remove(rest)),
+        b"drain" => drain(alloc, rest),
+        b"clear" => Ok(clear(rest)),
+        b"size" => Ok(size(rest)),
+        _ => Ok(None),
     }
 }
 
-// The version is a ghost of the contracts alone, but for an offer.
+// Only the words of an offer differ from version to version.
 fn offer(version: Version, rest: Option<&[u8]>) -> Option<Act>
     ensures { ReadsAct version (codes "offer" ∷ words_behind rest.entry) result }
 {
     Some(Act::Offer(last_element(version, rest)?))
 }
 
-fn poll(version: Version, rest: Option<&[u8]>) -> Option<Act>
-    ensures { ReadsAct version (codes "poll" ∷ words_behind rest.entry) result }
+fn poll(rest: Option<&[u8]>) -> Option<Act>
+    ensures { ReadsAlike (codes "poll" ∷ words_behind rest.entry) result }
 {
     Some(Act::Poll(last_given(rest)?))
 }
 
-fn take(version: Version, rest: Option<&[u8]>) -> Option<Act>
-    ensures { ReadsAct version (codes "take" ∷ words_behind rest.entry) result }
+fn take(rest: Option<&[u8]>) -> Option<Act>
+    ensures { ReadsAlike (codes "take" ∷ words_behind rest.entry) result }
 {
     Some(Act::Take(last_number(rest)?))
 }
 
-fn poll_for(version: Version, rest: Option<&[u8]>) -> Option<Act>
-    ensures { ReadsAct version (codes "pollfor" ∷ words_behind rest.entry) result }
+fn poll_for(rest: Option<&[u8]>) -> Option<Act>
+    ensures { ReadsAlike (codes "pollfor" ∷ words_behind rest.entry) result }
 {
     let (start, rest) = take_number(rest)?;
     let (timeout, rest) = take_number(rest)?;
@@ -84,14 +66,14 @@ fn poll_for(version: Version, rest: Option<&[u8]>) -> Option<Act>
     })
 }
 
-fn peek(version: Version, rest: Option<&[u8]>) -> Option<Act>
-    ensures { ReadsAct version (codes "peek" ∷ words_behind rest.entry) result }
+fn peek(rest: Option<&[u8]>) -> Option<Act>
+    ensures { ReadsAlike (codes "peek" ∷ words_behind rest.entry) result }
 {
     Some(Act::Peek(last_given(rest)?))
 }
 
-fn remove(version: Version, rest: Option<&[u8]>) -> Option<Act>
-    ensures { ReadsAct version (codes "remove" ∷ words_behind rest.entry) result }
+fn remove(rest: Option<&[u8]>) -> Option<Act>
+    ensures { ReadsAlike (codes "remove" ∷ words_behind rest.entry) result }
 {
     let (id, rest) = take_number(rest)?;
     let (word, rest) = next_word(rest)?;
@@ -107,8 +89,8 @@ fn remove(version: Version, rest: Option<&[u8]>) -> Option<Act>
     None
 }
 
-fn clear(version: Version, rest: Option<&[u8]>) -> Option<Act>
-    ensures { ReadsAct version (codes "clear" ∷ words_behind rest.entry) result }
+fn clear(rest: Option<&[u8]>) -> Option<Act>
+    ensures { ReadsAlike (codes "clear" ∷ words_behind rest.entry) result }
 {
     if rest.is_some() {
         return None;
@@ -116,14 +98,14 @@ fn clear(version: Version, rest: Option<&[u8]>) -> Option<Act>
     Some(Act::Clear)
 }
 
-fn size(version: Version, rest: Option<&[u8]>) -> Option<Act>
-    ensures { ReadsAct version (codes "size" ∷ words_behind rest.entry) result }
+fn size(rest: Option<&[u8]>) -> Option<Act>
+    ensures { ReadsAlike (codes "size" ∷ words_behind rest.entry) result }
 {
     Some(Act::Size(last_number(rest)?))
 }
 
-fn drain(alloc: Global, version: Version, rest: Option<&[u8]>) -> Result<Option<Act>, AllocError>
-    ensures { IfOk result (ReadsAct version (codes "drain" ∷ words_behind rest.entry)) }
+fn drain(alloc: Global, rest: Option<&[u8]>) -> Result<Option<Act>, AllocError>
+    ensures { IfOk result (ReadsAlike (codes "drain" ∷ words_behind rest.entry)) }
 {
     let Some((max, rest)) = take_number(rest) else {
         return Ok(None);

@@ -1,6 +1,5 @@
 ghost use Rattle.std.specs.Prelude.{◌≡◌, ◌≢◌, ◌≤◌, ℕ, List, Option, [], ◌∷◌, ◌++◌, decimal, IfSome, IfNone};
-ghost use Rattle.rb_protocol.specs.Line.{words_of};
-ghost use Rattle.rb_protocol.specs.Words.{first_space, words_behind};
+ghost use Rattle.rb_protocol.specs.Words.{words_behind};
 ghost use Rattle.rb_replay.specs.EventText.{given_words, first_words, whole_element_words};
 ghost use Rattle.rb_replay.specs.Ranges.{IsWord, IsRightGiven, IsRightElement};
 ghost use Rattle.rb_delayed.specs.Payload.{IsPayload};
@@ -9,7 +8,7 @@ ghost use Rattle.rb_delayed.specs.declared.element.Element.{Element};
 
 use crate::version::Version;
 use rb_delayed::{Element, GREATEST_ATTEMPT, Payload};
-use rb_protocol::{SPACE, read_number};
+use rb_protocol::{cut_word, read_number};
 
 /// Takes the first of the remaining words of a line. `None` means that none is left.
 pub(crate) fn next_word(words: Option<&[u8]>) -> Option<(&[u8], Option<&[u8]>)>
@@ -17,23 +16,6 @@ pub(crate) fn next_word(words: Option<&[u8]>) -> Option<(&[u8], Option<&[u8]>)>
     ensures none { IfNone result (words_behind words.entry ≡ []) }
 {
     Some(cut_word(words?))
-}
-
-// The first word of a text, and what stands behind the space that ends it, if one does.
-fn cut_word(text: &[u8]) -> (&[u8], Option<&[u8]>)
-    ensures { words_of text.now ≡ result.0.now ∷ words_behind result.1 }
-{
-    match first_space(text) {
-        Some(place) => (&text[..place], Some(&text[place + 1..])),
-        None => (text, None),
-    }
-}
-
-// The place of the first space.
-fn first_space(text: &[u8]) -> Option<usize>
-    ensures { result ≡ first_space text.now }
-{
-    text.iter().position(|&byte| byte == SPACE)
 }
 
 /// Takes a number, if the first remaining word is one.

@@ -13,7 +13,7 @@ use Rattle.rb_session.specs.Outlet.{FailsToSend, RanThrough, HandedOn}
 use Rattle.rb_session.specs.declared.ended.Ended.{Ended}
 use Rattle.rb_session.specs.declared.ended.Ended.TheVariants.{Quit, EndOfInput}
 use Rattle.rb_session.specs.declared.gathering.TheConstants.{GATHERED_BYTES}
-use Rattle.rb_session.specs.declared.send.WriteFault.{WriteFault}
+use Rattle.rb_protocol.specs.declared.writing.WriteFault.{WriteFault}
 use Rattle.rb_session.specs.declared.session_fault.SessionFault.{SessionFault}
 use Rattle.rb_session.specs.declared.session_fault.SessionFault.TheVariants.{Memory, Read, Write, ReadTurns}
 use Rattle.rb_session.specs.Growth.{KeepsFront}

@@ -1,26 +1,12 @@
 -- What a writer has got of texts that are sent piece by piece.
-use Rattle.std.proofs.Common.{◌≡◌, ℕ, ◌+◌, ◌-◌, ◌≤◌, List, [], ◌++◌, Option, Result, Ok, Err, length, take, drop, refl, ap, sym, subst, ◌∙◌, arith, length-drop, take_all, append_assoc}
+use Rattle.std.proofs.Common.{◌≡◌, ℕ, List, [], ◌++◌, Option, Result, Ok, Err, refl, ap, sym, ◌∙◌, append_assoc}
 use Rattle.std.proofs.lemmas.List.{append-nil}
 use Rattle.std.specs.Prelude.{IsErr, true, false, is_err}
 use Rattle.std.specs.Io.KnownBytes.{Appends, Keeps}
 use Rattle.std.proofs.KnownBytes.{Appends-nil, Appends-trans, Appends-kept}
-use Rattle.std.proofs.Math.Seq.{take-add}
 use Rattle.rb_session.specs.Exchange.{Sends}
 use Rattle.rb_session.specs.Growth.{KeepsFront}
-use Rattle.rb_session.specs.declared.send.WriteFault.{WriteFault}
-
--- the writer got the first bytes
-pub record HasTaken (old new : Option (List ℕ)) (bytes : List ℕ) (taken : ℕ) : Type 0 where
-  pub within : taken ≤ length bytes
-  pub written : Appends old new (take taken bytes)
-
--- a write took the first n bytes of what was left
-pub appends_more : (old mid new : Option (List ℕ)) (bytes : List ℕ) (taken n : ℕ) → Appends old mid (take taken bytes)
-    → Appends mid new (take n (take (length bytes - taken) (drop taken bytes))) → Appends old new (take (taken + n) bytes)
-appends_more old mid new bytes taken n before more =
-    let rest : take (length bytes - taken) (drop taken bytes) ≡ drop taken bytes = take_all (length bytes - taken) (drop taken bytes) (omega (arith, length-drop taken bytes)) in
-    subst (Appends old new) (sym (take-add taken n bytes))
-    (Appends-trans old mid new _ _ before (subst (λ r. Appends mid new (take n r)) rest more))
+use Rattle.rb_protocol.specs.declared.writing.WriteFault.{WriteFault}
 
 -- a text behind another
 pub sends_then : {T : Type 0} (result : Result T WriteFault) (old mid new : Option (List ℕ)) (one two : List ℕ) → Appends old mid one → Sends result mid two new → Sends result old (one ++ two) new

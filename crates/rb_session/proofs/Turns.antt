@@ -19,7 +19,7 @@ use Rattle.rb_session.specs.Turn.{Point, IsTurn}
 use Rattle.rb_session.specs.Session.{Turn, IsLine, Serves, ServesToQuit, bytes_of, answers_of, texts_of}
 use Rattle.rb_session.specs.Progress.{Stands, FailsAtLine}
 use Rattle.rb_session.specs.declared.line_buffer.LineBuffer.{LineBuffer}
-use Rattle.rb_session.specs.declared.line_buffer.TheConstants.{BUFFER_BYTES}
+use Rattle.rb_protocol.specs.declared.limits.TheConstants.{BUFFER_BYTES}
 
 -- the bytes of lines, one behind the other
 pub bytes_of-append : (one two : List Turn) → bytes_of (one ++ two) ≡ bytes_of one ++ bytes_of two

@@ -7,7 +7,8 @@ use Rattle.rb_protocol.specs.Reading.{IsReading}
 use Rattle.rb_protocol.specs.declared.request.Request.{Request}
 use Rattle.rb_protocol.specs.declared.line_fault.LineFault.{LineFault}
 use Rattle.rb_session.specs.declared.line_buffer.LineBuffer.{LineBuffer}
-use Rattle.rb_session.specs.declared.line_buffer.TheConstants.{BUFFER_BYTES, MOST_RAW_BYTES}
+use Rattle.rb_protocol.specs.declared.limits.TheConstants.{BUFFER_BYTES}
+use Rattle.rb_session.specs.declared.line_buffer.TheConstants.{MOST_RAW_BYTES}
 
 -- the bytes that it holds
 abbrev pub held_by : LineBuffer → List ℕ

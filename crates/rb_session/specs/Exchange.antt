@@ -1,7 +1,7 @@
 -- What came from a reader, and what a writer was sent.
 use Rattle.std.specs.Prelude.{◌≡◌, ℕ, List, ◌++◌, Option, Some, Result, Ok, Err}
 use Rattle.std.specs.Io.KnownBytes.{Appends, Consumes, IsAtEnd}
-use Rattle.rb_session.specs.declared.send.WriteFault.{WriteFault}
+use Rattle.rb_protocol.specs.declared.writing.WriteFault.{WriteFault}
 
 -- These bytes came and these were sent, and of the two this holds. A device that tells its bytes had what
 -- came at its front, or has what was sent at its end. From what the reader had left to what it has left, and

@@ -14,7 +14,7 @@ use Rattle.rb_protocol.specs.declared.line_reply.LineReply.{LineReply}
 use Rattle.rb_protocol.specs.declared.line_reply.LineReply.TheVariants as lines
 use Rattle.rb_protocol.specs.declared.error_word.ErrorWord.TheVariants as words
 use Rattle.rb_session.specs.Lines.{HasNoLineFeed, line_of}
-use Rattle.rb_session.specs.declared.line_buffer.TheConstants.{BUFFER_BYTES}
+use Rattle.rb_protocol.specs.declared.limits.TheConstants.{BUFFER_BYTES}
 use Rattle.rb_session.specs.Turn.{Point, IsTurn}
 
 -- A line that was served: its bytes before the line feed, what they were read as, and its replies.

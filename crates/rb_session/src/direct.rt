@@ -2,7 +2,8 @@ ghost use Rattle.std.specs.Prelude.{◌≡◌};
 ghost use Rattle.std.proofs.Common.{refl, ◌∙◌};
 
 use crate::outlet::Outlet;
-use crate::send::{WriteFault, flush, send_line};
+use crate::send::{flush, send_line};
+use rb_protocol::WriteFault;
 use std::io::Write;
 
 /// An outlet that holds nothing back: it passes each line to the writer at once.

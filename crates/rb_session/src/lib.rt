@@ -34,6 +34,6 @@ pub use hands_on::HandsOn;
 pub use held_jobs::MOST_HELD;
 pub use laws::{came_first, events_of_session, history_of_session, sent_last};
 pub use outlet::Outlet;
-pub use send::{WriteFault, flush, send_at_once, send_line, write_out};
+pub use send::{flush, send_at_once, send_line};
 pub use session::{run_session, run_session_through};
 pub use session_fault::SessionFault;

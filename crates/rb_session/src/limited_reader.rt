@@ -3,11 +3,9 @@ ghost use Rattle.std.specs.Io.{ReadsAtMost};
 ghost use Rattle.std.specs.Io.KnownBytes.{ReadConsumes};
 
 use crate::outlet::Outlet;
+use rb_protocol::MOST_READS;
 use std::io;
 use std::io::Read;
-
-/// The greatest number of reads of a session.
-const MOST_READS: u64 = 10_000_000;
 
 /// The reader of a session. It is read 10,000,000 times at most, and only while nothing is held
 /// back.
@@ -19,7 +17,7 @@ pub struct LimitedReader<'a, R: Read> {
 }
 
 impl<'a, R: Read> LimitedReader<'a, R> {
-    ghost use Rattle.rb_session.specs.declared.limited_reader.TheConstants.{MOST_READS};
+    ghost use Rattle.rb_protocol.specs.declared.limits.TheConstants.{MOST_READS};
 
     /// A session's reader before the first read.
     pub fn new(inner: &'a mut R) -> LimitedReader<'a, R>

@@ -1,18 +1,16 @@
 ghost use Rattle.std.specs.Prelude.{◌≡◌, ℕ, ◌+◌, ◌<◌, ◌≤◌, List, [], ◌∷◌, ◌++◌, ◌↔◌, length, take, slice_index, ◌-◌, IfOk, IfSome, IsTrue, MatchOption, vec_len};
 ghost use Rattle.rb_session.specs.Lines.{HasNoLineFeed, line_of};
 ghost use Rattle.rb_protocol.specs.Reading.{IsReading};
-ghost use Rattle.rb_session.specs.declared.line_buffer.TheConstants.{BUFFER_BYTES, MOST_RAW_BYTES};
+ghost use Rattle.rb_protocol.specs.declared.limits.TheConstants.{BUFFER_BYTES};
+ghost use Rattle.rb_session.specs.declared.line_buffer.TheConstants.{MOST_RAW_BYTES};
 
 use crate::limited_reader::LimitedReader;
 use crate::outlet::Outlet;
 use memchr::memchr;
-use rb_protocol::{LINE_FEED, LineFault, MOST_LINE_BYTES, Request, read_request};
+use rb_protocol::{BUFFER_BYTES, LINE_FEED, LineFault, MOST_LINE_BYTES, Request, read_request};
 use std::alloc::{AllocError, Global};
 use std::io;
 use std::io::Read;
-
-/// The greatest number of bytes that one read gets.
-const BUFFER_BYTES: usize = 64 * 1024;
 
 /// The greatest number of bytes before a line feed that may still be a request: the longest line,
 /// and a carriage return.

@@ -2,7 +2,7 @@ ghost use Rattle.std.specs.Prelude.{ℕ, List, Option, OnOk, OnErr};
 ghost use Rattle.std.specs.Io.KnownBytes.{Keeps};
 ghost use Rattle.rb_session.specs.Exchange.{Sends};
 
-use crate::send::WriteFault;
+use rb_protocol::WriteFault;
 
 /// Where the replies of a session go. An outlet may hold back what was sent to it until it is told
 /// to hand that on.

@@ -7,8 +7,7 @@ ghost use Rattle.rb_session.specs.Progress.{replies_of};
 
 use crate::held_jobs::HeldJobs;
 use crate::outlet::Outlet;
-use crate::send::WriteFault;
-use rb_protocol::{LineReply, REPLY_ROOM, write_reply};
+use rb_protocol::{LineReply, REPLY_ROOM, WriteFault, write_reply};
 use rb_retry::Job;
 
 /// Sends the lines of a reply, each in one piece, and flushes. A drain's line is followed by those

@@ -5,5 +5,5 @@ use Rattle.rb_replay.proofs.Keywords.{only_clear}
 use Rattle.rb_replay.proofs.read_act.clear.Goals as goal
 
 pub returns-then-is_some : goal.returns-then-is_some
-returns-then-is_some c = λ act right is.
-    only_clear c.args.version _ (λ none. omega (arith, words_behind_some c.args.rest (sym c.is_some.ensures ∙ c.if-is_some.true), ap length none)) act right is
+returns-then-is_some c = λ version act right is.
+    only_clear version _ (λ none. omega (arith, words_behind_some c.args.rest (sym c.is_some.ensures ∙ c.if-is_some.true), ap length none)) act right is

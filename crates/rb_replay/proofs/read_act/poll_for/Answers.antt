@@ -7,7 +7,7 @@ use Rattle.rb_replay.proofs.read_act.poll_for.Goals as goal
 
 pub returns-in_err-timeout : goal.returns-in_err-timeout
 returns-in_err-timeout c =
-    rw c.from_residual-in_err-timeout.ensures (λ act right is.
-    only_pollfor c.args.version _ (λ start timeout given low small right_given words.
+    rw c.from_residual-in_err-timeout.ensures (λ version act right is.
+    only_pollfor version _ (λ start timeout given low small right_given words.
     let rest : words_behind c.in_ok-start.rest ≡ decimal timeout ∷ given_words given = cc (c.in_ok-start.ensures.some, words) in
     c.in_err-timeout.ensures.none timeout _ small rest) act right is)

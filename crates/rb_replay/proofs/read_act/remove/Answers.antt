@@ -7,7 +7,7 @@ use Rattle.rb_replay.proofs.Keywords.{only_remove}
 use Rattle.rb_replay.proofs.read_act.remove.Goals as goal
 
 pub returns-then-is_some : goal.returns-then-is_some
-returns-then-is_some c = λ act right is.
-    only_remove c.args.version _ (λ id found small words.
+returns-then-is_some c = λ version act right is.
+    only_remove version _ (λ id found small words.
     let rest : words_behind c.in_ok-id.rest ≡ (if found then codes "yes" else codes "no") ∷ [] = cc (c.in_ok-id.ensures.some, words) in
     not_alone _ _ _ c.in_ok-word.rest (sym c.is_some.ensures ∙ c.if-is_some.true) c.in_ok-word.ensures.some rest) act right is

@@ -1,9 +1,9 @@
 -- What each write took goes behind what the writer had got of the bytes before.
 use Rattle.std.proofs.Common.{◌-◌, arith, length, length-take, length-drop, drop}
 use Rattle.std.proofs.KnownBytes.{Appends-nil, Appends-kept}
-use Rattle.rb_session.proofs.Sending.{appends_more}
-use Rattle.rb_session.proofs.send.write_out.Goals as goal
-use Rattle.rb_session.proofs.send.write_out.Goals.{in-Ok, in-Err}
+use Rattle.rb_protocol.proofs.WrittenBytes.{appends_more}
+use Rattle.rb_protocol.proofs.writing.write_out.Goals as goal
+use Rattle.rb_protocol.proofs.writing.write_out.Goals.{in-Ok, in-Err}
 
 pub loop-init : goal.loop-init
 loop-init g c = record { within = omega arith; written = Appends-nil _ }
