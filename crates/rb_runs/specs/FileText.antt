@@ -1,5 +1,5 @@
 -- What is read of a file.
-use Rattle.std.specs.Prelude.{ℕ, List, Option, Result, Ok, Err, Vec}
+use Rattle.std.specs.Prelude.{◌≡◌, ℕ, List, Option, Result, Ok, Err, Vec}
 use Rattle.std.specs.Io.KnownBytes.{Consumes, IsAtEnd}
 use Rattle.std.specs.declared.alloc.Global.{Global}
 use Rattle.rb_ending.specs.declared.broker_fault.BrokerFault.{BrokerFault}
@@ -11,6 +11,11 @@ IsReadFault Broker.ReadHistory = Unit {0}
 IsReadFault Broker.ReadTurns = Unit {0}
 IsReadFault Broker.Memory = Unit {0}
 IsReadFault _ = ⊥
+
+-- there were too many reads only where none is left
+abbrev pub IsUsedUpAt : ℕ → Result (Vec ℕ Global) BrokerFault → Type 0
+IsUsedUpAt left (Err Broker.ReadTurns) = left ≡ 0
+IsUsedUpAt left result = Unit {0}
 
 -- The text is all that came, and the reader is at its end; or what came is lost.
 abbrev pub ReadsAll : Option (List ℕ) → Result (Vec ℕ Global) BrokerFault → Option (List ℕ) → Type 0

@@ -2,6 +2,7 @@
 //! opening that a history leads to.
 #![tactic(auto)]
 
+mod limited_reader;
 mod opening;
 mod over_timer;
 mod reading;

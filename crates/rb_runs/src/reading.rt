@@ -1,15 +1,11 @@
-ghost use Rattle.std.specs.Prelude.{◌<◌, IfOk, vec_len};
-ghost use Rattle.rb_runs.specs.FileText.{ReadsAll};
+ghost use Rattle.std.specs.Prelude.{◌≡◌, ◌<◌, IfOk, length, vec_len};
+ghost use Rattle.rb_runs.specs.FileText.{ReadsAll, IsUsedUpAt};
 
+use crate::limited_reader::LimitedReader;
 use rb_ending::BrokerFault;
+use rb_protocol::BUFFER_BYTES;
 use std::alloc::{AllocError, Global};
 use std::io::{ErrorKind, Read};
-
-/// The greatest number of reads of a file.
-const MOST_READS: u64 = 10_000_000;
-
-/// The greatest number of bytes that one read gets.
-const PIECE_BYTES: usize = 64 * 1024;
 
 /// Everything that a reader gives, up to its end.
 ///
@@ -20,9 +16,24 @@ pub fn read_all<R: Read>(alloc: Global, reader: &mut R) -> Result<Vec<u8>, Broke
     ensures { ReadsAll (R.remaining reader.old) result (R.remaining reader.new) }
 {
     let mut piece = empty_piece(alloc)?;
+    let mut limited = LimitedReader::new(reader);
+    read_pieces(alloc, &mut limited, &mut piece)
+}
+
+// Reads piece after piece, until there is no more.
+fn read_pieces<R: Read>(
+    alloc: Global,
+    reader: &mut LimitedReader<'_, R>,
+    piece: &mut [u8],
+) -> Result<Vec<u8>, BrokerFault>
+    requires { 0 < length piece.old }
+    ensures reads { ReadsAll (R.remaining reader.old.inner.now) result (R.remaining reader.new.inner.now) }
+    ensures used_up { IsUsedUpAt reader.new.left result }
+    ensures same_reference { reader.new.inner.ghost_name ≡ reader.old.inner.ghost_name }
+{
     let mut text = Vec::new(alloc);
-    for _ in 0..MOST_READS {
-        match reader.read(&mut piece) {
+    while reader.may_read() {
+        match reader.read(piece) {
             Ok(0) => return Ok(text),
             Ok(count) => {
                 let Ok(()) = text.extend_from_slice(&piece[..count]) else {
@@ -40,5 +51,5 @@ pub fn read_all<R: Read>(alloc: Global, reader: &mut R) -> Result<Vec<u8>, Broke
 fn empty_piece(alloc: Global) -> Result<Vec<u8>, AllocError>
     ensures { IfOk result (λ piece. 0 < vec_len piece) }
 {
-    vec![in alloc; 0; PIECE_BYTES]
+    vec![in alloc; 0; BUFFER_BYTES]
 }

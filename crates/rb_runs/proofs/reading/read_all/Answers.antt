@@ -1,6 +1,13 @@
--- There was no memory for a piece that was read: what is lost is the text so far, and that piece.
-use Rattle.std.proofs.KnownBytes.{Consumes-trans}
+-- What the pieces were read from is the reader itself, from what it had left to what it has left.
+use Rattle.std.proofs.Common.{rules, ℕ, List, Option, sym, ap, subst, ◌∙◌}
+use Rattle.rb_runs.specs.FileText.{ReadsAll}
 use Rattle.rb_runs.proofs.reading.read_all.Goals as goal
 
-pub returns-in_default : goal.returns-in_default
-returns-in_default g c = (tt, (_, Consumes-trans _ _ _ _ _ c.loop.invariant.0 c.in-Ok.ensures.bytes.0))
+pub returns : goal.returns
+returns g c =
+    let pieces = c.read_pieces in
+    let left = g.R.Read.remaining pieces.new.reader.inner.now in
+    let all : ReadsAll (g.R.Read.remaining c.args.reader.now) pieces.result left =
+    subst (λ (old : Option (List ℕ)). ReadsAll old pieces.result left) (ap g.R.Read.remaining c.new-limited.ensures.same) pieces.ensures.reads in
+    let name = sym (pieces.ensures.same_reference ∙ c.new-limited.ensures.same_reference) in
+    search rules
