@@ -35,7 +35,8 @@ pub fn run_script<R: Read, W: Write, H: Write>(
     history: &mut Option<H>,
 ) -> Result<Ended, BrokerFault>
     ensures { Exchanges (R.remaining reader.old) (R.remaining reader.new) (W.contents writer.old) (W.contents writer.new) (λ came sent.
-        RanScript H.contents options.now.policy options.now.calls AtOnce (IsAtEnd (R.remaining reader.new)) opening came sent result history.old history.new) }
+        RanScript H.contents options.now.policy options.now.calls AtOnce (IsAtEnd (R.remaining reader.new))
+        opening came sent result history.old history.new) }
 {
     let delivery = Delivery::AtOnce;
     run_delivering(alloc, options, delivery, opening, reader, writer, history)
@@ -55,7 +56,8 @@ pub fn run_script_gathered<R: Read, W: Write, H: Write>(
     history: &mut Option<H>,
 ) -> Result<Ended, BrokerFault>
     ensures { Exchanges (R.remaining reader.old) (R.remaining reader.new) (W.contents writer.old) (W.contents writer.new) (λ came sent.
-        RanScript H.contents options.now.policy options.now.calls (Gathered BeforeReads) (IsAtEnd (R.remaining reader.new)) opening came sent result history.old history.new) }
+        RanScript H.contents options.now.policy options.now.calls (Gathered BeforeReads) (IsAtEnd (R.remaining reader.new))
+        opening came sent result history.old history.new) }
 {
     let delivery = Delivery::Gathered(HandsOn::BeforeReads);
     run_delivering(alloc, options, delivery, opening, reader, writer, history)
@@ -72,7 +74,8 @@ fn run_delivering<R: Read, W: Write, H: Write>(
     history: &mut Option<H>,
 ) -> Result<Ended, BrokerFault>
     ensures { Exchanges (R.remaining reader.old) (R.remaining reader.new) (W.contents writer.old) (W.contents writer.new) (λ came sent.
-        RanScript H.contents options.now.policy options.now.calls delivery (IsAtEnd (R.remaining reader.new)) opening came sent result history.old history.new) }
+        RanScript H.contents options.now.policy options.now.calls delivery (IsAtEnd (R.remaining reader.new))
+        opening came sent result history.old history.new) }
 {
     let calls = options.calls;
     let policy = &options.policy;
@@ -97,7 +100,8 @@ fn run_on<T: Timer, R: Read, W: Write, H: Write>(
     requires from_one { 1 ≤ calls }
     requires in_range { calls ≤ MOST_CALLS }
     ensures { Exchanges (R.remaining reader.old) (R.remaining reader.new) (W.contents writer.old) (W.contents writer.new) (λ came sent.
-        RanScript H.contents policy.now calls delivery (IsAtEnd (R.remaining reader.new)) opening came sent result history.old history.new) }
+        RanScript H.contents policy.now calls delivery (IsAtEnd (R.remaining reader.new))
+        opening came sent result history.old history.new) }
 {
     // The number of calls is in range, so only memory can be missing.
     let Ok((mut kept, mut tally)) = Kept::<T>::new_from(alloc, calls, opening) else {

@@ -30,7 +30,8 @@ pub fn print_report<T: Timer, W: Write>(
     writer: &mut W,
     report: &ServeReport<T>,
 ) -> Result<(), BrokerFault>
-    ensures { Prints result (W.contents writer.old) (report_text report.now.sessions report.now.faults report.now.lost report.now.audit) (W.contents writer.new) }
+    ensures { Prints result (W.contents writer.old)
+        (report_text report.now.sessions report.now.faults report.now.lost report.now.audit) (W.contents writer.new) }
 {
     let text = report_lines(alloc, report)?;
     print(writer, &text)

@@ -47,7 +47,10 @@ pub fn serve_door<
     options: &RunOptions,
     opening: Opening,
 ) -> Result<ServeReport<T>, BrokerFault>
-    ensures served { IfOk result (λ report. IsServersRun (D.lets_in door.now) (D.turns_away door.now) D.Reader.remaining D.Writer.contents C.gives D.Gate.stops options.now.policy AtOnce clock.now opening options.now.calls options.now.workers report.kept report.audit (record { sessions = report.sessions; faults = report.faults; lost = report.lost })) }
+    ensures served { IfOk result (λ report. IsServersRun
+        (D.lets_in door.now) (D.turns_away door.now) D.Reader.remaining D.Writer.contents C.gives D.Gate.stops
+        options.now.policy AtOnce clock.now opening options.now.calls options.now.workers report.kept report.audit
+        (record { sessions = report.sessions; faults = report.faults; lost = report.lost })) }
     ensures fault { IfErr result EndsServing }
 {
     serve_delivering(rt, alloc, door, clock, options, Delivery::AtOnce, opening)
@@ -71,7 +74,10 @@ pub fn serve_door_gathered<
     options: &RunOptions,
     opening: Opening,
 ) -> Result<ServeReport<T>, BrokerFault>
-    ensures served { IfOk result (λ report. IsServersRun (D.lets_in door.now) (D.turns_away door.now) D.Reader.remaining D.Writer.contents C.gives D.Gate.stops options.now.policy (Gathered BeforeReadsAndWaits) clock.now opening options.now.calls options.now.workers report.kept report.audit (record { sessions = report.sessions; faults = report.faults; lost = report.lost })) }
+    ensures served { IfOk result (λ report. IsServersRun
+        (D.lets_in door.now) (D.turns_away door.now) D.Reader.remaining D.Writer.contents C.gives D.Gate.stops
+        options.now.policy (Gathered BeforeReadsAndWaits) clock.now opening options.now.calls options.now.workers report.kept report.audit
+        (record { sessions = report.sessions; faults = report.faults; lost = report.lost })) }
     ensures fault { IfErr result EndsServing }
 {
     let delivery = Delivery::Gathered(HandsOn::BeforeReadsAndWaits);
@@ -93,7 +99,10 @@ fn serve_delivering<
     delivery: Delivery,
     opening: Opening,
 ) -> Result<ServeReport<T>, BrokerFault>
-    ensures served { IfOk result (λ report. IsServersRun (D.lets_in door.now) (D.turns_away door.now) D.Reader.remaining D.Writer.contents C.gives D.Gate.stops options.now.policy delivery clock.now opening options.now.calls options.now.workers report.kept report.audit (record { sessions = report.sessions; faults = report.faults; lost = report.lost })) }
+    ensures served { IfOk result (λ report. IsServersRun
+        (D.lets_in door.now) (D.turns_away door.now) D.Reader.remaining D.Writer.contents C.gives D.Gate.stops
+        options.now.policy delivery clock.now opening options.now.calls options.now.workers report.kept report.audit
+        (record { sessions = report.sessions; faults = report.faults; lost = report.lost })) }
     ensures fault { IfErr result EndsServing }
 {
     let (kept, tally) = kept_from::<T>(alloc, options.calls, opening)?;
@@ -157,7 +166,8 @@ fn report_of<T: Timer, R: Wait>(
     visits: VisitCounts,
 ) -> Result<ServeReport<T>, BrokerFault>
     requires pass { pass.table ≡ shared }
-    ensures report { IfOk result (λ report. IsReport pass visits report.kept report.audit (record { sessions = report.sessions; faults = report.faults; lost = report.lost })) }
+    ensures report { IfOk result (λ report. IsReport pass visits report.kept report.audit
+        (record { sessions = report.sessions; faults = report.faults; lost = report.lost })) }
     ensures fault { IfErr result (λ fault. fault ≡ NotGathered) }
 {
     match shared.close(rt, pass) {

@@ -28,7 +28,9 @@ pub(crate) fn work<T: Timer, D: Door, C: Clock, R: Wait + time::Clock>(
 ) -> (Pass<T>, VisitCounts)
     requires pass { pass.table ≡ service.now.shared.now }
     ensures worked { IsWorked pass result.0 }
-    ensures visits { WorksOff (D.lets_in service.now.door.now) (D.turns_away service.now.door.now) D.Reader.remaining D.Writer.contents C.gives D.Gate.stops service.now.policy.now service.now.delivery service.now.clock.now pass result.0 result.1 }
+    ensures visits { WorksOff
+        (D.lets_in service.now.door.now) (D.turns_away service.now.door.now) D.Reader.remaining D.Writer.contents
+        C.gives D.Gate.stops service.now.policy.now service.now.delivery service.now.clock.now pass result.0 result.1 }
 {
     let mut counts = VisitCounts::none();
     for _ in rt.forever() {
@@ -64,7 +66,8 @@ fn serve_visit<
     requires pass { pass.old.table ≡ service.now.shared.now }
     ensures worked { IsWorked pass.old pass.new }
     ensures ran { Exchanges (I.remaining visit.reader) (I.remaining result.1) (O.contents visit.writer) (O.contents result.2) (λ came sent.
-        RanVisit C.gives G.stops service.now.policy.now service.now.delivery service.now.clock.now visit.gate (IsAtEnd (I.remaining result.1)) pass.old came sent result.0 pass.new) }
+        RanVisit C.gives G.stops service.now.policy.now service.now.delivery service.now.clock.now visit.gate
+        (IsAtEnd (I.remaining result.1)) pass.old came sent result.0 pass.new) }
 {
     let Visit {
         mut reader,

@@ -25,7 +25,8 @@ pub(crate) fn answer<O: Outlet, D: Desk>(
     reading: Result<Request, LineFault>,
 ) -> LineReply
     requires { AsksToWait reading → O.IsClearForWait _outlet.now }
-    ensures turn { IsTurn D.gives D.Sets D.Steps policy.now (point (D.state desk.old) held.old) reading (replies_of result held.new) (point (D.state desk.new) held.new) }
+    ensures turn { IsTurn D.gives D.Sets D.Steps policy.now
+        (point (D.state desk.old) held.old) reading (replies_of result held.new) (point (D.state desk.new) held.new) }
     ensures name { D.name (D.state desk.new) ≡ D.name (D.state desk.old) }
 {
     match reading {
@@ -44,7 +45,8 @@ fn serve<D: Desk>(
     now: u64,
     request: Request,
 ) -> LineReply
-    ensures served { IsServed D.gives D.Sets D.Steps policy.now (point (D.state desk.old) held.old) now request (replies_of result held.new) (point (D.state desk.new) held.new) }
+    ensures served { IsServed D.gives D.Sets D.Steps policy.now
+        (point (D.state desk.old) held.old) now request (replies_of result held.new) (point (D.state desk.new) held.new) }
     ensures name { D.name (D.state desk.new) ≡ D.name (D.state desk.old) }
 {
     match request {

@@ -6,7 +6,7 @@ ghost use Rattle.rb_session.specs.Delivered.{RanDelivered};
 use crate::delivery::Delivery;
 use crate::ended::Ended;
 use crate::gathered::run_gathered;
-use crate::session::run_session;
+use crate::run::run_session;
 use crate::session_fault::SessionFault;
 use rb_retry::{Desk, Policy};
 use std::alloc::Global;
@@ -23,7 +23,8 @@ pub fn run_delivered<R: Read, W: Write, D: Desk>(
     delivery: Delivery,
 ) -> Result<Ended, SessionFault>
     ensures ran { Exchanges (R.remaining reader.old) (R.remaining reader.new) (W.contents writer.old) (W.contents writer.new) (λ came sent.
-        RanDelivered D.gives D.Sets D.Steps policy.now delivery (IsAtEnd (R.remaining reader.new)) (D.state desk.old) came sent result (D.state desk.new)) }
+        RanDelivered D.gives D.Sets D.Steps policy.now delivery (IsAtEnd (R.remaining reader.new))
+        (D.state desk.old) came sent result (D.state desk.new)) }
     ensures name { D.name (D.state desk.new) ≡ D.name (D.state desk.old) }
 {
     match delivery {

@@ -36,8 +36,10 @@ pub(crate) fn fail_job<D: Desk>(
     id: u64,
 ) -> LineReply
     ensures failed { MatchOption (place_of held.old id)
-        (AnswersAlone (lines.Error words.NotHeld) (point (D.state desk.old) held.old) (replies_of result held.new) (point (D.state desk.new) held.new))
-        (λ place. IsFailure D.Steps policy.now (point (D.state desk.old) held.old) now place (replies_of result held.new) (point (D.state desk.new) held.new)) }
+        (AnswersAlone (lines.Error words.NotHeld)
+        (point (D.state desk.old) held.old) (replies_of result held.new) (point (D.state desk.new) held.new))
+        (λ place. IsFailure D.Steps policy.now
+        (point (D.state desk.old) held.old) now place (replies_of result held.new) (point (D.state desk.new) held.new)) }
     ensures name { D.name (D.state desk.new) ≡ D.name (D.state desk.old) }
 {
     let Some(place) = held.place_of(id) else {

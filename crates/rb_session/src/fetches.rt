@@ -12,7 +12,8 @@ use rb_retry::{Desk, DeskFault, Job, poll, poll_for, take};
 
 /// Fetches the head, if there is one now and room for it.
 pub(crate) fn poll_job<D: Desk>(desk: &mut D, held: &mut HeldJobs, now: u64) -> LineReply
-    ensures fetched { IsFetch D.Steps (point (D.state desk.old) held.old) now asks.Poll (replies_of result held.new) (point (D.state desk.new) held.new) }
+    ensures fetched { IsFetch D.Steps
+        (point (D.state desk.old) held.old) now asks.Poll (replies_of result held.new) (point (D.state desk.new) held.new) }
     ensures name { D.name (D.state desk.new) ≡ D.name (D.state desk.old) }
 {
     if held.free() == 0 {
@@ -29,7 +30,8 @@ pub(crate) fn poll_job_for<D: Desk>(
     now: u64,
     timeout: u64,
 ) -> LineReply
-    ensures fetched { IsFetch D.Steps (point (D.state desk.old) held.old) now (asks.PollFor now timeout) (replies_of result held.new) (point (D.state desk.new) held.new) }
+    ensures fetched { IsFetch D.Steps
+        (point (D.state desk.old) held.old) now (asks.PollFor now timeout) (replies_of result held.new) (point (D.state desk.new) held.new) }
     ensures name { D.name (D.state desk.new) ≡ D.name (D.state desk.old) }
 {
     if held.free() == 0 {
@@ -41,7 +43,8 @@ pub(crate) fn poll_job_for<D: Desk>(
 
 /// Fetches the head, waiting for it, if there is room for it.
 pub(crate) fn take_job<D: Desk>(desk: &mut D, held: &mut HeldJobs) -> LineReply
-    ensures fetched { IsFetch D.Steps (point (D.state desk.old) held.old) 0 asks.Take (replies_of result held.new) (point (D.state desk.new) held.new) }
+    ensures fetched { IsFetch D.Steps
+        (point (D.state desk.old) held.old) 0 asks.Take (replies_of result held.new) (point (D.state desk.new) held.new) }
     ensures name { D.name (D.state desk.new) ≡ D.name (D.state desk.old) }
 {
     if held.free() == 0 {
@@ -58,7 +61,9 @@ pub(crate) fn drain_jobs<D: Desk>(
     now: u64,
     most: u64,
 ) -> LineReply
-    ensures drained { IsCall D.Steps (point (D.state desk.old) held.old) now (asks.Drain (min most (MOST_HELD - length held.old))) (replies_of result held.new) (point (D.state desk.new) held.new) }
+    ensures drained { IsCall D.Steps
+        (point (D.state desk.old) held.old) now (asks.Drain (min most (MOST_HELD - length held.old)))
+        (replies_of result held.new) (point (D.state desk.new) held.new) }
     ensures name { D.name (D.state desk.new) ≡ D.name (D.state desk.old) }
 {
     let free = held.free();

@@ -6,7 +6,7 @@ ghost use Rattle.rb_session.specs.Gathered.{RanGathered};
 use crate::ended::Ended;
 use crate::gathering::{GATHERED_BYTES, Gathering};
 use crate::hands_on::HandsOn;
-use crate::session::run_session_through;
+use crate::run::run_session_through;
 use crate::session_fault::SessionFault;
 use rb_retry::{Desk, Policy};
 use std::alloc::Global;
@@ -28,7 +28,8 @@ pub fn run_gathered<R: Read, W: Write, D: Desk>(
     hands_on: HandsOn,
 ) -> Result<Ended, SessionFault>
     ensures ran { Exchanges (R.remaining reader.old) (R.remaining reader.new) (W.contents writer.old) (W.contents writer.new) (λ came sent.
-        RanGathered D.gives D.Sets D.Steps policy.now (IsAtEnd (R.remaining reader.new)) (D.state desk.old) came sent result (D.state desk.new)) }
+        RanGathered D.gives D.Sets D.Steps policy.now (IsAtEnd (R.remaining reader.new))
+        (D.state desk.old) came sent result (D.state desk.new)) }
     ensures name { D.name (D.state desk.new) ≡ D.name (D.state desk.old) }
 {
     let Ok(room) = Vec::with_capacity(alloc, GATHERED_BYTES) else {

@@ -62,7 +62,9 @@ impl<'a, W: Write> Gathering<'a, W> {
     // Hands on what is gathered. What the writer did not take before a failing write stays gathered.
     fn empty(&mut self) -> Result<(), WriteFault>
         ensures empty { OnOk result (self.new.gathered.items ≡ []) }
-        ensures kept { Keeps (append_known (W.contents self.old.writer.now) self.old.gathered.items) (append_known (W.contents self.new.writer.now) self.new.gathered.items) }
+        ensures kept { Keeps
+            (append_known (W.contents self.old.writer.now) self.old.gathered.items)
+            (append_known (W.contents self.new.writer.now) self.new.gathered.items) }
         ensures same_reference { self.new.writer.ghost_name ≡ self.old.writer.ghost_name }
         ensures grows { KeepsFront (W.contents self.old.writer.now) (W.contents self.new.writer.now) }
         ensures hands_on { self.new.hands_on ≡ self.old.hands_on }
@@ -88,7 +90,8 @@ impl<W: Write> Outlet for Gathering<'_, W> {
 
     ghost HoldsBack = { Unit {0} };
 
-    ghost Becomes = { λ old new. (new.writer.ghost_name ≡ old.writer.ghost_name) × KeepsFront (W.contents old.writer.now) (W.contents new.writer.now) × (new.hands_on ≡ old.hands_on) };
+    ghost Becomes = { λ old new. (new.writer.ghost_name ≡ old.writer.ghost_name)
+        × KeepsFront (W.contents old.writer.now) (W.contents new.writer.now) × (new.hands_on ≡ old.hands_on) };
 
     fn send(&mut self, line: &[u8]) -> Result<(), WriteFault> {
         if line.len() > self.room() {

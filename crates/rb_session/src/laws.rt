@@ -25,6 +25,8 @@ pub fn events_of_session<D: Desk>()
 /// The history of a kept queue grows by what a session at its desk makes, in order, and by nothing else. The
 /// desk's moment is then the latest of its moment before and those that the served `AT` lines named.
 pub fn history_of_session<'a, T: Timer + 'a>()
-    ensures lines { RecordsByLines ⟦<KeptDesk<'a, T> as Desk>⟧.gives ⟦<KeptDesk<'a, T> as Desk>⟧.Sets ⟦<KeptDesk<'a, T> as Desk>⟧.Steps }
-    ensures closing { RecordsByClosing ⟦<KeptDesk<'a, T> as Desk>⟧.gives ⟦<KeptDesk<'a, T> as Desk>⟧.Sets ⟦<KeptDesk<'a, T> as Desk>⟧.Steps }
+    ensures lines { RecordsByLines
+        ⟦<KeptDesk<'a, T> as Desk>⟧.gives ⟦<KeptDesk<'a, T> as Desk>⟧.Sets ⟦<KeptDesk<'a, T> as Desk>⟧.Steps }
+    ensures closing { RecordsByClosing
+        ⟦<KeptDesk<'a, T> as Desk>⟧.gives ⟦<KeptDesk<'a, T> as Desk>⟧.Sets ⟦<KeptDesk<'a, T> as Desk>⟧.Steps }
 {}

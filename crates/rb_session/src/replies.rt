@@ -1,4 +1,4 @@
-ghost use Rattle.std.specs.Prelude.{◌≤◌, map, vec_capacity};
+ghost use Rattle.std.specs.Prelude.{map};
 ghost use Rattle.rb_protocol.specs.ReplyText.{text_of};
 ghost use Rattle.rb_protocol.specs.declared.line_reply.LineReply.TheVariants as lines;
 ghost use Rattle.rb_session.specs.Session.{texts_of};
@@ -7,7 +7,8 @@ ghost use Rattle.rb_session.specs.Progress.{replies_of};
 
 use crate::held_jobs::HeldJobs;
 use crate::outlet::Outlet;
-use rb_protocol::{LineReply, REPLY_ROOM, WriteFault, write_reply};
+use crate::reply_text::ReplyText;
+use rb_protocol::{LineReply, WriteFault};
 use rb_retry::Job;
 
 /// Sends the lines of a reply, each in one piece, and flushes. A drain's line is followed by those
@@ -16,13 +17,11 @@ use rb_retry::Job;
 /// After an `Err` the outlet has taken the first bytes of the lines, perhaps none.
 pub(crate) fn send_replies<O: Outlet>(
     outlet: &mut O,
-    text: &mut Vec<u8>,
+    text: &mut ReplyText,
     reply: &LineReply,
     held: &HeldJobs,
 ) -> Result<(), WriteFault>
-    requires { REPLY_ROOM ≤ vec_capacity text.old }
     ensures sent { Sends result (O.contents outlet.old) (texts_of (replies_of reply.now held.now)) (O.contents outlet.new) }
-    ensures room { REPLY_ROOM ≤ vec_capacity text.new }
     ensures becomes { O.Becomes outlet.old outlet.new }
 {
     send_lines(outlet, text, reply, held)?;
@@ -32,13 +31,11 @@ pub(crate) fn send_replies<O: Outlet>(
 // Sends the lines of a reply.
 fn send_lines<O: Outlet>(
     outlet: &mut O,
-    text: &mut Vec<u8>,
+    text: &mut ReplyText,
     reply: &LineReply,
     held: &HeldJobs,
 ) -> Result<(), WriteFault>
-    requires { REPLY_ROOM ≤ vec_capacity text.old }
     ensures sent { Sends result (O.contents outlet.old) (texts_of (replies_of reply.now held.now)) (O.contents outlet.new) }
-    ensures room { REPLY_ROOM ≤ vec_capacity text.new }
     ensures becomes { O.Becomes outlet.old outlet.new }
 {
     send_reply(outlet, text, reply)?;
@@ -49,10 +46,12 @@ fn send_lines<O: Outlet>(
 }
 
 // Sends a line for each job.
-fn send_items<O: Outlet>(outlet: &mut O, text: &mut Vec<u8>, jobs: &[Job]) -> Result<(), WriteFault>
-    requires { REPLY_ROOM ≤ vec_capacity text.old }
+fn send_items<O: Outlet>(
+    outlet: &mut O,
+    text: &mut ReplyText,
+    jobs: &[Job],
+) -> Result<(), WriteFault>
     ensures sent { Sends result (O.contents outlet.old) (texts_of (map lines.Item jobs.now)) (O.contents outlet.new) }
-    ensures room { REPLY_ROOM ≤ vec_capacity text.new }
     ensures becomes { O.Becomes outlet.old outlet.new }
 {
     for job in jobs {
@@ -64,15 +63,12 @@ fn send_items<O: Outlet>(outlet: &mut O, text: &mut Vec<u8>, jobs: &[Job]) -> Re
 // Sends one line, in one piece.
 fn send_reply<O: Outlet>(
     outlet: &mut O,
-    text: &mut Vec<u8>,
+    text: &mut ReplyText,
     reply: &LineReply,
 ) -> Result<(), WriteFault>
-    requires { REPLY_ROOM ≤ vec_capacity text.old }
     ensures sent { Sends result (O.contents outlet.old) (text_of reply.now) (O.contents outlet.new) }
-    ensures room { REPLY_ROOM ≤ vec_capacity text.new }
     ensures becomes { O.Becomes outlet.old outlet.new }
 {
-    text.clear();
-    write_reply(reply, text).unwrap();
-    outlet.send(text)
+    text.put(reply);
+    outlet.send(text.line())
 }

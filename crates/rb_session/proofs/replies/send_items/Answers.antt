@@ -47,6 +47,5 @@ loop-job-preserved g c = record {
       let more = subst (λ (e : Element). Appends (g.O.Outlet.contents c.loop-job.outlet) (g.O.Outlet.contents c.send_reply.new.outlet) (text_of (lines.Item e))) c.element.ensures c.in_ok-send_reply.ensures.sent in
       subst (Appends _ _) (sym (text_more c.args.jobs.now c.loop-job.job-index c.job-item.result c.loop-job-test.true c.job-item.is))
       (Appends-trans _ _ _ _ _ c.loop-job.invariant.sent more);
-  room = c.in_ok-send_reply.ensures.room;
   becomes = g.met.O.Outlet.goes_on _ _ _ c.loop-job.invariant.becomes c.in_ok-send_reply.ensures.becomes;
 }

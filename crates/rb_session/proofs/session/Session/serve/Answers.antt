@@ -3,7 +3,7 @@ use Rattle.std.specs.Io.KnownBytes.{IsAtEnd}
 use Rattle.std.proofs.KnownBytes.{Appends-kept}
 use Rattle.rb_session.specs.Turn.{point}
 use Rattle.rb_session.proofs.Outlets.{stops_late}
-use Rattle.rb_session.proofs.session.serve.Goals as goal
+use Rattle.rb_session.proofs.session.Session.serve.Goals as goal
 
 pub returns-in-Err-clause-stops : goal.returns-in-Err-clause-stops
 returns-in-Err-clause-stops g c =
@@ -14,5 +14,5 @@ returns-in-Err-clause-stops g c =
       consumed = ran.consumed;
       appended = Appends-kept _ _ _ _ ran.appended c.hand_on.ensures.kept;
       holds = stops_late g.D.Desk.gives g.D.Desk.Sets g.D.Desk.Steps c.args.policy.now g.O.Outlet.HoldsBack (IsAtEnd (g.R.Read.remaining served.new.reader.inner.now)) c.in-Err.ensures.late
-          served.result _ (point (g.D.Desk.state served.new.desk) served.new.held) ran.came ran.sent ran.holds;
+          served.result _ (point (g.D.Desk.state served.new.desk) served.new.self.held) ran.came ran.sent ran.holds;
     }

@@ -2,7 +2,7 @@
 use Rattle.std.proofs.Common.{rules, sym}
 use Rattle.std.specs.Io.KnownBytes.{IsAtEnd}
 use Rattle.rb_session.proofs.Outlets.{ran_direct}
-use Rattle.rb_session.proofs.session.run_session.Goals as goal
+use Rattle.rb_session.proofs.run.run_session.Goals as goal
 
 pub returns-clause-ran : goal.returns-clause-ran
 returns-clause-ran g c =

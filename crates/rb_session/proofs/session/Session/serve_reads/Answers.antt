@@ -12,9 +12,9 @@ use Rattle.rb_session.proofs.LongerExchanges.{exchanges_same, exchanges_more}
 use Rattle.rb_session.proofs.Turns.{stands_first}
 use Rattle.rb_session.proofs.StreamRuns.{breaks_off, ran_end, stands_on, stopped}
 use Rattle.rb_session.proofs.Outlets.{failed, went, stands_late, clear_at_end, clear_at_line, unused_at_end, unused_at_line}
-use Rattle.rb_session.proofs.session.serve_reads.Given.{Over}
-use Rattle.rb_session.proofs.session.serve_reads.Goals as goal
-use Rattle.rb_session.proofs.session.serve_reads.Goals.{After-read_from, In-Some}
+use Rattle.rb_session.proofs.session.Session.serve_reads.Given.{Over}
+use Rattle.rb_session.proofs.session.Session.serve_reads.Goals as goal
+use Rattle.rb_session.proofs.session.Session.serve_reads.Goals.{After-read_from, In-Some}
 
 no_bytes : (more : List ℕ) → length more ≡ 0 → more ≡ []
 no_bytes [] none = refl
@@ -31,8 +31,8 @@ read_took g c result is =
 -- a read brought more, and one of the lines stopped the session
 line_stopped : (g : Over) (c : In-Some g) → (more : List ℕ) × Consumes (g.R.Read.remaining c.loop-outlet.reader.inner.now) (g.R.Read.remaining c.read_from.new.reader.inner.now) more
     × (sent : List ℕ) × Appends (g.O.Outlet.contents c.hand_on.new.self) (g.O.Outlet.contents c.serve_lines.new.outlet) sent
-    × ServesLines g.D.Desk.gives g.D.Desk.Sets g.D.Desk.Steps c.args.policy.now g.O.Outlet.HoldsBack (point (g.D.Desk.state c.loop-outlet.desk) c.loop-outlet.held)
-    (c.loop-outlet.invariant.stands.holds.0.rest ++ more) sent (Some c.in-Some.stop) c.serve_lines.new.buffer (point (g.D.Desk.state c.serve_lines.new.desk) c.serve_lines.new.held)
+    × ServesLines g.D.Desk.gives g.D.Desk.Sets g.D.Desk.Steps c.args.policy.now g.O.Outlet.HoldsBack (point (g.D.Desk.state c.loop-outlet.desk) c.loop-outlet.self.held)
+    (c.loop-outlet.invariant.stands.holds.0.rest ++ more) sent (Some c.in-Some.stop) c.serve_lines.new.self.buffer (point (g.D.Desk.state c.serve_lines.new.desk) c.serve_lines.new.self.held)
 line_stopped g c =
     let more = read_took g (goal.at.In-Some g c).After-read_from _ c.in-Ok.is in
     let on = c.serve_lines.ensures.served _ more.2 in
@@ -46,9 +46,8 @@ loop-outlet-init g c = record {
     sent = [];
     consumed = Consumes-nil _;
     appended = Appends-nil _;
-    holds = (stands_first g.D.Desk.gives g.D.Desk.Sets g.D.Desk.Steps c.args.policy.now (point (g.D.Desk.state c.args.desk.now) c.args.held.now) [], tt, c.requires.fresh);
+    holds = (stands_first g.D.Desk.gives g.D.Desk.Sets g.D.Desk.Steps c.args.policy.now (point (g.D.Desk.state c.args.desk.now) c.args.self.now.held) [], tt, c.requires.fresh);
   };
-  room = c.requires.room;
   same_reference = refl;
   becomes = g.met.O.Outlet.stays c.args.outlet.now;
   name = refl;
@@ -66,7 +65,7 @@ returns-in-Ok-eq0-clause-stops g c =
     let rest = ap (λ m. at.0.rest ++ m) none ∙ append-nil at.0.rest in
     let came = ap (λ m. s.came ++ m) none ∙ append-nil s.came in
     exchanges_more s _ c.hand_on.ensures.kept more.0 ends.0 _ more.1 ends.1
-    (rw came (ran_end _ _ _ _ _ (point (g.D.Desk.state c.loop-outlet.desk) c.loop-outlet.held) s.came s.sent at.0 g.O.Outlet.HoldsBack (IsAtEnd (g.R.Read.remaining c.read_from.new.reader.inner.now))
+    (rw came (ran_end _ _ _ _ _ (point (g.D.Desk.state c.loop-outlet.desk) c.loop-outlet.self.held) s.came s.sent at.0 g.O.Outlet.HoldsBack (IsAtEnd (g.R.Read.remaining c.read_from.new.reader.inner.now))
     (more.4 zero) at.1 c.finish.result ends.0 (subst (λ bytes. AnswersEnd c.finish.result bytes ends.0) rest ends.2)))
 
 -- the replies so far could not be handed on
@@ -75,7 +74,7 @@ returns-then-is_err-clause-stops g c =
     let s = c.loop-outlet.invariant.stands in
     let late = failed c.hand_on.result g.O.Outlet.HoldsBack (sym c.is_err.ensures.value ∙ c.if-is_err.true) c.hand_on.ensures.late in
     exchanges_same s _ c.hand_on.ensures.kept (Keeps-refl _)
-    (inr (late, stands_late _ _ _ _ (IsAtEnd (g.R.Read.remaining c.loop-outlet.reader.inner.now)) _ (point (g.D.Desk.state c.loop-outlet.desk) c.loop-outlet.held) s.came s.sent s.holds.0))
+    (inr (late, stands_late _ _ _ _ (IsAtEnd (g.R.Read.remaining c.loop-outlet.reader.inner.now)) _ (point (g.D.Desk.state c.loop-outlet.desk) c.loop-outlet.self.held) s.came s.sent s.holds.0))
 
 -- the end of the input is no failing read
 pub returns-in-Ok-eq0-clause-clear : goal.returns-in-Ok-eq0-clause-clear
@@ -98,13 +97,13 @@ returns-in-Err-2-clause-clear g c = went c.hand_on.result _ (sym c.is_err.ensure
 -- nor is a line
 pub returns-in-Some-clause-clear : goal.returns-in-Some-clause-clear
 returns-in-Some-clause-clear g c =
-    clear_at_line g.D.Desk.gives g.D.Desk.Sets g.D.Desk.Steps c.args.policy.now _ g.O.Outlet.HoldsBack (point (g.D.Desk.state c.loop-outlet.desk) c.loop-outlet.held)
-    (point (g.D.Desk.state c.serve_lines.new.desk) c.serve_lines.new.held) _ _ c.in-Some.stop _ (line_stopped g (goal.at.returns-in-Some-clause-clear g c).In-Some).4
+    clear_at_line g.D.Desk.gives g.D.Desk.Sets g.D.Desk.Steps c.args.policy.now _ g.O.Outlet.HoldsBack (point (g.D.Desk.state c.loop-outlet.desk) c.loop-outlet.self.held)
+    (point (g.D.Desk.state c.serve_lines.new.desk) c.serve_lines.new.self.held) _ _ c.in-Some.stop _ (line_stopped g (goal.at.returns-in-Some-clause-clear g c).In-Some).4
 
 pub returns-in-Some-clause-used_up : goal.returns-in-Some-clause-used_up
 returns-in-Some-clause-used_up g c =
-    unused_at_line g.D.Desk.gives g.D.Desk.Sets g.D.Desk.Steps c.args.policy.now _ g.O.Outlet.HoldsBack (point (g.D.Desk.state c.loop-outlet.desk) c.loop-outlet.held)
-    (point (g.D.Desk.state c.serve_lines.new.desk) c.serve_lines.new.held) _ _ c.in-Some.stop _ (line_stopped g (goal.at.returns-in-Some-clause-used_up g c).In-Some).4
+    unused_at_line g.D.Desk.gives g.D.Desk.Sets g.D.Desk.Steps c.args.policy.now _ g.O.Outlet.HoldsBack (point (g.D.Desk.state c.loop-outlet.desk) c.loop-outlet.self.held)
+    (point (g.D.Desk.state c.serve_lines.new.desk) c.serve_lines.new.self.held) _ _ c.in-Some.stop _ (line_stopped g (goal.at.returns-in-Some-clause-used_up g c).In-Some).4
 
 -- a read that was interrupted took nothing
 pub loop-outlet-preserved-in-Err : goal.loop-outlet-preserved-in-Err
@@ -113,7 +112,6 @@ loop-outlet-preserved-in-Err g c = record {
       let unread = read_took g (goal.at.loop-outlet-preserved-in-Err g c).After-read_from _ c.in-Err.is in
       let at = c.loop-outlet.invariant.stands.holds in
       exchanges_same c.loop-outlet.invariant.stands _ c.hand_on.ensures.kept unread.0 (at.0, at.1, unread.1);
-  room = c.loop-outlet.invariant.room;
   same_reference = c.read_from.ensures.same_reference ∙ c.loop-outlet.invariant.same_reference;
   becomes = g.met.O.Outlet.goes_on _ _ _ c.loop-outlet.invariant.becomes c.hand_on.ensures.becomes;
   name = c.loop-outlet.invariant.name;
@@ -124,7 +122,7 @@ pub returns-in-Err-2-clause-stops : goal.returns-in-Err-2-clause-stops
 returns-in-Err-2-clause-stops g c =
     let s = c.loop-outlet.invariant.stands in
     let unread = read_took g (goal.at.returns-in-Err-2-clause-stops g c).After-read_from _ c.in-Err-2.is in
-    exchanges_same s _ c.hand_on.ensures.kept unread.0 (breaks_off _ _ _ _ _ (point (g.D.Desk.state c.loop-outlet.desk) c.loop-outlet.held) s.came s.sent s.holds.0 s.holds.1)
+    exchanges_same s _ c.hand_on.ensures.kept unread.0 (breaks_off _ _ _ _ _ (point (g.D.Desk.state c.loop-outlet.desk) c.loop-outlet.self.held) s.came s.sent s.holds.0 s.holds.1)
 
 -- a line stopped the session
 pub returns-in-Some-clause-stops : goal.returns-in-Some-clause-stops
@@ -132,8 +130,8 @@ returns-in-Some-clause-stops g c =
     let s = c.loop-outlet.invariant.stands in
     let on = line_stopped g (goal.at.returns-in-Some-clause-stops g c).In-Some in
     exchanges_more s _ c.hand_on.ensures.kept on.0 on.2 _ on.1 on.3
-    (stopped g.D.Desk.gives g.D.Desk.Sets g.D.Desk.Steps c.args.policy.now _ (point (g.D.Desk.state c.loop-outlet.desk) c.loop-outlet.held) s.came s.sent s.holds.0 on.0 on.2
-    (point (g.D.Desk.state c.serve_lines.new.desk) c.serve_lines.new.held) g.O.Outlet.HoldsBack _ c.in-Some.stop _ on.4)
+    (stopped g.D.Desk.gives g.D.Desk.Sets g.D.Desk.Steps c.args.policy.now _ (point (g.D.Desk.state c.loop-outlet.desk) c.loop-outlet.self.held) s.came s.sent s.holds.0 on.0 on.2
+    (point (g.D.Desk.state c.serve_lines.new.desk) c.serve_lines.new.self.held) g.O.Outlet.HoldsBack _ c.in-Some.stop _ on.4)
 
 pub loop-outlet-preserved : goal.loop-outlet-preserved
 unfolding stands_on
@@ -142,10 +140,9 @@ loop-outlet-preserved g c = record {
       let s = c.loop-outlet.invariant.stands in
       let more = read_took g (goal.at.loop-outlet-preserved g c).After-read_from _ c.in-Ok.is in
       let on = c.in_default.ensures.served _ more.2 in
-      let stands = stands_on g.D.Desk.gives g.D.Desk.Sets g.D.Desk.Steps c.args.policy.now _ (point (g.D.Desk.state c.loop-outlet.desk) c.loop-outlet.held) s.came s.sent s.holds.0 more.0 on.0
-      (point (g.D.Desk.state c.serve_lines.new.desk) c.serve_lines.new.held) on.2.0 in
+      let stands = stands_on g.D.Desk.gives g.D.Desk.Sets g.D.Desk.Steps c.args.policy.now _ (point (g.D.Desk.state c.loop-outlet.desk) c.loop-outlet.self.held) s.came s.sent s.holds.0 more.0 on.0
+      (point (g.D.Desk.state c.serve_lines.new.desk) c.serve_lines.new.self.held) on.2.0 in
       exchanges_more s _ c.hand_on.ensures.kept more.0 on.0 _ more.1 on.1 (stands, on.2.1, on.2.2);
-  room = c.serve_lines.ensures.room;
   same_reference = c.read_from.ensures.same_reference ∙ c.loop-outlet.invariant.same_reference;
   becomes = g.met.O.Outlet.goes_on _ _ _ (g.met.O.Outlet.goes_on _ _ _ c.loop-outlet.invariant.becomes c.hand_on.ensures.becomes) c.serve_lines.ensures.becomes;
   name = c.serve_lines.ensures.name ∙ c.loop-outlet.invariant.name;
@@ -154,7 +151,7 @@ loop-outlet-preserved g c = record {
 pub returns-clause-stops : goal.returns-clause-stops
 returns-clause-stops g c =
     let s = c.loop-outlet.invariant.stands in
-    exchanges_same s _ (Keeps-refl _) (Keeps-refl _) (breaks_off _ _ _ _ _ (point (g.D.Desk.state c.loop-outlet.desk) c.loop-outlet.held) s.came s.sent s.holds.0 s.holds.1)
+    exchanges_same s _ (Keeps-refl _) (Keeps-refl _) (breaks_off _ _ _ _ _ (point (g.D.Desk.state c.loop-outlet.desk) c.loop-outlet.self.held) s.came s.sent s.holds.0 s.holds.1)
 
 pub returns-then-is_err-clause-becomes : goal.returns-then-is_err-clause-becomes
 returns-then-is_err-clause-becomes g c = g.met.O.Outlet.goes_on _ _ _ c.loop-outlet.invariant.becomes c.hand_on.ensures.becomes

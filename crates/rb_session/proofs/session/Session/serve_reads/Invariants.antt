@@ -1,20 +1,17 @@
 -- Of what came the whole lines are served, and the buffer has the rest.
-use Rattle.std.proofs.Common.{◌≡◌, ◌≤◌}
-use Rattle.std.specs.Prelude.{vec_capacity}
-use Rattle.rb_protocol.specs.declared.line_reply.TheConstants.{REPLY_ROOM}
+use Rattle.std.proofs.Common.{◌≡◌}
 use Rattle.rb_session.specs.Exchange.{Exchanges}
 use Rattle.rb_session.specs.Buffer.{IsUnserved}
 use Rattle.rb_session.specs.Lines.{HasNoLineFeed}
 use Rattle.rb_session.specs.Turn.{point}
 use Rattle.rb_session.specs.Progress.{Stands}
-use Rattle.rb_session.proofs.session.serve_reads.Given as goal
+use Rattle.rb_session.proofs.session.Session.serve_reads.Given as goal
 
 abbrev pub invariant-loop-outlet : goal.invariant-loop-outlet
 invariant-loop-outlet g l = record {
   stands : Exchanges (g.R.Read.remaining l.fn.reader.inner.now) (g.R.Read.remaining l.reader.inner.now) (g.O.Outlet.contents l.fn.outlet) (g.O.Outlet.contents l.outlet) (λ came sent.
-      (stands : Stands g.D.Desk.gives g.D.Desk.Sets g.D.Desk.Steps l.policy (point (g.D.Desk.state l.fn.desk) l.fn.held) came sent (point (g.D.Desk.state l.desk) l.held))
-      × HasNoLineFeed stands.rest × IsUnserved l.buffer stands.rest);
-  room : REPLY_ROOM ≤ vec_capacity l.text;
+      (stands : Stands g.D.Desk.gives g.D.Desk.Sets g.D.Desk.Steps l.policy (point (g.D.Desk.state l.fn.desk) l.fn.self.held) came sent (point (g.D.Desk.state l.desk) l.self.held))
+      × HasNoLineFeed stands.rest × IsUnserved l.self.buffer stands.rest);
   same_reference : l.reader.inner.ghost_name ≡ l.fn.reader.inner.ghost_name;
   becomes : g.O.Outlet.Becomes l.fn.outlet l.outlet;
   name : g.D.Desk.name (g.D.Desk.state l.desk) ≡ g.D.Desk.name (g.D.Desk.state l.fn.desk);

@@ -7,13 +7,13 @@ use Rattle.rb_session.specs.Turn.{point}
 use Rattle.rb_session.proofs.Sending.{sends_failed, sends_done}
 use Rattle.rb_session.proofs.Turns.{IsNextTurn, stands_first, goes_on, quits, fails}
 use Rattle.rb_session.proofs.Outlets.{failed}
-use Rattle.rb_session.proofs.session.serve_lines.Given.{Over}
-use Rattle.rb_session.proofs.session.serve_lines.Goals as goal
-use Rattle.rb_session.proofs.session.serve_lines.Goals.{After-answer-reply}
+use Rattle.rb_session.proofs.session.Session.serve_lines.Given.{Over}
+use Rattle.rb_session.proofs.session.Session.serve_lines.Goals as goal
+use Rattle.rb_session.proofs.session.Session.serve_lines.Goals.{After-answer-reply}
 
 -- the line that was taken gets its turn
-next_turn : (g : Over) (c : After-answer-reply g) (bytes : List ℕ) → IsUnserved c.args.buffer.now bytes
-    → IsNextTurn g.D.Desk.gives g.D.Desk.Sets g.D.Desk.Steps c.args.policy.now (point (g.D.Desk.state c.args.desk.now) c.args.held.now)
+next_turn : (g : Over) (c : After-answer-reply g) (bytes : List ℕ) → IsUnserved c.args.self.now.buffer bytes
+    → IsNextTurn g.D.Desk.gives g.D.Desk.Sets g.D.Desk.Steps c.args.policy.now (point (g.D.Desk.state c.args.desk.now) c.args.self.now.held)
     (point (g.D.Desk.state c.answer-reply.new.desk) c.answer-reply.new.held) bytes (g.O.Outlet.contents c.args.outlet.now) (g.O.Outlet.contents c.clear_for_wait.new.outlet)
     c.in-Some.reading (replies_of c.answer-reply.result c.answer-reply.new.held) c.next_request.new.self
 next_turn g c bytes unserved =
@@ -37,8 +37,7 @@ pub loop-reading-init : goal.loop-reading-init
 unfolding stands_first
 loop-reading-init g c = record {
   stands = λ bytes unserved.
-      ([], Appends-nil _, stands_first g.D.Desk.gives g.D.Desk.Sets g.D.Desk.Steps c.args.policy.now (point (g.D.Desk.state c.args.desk.now) c.args.held.now) bytes, unserved);
-  room = c.requires;
+      ([], Appends-nil _, stands_first g.D.Desk.gives g.D.Desk.Sets g.D.Desk.Steps c.args.policy.now (point (g.D.Desk.state c.args.desk.now) c.args.self.now.held) bytes, unserved);
   becomes = g.met.O.Outlet.stays c.args.outlet.now;
   name = refl;
 }
@@ -72,7 +71,6 @@ loop-reading-preserved g c = record {
       goes_on _ _ _ _ (next_turn g (goal.at.loop-reading-preserved g c).After-answer-reply bytes unserved) (g.O.Outlet.contents c.send_replies.new.outlet)
       (sends_done c.send_replies.result _ _ _ (sym c.is_err-in-Some.ensures.value ∙ c.if-is_err-2.false) c.send_replies.ensures.sent)
       (λ quit. let clash : true ≡ false = sym (c.is_quit-quits.ensures.1 quit) ∙ c.if-quits.false in absurd (cc));
-  room = c.send_replies.ensures.room;
   becomes = g.met.O.Outlet.goes_on _ _ _ (g.met.O.Outlet.goes_on _ _ _ c.loop-reading.invariant.becomes c.clear_for_wait.ensures.becomes) c.send_replies.ensures.becomes;
   name = c.answer-reply.ensures.name ∙ c.loop-reading.invariant.name;
 }

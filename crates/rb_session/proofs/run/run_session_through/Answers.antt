@@ -16,7 +16,7 @@ use Rattle.rb_session.specs.declared.session_fault.SessionFault.{SessionFault}
 use Rattle.rb_session.specs.declared.stop.Stop.{Stop}
 use Rattle.rb_session.specs.declared.stop.Stop.TheVariants as stops
 use Rattle.rb_session.proofs.Outlets.{handed_on}
-use Rattle.rb_session.proofs.session.run_session_through.Goals as goal
+use Rattle.rb_session.proofs.run.run_session_through.Goals as goal
 
 module _ {S : Type 0} (gives : S → ℕ → Type 0) (Sets : S → ℕ → Option ℕ → S → Type 0)
     (Steps : S → ℕ → Ask → Result Reply DeskFault → S → Type 0) (policy : Policy) where
@@ -38,8 +38,8 @@ returns-clause-ran g c =
     let last = g.D.Desk.state served.new.desk in
     let left = g.R.Read.remaining served.new.reader.inner.now in
     let did = served.ensures.stops in
-    let stopped = subst (λ (held : List Element). Stops gives Sets Steps c.args.policy.now g.O.Outlet.HoldsBack (IsAtEnd left) (point from held) did.came did.sent served.result (point last served.new.held))
-    c.in-Ok-new.ensures did.holds in
+    let stopped = subst (λ (held : List Element). Stops gives Sets Steps c.args.policy.now g.O.Outlet.HoldsBack (IsAtEnd left) (point from held) did.came did.sent served.result (point last served.new.self.held))
+    c.in-Ok.ensures.held did.holds in
     let whole : Exchanges (g.R.Read.remaining c.args.reader.now) left (g.O.Outlet.contents c.args.outlet.now) (g.O.Outlet.contents served.new.outlet) (λ came sent.
     RanThrough gives Sets Steps c.args.policy.now g.O.Outlet.HoldsBack (IsAtEnd left) from came sent c.end_of.result (g.D.Desk.state c.fail_all-lost.new.desk)) = record {
       came = did.came;
@@ -47,7 +47,7 @@ returns-clause-ran g c =
       consumed = subst (λ (old : Option (List ℕ)). Consumes old left did.came) (ap g.R.Read.remaining c.new-limited.ensures.same) did.consumed;
       appended = did.appended;
       holds = subst (λ (r : Result Ended SessionFault). RanThrough gives Sets Steps c.args.policy.now g.O.Outlet.HoldsBack (IsAtEnd left) from did.came did.sent r (g.D.Desk.state c.fail_all-lost.new.desk)) (sym c.end_of.ensures)
-          (ran gives Sets Steps c.args.policy.now g.O.Outlet.HoldsBack (IsAtEnd left) from last (g.D.Desk.state c.fail_all-lost.new.desk) served.new.held did.came did.sent served.result c.fail_all-lost.result stopped c.fail_all-lost.ensures.closes);
+          (ran gives Sets Steps c.args.policy.now g.O.Outlet.HoldsBack (IsAtEnd left) from last (g.D.Desk.state c.fail_all-lost.new.desk) served.new.self.held did.came did.sent served.result c.fail_all-lost.result stopped c.fail_all-lost.ensures.closes);
     } in
     let name = sym (served.ensures.same_reference ∙ c.new-limited.ensures.same_reference) in
     search rules

@@ -1,0 +1,19 @@
+-- The lines that were taken out of the buffer are served, and each made what is left in it shorter.
+use Rattle.std.proofs.Common.{◌≡◌, ℕ, ◌-◌, List}
+use Rattle.std.specs.Io.KnownBytes.{Appends}
+use Rattle.rb_session.specs.Buffer.{IsUnserved}
+use Rattle.rb_session.specs.Turn.{point}
+use Rattle.rb_session.specs.Progress.{Stands}
+use Rattle.rb_session.proofs.session.Session.serve_lines.Given as goal
+
+abbrev pub invariant-loop-reading : goal.invariant-loop-reading
+invariant-loop-reading g l = record {
+  stands : (bytes : List ℕ) → IsUnserved l.fn.self.buffer bytes → (sent : List ℕ) × Appends (g.O.Outlet.contents l.fn.outlet) (g.O.Outlet.contents l.outlet) sent
+      × (stands : Stands g.D.Desk.gives g.D.Desk.Sets g.D.Desk.Steps l.policy (point (g.D.Desk.state l.fn.desk) l.fn.self.held) bytes sent (point (g.D.Desk.state l.desk) l.self.held))
+      × IsUnserved l.self.buffer stands.rest;
+  becomes : g.O.Outlet.Becomes l.fn.outlet l.outlet;
+  name : g.D.Desk.name (g.D.Desk.state l.desk) ≡ g.D.Desk.name (g.D.Desk.state l.fn.desk);
+}
+
+abbrev pub decreases-loop-reading : goal.decreases-loop-reading
+decreases-loop-reading g l = l.self.buffer.end - l.self.buffer.start
