@@ -14,13 +14,20 @@ fn long_text(alloc: Global) -> Result<Vec<u8>, AllocError> {
     Ok(text)
 }
 
-// What is read has these bytes.
-fn expect_text(rt: &impl Abort, alloc: Global, source: Source<'_>, wanted: &[u8], at: usize) {
+// What is read has these bytes. Returns how many reads were made.
+fn expect_text(
+    rt: &impl Abort,
+    alloc: Global,
+    source: Source<'_>,
+    wanted: &[u8],
+    at: usize,
+) -> usize {
     let mut source = source;
     match read_all(alloc, &mut source) {
         Ok(text) => expect_bytes(rt, &text, wanted, at),
         Err(fault) => assert!(rt; false, "{fault:?}: {at}"),
     }
+    source.calls
 }
 
 fn expect_fault(rt: &impl Abort, alloc: Global, source: Source<'_>, wanted: BrokerFault) -> usize {
@@ -50,6 +57,20 @@ fn a_file_without_an_end_is_given_up(rt: HostRuntime) {
     let source = Source::ending(b"", End::NeverComes);
     let reads = expect_fault(&rt, rt.alloc(), source, BrokerFault::ReadTurns);
     expect_count(&rt, reads, 10_000_000, 0);
+}
+
+// A file whose reads give a byte each.
+fn expect_reads(rt: &impl Abort, alloc: Global, text: &[u8], wanted: usize) {
+    let reads = expect_text(rt, alloc, Source::of(text, 1), text, wanted);
+    expect_count(rt, reads, wanted, wanted);
+}
+
+#[test]
+fn nothing_is_read_behind_the_end_of_a_file(rt: HostRuntime) {
+    let alloc = rt.alloc();
+    expect_reads(&rt, alloc, b"", 1);
+    expect_reads(&rt, alloc, b"a", 2);
+    expect_reads(&rt, alloc, b"ab", 3);
 }
 
 #[test]
