@@ -7,7 +7,7 @@ use Rattle.rb_kept.specs.declared.kept.TheConstants.{MOST_CALLS}
 use Rattle.rb_arguments.specs.CommandLine.{HasNumberWithin, HasPace}
 use Rattle.rb_arguments.specs.TimerKind.{timer_name}
 use Rattle.rb_arguments.specs.declared.run_options.TheConstants.{MOST_WORKERS}
-use Rattle.rb_arguments.specs.declared.serve_options.TheConstants.{MOST_SESSIONS, MOST_TURNS}
+use Rattle.rb_arguments.specs.declared.serve_options.TheConstants.{GREATEST_PORT, MOST_SESSIONS, MOST_TURNS}
 use Rattle.rb_arguments.specs.declared.timer_kind.TimerKind.{TimerKind}
 
 -- a timer is named
@@ -32,7 +32,7 @@ pub record AreReplayValues (found : Found) : Type 0 where
 
 -- The values of `serve` are right. No number has a say in the range of another.
 pub record AreServerValues (found : Found) : Type 0 where
-  pub port : HasNumberWithin 1 65535 (one_text found (codes "port"))
+  pub port : HasNumberWithin 1 GREATEST_PORT (one_text found (codes "port"))
   pub timer : NamesTimer found
   pub sessions : HasNumberWithin 1 MOST_SESSIONS (one_text found (codes "sessions"))
   pub turns : HasNumberWithin 0 MOST_TURNS (one_text found (codes "turns"))

@@ -4,7 +4,7 @@ ghost use Rattle.clap.specs.Words.{rule_of};
 ghost use Rattle.rb_arguments.specs.Arguments.{AreTimerNames, attempts_option, calls_option, chains_flag, delay_option, file_argument, from_option, history_option, port_option, rate_option, sessions_option, timer_option, turns_option, workers_option};
 
 use crate::run_options::MOST_WORKERS;
-use crate::serve_options::{MOST_SESSIONS, MOST_TURNS};
+use crate::serve_options::{GREATEST_PORT, MOST_SESSIONS, MOST_TURNS};
 use crate::timer_kind::TimerKind;
 use clap::builder::ValueParser;
 use clap::{Arg, ArgAction};
@@ -110,7 +110,7 @@ pub fn port_option<'a>(alloc: Global) -> Arg<'a>
         .value_name("P")
         .help("the TCP port on 127.0.0.1 to listen on")
         .required(true)
-        .value_parser(ValueParser::Unsigned(1, u64::from(u16::MAX)))
+        .value_parser(ValueParser::Unsigned(1, GREATEST_PORT))
 }
 
 /// `--workers N`

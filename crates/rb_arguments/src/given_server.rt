@@ -6,11 +6,11 @@ ghost use Rattle.rb_arguments.specs.CommandLine.{HasNumberWithin, HasPace, IsAsk
 ghost use Rattle.rb_arguments.specs.RightValues.{AreServerValues};
 ghost use Rattle.rb_arguments.specs.TimerKind.{timer_name};
 ghost use Rattle.rb_arguments.specs.declared.run_options.TheConstants.{MOST_WORKERS};
-ghost use Rattle.rb_arguments.specs.declared.serve_options.TheConstants.{MOST_SESSIONS, MOST_TURNS};
+ghost use Rattle.rb_arguments.specs.declared.serve_options.TheConstants.{GREATEST_PORT, MOST_SESSIONS, MOST_TURNS};
 
 use crate::given_words::{given_policy, number, text};
 use crate::run_options::{MOST_WORKERS, RunOptions};
-use crate::serve_options::{MOST_SESSIONS, MOST_TURNS, ServeOptions};
+use crate::serve_options::{GREATEST_PORT, MOST_SESSIONS, MOST_TURNS, ServeOptions};
 use crate::timer_kind::TimerKind;
 use crate::words::Words;
 use clap::ArgMatches;
@@ -54,7 +54,7 @@ fn serve_options(given: &ArgMatches<'_>) -> Option<ServeOptions>
         pace_in (one_text (found_of given.now) (codes "delay")) (one_text (found_of given.now) (codes "rate"))
         ≡ Some options.run.policy.pace) }
     ensures given { (kind : TimerKind) → first_value (found_of given.now) (codes "timer") ≡ Some (timer_name kind)
-        → HasNumberWithin 1 65535 (one_text (found_of given.now) (codes "port"))
+        → HasNumberWithin 1 GREATEST_PORT (one_text (found_of given.now) (codes "port"))
         → HasNumberWithin 1 MOST_SESSIONS (one_text (found_of given.now) (codes "sessions"))
         → HasNumberWithin 0 MOST_TURNS (one_text (found_of given.now) (codes "turns"))
         → HasNumberWithin 1 MOST_WORKERS (one_text (found_of given.now) (codes "workers"))
@@ -62,7 +62,7 @@ fn serve_options(given: &ArgMatches<'_>) -> Option<ServeOptions>
         → HasNumberWithin 1 GREATEST_ATTEMPT (one_text (found_of given.now) (codes "attempts"))
         → HasPace (found_of given.now) → IsSome result }
 {
-    let port = u16::try_from(number_within(given, "port", 1, u64::from(u16::MAX))?).ok()?;
+    let port = u16::try_from(number_within(given, "port", 1, GREATEST_PORT)?).ok()?;
     let timer = TimerKind::named(given.get_str("timer")?)?;
     let sessions = number_within(given, "sessions", 1, MOST_SESSIONS)?;
     let turns = number_within(given, "turns", 0, MOST_TURNS)?;

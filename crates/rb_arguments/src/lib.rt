@@ -19,6 +19,6 @@ pub use command_line::read_words;
 pub use replay_options::ReplayOptions;
 pub use run_options::{MOST_WORKERS, RunOptions};
 pub use script_options::ScriptOptions;
-pub use serve_options::{MOST_SESSIONS, MOST_TURNS, ServeOptions};
+pub use serve_options::{GREATEST_PORT, MOST_SESSIONS, MOST_TURNS, ServeOptions};
 pub use timer_kind::TimerKind;
 pub use words::Words;

@@ -4,6 +4,9 @@ ghost use Rattle.rb_arguments.specs.declared.serve_options.TheConstants.{MOST_SE
 use crate::run_options::RunOptions;
 use crate::timer_kind::TimerKind;
 
+/// The greatest TCP port.
+pub const GREATEST_PORT: u64 = 65_535;
+
 /// The greatest number of sessions after which a server can be told to end.
 pub const MOST_SESSIONS: u64 = 10_000;
 
