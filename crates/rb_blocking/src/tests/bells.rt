@@ -1,12 +1,13 @@
 // A bell by itself: counts, and rests that a ring ends or that nothing ends.
 
-use crate::Bell;
 use crate::tests::fixtures::{await_more, expect, expect_number};
+use crate::{Bell, Clock as _, MachineClock};
+use std::alloc::{AllocError, Global};
 use std::process::Abort;
 use std::sync::Wait;
 use std::sync::atomic::{AtomicU64, Ordering};
 use std::test::Fail;
-use std::thread::{Threads, join, yield_now};
+use std::thread::{Threads, join, map_indices, sleep, yield_now};
 use std::time::{Clock, Duration};
 
 // How often one thread rings between another's look at the count and its rest, or in the rest.
@@ -45,6 +46,86 @@ fn a_ring_ends_a_rest(rt: HostRuntime) -> Result<(), Fail> {
     for round in 0..200 {
         expect_rung(&rt, &bell, round);
     }
+    Ok(())
+}
+
+// One of two threads rests, once it has told that it is about to. The count after it.
+fn rest_told<R: Wait + Clock>(rt: &R, bell: &Bell, looks: &AtomicU64) -> u64 {
+    let seen = bell.count(rt);
+    looks.fetch_add(1, Ordering::SeqCst);
+    bell.rest_at_most(rt, seen, Duration::from_secs(MISSED))
+}
+
+// The same, as a call that waits for an element does.
+fn rest_as_call<R: Wait + Clock>(rt: &R, bell: &Bell, looks: &AtomicU64) -> u64 {
+    let seen = bell.count(rt);
+    looks.fetch_add(1, Ordering::SeqCst);
+    bell.rest_until(rt, seen, u64::MAX, Duration::from_secs(MISSED))
+        .count
+}
+
+// Rings once, when so many threads have had time to fall asleep. The count after it.
+fn ring_late<R: Wait + Clock>(rt: &R, bell: &Bell, looks: &AtomicU64, sleepers: u64) -> u64 {
+    await_more(rt, looks, sleepers.saturating_sub(1));
+    sleep(rt, Duration::from_millis(20));
+    bell.ring(rt);
+    bell.count(rt)
+}
+
+// What the thread of this number does: two rest, two rest as calls that wait for an element do, and the last rings. The
+// count after it.
+fn rest_or_ring<R: Wait + Clock>(rt: &R, bell: &Bell, looks: &AtomicU64, number: usize) -> u64 {
+    match number {
+        0 | 1 => rest_told(rt, bell, looks),
+        2 | 3 => rest_as_call(rt, bell, looks),
+        _ => ring_late(rt, bell, looks, 4),
+    }
+}
+
+fn counts_of_five<R: Threads + Wait + Clock + Sync>(
+    rt: &R,
+    alloc: Global,
+    bell: &Bell,
+) -> Result<Vec<u64>, AllocError> {
+    let looks = &AtomicU64::new(0);
+    map_indices(
+        rt,
+        alloc,
+        5,
+        &|number| rest_or_ring(rt, bell, looks, number),
+    )
+}
+
+fn expect_all_woken(rt: &impl Abort, counts: &[u64]) {
+    assert_eq!(rt; counts, [1; 5].as_slice());
+}
+
+#[test]
+fn one_ring_wakes_all(rt: HostRuntime) -> Result<(), Fail> {
+    let counts = counts_of_five(&rt, rt.alloc(), &Bell::new())?;
+    expect_all_woken(&rt, counts.as_slice());
+    Ok(())
+}
+
+// The shortest of some rests that nothing ends, in milliseconds.
+fn shortest_rest<R: Wait + Clock>(rt: &R, bell: &Bell) -> u64 {
+    let mut shortest = u64::MAX;
+    for _ in 0..5 {
+        let watch = MachineClock::new(rt);
+        bell.rest(rt, 0);
+        shortest = shortest.min(watch.now() / 1_000_000);
+    }
+    shortest
+}
+
+fn expect_about_20(rt: &impl Abort, shortest: u64) {
+    assert!(rt; shortest >= 20);
+    assert!(rt; shortest < 60);
+}
+
+#[test]
+fn a_rest_lasts_about_20_milliseconds(rt: HostRuntime) -> Result<(), Fail> {
+    expect_about_20(&rt, shortest_rest(&rt, &Bell::new()));
     Ok(())
 }
 

@@ -1,7 +1,7 @@
 ghost use Rattle.std.specs.Prelude.{◌≡◌, ◌≤◌, [], IfOk};
 ghost use Rattle.rb_ledger.specs.Totals.{nothing};
 
-use crate::{Clock, Gate, WaitFault};
+use crate::{Clock, Gate, TurnGate, WaitFault};
 use rb_delayed::{Element, Payload};
 use rb_kept::{CallFault, Kept};
 use rb_ledger::Tally;
@@ -31,19 +31,51 @@ impl Clock for FixedClock {
     }
 }
 
+/// A clock that always reads 7, and counts how often it is read.
+#[derive(Drop)]
+pub struct CountingClock {
+    pub readings: AtomicU64,
+}
+
+impl CountingClock {
+    pub fn new() -> CountingClock {
+        CountingClock {
+            readings: AtomicU64::new(0),
+        }
+    }
+}
+
+impl Clock for CountingClock {
+    ghost gives = { λ clock moment. moment ≡ 7 };
+
+    fn now(&self) -> u64 {
+        self.readings.fetch_add(1, Ordering::SeqCst);
+        7
+    }
+}
+
 /// A gate that ends a wait after so many turns, and counts how often it is asked.
 #[derive(Drop)]
 pub struct CountingGate {
-    pub limit: u64,
+    gate: TurnGate,
     pub asked: u64,
 }
 
+impl CountingGate {
+    pub fn new(limit: u64) -> CountingGate {
+        CountingGate {
+            gate: TurnGate { limit },
+            asked: 0,
+        }
+    }
+}
+
 impl Gate for CountingGate {
-    ghost stops = { λ gate turns. gate.limit ≤ turns };
+    ghost stops = { λ gate turns. gate.gate.limit ≤ turns };
 
     fn turn(&mut self, turns: u64) -> bool {
         self.asked = self.asked.saturating_add(1);
-        turns < self.limit
+        self.gate.turn(turns)
     }
 }
 

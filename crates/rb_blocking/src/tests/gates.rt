@@ -5,14 +5,60 @@ ghost use Rattle.std.specs.Prelude.{◌≡◌};
 use crate::tests::fixtures::{
     CountingGate, FixedClock, ListPass, ListShared, expect_number, opened,
 };
-use crate::{Bell, Clock, MachineClock, WaitFault, take};
+use crate::{Bell, Clock, Gate, MachineClock, WaitFault, take};
 use std::process::Abort;
 use std::sync::Wait;
 use std::test::Fail;
 use std::time;
 
+// More turns than a wait makes of a server that is told no other number.
+const TURNS: u64 = 12_000;
+
 // How long a rest lasts that nothing ends, in nanoseconds.
 const REST: u64 = 20_000_000;
+
+// A gate that rings the bell, so that no rest lasts, and ends the wait after so many turns, or at one that is
+// not the next.
+#[derive(Drop)]
+struct RingingGate<'a, R> {
+    rt: &'a R,
+    bell: &'a Bell,
+    next: u64,
+}
+
+impl<'a, R: Wait> Gate for RingingGate<'a, R> {
+    ghost stops = { λ _ _. Unit {0} };
+
+    fn turn(&mut self, turns: u64) -> bool {
+        if turns != self.next {
+            return false;
+        }
+        self.next = turns.saturating_add(1);
+        self.bell.ring(self.rt);
+        self.next < TURNS
+    }
+}
+
+// How many turns, each with its own number, a take makes whose rests don't last.
+fn turns_of<R: Wait + time::Clock>(rt: &R, shared: &ListShared, pass: &mut ListPass) -> u64
+    requires { pass.old.table ≡ shared.now }
+{
+    let bell = Bell::new();
+    let mut gate = RingingGate {
+        rt,
+        bell: &bell,
+        next: 0,
+    };
+    let _ = take(rt, shared, pass, &FixedClock(7), &mut gate, &bell);
+    gate.next
+}
+
+#[test]
+fn each_turn_is_counted(rt: HostRuntime) -> Result<(), Fail> {
+    let (shared, mut pass) = opened(rt.alloc(), 1)?;
+    expect_number(&rt, turns_of(&rt, &shared, &mut pass), TURNS);
+    Ok(())
+}
 
 // How often a gate of this limit is asked by a take that finds nothing, how long the take lasted,
 // and how it ended.
@@ -26,7 +72,7 @@ fn asked<R: Wait + time::Clock>(
     ensures { pass.new.table ≡ pass.old.table }
 {
     let bell = Bell::new();
-    let mut gate = CountingGate { limit, asked: 0 };
+    let mut gate = CountingGate::new(limit);
     let watch = MachineClock::new(rt);
     let ended = take(rt, shared, pass, &FixedClock(7), &mut gate, &bell);
     (gate.asked, watch.now(), ended.err())

@@ -10,7 +10,9 @@ use rb_delayed::Element;
 use std::process::Abort;
 use std::sync::Wait;
 use std::test::Fail;
+use std::thread::sleep;
 use std::time;
+use std::time::Duration;
 
 // Offers an element that expires so many nanoseconds from now, and takes it: it comes, and not
 // before.
@@ -78,5 +80,20 @@ fn expect_given_up<R: Wait + time::Clock + Abort>(rt: &R, shared: &ListShared, p
 fn gives_up_at_the_deadline(rt: HostRuntime) -> Result<(), Fail> {
     let (shared, mut pass) = opened(rt.alloc(), 20)?;
     expect_given_up(&rt, &shared, &mut pass);
+    Ok(())
+}
+
+// Two readings with this much between them, in milliseconds. Nothing else may end the sleep.
+fn passed<R: time::Clock>(rt: &R, millis: u64) -> u64 {
+    let clock = MachineClock::new(rt);
+    let before = clock.now();
+    sleep(rt, Duration::from_millis(millis));
+    clock.now().saturating_sub(before) / 1_000_000
+}
+
+// For longer than a second, in which some clocks begin again.
+#[test]
+fn goes_on_past_a_second(rt: HostRuntime) -> Result<(), Fail> {
+    expect(&rt, passed(&rt, 1_200) >= 1_200);
     Ok(())
 }

@@ -1,11 +1,8 @@
 // Two takers that wait, and one element.
 
-ghost use Rattle.std.specs.Prelude.{◌≡◌};
-
-use crate::tests::fixtures::{
-    FixedClock, ListPass, ListShared, await_more, draft, opened, split_off,
-};
-use crate::{Bell, Gate, WaitFault, offer_ring, take};
+use crate::tests::callers::Caller;
+use crate::tests::fixtures::{FixedClock, await_more, opened};
+use crate::{Bell, Gate, WaitFault};
 use std::process::Abort;
 use std::sync::Wait;
 use std::sync::atomic::{AtomicU64, Ordering};
@@ -41,18 +38,13 @@ impl<'a> Gate for LosersGate<'a> {
     }
 }
 
-// How a take ended, as told to the other taker, and how many turns its gate had left.
-fn take_one<R: Wait + Clock>(
-    rt: &R,
-    shared: &ListShared,
-    mut pass: ListPass,
-    bell: &Bell,
-    counts: &Counts,
-) -> (Option<WaitFault>, u64)
-    requires { pass.table ≡ shared.now }
-{
+// How a take ended, and how many turns its gate had left.
+type Ended = (Option<WaitFault>, u64);
+
+// Takes one element, and tells the other taker.
+fn take_one<R: Wait + Clock>(rt: &R, mut taker: Caller<'_>, counts: &Counts) -> Ended {
     let mut gate = LosersGate { counts, left: 3 };
-    let ended = take(rt, shared, &mut pass, &FixedClock(9), &mut gate, bell).err();
+    let ended = taker.take(rt, &FixedClock(9), &mut gate).err();
     if ended.is_none() {
         counts.served.fetch_add(1, Ordering::SeqCst);
     }
@@ -60,89 +52,60 @@ fn take_one<R: Wait + Clock>(
 }
 
 // Offers one element, once both takers wait.
-fn offer_one<R: Wait + Abort>(
-    rt: &R,
-    shared: &ListShared,
-    mut pass: ListPass,
-    bell: &Bell,
-    counts: &Counts,
-) -> bool
-    requires { pass.table ≡ shared.now }
-{
+fn offer_one<R: Wait + Abort>(rt: &R, mut giver: Caller<'_>, counts: &Counts) -> bool {
     await_more(rt, &counts.waiting, 1);
-    offer_ring(rt, shared, &mut pass, 9, draft(rt, 9), bell).is_ok()
+    giver.offer(rt, 9, 9).is_ok()
 }
 
-// How two takes ended that waited when one element was offered, the one that got it first.
+// How two takes ended that waited when one element was offered.
 fn ended_of_two<R: Threads + Wait + Clock + Abort + Sync>(
     rt: &R,
-    shared: &ListShared,
-    one: ListPass,
-    other: ListPass,
-    giver: ListPass,
-) -> [(Option<WaitFault>, u64); 2]
-    requires one { one.table ≡ shared.now }
-    requires other { other.table ≡ shared.now }
-    requires giver { giver.table ≡ shared.now }
-{
-    let bell = &Bell::new();
+    one: Caller<'_>,
+    other: Caller<'_>,
+    giver: Caller<'_>,
+) -> (Ended, Ended) {
     let counts = &Counts {
         waiting: AtomicU64::new(0),
         served: AtomicU64::new(0),
     };
-    let ((first, second), _) = join(
+    let (ended, _) = join(
         rt,
-        || -> ((Option<WaitFault>, u64), (Option<WaitFault>, u64))
-            requires one { one.table ≡ shared.now }
-            requires other { other.table ≡ shared.now }
-        {
-            join(
-                rt,
-                || -> (Option<WaitFault>, u64)
-                    requires { one.table ≡ shared.now }
-                { take_one(rt, shared, one, bell, counts) },
-                || -> (Option<WaitFault>, u64)
-                    requires { other.table ≡ shared.now }
-                { take_one(rt, shared, other, bell, counts) },
-            )
-        },
-        || -> bool
-            requires { giver.table ≡ shared.now }
-        { offer_one(rt, shared, giver, bell, counts) },
+        || join(
+            rt,
+            || take_one(rt, one, counts),
+            || take_one(rt, other, counts),
+        ),
+        || offer_one(rt, giver, counts),
     );
-    if first.0.is_none() {
-        [first, second]
-    } else {
-        [second, first]
-    }
+    ended
 }
 
-type Ends = [(Option<WaitFault>, u64); 2];
-
-fn expect_ends(rt: &impl Abort, ended: Ends) {
-    assert_eq!(rt; ended, [(None, 3), (Some(WaitFault::Stopped), 0)]);
+// The one that got the element first.
+fn expect_ends(rt: &impl Abort, ended: (Ended, Ended)) {
+    let (one, other) = ended;
+    let ends = if one.0.is_none() {
+        [one, other]
+    } else {
+        [other, one]
+    };
+    assert_eq!(rt; ends, [(None, 3), (Some(WaitFault::Stopped), 0)]);
 }
 
 // Two takers and a giver, each with a pass of its own.
-fn expect_one_served<R: Threads + Wait + Clock + Abort + Sync>(
-    rt: &R,
-    shared: &ListShared,
-    first: &mut ListPass,
-)
-    requires { first.old.table ≡ shared.now }
-    ensures { first.new.table ≡ first.old.table }
-{
-    let one = split_off(rt, shared, first);
-    let other = split_off(rt, shared, first);
-    let giver = split_off(rt, shared, first);
-    expect_ends(rt, ended_of_two(rt, shared, one, other, giver));
+fn expect_one_served<R: Threads + Wait + Clock + Abort + Sync>(rt: &R, first: &mut Caller<'_>) {
+    let one = first.another(rt);
+    let other = first.another(rt);
+    let giver = first.another(rt);
+    expect_ends(rt, ended_of_two(rt, one, other, giver));
 }
 
 #[test]
 fn one_of_two_takers_gets_it_and_the_other_waits_on(rt: HostRuntime) -> Result<(), Fail> {
-    let (shared, mut first) = opened(rt.alloc(), 40)?;
+    let (shared, pass) = opened(rt.alloc(), 40)?;
+    let bell = Bell::new();
+    let mut first = Caller::new(&shared, &bell, pass);
     for _ in 0..10 {
-        expect_one_served(&rt, &shared, &mut first);
+        expect_one_served(&rt, &mut first);
     }
     Ok(())
 }

@@ -2,14 +2,16 @@
 
 ghost use Rattle.std.specs.Prelude.{◌≡◌};
 
+use crate::tests::callers::Caller;
 use crate::tests::fixtures::{
-    CountingGate, FixedClock, ListPass, ListShared, draft, element, expect_number, expect_offered,
-    expect_polled, expect_taken, opened,
+    CountingClock, CountingGate, FixedClock, ListPass, ListShared, draft, element, expect_number,
+    expect_offered, expect_polled, expect_taken, opened,
 };
 use crate::{Bell, TurnGate, WaitFault, offer_ring, poll_for, take};
 use rb_delayed::Element;
 use std::process::Abort;
 use std::sync::Wait;
+use std::sync::atomic::Ordering;
 use std::test::Fail;
 use std::time;
 
@@ -74,10 +76,47 @@ fn expect_poll<R: Wait + time::Clock + Abort>(
     expect_number(rt, gate.asked, asked);
 }
 
+// How often the gate was asked and the clock read by a take that finds nothing.
+fn asked_and_read<R: Wait + time::Clock + Abort>(
+    rt: &R,
+    caller: &mut Caller<'_>,
+    limit: u64,
+) -> (u64, u64) {
+    let (clock, mut gate) = (CountingClock::new(), CountingGate::new(limit));
+    expect_taken(
+        rt,
+        caller.take(rt, &clock, &mut gate),
+        Err(WaitFault::Stopped),
+    );
+    (gate.asked, clock.readings.load(Ordering::SeqCst))
+}
+
+fn expect_both(rt: &impl Abort, found: (u64, u64), wanted: u64) {
+    expect_number(rt, found.0, wanted);
+    expect_number(rt, found.1, wanted);
+}
+
+// The gate is asked after each try and not again, and there is no try after its no. No name is given.
+fn expect_one_reading_a_try<R: Wait + time::Clock + Abort>(rt: &R, mut caller: Caller<'_>) {
+    for limit in 0..4_u64 {
+        let found = asked_and_read(rt, &mut caller, limit);
+        expect_both(rt, found, limit.saturating_add(1));
+    }
+    expect_number(rt, caller.another(rt).name(), 1);
+}
+
+#[test]
+fn each_try_reads_the_clock_once(rt: HostRuntime) -> Result<(), Fail> {
+    let (shared, pass) = opened(rt.alloc(), 4)?;
+    let bell = Bell::new();
+    expect_one_reading_a_try(&rt, Caller::new(&shared, &bell, pass));
+    Ok(())
+}
+
 #[test]
 fn polls_until_the_deadline(rt: HostRuntime) -> Result<(), Fail> {
     let (shared, mut pass) = opened(rt.alloc(), 4)?;
-    let mut gate = CountingGate { limit: 3, asked: 0 };
+    let mut gate = CountingGate::new(3);
     expect_poll(&rt, &shared, &mut pass, &mut gate, 0, Ok(None), 0);
     let stopped = Err(WaitFault::Stopped);
     expect_poll(&rt, &shared, &mut pass, &mut gate, 5, stopped, 4);

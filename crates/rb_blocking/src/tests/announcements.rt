@@ -1,0 +1,156 @@
+// Waiting calls that rest, and what wakes them. A rest that misses its wake lasts longer than a test may.
+
+use crate::bell::Bell;
+use crate::fault::WaitFault;
+use crate::rests::Rests;
+use crate::tests::fixtures::{await_more, expect, expect_number};
+use rb_queue::{Ask, Reply};
+use std::alloc::{AllocError, Global};
+use std::process::Abort;
+use std::sync::Wait;
+use std::sync::atomic::{AtomicU64, Ordering};
+use std::test::Fail;
+use std::thread::{Threads, join, map_indices, yield_now};
+use std::time::{Clock, Duration};
+
+// How long a rest lasts that misses its wake, in seconds.
+const MISSED: u64 = 60;
+
+// How many things each of eight threads gives, and each of eight others takes.
+const THINGS: u64 = 12_500;
+
+// Looks, tells it, and rests as a call that looks again at the moment 10. Whether it was woken.
+fn rest_once<R: Wait + Clock>(rt: &R, bell: &Bell, looks: &AtomicU64, ends: &AtomicU64) -> bool {
+    let seen = bell.count(rt);
+    looks.fetch_add(1, Ordering::SeqCst);
+    let rested = bell.rest_until(rt, seen, 10, Duration::from_secs(MISSED));
+    ends.fetch_add(1, Ordering::SeqCst);
+    rested.woken
+}
+
+// A call that was woken, has found this as the least expiry and ends so, again and again until another's
+// rest is over.
+fn hand_on_often<R: Wait>(
+    rt: &R,
+    bell: &Bell,
+    ends: &AtomicU64,
+    waited: &Result<Reply, WaitFault>,
+) {
+    let mut rests = Rests::new(&Ask::Take, 0);
+    rests.learn(5, Some(9));
+    rests.woken = true;
+    for _ in rt.forever() {
+        if ends.load(Ordering::SeqCst) > 0 {
+            return;
+        }
+        rests.hand_on(rt, bell, waited);
+        yield_now();
+    }
+}
+
+fn expect_handed_on<R: Threads + Wait + Clock + Abort + Sync>(
+    rt: &R,
+    waited: &Result<Reply, WaitFault>,
+) {
+    let (bell, looks, ends) = (&Bell::new(), &AtomicU64::new(0), &AtomicU64::new(0));
+    let (woken, _) = join(
+        rt,
+        || rest_once(rt, bell, looks, ends),
+        || hand_on_often(rt, bell, ends, waited),
+    );
+    expect(rt, woken);
+}
+
+#[test]
+fn one_that_gives_up_wakes_another(rt: HostRuntime) -> Result<(), Fail> {
+    expect_handed_on(&rt, &Err(WaitFault::Stopped));
+    expect_handed_on(&rt, &Err(WaitFault::Full));
+    expect_handed_on(&rt, &Ok(Reply::Nothing));
+    Ok(())
+}
+
+// Offers what expires at the moment 9, behind another's look.
+fn announce_behind<R: Wait>(rt: &R, bell: &Bell, looks: &AtomicU64) {
+    await_more(rt, looks, 0);
+    bell.announce(rt, 9);
+}
+
+// One looks and rests, and another offers.
+fn expect_announced<R: Threads + Wait + Clock + Abort + Sync>(rt: &R) {
+    let (bell, looks, ends) = (&Bell::new(), &AtomicU64::new(0), &AtomicU64::new(0));
+    let _ = join(
+        rt,
+        || rest_once(rt, bell, looks, ends),
+        || announce_behind(rt, bell, looks),
+    );
+    expect_number(rt, ends.load(Ordering::SeqCst), 1);
+    expect_number(rt, bell.count(rt), 1);
+}
+
+#[test]
+fn an_offer_ends_a_rest(rt: HostRuntime) -> Result<(), Fail> {
+    for _ in 0..200 {
+        expect_announced(&rt);
+    }
+    Ok(())
+}
+
+// Takes one thing, as soon as one is there.
+fn take_thing<R: Wait + Clock>(rt: &R, bell: &Bell, things: &AtomicU64) {
+    let mut seen = bell.count(rt);
+    for _ in rt.forever() {
+        let taken = things.fetch_update(Ordering::SeqCst, Ordering::SeqCst, |n| n.checked_sub(1));
+        if taken.is_ok() {
+            return;
+        }
+        let rested = bell.rest_until(rt, seen, u64::MAX, Duration::from_secs(MISSED));
+        seen = rested.count;
+    }
+}
+
+fn take_things<R: Wait + Clock>(rt: &R, bell: &Bell, things: &AtomicU64) {
+    for _ in 0..THINGS {
+        take_thing(rt, bell, things);
+    }
+}
+
+fn give_things(rt: &impl Wait, bell: &Bell, things: &AtomicU64) {
+    for _ in 0..THINGS {
+        things.fetch_add(1, Ordering::SeqCst);
+        bell.announce(rt, 0);
+    }
+}
+
+// What the thread of this number does: of two, the first gives and the second takes. How often it did.
+fn give_or_take<R: Wait + Clock>(rt: &R, bell: &Bell, things: &AtomicU64, number: usize) -> u64 {
+    if number % 2 == 0 {
+        give_things(rt, bell, things);
+    } else {
+        take_things(rt, bell, things);
+    }
+    THINGS
+}
+
+fn give_and_take<R: Threads + Wait + Clock + Sync>(
+    rt: &R,
+    alloc: Global,
+    bell: &Bell,
+    things: &AtomicU64,
+) -> Result<Vec<u64>, AllocError> {
+    map_indices(
+        rt,
+        alloc,
+        16,
+        &|number| give_or_take(rt, bell, things, number),
+    )
+}
+
+// Eight threads give and eight take: where a wake were lost, a taker would rest too long.
+#[test]
+fn no_wake_is_lost_among_many(rt: HostRuntime) -> Result<(), Fail> {
+    let (bell, things) = (&Bell::new(), &AtomicU64::new(0));
+    give_and_take(&rt, rt.alloc(), bell, things)?;
+    expect_number(&rt, things.load(Ordering::SeqCst), 0);
+    expect_number(&rt, bell.count(&rt), 8 * THINGS);
+    Ok(())
+}

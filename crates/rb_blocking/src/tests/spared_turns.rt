@@ -1,0 +1,219 @@
+// Offers that wake no more calls than may take what is offered: how many turns the waits make.
+
+use crate::tests::callers::{Caller, another};
+use crate::tests::fixtures::{await_more, opened};
+use crate::{Bell, Clock, Gate, MachineClock};
+use std::alloc::{AllocError, Global};
+use std::process::Abort;
+use std::sync::atomic::{AtomicU64, Ordering};
+use std::sync::{Mutex, Wait};
+use std::test::Fail;
+use std::thread::{Threads, map_indices, sleep};
+use std::time;
+use std::time::Duration;
+
+// How many elements are offered, one by one.
+const ELEMENTS: u64 = 1_000;
+
+// How many calls wait for those that are due.
+const TAKERS: u64 = 4;
+
+// An hour, in nanoseconds.
+const HOUR: u64 = 3_600_000_000_000;
+
+// How long a rest lasts that nothing ends, in nanoseconds.
+const REST: u64 = 20_000_000;
+
+// A bell knows of so many rings what they were for. A call that gets to its rest behind more looks again.
+const RECENT: u64 = 16;
+
+// How many turns all waits have made, and how many elements were taken.
+#[derive(Drop)]
+struct Counts {
+    turns: AtomicU64,
+    taken: AtomicU64,
+}
+
+impl Counts {
+    fn new() -> Counts {
+        Counts {
+            turns: AtomicU64::new(0),
+            taken: AtomicU64::new(0),
+        }
+    }
+}
+
+// A gate that ends no wait, and counts the turns of all.
+#[derive(Drop)]
+struct CrowdGate<'a> {
+    counts: &'a Counts,
+}
+
+impl<'a> Gate for CrowdGate<'a> {
+    ghost stops = { λ _ _. Unit {0} };
+
+    fn turn(&mut self, _turns: u64) -> bool {
+        self.counts.turns.fetch_add(1, Ordering::SeqCst);
+        true
+    }
+}
+
+fn take_one<R: Wait + time::Clock>(
+    rt: &R,
+    taker: &mut Caller<'_>,
+    clock: &MachineClock<'_, R>,
+    counts: &Counts,
+) {
+    let mut gate = CrowdGate { counts };
+    let _ = taker.take(rt, clock, &mut gate);
+    counts.taken.fetch_add(1, Ordering::SeqCst);
+}
+
+// Takes so many elements. How many calls were answered.
+fn take_some<R: Wait + time::Clock>(
+    rt: &R,
+    mut taker: Caller<'_>,
+    clock: &MachineClock<'_, R>,
+    counts: &Counts,
+    elements: u64,
+) -> u64 {
+    for _ in 0..elements {
+        take_one(rt, &mut taker, clock, counts);
+    }
+    taker.calls()
+}
+
+// Offers elements that expire in an hour, one after the other, and at last one that is due. How many calls were
+// answered.
+fn offer_far_ahead<R: Wait + time::Clock + Abort>(
+    rt: &R,
+    mut giver: Caller<'_>,
+    clock: &MachineClock<'_, R>,
+    counts: &Counts,
+) -> u64 {
+    await_more(rt, &counts.turns, 0);
+    for _ in 0..ELEMENTS {
+        giver.offer_ahead(rt, clock, HOUR);
+        sleep(rt, Duration::from_micros(50));
+    }
+    giver.offer_ahead(rt, clock, 0);
+    giver.calls()
+}
+
+// What the thread of this number does: the first takes, and the other offers what it can't take yet.
+fn take_or_offer_far_ahead<R: Wait + time::Clock + Abort>(
+    rt: &R,
+    first: &Mutex<Caller<'_>>,
+    clock: &MachineClock<'_, R>,
+    counts: &Counts,
+    number: usize,
+) -> u64 {
+    let caller = another(rt, first);
+    if number == 0 {
+        take_some(rt, caller, clock, counts, 1)
+    } else {
+        offer_far_ahead(rt, caller, clock, counts)
+    }
+}
+
+// Offers elements that are due, each once the one before was taken and its taker has had time to rest again. How many
+// calls were answered.
+fn offer_due<R: Wait + time::Clock + Abort>(
+    rt: &R,
+    mut giver: Caller<'_>,
+    clock: &MachineClock<'_, R>,
+    counts: &Counts,
+) -> u64 {
+    for element in 0..ELEMENTS {
+        giver.offer_ahead(rt, clock, 0);
+        await_more(rt, &counts.taken, element);
+        sleep(rt, Duration::from_millis(1));
+    }
+    giver.calls()
+}
+
+// What the thread of this number does: four take, and the last offers.
+fn take_or_offer_due<R: Wait + time::Clock + Abort>(
+    rt: &R,
+    first: &Mutex<Caller<'_>>,
+    clock: &MachineClock<'_, R>,
+    counts: &Counts,
+    number: usize,
+) -> u64 {
+    let caller = another(rt, first);
+    if number < TAKERS as usize {
+        take_some(rt, caller, clock, counts, ELEMENTS / TAKERS)
+    } else {
+        offer_due(rt, caller, clock, counts)
+    }
+}
+
+// How many turns so many calls may have made by themselves since the clock was made, and so many more.
+fn most_turns<R: time::Clock>(clock: &MachineClock<'_, R>, calls: u64, more: u64) -> u64 {
+    let rests = clock.now() / REST;
+    let unwoken = rests.saturating_add(2).saturating_mul(calls);
+    unwoken.saturating_add(more)
+}
+
+fn expect_few(rt: &impl Abort, counts: &Counts, most: u64) {
+    let turns = counts.turns.load(Ordering::SeqCst);
+    assert!(rt; turns <= most, "{turns} turns, and not {most} at most");
+}
+
+fn expect_calls(rt: &impl Abort, calls: &[u64], wanted: &[u64]) {
+    assert_eq!(rt; calls, wanted);
+}
+
+fn expect_undisturbed<R: Threads + Wait + time::Clock + Abort + Sync>(
+    rt: &R,
+    alloc: Global,
+    first: &Mutex<Caller<'_>>,
+) -> Result<(), AllocError> {
+    let (clock, counts) = (&MachineClock::new(rt), &Counts::new());
+    let calls = map_indices(
+        rt,
+        alloc,
+        2,
+        &|number| take_or_offer_far_ahead(rt, first, clock, counts, number),
+    )?;
+    expect_few(rt, counts, most_turns(clock, 1, ELEMENTS / RECENT));
+    expect_calls(rt, calls.as_slice(), &[1, ELEMENTS + 1]);
+    Ok(())
+}
+
+#[test]
+fn an_offer_of_what_expires_far_ahead_wakes_nobody(rt: HostRuntime) -> Result<(), Fail> {
+    let (shared, pass) = opened(rt.alloc(), ELEMENTS + 2)?;
+    let bell = Bell::new();
+    let first = Mutex::new(Caller::new(&shared, &bell, pass));
+    expect_undisturbed(&rt, rt.alloc(), &first)?;
+    Ok(())
+}
+
+fn expect_one_woken<R: Threads + Wait + time::Clock + Abort + Sync>(
+    rt: &R,
+    alloc: Global,
+    first: &Mutex<Caller<'_>>,
+) -> Result<(), AllocError> {
+    let (clock, counts) = (&MachineClock::new(rt), &Counts::new());
+    let calls = map_indices(
+        rt,
+        alloc,
+        5,
+        &|number| take_or_offer_due(rt, first, clock, counts, number),
+    )?;
+    expect_few(rt, counts, most_turns(clock, TAKERS, 2 * ELEMENTS));
+    expect_calls(rt, calls.as_slice(), &[250, 250, 250, 250, 1_000]);
+    Ok(())
+}
+
+// Each take makes a turn when it finds nothing at first, and some make one more. If each offer woke all four, three of
+// them would make one more each time.
+#[test]
+fn an_offer_of_what_is_due_wakes_one(rt: HostRuntime) -> Result<(), Fail> {
+    let (shared, pass) = opened(rt.alloc(), 2 * ELEMENTS)?;
+    let bell = Bell::new();
+    let first = Mutex::new(Caller::new(&shared, &bell, pass));
+    expect_one_woken(&rt, rt.alloc(), &first)?;
+    Ok(())
+}
