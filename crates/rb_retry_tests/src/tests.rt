@@ -1,6 +1,7 @@
 mod allocations;
 mod desks;
 mod devices;
+mod failing_moments;
 mod far_moments;
 mod fetches;
 mod fixtures;

@@ -7,6 +7,8 @@ ghost use Rattle.std.specs.Prelude.{◌≡◌};
 use crate::tests::devices::{FixedClock, ListPass, ListShared, expect_number};
 use crate::tests::fixtures::{kept, offer, opened};
 use rb_blocking::{Bell, Clock, MachineClock, TurnGate, WaitFault};
+use rb_kept::Kept;
+use rb_ledger::Tally;
 use rb_lock::CloseFault;
 use rb_queue::Ask;
 use rb_retry::{Desk, DeskFault, Job, KeptDesk, Policy, Verdict, done, fail, poll, poll_for, take};
@@ -20,8 +22,8 @@ use std::time;
 // How often each call is made.
 const ROUNDS: u64 = 20;
 
-// How many elements the calls of a desk take out, and those of a pass.
-const ELEMENTS: u64 = 160;
+// How many elements there are, more than the calls of a desk or of a pass take out.
+const ELEMENTS: u64 = 200;
 
 // A moment at which all of them have expired.
 const LATE: u64 = 1_000;
@@ -36,19 +38,50 @@ fn each_of_the_calls(rt: HostRuntime) {
     expect_answers(&rt, rt.alloc(), ROUNDS);
 }
 
-// Each round of each group counts how many of its calls answered as they have to.
+// All things are made before the first call. Each round of each group counts how many of its calls answered as they
+// have to.
 fn expect_answers<R: Wait + Abort + time::Clock>(rt: &R, alloc: Global, rounds: u64) {
+    let (mut kept, mut tally) = kept::<ListTimer>(rt, alloc, 10_000);
+    offer_all(rt, &mut KeptDesk::new(&mut kept, &mut tally));
+    let (desks, mut desk_pass) = opened_with_elements(rt, alloc);
+    let (passes, mut first_pass) = opened_with_elements(rt, alloc);
+    let (waits, mut wait_pass) = opened_with_elements(rt, alloc);
+    let (stops, mut stop_pass) = opened(rt, alloc, 10);
+    let (closings, closing_pass) = opened(rt, alloc, 10);
+    let at_desks = rounds.saturating_mul(11).saturating_add(rounds.min(1));
     expect_number(rt, policies(rounds), rounds.saturating_mul(3));
-    expect_number(rt, kept_desks(rt, alloc, rounds), rounds.saturating_mul(11));
+    expect_number(rt, kept_desks(rt, &mut kept, &mut tally, rounds), at_desks);
     expect_number(
         rt,
-        shared_desks(rt, alloc, rounds),
-        rounds.saturating_mul(11),
+        shared_desks(rt, &desks, &mut desk_pass, rounds),
+        at_desks,
     );
-    expect_number(rt, passes(rt, alloc, rounds), rounds.saturating_mul(10));
-    expect_number(rt, waits(rt, alloc, rounds), rounds.saturating_mul(4));
-    expect_number(rt, stops(rt, alloc, rounds), rounds);
-    expect_number(rt, closings(rt, alloc, rounds), rounds.min(1));
+    let through_passes = pass_rounds(rt, &passes, &mut first_pass, rounds);
+    expect_number(rt, through_passes, rounds.saturating_mul(10));
+    let waited = wait_rounds(rt, &waits, &mut wait_pass, rounds);
+    expect_number(rt, waited, rounds.saturating_mul(4));
+    expect_number(
+        rt,
+        stop_rounds(rt, &stops, &mut stop_pass, rounds),
+        rounds.saturating_mul(3),
+    );
+    expect_number(
+        rt,
+        closed(rt, closings, closing_pass, rounds),
+        rounds.min(1),
+    );
+}
+
+// A shared queue with elements, and its first pass.
+fn opened_with_elements<R: Wait + Abort + time::Clock>(
+    rt: &R,
+    alloc: Global,
+) -> (ListShared, ListPass)
+    ensures { result.1.table ≡ result.0 }
+{
+    let (shared, mut pass) = opened(rt, alloc, 10_000);
+    offer_through(rt, &shared, &mut pass);
+    (shared, pass)
 }
 
 fn count(answers: &[bool]) -> u64 {
@@ -80,26 +113,18 @@ fn offer_all<D: Desk>(rt: &impl Abort, desk: &mut D)
 }
 
 // A desk over a kept queue, made anew in each round.
-fn kept_desks(rt: &impl Abort, alloc: Global, rounds: u64) -> u64 {
-    let (mut kept, mut tally) = kept::<ListTimer>(rt, alloc, 10_000);
-    offer_all(rt, &mut KeptDesk::new(&mut kept, &mut tally));
+fn kept_desks(rt: &impl Abort, kept: &mut Kept<ListTimer>, tally: &mut Tally, rounds: u64) -> u64 {
     let mut right = 0_u64;
     for round in 0..rounds {
-        let mut desk = KeptDesk::new(&mut kept, &mut tally);
+        let mut desk = KeptDesk::new(kept, tally);
         desk.set(LATE);
         right = right.saturating_add(desk_round(rt, &mut desk, round));
     }
-    right
+    right.saturating_add(clears(&mut KeptDesk::new(kept, tally), rounds))
 }
 
 // A desk over a shared queue, made anew in each round.
-fn shared_desks<R: Wait + Abort + time::Clock>(rt: &R, alloc: Global, rounds: u64) -> u64 {
-    let (shared, mut pass) = opened(rt, alloc, 10_000);
-    offer_through(rt, &shared, &mut pass);
-    shared_rounds(rt, &shared, &mut pass, rounds)
-}
-
-fn shared_rounds<R: Wait + Abort + time::Clock>(
+fn shared_desks<R: Wait + Abort + time::Clock>(
     rt: &R,
     shared: &ListShared,
     pass: &mut ListPass,
@@ -111,7 +136,28 @@ fn shared_rounds<R: Wait + Abort + time::Clock>(
     for round in 0..rounds {
         right = right.saturating_add(shared_round(rt, shared, pass, round));
     }
-    right
+    right.saturating_add(shared_clears(rt, shared, pass, rounds))
+}
+
+// What the rounds have left is cleared, if there were any.
+fn clears<D: Desk>(desk: &mut D, rounds: u64) -> u64 {
+    if rounds == 0 {
+        return 0;
+    }
+    count(&[desk.call(LATE, Ask::Clear).is_ok()])
+}
+
+fn shared_clears<R: Wait + Abort + time::Clock>(
+    rt: &R,
+    shared: &ListShared,
+    pass: &mut ListPass,
+    rounds: u64,
+) -> u64
+    requires { pass.old.table ≡ shared.now }
+{
+    let (clock, mut gate, bell) = (FixedClock(LATE), TurnGate { limit: 0 }, Bell::new());
+    let mut desk = SharedDesk::new(rt, shared, pass, &clock, &mut gate, &bell);
+    clears(&mut desk, rounds)
 }
 
 fn offer_through<R: Wait + Abort + time::Clock>(rt: &R, shared: &ListShared, pass: &mut ListPass)
@@ -186,12 +232,6 @@ fn is_dead(failed: &Result<Verdict, (Job, rb_kept::CallFault)>) -> bool {
 }
 
 // Calls of a pass that is cut in two and folded together again in each round.
-fn passes<R: Wait + Abort + time::Clock>(rt: &R, alloc: Global, rounds: u64) -> u64 {
-    let (shared, mut pass) = opened(rt, alloc, 10_000);
-    offer_through(rt, &shared, &mut pass);
-    pass_rounds(rt, &shared, &mut pass, rounds)
-}
-
 fn pass_rounds<R: Wait + Abort>(
     rt: &R,
     shared: &ListShared,
@@ -236,12 +276,6 @@ fn pass_round<R: Wait + Abort>(rt: &R, shared: &ListShared, pass: &mut ListPass,
 }
 
 // Waits that are answered at once.
-fn waits<R: Wait + Abort + time::Clock>(rt: &R, alloc: Global, rounds: u64) -> u64 {
-    let (shared, mut pass) = opened(rt, alloc, 10_000);
-    offer_through(rt, &shared, &mut pass);
-    wait_rounds(rt, &shared, &mut pass, rounds)
-}
-
 fn wait_rounds<R: Wait + Abort + time::Clock>(
     rt: &R,
     shared: &ListShared,
@@ -279,11 +313,17 @@ fn wait_round<R: Wait + Abort + time::Clock>(
 }
 
 // Waits that are stopped.
-fn stops<R: Wait + Abort + time::Clock>(rt: &R, alloc: Global, rounds: u64) -> u64 {
-    let (shared, mut pass) = opened(rt, alloc, 10);
+fn stop_rounds<R: Wait + Abort + time::Clock>(
+    rt: &R,
+    shared: &ListShared,
+    pass: &mut ListPass,
+    rounds: u64,
+) -> u64
+    requires { pass.old.table ≡ shared.now }
+{
     let mut right = 0_u64;
     for _ in 0..rounds {
-        right = right.saturating_add(stop_round(rt, &shared, &mut pass));
+        right = right.saturating_add(stop_round(rt, shared, pass));
     }
     right
 }
@@ -296,14 +336,20 @@ fn stop_round<R: Wait + Abort + time::Clock>(
     requires { pass.old.table ≡ shared.now }
     ensures { pass.new.table ≡ pass.old.table }
 {
-    let (clock, mut gate, bell) = (FixedClock(LATE), TurnGate { limit: 0 }, Bell::new());
+    let (clock, mut gate, bell) = (FixedClock(LATE), TurnGate { limit: 1 }, Bell::new());
     let stopped = rb_blocking::take(rt, shared, pass, &clock, &mut gate, &bell);
-    count(&[stopped == Err(WaitFault::Stopped)])
+    let polled = rb_blocking::poll_for(rt, shared, pass, &clock, &mut gate, &bell, LATE, 9);
+    count(&[
+        stopped == Err(WaitFault::Stopped),
+        polled == Err(WaitFault::Stopped),
+        bell.rest(rt, 0) == 0,
+    ])
 }
 
 // A closing that is refused, since a pass with a call is not folded in, and one that is not.
-fn closings<R: Wait + Abort>(rt: &R, alloc: Global, rounds: u64) -> u64 {
-    let (shared, mut pass) = opened(rt, alloc, 10);
+fn closed<R: Wait + Abort>(rt: &R, shared: ListShared, mut pass: ListPass, rounds: u64) -> u64
+    requires { pass.table ≡ shared }
+{
     if rounds == 0 {
         return 0;
     }
