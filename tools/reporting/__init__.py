@@ -2,7 +2,7 @@
 a page. The columns of a history are `array`s, so that 1,000,000 events take tens of megabytes and no object each.
 
     acts.py, grammar.py, history.py               what a text says, and its columns
-    reader.py, events.py, standing.py, faults.py  the reading, with the queue that the text describes
+    reader.py, events.py, reported_queue.py, faults.py  the reading, with the queue that the text describes
     depth.py, lateness.py, jobs.py, seats.py      figures
     findings.py, figures.py                       what looks wrong, and all figures of a history
     buckets.py, units.py                          long series made short, and numbers as people read them

@@ -7,7 +7,7 @@ from reporting import acts
 from reporting.faults import Wrong
 from reporting.grammar import GREATEST, OFFERED_GROUPS
 from reporting.history import NONE, History
-from reporting.standing import Standing
+from reporting.reported_queue import ReportedQueue
 
 # The act of an event, and its subject.
 Told = Tuple[int, int]
@@ -16,8 +16,8 @@ Told = Tuple[int, int]
 class EventReader:
     """Adds one event after the other. Raises a `Wrong` or an `OverflowError` if a line says what can't be."""
 
-    def __init__(self, history: History, standing: Standing) -> None:
-        self.history, self._standing = history, standing
+    def __init__(self, history: History, queue: ReportedQueue) -> None:
+        self.history, self._queue = history, queue
         self._last = history.opened_at
         self._event = 0
         self._seats, self._moments = history.events.seats, history.events.moments
@@ -47,32 +47,32 @@ class EventReader:
             raise Wrong(f"the moment is {at}, and has to be {latest}, the greater of the one asked and the last")
 
     def _offer(self, match: Match[bytes], at: int) -> Told:
-        return acts.OFFER, self._standing.offer(match.group(*OFFERED_GROUPS), self._event)
+        return acts.OFFER, self._queue.offer(match.group(*OFFERED_GROUPS), self._event)
 
     def _take(self, match: Match[bytes], at: int) -> Told:
-        return acts.TAKE, self._standing.give(int(match["take"]), at, self._event)
+        return acts.TAKE, self._queue.give(int(match["take"]), at, self._event)
 
     def _poll(self, match: Match[bytes], at: int) -> Told:
         if match["poll"] == b"none":
             return acts.POLL_NONE, NONE
-        return acts.POLL, self._standing.give(int(match["poll"]), at, self._event)
+        return acts.POLL, self._queue.give(int(match["poll"]), at, self._event)
 
     def _poll_for(self, match: Match[bytes], at: int) -> Told:
         in_range(int(match["start"]), int(match["timeout"]))
         if match["pollfor"] == b"none":
             return acts.POLLFOR_NONE, NONE
-        return acts.POLLFOR, self._standing.give(int(match["pollfor"]), at, self._event)
+        return acts.POLLFOR, self._queue.give(int(match["pollfor"]), at, self._event)
 
     def _peek(self, match: Match[bytes], at: int) -> Told:
         if match["peek"] == b"none":
-            self._standing.count(0)
+            self._queue.count(0)
             return acts.PEEK_NONE, NONE
-        return acts.PEEK, self._standing.stands(int(match["peek"]))
+        return acts.PEEK, self._queue.stands(int(match["peek"]))
 
     def _remove(self, match: Match[bytes], at: int) -> Told:
         id, found = int(match["removed"]), match["remove"] == b"yes"
         in_range(id)
-        return acts.REMOVE if found else acts.REMOVE_NONE, self._standing.remove(id, found, self._event)
+        return acts.REMOVE if found else acts.REMOVE_NONE, self._queue.remove(id, found, self._event)
 
     def _drain(self, match: Match[bytes], at: int) -> Told:
         most, ids = int(match["most"]), match["drain"].split()
@@ -80,15 +80,15 @@ class EventReader:
         if len(ids) > most:
             raise Wrong(f"a drain of at most {most} gives {len(ids)}")
         for id in ids:
-            self._standing.give(int(id), at, self._event)
+            self._queue.give(int(id), at, self._event)
         return acts.DRAIN, len(ids)
 
     def _clear(self, match: Match[bytes], at: int) -> Told:
-        return acts.CLEAR, self._standing.clear(self._event)
+        return acts.CLEAR, self._queue.clear(self._event)
 
     def _size(self, match: Match[bytes], at: int) -> Told:
         size = int(match["size"])
-        self._standing.count(size)
+        self._queue.count(size)
         return acts.SIZE, size
 
 

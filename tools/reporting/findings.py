@@ -9,7 +9,7 @@ from typing import List, NamedTuple, Optional, Sequence
 from reporting import acts
 from reporting.depth import Depth
 from reporting.history import NONE, History
-from reporting.jobs import Jobs, gifts, lives
+from reporting.jobs import Jobs, given_events, lives
 from reporting.units import counted, percent, span
 
 BURST_GIFTS, BURST_SPAN = 3, 1_000_000  # a job given this often within this many nanoseconds
@@ -31,7 +31,7 @@ def _bursts(history: History, jobs: Jobs) -> List[int]:
     often = [root for root, count in enumerate(jobs.given) if count >= BURST_GIFTS]
     found = []
     for root, rows in lives(history, often).items():
-        when = [moments[event] for event, _ in gifts(history, rows)]
+        when = [moments[event] for event, _ in given_events(history, rows)]
         if any(last - first <= BURST_SPAN for first, last in zip(when, when[BURST_GIFTS - 1:])):
             found.append(root)
     return found

@@ -65,7 +65,7 @@ def life(history: History, origin: int) -> List[int]:
     return lives(history, [root])[root]
 
 
-def gifts(history: History, rows: Iterable[int]) -> List[Tuple[int, int]]:
+def given_events(history: History, rows: Iterable[int]) -> List[Tuple[int, int]]:
     """The events that gave these rows, each with the row, in their order."""
     elements, acts = history.elements, history.events.acts
     found = [(elements.left_in[row], row) for row in rows]

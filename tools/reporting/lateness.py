@@ -18,7 +18,7 @@ def rank(values: Sequence[int], share: float) -> int:
 
 
 class Lateness(NamedTuple):
-    """The gifts in the order of their rows: when each took place and how late it was. And how late, in rising order."""
+    """The given elements in the order of their rows: when and how late. And how late, in rising order."""
 
     moments: array
     delays: array
@@ -38,7 +38,7 @@ class Lateness(NamedTuple):
         return self.rising[-1]
 
     def in_buckets(self, buckets: Buckets) -> List[List[int]]:
-        """How late the gifts of each bucket were, in rising order."""
+        """How late those given in each bucket were, in rising order."""
         found: List[List[int]] = [[] for _ in range(len(buckets))]
         start, number = buckets.edges[0], len(buckets)
         length = buckets.edges[-1] - start

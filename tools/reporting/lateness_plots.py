@@ -45,29 +45,29 @@ def _level_ticks(scale: Scale, top: int) -> List[Tick]:
 
 
 class Bin(NamedTuple):
-    """A range of lateness, with its upper end left out, and how many gifts fell into it."""
+    """A range of lateness, with its upper end left out, and how many elements fell into it."""
 
     low: int
     high: int
-    gifts: int
+    elements: int
 
 
 def bins_of(rising: Sequence[int]) -> List[Bin]:
     """Ranges of about equal ratio, four to a power of ten, from that of the least lateness to that of the greatest."""
     edges = sorted({0, 1, *(round(10 ** (step / 4)) for step in range(1, 81))})
     bins = [Bin(low, high, bisect_left(rising, high) - bisect_left(rising, low)) for low, high in zip(edges, edges[1:])]
-    filled = [place for place, it in enumerate(bins) if it.gifts]
+    filled = [place for place, it in enumerate(bins) if it.elements]
     return bins[filled[0]:filled[-1] + 1] if filled else []
 
 
 def spread_plot(figures: Figures) -> Plot:
-    """How many gifts were how late."""
+    """How many elements were how late."""
     rising = figures.lateness.rising
     bins = bins_of(rising)
-    y = Scale(0, max([1, *(it.gifts for it in bins)]), BOTTOM, TOP)
+    y = Scale(0, max([1, *(it.elements for it in bins)]), BOTTOM, TOP)
     width = (RIGHT - LEFT) / max(1, len(bins))
-    marks = [svg.bar(LEFT + place * width + 1, width - 2, y.at(it.gifts), BOTTOM, "given",
-                     f"{span(it.low)} to {span(it.high)}: {number(it.gifts)}") for place, it in enumerate(bins)]
+    marks = [svg.bar(LEFT + place * width + 1, width - 2, y.at(it.elements), BOTTOM, "given",
+                     f"{span(it.low)} to {span(it.high)}: {number(it.elements)}") for place, it in enumerate(bins)]
     ticks = [Tick(round(LEFT + place * width, 1), mark(it.low)) for place, it in enumerate(bins) if it.low in ROUND]
     if len(ticks) > 1 and ticks[1].place - ticks[0].place < svg.LABEL_WIDTH:
         del ticks[1]  # of 0 ns and 1 ns there is room for one
@@ -77,5 +77,5 @@ def spread_plot(figures: Figures) -> Plot:
     if rising:
         median, high, greatest = map(span, (figures.lateness.median, figures.lateness.high, rising[-1]))
         caption += f" The median is {median}, the 99th percentile {high}, the greatest {greatest}."
-    drawing = svg.drawing("spread", "how many gifts were how late", [*axes, *marks])
+    drawing = svg.drawing("spread", "how many elements were how late", [*axes, *marks])
     return Plot("How late elements were given", (("given", "elements given"),), drawing, caption)

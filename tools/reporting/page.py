@@ -12,7 +12,7 @@ from reporting.attempts_plot import attempts_plot
 from reporting.depth_plot import depth_plot
 from reporting.figures import Figures
 from reporting.history import NONE
-from reporting.jobs import gifts, lives
+from reporting.jobs import given_events, lives
 from reporting.lateness_plots import lateness_plot, spread_plot
 from reporting.lives import chosen_jobs, lives_json
 from reporting.plot import Plot
@@ -94,10 +94,10 @@ def _busiest(figures: Figures) -> str:
     roots = (jobs.again or jobs.roots)[:MOST_BUSY]
     rows = []
     for root, attempts in lives(history, roots).items():
-        given = gifts(history, attempts)
+        given = given_events(history, attempts)
         last = attempts[-1]
         stands = "in the queue" if elements.left_in[last] == NONE else "gone"
-        # A text may tell any first expiry, also one that comes after the gifts.
+        # A text may tell any first expiry, also one that comes after all were given.
         passed = history.events.moments[given[-1][0]] - elements.firsts[root] if given else -1
         took = span(passed) if passed >= 0 else "–"
         rows.append((_link(elements.origins[root]), f"<code>{escape(elements.payload(root))}</code>",

@@ -17,7 +17,7 @@ from reporting.grammar import (
     MOST_OPENING_ELEMENTS, OPEN,
 )
 from reporting.history import History
-from reporting.standing import Standing
+from reporting.reported_queue import ReportedQueue
 
 LINES_BETWEEN_LOOKS = 8192
 
@@ -32,9 +32,9 @@ def read_history(file: BinaryIO, look: Callable[[], None] = lambda: None) -> His
     if version is None:
         raise Damaged(1, "no `history 1`, `history 2` or `history 3`")
     history = History(version)
-    standing = Standing(history)
-    number = 1 if version == 1 else _read_opening(lines, history, standing)
-    _read_events(lines, number + 1, EventReader(history, standing), look)
+    queue = ReportedQueue(history)
+    number = 1 if version == 1 else _read_opening(lines, history, queue)
+    _read_events(lines, number + 1, EventReader(history, queue), look)
     return history
 
 
@@ -44,7 +44,7 @@ def _whole(line: bytes, number: int) -> bytes:
     return line
 
 
-def _read_opening(lines: Iterator[bytes], history: History, standing: Standing) -> int:
+def _read_opening(lines: Iterator[bytes], history: History, queue: ReportedQueue) -> int:
     """Reads the opening. Returns the number of its last line."""
     numbers = OPEN.fullmatch(_whole(next(lines, b""), 2))
     if numbers is None:
@@ -60,7 +60,7 @@ def _read_opening(lines: Iterator[bytes], history: History, standing: Standing) 
         if match is None:
             raise Damaged(number, "no `keep` line")
         try:
-            standing.keep(match.group(*KEPT_GROUPS))
+            queue.keep(match.group(*KEPT_GROUPS))
         except (Wrong, OverflowError) as fault:
             raise Damaged(number, str(fault) if isinstance(fault, Wrong) else TOO_LARGE) from None
     return 2 + count

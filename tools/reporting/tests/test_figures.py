@@ -138,8 +138,8 @@ class SeriesTest(unittest.TestCase):
     def test_ranges_of_lateness_hold_each_gift_once(self) -> None:
         rising = [0, 0, 1, 9, 10, 11, 2**64 - 1]
         bins = bins_of(rising)
-        self.assertEqual(sum(it.gifts for it in bins), len(rising))
-        self.assertEqual((bins[0].low, bins[0].gifts), (0, 2))
+        self.assertEqual(sum(it.elements for it in bins), len(rising))
+        self.assertEqual((bins[0].low, bins[0].elements), (0, 2))
         self.assertEqual(bins_of([]), [])
 
     def test_many_attempts_are_grouped(self) -> None:

@@ -68,7 +68,7 @@ class PageTest(unittest.TestCase):
         handlers = [name for _, attributes in outline.tags for name in attributes if name.startswith("on")]
         self.assertEqual(handlers, [])
 
-    def test_a_first_expiry_behind_all_gifts(self) -> None:
+    def test_a_first_expiry_after_all_were_given(self) -> None:
         text = page(figures(text_of(f"1 0 0 offer 0 0 0 {2**64 - 1} 1 a", "1 0 0 poll 0")))
         self.assertIn("<td>–</td>", text)
 

@@ -10,7 +10,7 @@ from reporting.history import NONE, History
 ElementWords = Tuple[bytes, ...]
 
 
-class Standing:
+class ReportedQueue:
     """Fills the columns of a history's elements. Each method raises a `Wrong` if no queue does that.
 
     A number above 2^64 - 1 is refused by its column with an `OverflowError`; the history is of no use then. The
