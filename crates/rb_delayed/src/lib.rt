@@ -11,8 +11,6 @@ mod laws;
 mod moment;
 mod payload;
 mod payload_fault;
-#[cfg(test)]
-mod tests;
 
 pub use delayed::{Delayed, is_expired};
 pub use element::{Element, GREATEST_ATTEMPT};

@@ -8,8 +8,6 @@
 mod books;
 mod laws;
 mod tally;
-#[cfg(test)]
-mod tests;
 mod totals;
 
 pub use books::Books;

@@ -9,8 +9,6 @@ mod links;
 mod node;
 mod nodes;
 mod pairing_timer;
-#[cfg(test)]
-mod tests;
 mod tree;
 
 pub use pairing_timer::PairingTimer;

@@ -16,8 +16,6 @@ mod line_words;
 mod number;
 mod reply_line;
 mod request;
-#[cfg(test)]
-mod tests;
 mod writing;
 
 pub use error_word::ErrorWord;

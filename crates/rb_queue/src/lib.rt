@@ -17,8 +17,6 @@ mod opening;
 mod reply;
 mod sequence;
 mod store;
-#[cfg(test)]
-mod tests;
 
 pub use act::Act;
 pub use ask::Ask;

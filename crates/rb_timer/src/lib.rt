@@ -10,8 +10,6 @@ mod command;
 pub mod link;
 mod list_timer;
 mod run;
-#[cfg(test)]
-mod tests;
 mod timer;
 
 pub use command::{TimerAnswer, TimerCommand};

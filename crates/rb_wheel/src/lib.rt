@@ -7,8 +7,6 @@ mod marks;
 mod next_first;
 mod node;
 mod spread;
-#[cfg(test)]
-mod tests;
 mod wheel_timer;
 
 pub use wheel_timer::{Wheel, WheelTimer};

@@ -1,0 +1,12 @@
+mod acts;
+mod ample_memory;
+mod drains;
+mod elements;
+mod fixtures;
+mod many_elements;
+mod memory_refusals;
+mod offers_and_polls;
+mod openings;
+mod removals;
+mod steps;
+mod totals;

@@ -1,0 +1,40 @@
+use super::fixtures::{element, expect_number};
+use rb_delayed::{Delayed, Element, is_expired};
+use std::cmp::Ordering;
+use std::process::Abort;
+
+fn expect_delay(rt: &impl Abort, element: &Element, now: u64, wanted: i128) {
+    assert_eq!(rt; element.delay(now), wanted);
+}
+
+fn expect_expired(rt: &impl Abort, element: &Element, now: u64, wanted: bool) {
+    assert_eq!(rt; is_expired(element, now), wanted, "at {now}");
+}
+
+#[test]
+fn a_delay_is_counted_from_a_moment(rt: HostRuntime) {
+    let element = element(&rt, 3, 150);
+    expect_number(&rt, element.id(), 3);
+    expect_number(&rt, element.expiry(), 150);
+    expect_delay(&rt, &element, 100, 50);
+    expect_delay(&rt, &element, 150, 0);
+    expect_delay(&rt, &element, u64::MAX, 150 - 18446744073709551615);
+    expect_expired(&rt, &element, 0, false);
+    expect_expired(&rt, &element, 149, false);
+    expect_expired(&rt, &element, 150, true);
+    expect_expired(&rt, &element, 151, true);
+    expect_expired(&rt, &element, u64::MAX, true);
+}
+
+fn expect_order(rt: &impl Abort, one: &Element, other: &Element, wanted: Ordering) {
+    assert_eq!(rt; one.delay_order(other), wanted);
+}
+
+#[test]
+fn delays_are_ordered_as_expiries(rt: HostRuntime) {
+    let first = element(&rt, 9, 10);
+    let second = element(&rt, 1, 11);
+    expect_order(&rt, &first, &second, Ordering::Less);
+    expect_order(&rt, &second, &first, Ordering::Greater);
+    expect_order(&rt, &first, &element(&rt, 2, 10), Ordering::Equal);
+}

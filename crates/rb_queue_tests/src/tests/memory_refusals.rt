@@ -1,0 +1,169 @@
+use super::fixtures::{
+    element, expect_found, expect_moment, expect_number, offered_first, opening_of, standing,
+};
+use rb_delayed::Element;
+use rb_queue::{DelayQueue, Items, Opening};
+use rb_timer::{ListTimer, Timer};
+use std::alloc::{AllocError, Global};
+use std::process::Abort;
+use std::test::Fail;
+
+// How many refusals the test meets. `tools/refuse_allocations` sets 1, and refuses each allocation
+// of the test in turn.
+const REFUSALS: u32 = 0;
+
+// How many elements there are, past two growths of slots, timer and directory.
+const COUNT: u64 = 20;
+
+// The later the offer, the sooner it expires: 81 to 100.
+fn expiry_of(id: u64) -> u64 {
+    100_u64.saturating_sub(id)
+}
+
+// All that a queue shows of itself.
+type Shown = (u64, u64, Option<Element>, Option<u64>);
+
+fn shown<T: Timer>(queue: &DelayQueue<T>) -> Shown {
+    (
+        queue.size(),
+        queue.next_id(),
+        queue.peek(),
+        queue.next_expiry(),
+    )
+}
+
+fn expect_shown<T: Timer>(rt: &impl Abort, queue: &DelayQueue<T>, wanted: Shown) {
+    expect_number(rt, queue.size(), wanted.0, 0);
+    expect_number(rt, queue.next_id(), wanted.1, 1);
+    expect_found(rt, queue.peek(), wanted.2, 2);
+    expect_moment(rt, queue.next_expiry(), wanted.3, 3);
+}
+
+// Five elements. Their memory is asked for again after a refusal.
+fn five(rt: &impl Abort, alloc: Global) -> Result<Items, AllocError> {
+    let entries = [(0, 100), (1, 99), (2, 98), (3, 97), (4, 96)];
+    match standing(rt, alloc, &entries) {
+        Ok(items) => Ok(items),
+        Err(_) => standing(rt, alloc, &entries),
+    }
+}
+
+// A queue, and how often it was refused.
+type Begun<T> = (DelayQueue<T>, u32);
+
+fn begun_again<T: Timer>(alloc: Global, opening: &Opening) -> Result<Begun<T>, AllocError> {
+    match DelayQueue::new_from(alloc, opening) {
+        Ok(queue) => Ok((queue, 0)),
+        Err(_) => Ok((DelayQueue::new_from(alloc, opening)?, 1)),
+    }
+}
+
+// The element that is offered, and how often it was refused.
+fn offered_again<T: Timer>(
+    rt: &impl Abort,
+    queue: &mut DelayQueue<T>,
+    expiry: u64,
+) -> Result<(Element, u32), AllocError> {
+    let before = shown(queue);
+    match offered_first(rt, queue, expiry) {
+        Ok(element) => Ok((element, 0)),
+        Err(_) => {
+            expect_shown(rt, queue, before);
+            Ok((offered_first(rt, queue, expiry)?, 1))
+        }
+    }
+}
+
+// The elements that are drained, and how often they were refused.
+fn drained_again<T: Timer>(
+    rt: &impl Abort,
+    queue: &mut DelayQueue<T>,
+    now: u64,
+    max: u64,
+) -> Result<(Items, u32), AllocError> {
+    let before = shown(queue);
+    match queue.drain(now, max) {
+        Ok(items) => Ok((items, 0)),
+        Err(_) => {
+            expect_shown(rt, queue, before);
+            Ok((queue.drain(now, max)?, 1))
+        }
+    }
+}
+
+// The items must be this many elements, from the id `last` down.
+fn expect_down_from(rt: &impl Abort, items: &[Element], last: u64, count: u64) {
+    expect_number(rt, items.len() as u64, count, last);
+    let mut id = last;
+    for &item in items {
+        expect_found(rt, Some(item), Some(element(rt, id, expiry_of(id))), id);
+        id = id.saturating_sub(1);
+    }
+}
+
+// Offers an element again after each refusal, and returns how often it was refused.
+fn offers<T: Timer>(
+    rt: &impl Abort,
+    queue: &mut DelayQueue<T>,
+    id: u64,
+) -> Result<u32, AllocError> {
+    let (offer, times) = offered_again(rt, queue, expiry_of(id))?;
+    expect_found(rt, Some(offer), Some(element(rt, id, expiry_of(id))), id);
+    Ok(times)
+}
+
+// Offers elements 5 to 19, and returns how often it was refused.
+fn offers_many<T: Timer>(rt: &impl Abort, queue: &mut DelayQueue<T>) -> Result<u32, AllocError> {
+    let mut refused = 0_u32;
+    for id in 5..COUNT {
+        refused = refused.saturating_add(offers(rt, queue, id)?);
+    }
+    Ok(refused)
+}
+
+// Drains at most `max`, which are this many elements from the id `last` down, and answers how
+// often it was refused.
+fn drains<T: Timer>(
+    rt: &impl Abort,
+    queue: &mut DelayQueue<T>,
+    (now, max): (u64, u64),
+    (last, count): (u64, u64),
+) -> Result<u32, AllocError> {
+    let (items, refused) = drained_again(rt, queue, now, max)?;
+    expect_down_from(rt, items.as_slice(), last, count);
+    Ok(refused)
+}
+
+// Drains seven, and then all, and returns how often it was refused.
+fn drains_twice<T: Timer>(rt: &impl Abort, queue: &mut DelayQueue<T>) -> Result<u32, AllocError> {
+    let few = drains(rt, queue, (90, 7), (19, 7))?;
+    let all = drains(rt, queue, (u64::MAX, u64::MAX), (12, 13))?;
+    expect_shown(rt, queue, (0, COUNT, None, None));
+    Ok(few.saturating_add(all))
+}
+
+fn offers_and_drains<T: Timer>(
+    rt: &impl Abort,
+    queue: &mut DelayQueue<T>,
+) -> Result<u32, AllocError> {
+    expect_shown(rt, queue, (5, 5, Some(element(rt, 4, 96)), Some(96)));
+    let offering = offers_many(rt, queue)?;
+    let draining = drains_twice(rt, queue)?;
+    Ok(offering.saturating_add(draining))
+}
+
+// Begins, offers and drains, each call made again after a refusal, and returns the number of
+// refusals. After a refusal all is as before it: what a queue shows then, and each element that it
+// gives up to the end.
+fn run_through<T: Timer>(rt: &impl Abort, alloc: Global) -> Result<u32, AllocError> {
+    let opening = opening_of(rt, five(rt, alloc)?, 5, 0);
+    let (mut queue, refused) = begun_again::<T>(alloc, &opening)?;
+    let further = offers_and_drains(rt, &mut queue)?;
+    Ok(refused.saturating_add(further))
+}
+
+#[test]
+fn a_refused_allocation_changes_nothing(rt: HostRuntime) -> Result<(), Fail> {
+    assert_eq!(rt; run_through::<ListTimer>(&rt, rt.alloc())?, REFUSALS);
+    Ok(())
+}

@@ -1,3 +1,0 @@
-//! Links lead where they were made to.
-
-mod links;
