@@ -100,10 +100,13 @@ fn expect_all_woken(rt: &impl Abort, counts: &[u64]) {
     assert_eq!(rt; counts, [1; 5].as_slice());
 }
 
+// Each of them is woken, and none looks only when its rest is over.
 #[test]
 fn one_ring_wakes_all(rt: HostRuntime) -> Result<(), Fail> {
+    let watch = MachineClock::new(&rt);
     let counts = counts_of_five(&rt, rt.alloc(), &Bell::new())?;
     expect_all_woken(&rt, counts.as_slice());
+    expect(&rt, watch.now() / 1_000_000_000 < MISSED / 2);
     Ok(())
 }
 

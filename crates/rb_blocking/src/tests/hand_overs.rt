@@ -1,18 +1,29 @@
 // A taker that is woken and stopped by its gate at once, beside one that waits on.
 
 use crate::tests::callers::{Caller, TellingGate};
-use crate::tests::fixtures::{FixedClock, await_more, element, expect_taken, opened};
-use crate::{Bell, WaitFault};
+use crate::tests::fixtures::{FixedClock, await_more, element, expect, expect_taken, opened};
+use crate::{Bell, Clock as _, MachineClock, WaitFault};
 use rb_delayed::Element;
 use std::alloc::Global;
 use std::process::Abort;
 use std::sync::Wait;
 use std::sync::atomic::AtomicU64;
 use std::test::Fail;
-use std::thread::{Threads, join};
-use std::time::Clock;
+use std::thread::{Threads, join, sleep};
+use std::time::{Clock, Duration};
 
 type Taken = Result<Element, WaitFault>;
+
+// Half of the rest that a call makes which nobody wakes, in nanoseconds.
+const SOON: u64 = 10_000_000;
+
+// How the two takes ended, and how long after the offer the second did, in nanoseconds.
+#[derive(Drop)]
+struct Ends {
+    first: Taken,
+    second: Taken,
+    late: u64,
+}
 
 // By a clock that stands at 7 nothing is due, and the wait has one turn.
 fn give_up<R: Wait + Clock>(rt: &R, mut taker: Caller<'_>, waits: &AtomicU64) -> Taken {
@@ -20,61 +31,92 @@ fn give_up<R: Wait + Clock>(rt: &R, mut taker: Caller<'_>, waits: &AtomicU64) ->
     taker.take(rt, &FixedClock(7), &mut gate)
 }
 
-// By a clock that stands at 10 what is offered is due, and the wait begins behind the other's.
-fn wait_on<R: Wait + Clock>(rt: &R, mut taker: Caller<'_>, waits: &AtomicU64) -> Taken {
+// By a clock that stands at 10 what is offered is due, and the wait begins behind the other's. When it ended, by
+// the watch.
+fn wait_on<R: Wait + Clock>(
+    rt: &R,
+    mut taker: Caller<'_>,
+    waits: &AtomicU64,
+    watch: &MachineClock<'_, R>,
+) -> (Taken, u64) {
     await_more(rt, waits, 0);
     let limit = u64::MAX;
     let mut gate = TellingGate { waits, limit };
-    taker.take(rt, &FixedClock(10), &mut gate)
+    let taken = taker.take(rt, &FixedClock(10), &mut gate);
+    (taken, watch.now())
 }
 
-// Offers what expires at 10, once both wait.
-fn offer_late<R: Wait + Abort>(rt: &R, mut giver: Caller<'_>, waits: &AtomicU64) {
+// Offers what expires at 10, once both have had time to fall asleep. When it began, by the watch.
+fn offer_late<R: Wait + Clock + Abort>(
+    rt: &R,
+    mut giver: Caller<'_>,
+    waits: &AtomicU64,
+    watch: &MachineClock<'_, R>,
+) -> u64 {
     await_more(rt, waits, 1);
+    sleep(rt, Duration::from_millis(2));
+    let offered = watch.now();
     let _ = giver.offer(rt, 7, 10);
+    offered
 }
 
-// How both takes ended.
-fn ended_of_two<R: Threads + Wait + Clock + Abort + Sync>(
+fn ends_of_two<R: Threads + Wait + Clock + Abort + Sync>(
     rt: &R,
     one: Caller<'_>,
     other: Caller<'_>,
     giver: Caller<'_>,
-) -> (Taken, Taken) {
-    let waits = &AtomicU64::new(0);
-    let (ended, _) = join(
+) -> Ends {
+    let (waits, watch) = (&AtomicU64::new(0), &MachineClock::new(rt));
+    let ((first, (second, ended)), offered) = join(
         rt,
-        || join(rt, || give_up(rt, one, waits), || wait_on(rt, other, waits)),
-        || offer_late(rt, giver, waits),
+        || join(
+            rt,
+            || give_up(rt, one, waits),
+            || wait_on(rt, other, waits, watch),
+        ),
+        || offer_late(rt, giver, waits, watch),
     );
-    ended
+    let late = ended.saturating_sub(offered);
+    Ends {
+        first,
+        second,
+        late,
+    }
 }
 
-fn expect_ends(rt: &impl Abort, ended: (Taken, Taken)) {
-    expect_taken(rt, ended.0, Err(WaitFault::Stopped));
-    expect_taken(rt, ended.1, Ok(element(rt, 0, 10)));
+// How long after the offer the second ended.
+fn expect_ends(rt: &impl Abort, ends: Ends) -> u64 {
+    expect_taken(rt, ends.first, Err(WaitFault::Stopped));
+    expect_taken(rt, ends.second, Ok(element(rt, 0, 10)));
+    ends.late
 }
 
-fn expect_handed_over<R: Threads + Wait + Clock + Abort + Sync>(rt: &R, mut first: Caller<'_>) {
+fn expect_handed_over<R: Threads + Wait + Clock + Abort + Sync>(
+    rt: &R,
+    mut first: Caller<'_>,
+) -> u64 {
     let one = first.another(rt);
     let other = first.another(rt);
-    expect_ends(rt, ended_of_two(rt, one, other, first));
+    expect_ends(rt, ends_of_two(rt, one, other, first))
 }
 
 fn expect_round<R: Threads + Wait + Clock + Abort + Sync>(
     rt: &R,
     alloc: Global,
-) -> Result<(), Fail> {
+) -> Result<u64, Fail> {
     let (shared, pass) = opened(alloc, 2)?;
     let bell = Bell::new();
-    expect_handed_over(rt, Caller::new(&shared, &bell, pass));
-    Ok(())
+    let late = expect_handed_over(rt, Caller::new(&shared, &bell, pass));
+    Ok(late)
 }
 
+// One that was handed nothing on would look again some 18 ms after the offer.
 #[test]
-fn what_one_was_woken_for_another_takes(rt: HostRuntime) -> Result<(), Fail> {
+fn what_one_was_woken_for_another_takes_soon(rt: HostRuntime) -> Result<(), Fail> {
+    let mut least = u64::MAX;
     for _ in 0..5 {
-        expect_round(&rt, rt.alloc())?;
+        least = least.min(expect_round(&rt, rt.alloc())?);
     }
+    expect(&rt, least < SOON);
     Ok(())
 }
