@@ -3,6 +3,7 @@
 //!
 //!     rustc --edition 2021 -O -o clients bench/clients.rs
 //!     ./clients measure broker|echo|lines|beanstalkd PORT CLIENTS BATCHES BATCH
+//!     ./clients waiting PORT TAKERS OFFERS BATCH
 //!     ./clients echo-server PORT THREADS CONNECTIONS
 //!     ./clients lines-server PORT THREADS CONNECTIONS
 //!
@@ -11,6 +12,10 @@
 //! sending with its replies. Printed are the rounds in a second of all clients together, and the median and the
 //! 99th percentile of the exchanges in microseconds.
 //!
+//! With `waiting`, one client offers so many jobs that are due, BATCH in one piece, beside so many others of a
+//! broker that wait in a take and finish what they get. These are served by one thread, which looks at them every
+//! half of a millisecond, so that the time is the broker's and not theirs. Printed are the offers in a second.
+//!
 //! Of an echo server the clients want the lines back that the broker is sent. It has so many threads, each of
 //! which serves one connection after the other, and it ends after so many connections. What a read gave is sent
 //! by one write, or by the second server by a write for each line, as the broker sends its replies.
@@ -18,12 +23,15 @@ use std::io::{self, BufRead, BufReader, Read, Write};
 use std::net::{Ipv4Addr, TcpListener, TcpStream};
 use std::process::ExitCode;
 use std::sync::Barrier;
-use std::sync::atomic::{AtomicU64, Ordering};
+use std::sync::atomic::{AtomicBool, AtomicU64, Ordering};
 use std::time::{Duration, Instant};
 use std::{env, thread};
 
 /// How many batches each client makes before its time is taken.
 const WARM_UP: u64 = 20;
+
+/// How many takes a client that waits has sent, so that there is always one that waits.
+const TAKES_SENT: usize = 30;
 
 #[derive(Clone, Copy, PartialEq, Eq)]
 enum Peer {
@@ -183,6 +191,86 @@ fn measure(peer: Peer, port: u16, clients: usize, batches: u64, batch: usize) ->
     Ok(())
 }
 
+/// A client that waits in a take.
+struct Taker {
+    stream: TcpStream,
+    /// The beginning of a line.
+    rest: Vec<u8>,
+}
+
+impl Taker {
+    fn connect(port: u16) -> io::Result<Taker> {
+        let mut stream = TcpStream::connect((Ipv4Addr::LOCALHOST, port))?;
+        stream.set_nodelay(true)?;
+        stream.write_all("TAKE\n".repeat(TAKES_SENT).as_bytes())?;
+        Ok(Taker { stream, rest: Vec::new() })
+    }
+
+    /// Finishes the jobs that came, and asks for as many more.
+    fn finish_jobs(&mut self, bytes: &mut [u8]) -> io::Result<()> {
+        self.stream.set_nonblocking(true)?;
+        let read = self.stream.read(bytes);
+        self.stream.set_nonblocking(false)?;
+        match read {
+            Ok(0) => return Err(io::ErrorKind::UnexpectedEof.into()),
+            Ok(count) => self.rest.extend_from_slice(&bytes[..count]),
+            Err(fault) if fault.kind() == io::ErrorKind::WouldBlock => return Ok(()),
+            Err(fault) => return Err(fault),
+        }
+        let whole = self.rest.iter().rposition(|&byte| byte == b'\n').map_or(0, |place| place + 1);
+        let requests = answers(&self.rest[..whole])?;
+        self.rest.drain(..whole);
+        self.stream.write_all(requests.as_bytes())
+    }
+}
+
+/// What a client that waits sends after these replies.
+fn answers(replies: &[u8]) -> io::Result<String> {
+    let mut requests = String::new();
+    for line in String::from_utf8_lossy(replies).lines() {
+        let mut words = line.split(' ');
+        match (words.next(), words.next()) {
+            (Some("ITEM"), Some(id)) => requests += &format!("DONE {id}\nTAKE\n"),
+            (Some("DONE"), _) => {}
+            _ => return Err(io::Error::other(format!("not a reply to wait for: {line:?}"))),
+        }
+    }
+    Ok(requests)
+}
+
+/// Serves clients that wait until the offers have ended.
+fn finish_until(takers: &mut [Taker], ended: &AtomicBool) -> io::Result<()> {
+    let mut bytes = vec![0; 64 * 1024];
+    while !ended.load(Ordering::SeqCst) {
+        for taker in &mut *takers {
+            taker.finish_jobs(&mut bytes)?;
+        }
+        thread::sleep(Duration::from_micros(500));
+    }
+    Ok(())
+}
+
+fn offer_beside(port: u16, takers: u64, offers: u64, batch: usize) -> io::Result<()> {
+    let mut waiting = Vec::new();
+    for _ in 0..takers {
+        waiting.push(Taker::connect(port)?);
+    }
+    let mut client = Client::connect(Peer::Broker, port, batch)?;
+    thread::sleep(Duration::from_millis(200)); // until all wait
+    let ended = AtomicBool::new(false);
+    let (offered, finished) = thread::scope(|scope| {
+        let finishing = scope.spawn(|| finish_until(&mut waiting, &ended));
+        let begun = Instant::now();
+        let offered = (0..offers / batch as u64).try_for_each(|_| client.exchange(Step::Offer).map(drop));
+        let elapsed = begun.elapsed();
+        ended.store(true, Ordering::SeqCst);
+        (offered.map(|()| elapsed), finishing.join().expect("a client panicked"))
+    });
+    finished?;
+    println!("{:.0}", offers as f64 / offered?.as_secs_f64());
+    Ok(())
+}
+
 fn echo(mut stream: TcpStream, by_line: bool) -> io::Result<()> {
     stream.set_nodelay(true)?;
     let mut bytes = vec![0; 64 * 1024];
@@ -225,6 +313,7 @@ fn run(words: &[String]) -> Option<io::Result<()>> {
             let (clients, batch) = (number(3)? as usize, number(5)? as usize);
             Some(measure(Peer::named(words.get(1)?)?, port(2)?, clients, number(4)?, batch))
         }
+"waiting" => Some(offer_beside(port(1)?, number(2)?, number(3)?, number(4)? as usize)),
         server @ ("echo-server" | "lines-server") => {
             Some(serve_echo(port(1)?, number(2)?, number(3)?, server == "lines-server"))
         }

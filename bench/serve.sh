@@ -4,7 +4,9 @@
 #
 #   ROUNDS        rounds (offer, take and done) of each run one by one, of all its clients together (default 60000, at most 400000)
 #   BATCH_ROUNDS  rounds of each run in batches of 32 (default 320000, at most 400000)
+#   OFFERS        offers of each run beside 15 clients that wait in a take (default 60000, at most 400000)
 #   RUNS          runs of each kind, of which the median by rounds a second counts (default 3)
+#   OTHER         another build of rb_broker, to compare this one with
 #
 # Each run has a server of its own, whose workers, or threads of the echo server, are as many as the clients.
 # The times are those of an exchange, which is one request, or 32 in one piece, until its last reply. In batches
@@ -12,9 +14,10 @@
 set -euo pipefail
 export LC_ALL=C
 
-ROUNDS=${ROUNDS:-60000} BATCH_ROUNDS=${BATCH_ROUNDS:-320000} RUNS=${RUNS:-3}
-if ((ROUNDS < 1600 || ROUNDS > 400000 || BATCH_ROUNDS < 1600 || BATCH_ROUNDS > 400000 || RUNS < 1)); then
-    echo "bench: ROUNDS and BATCH_ROUNDS are 1600 to 400000, RUNS from 1" >&2 && exit 2
+ROUNDS=${ROUNDS:-60000} BATCH_ROUNDS=${BATCH_ROUNDS:-320000} OFFERS=${OFFERS:-60000} RUNS=${RUNS:-3}
+if ((ROUNDS < 1600 || ROUNDS > 400000 || BATCH_ROUNDS < 1600 || BATCH_ROUNDS > 400000 ||
+    OFFERS < 1600 || OFFERS > 400000 || RUNS < 1)); then
+    echo "bench: ROUNDS, BATCH_ROUNDS and OFFERS are 1600 to 400000, RUNS from 1" >&2 && exit 2
 fi
 
 top=$(readlink -f -- "${BASH_SOURCE[0]}") && top=${top%/*/*}
@@ -22,13 +25,15 @@ program=$top/crates/rb_broker/out/rb_broker
 "$top/broker" --help > /dev/null # builds it if it has to
 room=$(mktemp -d) && trap 'rm -rf -- "$room"' EXIT
 rustc --edition 2021 -O -o "$room/clients" "$top/bench/clients.rs"
-peers=(echo lines broker)
+builds=(broker ${OTHER:+other})
+peers=(echo lines "${builds[@]}")
 ! command -v beanstalkd > /dev/null || peers+=(beanstalkd)
 
 # The command of a peer's server: the peer, and the number of clients. Its words are in $command.
 command_of() {
     case $1 in
         broker) command=("$program" serve --port "$port" --workers "$2" --sessions "$2" --calls 1000000) ;;
+        other) command=("$OTHER" serve --port "$port" --workers "$2" --sessions "$2" --calls 1000000) ;;
         echo | lines) command=("$room/clients" "$1-server" "$port" "$2" "$2") ;;
         beanstalkd) command=(beanstalkd -l 127.0.0.1 -p "$port") ;;
     esac
@@ -66,7 +71,7 @@ start_server() {
 # One run: the peer, clients, batches of each client, and requests in a batch. Its line is that of the clients.
 run_once() {
     start_server "$1" "$2"
-    "$room/clients" measure "$1" "$port" "$2" "$3" "$4" || { kill "$server" && exit 1; }
+    "$room/clients" measure "${1/other/broker}" "$port" "$2" "$3" "$4" || { kill "$server" && exit 1; }
     [[ $1 != beanstalkd ]] || kill "$server"
     wait "$server" || [[ $1 == beanstalkd ]]
 }
@@ -97,3 +102,25 @@ done
 for kind in "${!rounds[@]}"; do
     [[ $kind == broker-* ]] || echo "broker to ${kind%%-*}, clients and batch ${kind#*-}: $(ratio "broker-${kind#*-}" "$kind")"
 done | sort -V
+
+# Offers a second of one client, so many in one piece, beside 15 clients that wait in a take. The builds run in turn.
+measure_offers() {
+    local batch=$1 build
+    rm -f -- "$room"/*.offers
+    for ((run = 0; run < RUNS; run++)); do
+        for build in "${builds[@]}"; do
+            start_server "$build" 16
+            "$room/clients" waiting "$port" 15 $((OFFERS / batch * batch)) "$batch" >> "$room/$build.offers" || { kill "$server" && exit 1; }
+            kill "$server" # some of its sessions still wait
+            wait "$server" || true
+        done
+    done
+    for build in "${builds[@]}"; do
+        rounds[$build-offers-$batch]=$(sort -n "$room/$build.offers" | sed -n "$(((RUNS + 1) / 2))p")
+        echo "offers/s of $build beside 15 waiting takes, batch $batch: ${rounds[$build-offers-$batch]}"
+    done
+    [[ -z ${OTHER:-} ]] || echo "broker to other, these offers, batch $batch: $(ratio "broker-offers-$batch" "other-offers-$batch")"
+}
+
+measure_offers 1
+measure_offers 32
