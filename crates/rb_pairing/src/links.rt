@@ -67,7 +67,9 @@ impl Nodes {
     }
 
     // Hangs the later of two neighbours under the other, which keeps their place in the row. Each link is
-    // written once: the later one's own place is not emptied before it is set.
+    // written once: the later one's own place is not emptied before it is set. It is compiled into both passes
+    // over a row, as a removal spends its time in them.
+    #[inline(always)]
     fn join(&mut self, left: usize, right: usize) -> usize
         requires linked { LieAsTrees self.old }
         requires neighbours { next_of self.old left ≡ Some right }
@@ -119,7 +121,7 @@ impl Nodes {
         ensures last { next_of self.new result ≡ None }
     {
         'back: for _ in 0..self.room() {
-            if self.child(parent) == Some(last) {
+            if self.is_first(parent, last) {
                 return last;
             }
             let left = self.previous(last).unwrap();

@@ -1,4 +1,4 @@
-ghost use Rattle.std.specs.Prelude.{◌≡◌, ℕ, ◌<◌, Some, None, IsSome};
+ghost use Rattle.std.specs.Prelude.{◌≡◌, ℕ, ◌<◌, ◌↔◌, Some, None, IsTrue, IsSome};
 
 use rb_timer::link::{Link, NONE};
 use std::marker::Model;
@@ -74,6 +74,14 @@ impl Node {
         }
     }
 
+    /// The expiry of the slot's entry, in nanoseconds.
+    pub(crate) fn moment(&self) -> u64
+        requires { IsSome self.now.expiry }
+        ensures { self.now.expiry ≡ Some result }
+    {
+        self.expiry
+    }
+
     /// The first entry of the row under this one.
     pub(crate) fn child(&self) -> Option<usize>
         ensures { result ≡ self.now.child }
@@ -82,6 +90,14 @@ impl Node {
             Some(VACANT) => None,
             child => child,
         }
+    }
+
+    /// Whether that slot has the first entry of the row under this one.
+    pub(crate) fn is_above(&self, slot: usize) -> bool
+        requires { slot < VACANT }
+        ensures { IsTrue result ↔ (self.now.child ≡ Some slot) }
+    {
+        self.child.slot() == Some(slot)
     }
 
     /// The entry behind this one in its row.

@@ -1,4 +1,4 @@
-ghost use Rattle.std.specs.Prelude.{◌≡◌, ℕ, ◌<◌, ◌^◌, ◌-◌, ◌++◌, [], Some, None, IsSome, is_ok, if◌then◌else◌, length, replicate};
+ghost use Rattle.std.specs.Prelude.{◌≡◌, ℕ, ◌<◌, ◌^◌, ◌-◌, ◌++◌, ◌↔◌, [], Some, None, IsTrue, IsSome, is_ok, if◌then◌else◌, length, replicate};
 ghost use Rattle.rb_pairing.specs.Nodes.{vacant, expiry_of, child_of, next_of, previous_of, moment_of, with_expiry};
 ghost use Rattle.rb_pairing.specs.Changes.{SetsPrevious, SetsLink, SetsPlace, SetsChild, ClearsLinks};
 
@@ -69,7 +69,7 @@ impl Nodes {
         requires { IsSome (expiry_of self.now slot) }
         ensures { result ≡ moment_of self.now slot }
     {
-        self.slots[slot].expiry().unwrap()
+        self.slots[slot].moment()
     }
 
     /// The first entry of the row under that one.
@@ -78,6 +78,15 @@ impl Nodes {
         ensures { result ≡ child_of self.now slot }
     {
         self.slots[slot].child()
+    }
+
+    /// Whether the entry at `slot` is the first of the row under `parent`.
+    pub(crate) fn is_first(&self, parent: usize, slot: usize) -> bool
+        requires parent { parent < length self.now }
+        requires slot { slot < length self.now }
+        ensures { IsTrue result ↔ (child_of self.now parent ≡ Some slot) }
+    {
+        self.slots[parent].is_above(slot)
     }
 
     /// The entry behind that one in its row.
@@ -111,11 +120,12 @@ impl Nodes {
     pub(crate) fn set_link(&mut self, slot: Option<usize>, from: usize, to: Option<usize>)
         requires slot { (other : ℕ) → slot ≡ Some other → other < length self.old }
         requires present { (other : ℕ) → slot ≡ Some other → IsSome (expiry_of self.old other) }
+        requires from { from < length self.old }
         requires to { (other : ℕ) → to ≡ Some other → other < length self.old }
         ensures { SetsLink self.old self.new slot from to }
     {
         if let Some(slot) = slot {
-            if self.slots[slot].child() == Some(from) {
+            if self.is_first(slot, from) {
                 self.slots[slot].set_child(to);
             } else {
                 self.slots[slot].set_next(to);

@@ -4,7 +4,6 @@ use Rattle.std.proofs.Math.Logic.{∥∥₁_elim, ∥∥₁_map}
 use Rattle.std.proofs.Props.{props}
 use Rattle.rb_pairing.specs.Nodes.{next_of}
 use Rattle.rb_pairing.proofs.Expiries.{same_length}
-use Rattle.rb_pairing.proofs.LinkTests.{link_is_not}
 use Rattle.rb_pairing.proofs.Rows.{relinks_none, relinks_more, relinks_join, next_join, row_within, rank_within, rank_to, neighbour}
 use Rattle.rb_pairing.proofs.nodes.Nodes.join_back.Goals as goal
 use Rattle.rb_pairing.proofs.nodes.Nodes.join_back.Goals.{After-unwrap-left}
@@ -16,6 +15,9 @@ back-init c = record {
       (λ row. let within = rank_within _ _ _ row in record { row = row; sunk = omega arith });
   last = c.requires.last;
 }
+
+pub is_first-requires-clause-slot : goal.is_first-requires-clause-slot
+is_first-requires-clause-slot c = ∥∥₁_elim c.back.invariant.row (hlevel props) (λ to. row_within _ _ _ to.row)
 
 pub previous-requires : goal.previous-requires
 previous-requires c = ∥∥₁_elim c.back.invariant.row (hlevel props) (λ to. row_within _ _ _ to.row)
@@ -30,7 +32,7 @@ neighbours c =
     ∥∥₁_elim c.back.invariant.row (hlevel props)
     (λ to. neighbour c.back.self c.args.parent c.back.last to.row c.unwrap-left.result
     (sym c.previous.ensures ∙ c.unwrap-left.ensures)
-    (λ is. link_is_not _ _ (sym c.eq.ensures ∙ c.if-eq.false) (c.child.ensures ∙ is)))
+    (λ is. let found = c.is_first.ensures.1 is in cc))
 
 pub join-last-requires-clause-neighbours : goal.join-last-requires-clause-neighbours
 join-last-requires-clause-neighbours c = neighbours (goal.at.join-last-requires-clause-neighbours c).After-unwrap-left
@@ -51,6 +53,6 @@ pub returns-clause-only : goal.returns-clause-only
 returns-clause-only c =
     ∥∥₁_elim c.back.invariant.row (hlevel props) (λ to. let sunk = to.sunk in absurd (omega (arith, sunk, same_length c.args.self.now c.back.self c.back.invariant.relinks.expiries)))
 
-pub child-requires : goal.child-requires
-child-requires c =
+pub is_first-requires-clause-parent : goal.is_first-requires-clause-parent
+is_first-requires-clause-parent c =
     omega (arith, c.requires.in_room, same_length c.args.self.now c.back.self c.back.invariant.relinks.expiries)
