@@ -1,2 +1,3 @@
 pub mod WaitingCalls
 pub mod RungOffers
+pub mod Places

@@ -1,4 +1,5 @@
-ghost use Rattle.std.specs.Prelude.{◌≡◌, ◌<◌, ◌+◌, ◌^◌, ◌%◌, IfSome};
+ghost use Rattle.std.specs.Prelude.{◌≡◌, ◌<◌, ◌+◌, ◌^◌, ◌%◌, ◌↔◌, IsTrue, IfSome};
+ghost use Rattle.rb_blocking.specs.Places.{woken_at};
 
 use crate::place::Place;
 
@@ -60,7 +61,8 @@ impl BellState {
     /// One call more rests, which looks again by itself at the moment `until`. Where it rests: at one of the
     /// places where the fewest do.
     pub(crate) fn enter(&mut self, until: u64) -> usize
-        ensures { result < PLACES }
+        ensures place { result < PLACES }
+        ensures count { self.new.count ≡ self.old.count }
     {
         let mut least = 0;
         for at in 1..PLACES {
@@ -76,6 +78,7 @@ impl BellState {
     /// Whether a call that rests there was woken.
     pub(crate) fn is_woken(&self, place: usize) -> bool
         requires { place < PLACES }
+        ensures { IsTrue result ↔ (0 < woken_at self.now.places place) }
     {
         self.places[place].is_woken()
     }
@@ -83,6 +86,8 @@ impl BellState {
     /// A call that rested there rests no more. Whether it was woken.
     pub(crate) fn leave(&mut self, place: usize) -> bool
         requires { place < PLACES }
+        ensures result { IsTrue result ↔ (0 < woken_at self.old.places place) }
+        ensures count { self.new.count ≡ self.old.count }
     {
         self.resting = self.resting.saturating_sub(1);
         self.places[place].leave()
@@ -90,7 +95,8 @@ impl BellState {
 
     /// Wakes a call that would look again only after this expiry. Where it rests, if there is one.
     pub(crate) fn wake_one(&mut self, expiry: u64) -> Option<usize>
-        ensures { IfSome result (λ place. place < PLACES) }
+        ensures place { IfSome result (λ place. place < PLACES) }
+        ensures count { self.new.count ≡ self.old.count }
     {
         if self.resting == 0 {
             return None;
@@ -104,7 +110,9 @@ impl BellState {
     }
 
     /// Wakes all that rest.
-    pub(crate) fn wake_all(&mut self) {
+    pub(crate) fn wake_all(&mut self)
+        ensures { self.new.count ≡ self.old.count }
+    {
         for place in &mut self.places {
             place.wake_all();
         }

@@ -1,4 +1,4 @@
-ghost use Rattle.std.specs.Prelude.{◌≡◌, ◌<◌, true};
+ghost use Rattle.std.specs.Prelude.{◌≡◌, ◌<◌, ◌+◌, ◌-◌, ◌^◌, ◌↔◌, IsTrue, if◌then◌else◌, eqb, min, max};
 
 /// Where calls rest at a bell: one call, or several where more rest than there are places.
 #[derive(Clone, Copy, Debug, Default)]
@@ -21,18 +21,29 @@ impl Place {
     }
 
     /// Whether some call here was woken and has not noticed it.
-    pub(crate) fn is_woken(&self) -> bool {
+    pub(crate) fn is_woken(&self) -> bool
+        ensures { IsTrue result ↔ (0 < self.now.woken) }
+    {
         self.woken > 0
     }
 
     /// One call more rests here. It looks again by itself at the moment `until`.
-    pub(crate) fn enter(&mut self, until: u64) {
+    pub(crate) fn enter(&mut self, until: u64)
+        ensures resting { self.new.resting ≡ min (self.old.resting + 1) (2 ^ 64 - 1) }
+        ensures woken { self.new.woken ≡ self.old.woken }
+        ensures latest { self.new.latest ≡ max self.old.latest until }
+    {
         self.resting = self.resting.saturating_add(1);
         self.latest = self.latest.max(until);
     }
 
     /// A call ends its rest. Whether it was woken.
-    pub(crate) fn leave(&mut self) -> bool {
+    pub(crate) fn leave(&mut self) -> bool
+        ensures result { IsTrue result ↔ (0 < self.old.woken) }
+        ensures resting { self.new.resting ≡ self.old.resting - 1 }
+        ensures woken { self.new.woken ≡ min (self.old.woken - 1) self.new.resting }
+        ensures latest { self.new.latest ≡ (if eqb self.new.resting 0 then 0 else self.old.latest) }
+    {
         let woken = self.is_woken();
         self.resting = self.resting.saturating_sub(1);
         self.woken = self.woken.saturating_sub(1).min(self.resting);
@@ -44,7 +55,10 @@ impl Place {
 
     /// Wakes a call that would look again only after this expiry. Whether there was one.
     pub(crate) fn wake_one(&mut self, expiry: u64) -> bool
-        ensures { result ≡ true → expiry < self.old.latest }
+        ensures result { IsTrue result ↔ ((self.old.woken < self.old.resting) × (expiry < self.old.latest)) }
+        ensures woken { self.new.woken ≡ self.old.woken + (if result then 1 else 0) }
+        ensures resting { self.new.resting ≡ self.old.resting }
+        ensures latest { self.new.latest ≡ self.old.latest }
     {
         if self.woken >= self.resting || self.latest <= expiry {
             return false;
@@ -55,7 +69,7 @@ impl Place {
 
     /// Wakes all that rest here.
     pub(crate) fn wake_all(&mut self)
-        ensures { self.new.woken ≡ self.old.resting }
+        ensures { self.new ≡ record self.old { woken = self.old.resting } }
     {
         self.woken = self.resting;
     }

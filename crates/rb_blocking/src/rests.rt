@@ -1,3 +1,7 @@
+ghost use Rattle.std.specs.Prelude.{◌≡◌, ℕ, false, Some, None};
+ghost use Rattle.rb_queue.specs.Calls.{deadline_of};
+ghost use Rattle.rb_queue.specs.declared.ask.Ask.TheVariants.{PollFor};
+
 use crate::bell::{Bell, longest_rest};
 use crate::fault::WaitFault;
 use rb_delayed::add_capped;
@@ -25,7 +29,12 @@ pub(crate) struct Rests {
 
 impl Rests {
     /// The rests of a call with this ask, where the bell's count was this before the first try.
-    pub(crate) fn new(ask: &Ask, seen: u64) -> Rests {
+    pub(crate) fn new(ask: &Ask, seen: u64) -> Rests
+        ensures deadline { (start timeout : ℕ) → ask.now ≡ PollFor start timeout → result.deadline ≡ deadline_of start timeout }
+        ensures seen { result.seen ≡ seen }
+        ensures untried { result.asked ≡ None }
+        ensures unwoken { result.woken ≡ false }
+    {
         let deadline = match *ask {
             Ask::PollFor { start, timeout } => add_capped(start, timeout),
             _ => u64::MAX,
@@ -45,7 +54,10 @@ impl Rests {
     ///
     /// Where the clock did not go on since the try before, it may not reach that moment either. Then the
     /// rest is the longest, so that a clock that stands still does not make the call try without a rest.
-    pub(crate) fn learn(&mut self, asked: u64, expiry: Option<u64>) {
+    pub(crate) fn learn(&mut self, asked: u64, expiry: Option<u64>)
+        ensures asked { self.new.asked ≡ Some asked }
+        ensures least { self.new.least ≡ expiry }
+    {
         let goes_on = self.asked.is_none_or(|before| before < asked);
         self.asked = Some(asked);
         self.least = expiry;

@@ -19,6 +19,9 @@ pub type ListShared = Shared<ListTimer>;
 
 pub type ListPass = Pass<ListTimer>;
 
+/// Half of the rest that a call makes which nobody wakes, in nanoseconds.
+pub const SOON: u64 = 10_000_000;
+
 /// A clock that always reads this moment.
 #[derive(Clone, Copy)]
 pub struct FixedClock(pub u64);

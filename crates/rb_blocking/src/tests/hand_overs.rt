@@ -1,7 +1,7 @@
 // A taker that is woken and stopped by its gate at once, beside one that waits on.
 
 use crate::tests::callers::{Caller, TellingGate};
-use crate::tests::fixtures::{FixedClock, await_more, element, expect, expect_taken, opened};
+use crate::tests::fixtures::{FixedClock, SOON, await_more, element, expect, expect_taken, opened};
 use crate::{Bell, Clock as _, MachineClock, WaitFault};
 use rb_delayed::Element;
 use std::alloc::Global;
@@ -13,9 +13,6 @@ use std::thread::{Threads, join, sleep};
 use std::time::{Clock, Duration};
 
 type Taken = Result<Element, WaitFault>;
-
-// Half of the rest that a call makes which nobody wakes, in nanoseconds.
-const SOON: u64 = 10_000_000;
 
 // How the two takes ended, and how long after the offer the second did, in nanoseconds.
 #[derive(Drop)]

@@ -1,7 +1,7 @@
 // How soon an element that was due when it was offered comes to a call that rests.
 
 use crate::tests::callers::{Caller, TellingGate};
-use crate::tests::fixtures::{await_more, expect, opened};
+use crate::tests::fixtures::{SOON, await_more, expect, opened};
 use crate::{Bell, MachineClock};
 use std::process::Abort;
 use std::sync::Wait;
@@ -13,9 +13,6 @@ use std::time::Duration;
 
 // How many elements are offered, one by one.
 const ELEMENTS: u64 = 200;
-
-// Half of the rest that a call makes which nobody wakes, in nanoseconds.
-const SOON: u64 = 10_000_000;
 
 // Takes an element. Whether it came soon after its expiry.
 fn takes_soon<R: Wait + time::Clock>(
