@@ -87,6 +87,8 @@ impl<T: Timer> Store<T> {
     }
 
     /// Takes out the element of the id, if there is one.
+    // A removal spends its time here. `clear` calls it too, and a call that is not compiled in copies the element.
+    #[inline(always)]
     pub(crate) fn remove(&mut self, id: u64) -> Option<Element>
         ensures element { result ≡ map.get self.old id }
         ensures removed { self.new ≡ map.remove self.old id }
