@@ -100,10 +100,6 @@ pub fn expect_bytes(rt: &impl Abort, bytes: &[u8], wanted: &[u8]) {
     assert_eq!(rt; bytes, wanted);
 }
 
-pub fn expect_text(rt: &impl Abort, text: &str, wanted: &str) {
-    assert_eq!(rt; text, wanted);
-}
-
 pub fn expect_written(
     rt: &impl Abort,
     answer: Result<(), HistoryFault>,
