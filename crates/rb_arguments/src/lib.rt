@@ -8,6 +8,7 @@ mod arguments;
 mod command_line;
 mod given_server;
 mod given_words;
+mod laws;
 mod replay_options;
 mod run_options;
 mod script_options;
@@ -16,6 +17,7 @@ mod timer_kind;
 mod words;
 
 pub use command_line::read_words;
+pub use laws::option_limits_have_their_values;
 pub use replay_options::ReplayOptions;
 pub use run_options::{MOST_WORKERS, RunOptions};
 pub use script_options::ScriptOptions;

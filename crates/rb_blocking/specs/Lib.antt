@@ -1,3 +1,4 @@
 pub mod WaitingCalls
+pub mod WaitLaws
 pub mod RungOffers
 pub mod Places

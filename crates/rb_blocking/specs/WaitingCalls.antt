@@ -1,5 +1,5 @@
 -- How a call that waits ends, and what the pass has seen after it.
-use Rattle.std.specs.Prelude.{◌≡◌, ℕ, Option, Some, None, Result, Ok, Err}
+use Rattle.std.specs.Prelude.{◌≡◌, ℕ, zero, suc, ◌-◌, ◌^◌, min, Bool, true, false, Option, Some, None, Result, Ok, Err}
 use Rattle.rb_delayed.specs.declared.element.Element.{Element}
 use Rattle.rb_queue.specs.declared.ask.Ask.{Ask}
 use Rattle.rb_queue.specs.declared.ask.Ask.TheVariants.{Take, PollFor}
@@ -8,7 +8,7 @@ use Rattle.rb_queue.specs.declared.reply.Reply.TheVariants.{Item, Nothing}
 use Rattle.rb_kept.specs.Log.{HasRoom, IsFull}
 use Rattle.rb_kept.specs.Tries.{Waits}
 use Rattle.rb_kept.specs.declared.tries.Try.{Try}
-use Rattle.rb_lock.specs.Passes.{Seen, log_of}
+use Rattle.rb_lock.specs.Passes.{Seen, Learns, log_of}
 use Rattle.rb_lock.specs.SharedCalls.{Replied}
 use Rattle.rb_blocking.specs.declared.fault.WaitFault.{WaitFault}
 use Rattle.rb_blocking.specs.declared.fault.WaitFault.TheVariants.{Full, Stopped}
@@ -23,17 +23,34 @@ pub record IsAnswered (gives : ℕ → Type 0) (old new : Seen) (ask : Ask) (rep
   pub read : gives asked
   pub replied : Replied old new (try_of old asked ask) reply
 
--- The gate stopped the wait, after so many turns: the ask would wait still, at a reading that the clock gives,
--- and the pass has made no call more.
-pub record IsStopped (gives stops : ℕ → Type 0) (old new : Seen) (ask : Ask) : Type 0 where
-  pub turns : ℕ
-  pub stopped : stops turns
+-- A try at a reading that the clock gives found nothing that has expired. The pass has learned, it has made no
+-- call more, and it would wait still.
+pub record FindsNothing (gives : ℕ → Type 0) (old new : Seen) (ask : Ask) : Type 0 where
   pub asked : ℕ
   pub read : gives asked
   pub expiry : Option ℕ
+  pub learns : Learns old new
   pub room : HasRoom (log_of new)
   pub waits : Waits (log_of new) (try_of old asked ask) expiry
   pub mine : new.mine ≡ old.mine
+
+-- what the gate is told behind a try that comes after so many others: their number, as far as 64 bits hold it
+abbrev pub turns_told : ℕ → ℕ
+turns_told tries = min tries (2 ^ 64 - 1)
+
+-- So many tries, one after the other, found nothing that has expired, and behind each the gate let the wait go on.
+abbrev pub WaitsOn : (ℕ → Type 0) → (ℕ → Bool → Type 0) → Seen → Ask → ℕ → Seen → Type 0
+WaitsOn gives answers old ask zero new = new ≡ old
+WaitsOn gives answers old ask (suc tries) new =
+    (mid : Seen) × WaitsOn gives answers old ask tries mid × FindsNothing gives mid new ask × answers (turns_told tries) true
+
+-- The gate stopped the wait behind the last of its tries, each of which found nothing that has expired.
+pub record IsStopped (gives : ℕ → Type 0) (answers : ℕ → Bool → Type 0) (old new : Seen) (ask : Ask) : Type 0 where
+  pub tries : ℕ
+  pub before : Seen
+  pub waited : WaitsOn gives answers old ask tries before
+  pub last : FindsNothing gives before new ask
+  pub stopped : answers (turns_told tries) false
 
 -- the history that the pass has seen has no room, and the pass has made no call more
 pub record EndsFull (old new : Seen) : Type 0 where
@@ -41,10 +58,10 @@ pub record EndsFull (old new : Seen) : Type 0 where
   pub mine : new.mine ≡ old.mine
 
 -- how an ask that waits ended
-abbrev pub Waited : (ℕ → Type 0) → (ℕ → Type 0) → Seen → Seen → Ask → Result Reply WaitFault → Type 0
-Waited gives stops old new ask (Ok reply) = IsAnswered gives old new ask reply
-Waited gives stops old new ask (Err Full) = EndsFull old new
-Waited gives stops old new ask (Err Stopped) = IsStopped gives stops old new ask
+abbrev pub Waited : (ℕ → Type 0) → (ℕ → Bool → Type 0) → Seen → Seen → Ask → Result Reply WaitFault → Type 0
+Waited gives answers old new ask (Ok reply) = IsAnswered gives old new ask reply
+Waited gives answers old new ask (Err Full) = EndsFull old new
+Waited gives answers old new ask (Err Stopped) = IsStopped gives answers old new ask
 
 -- the reply that gives an element, or none
 abbrev pub reply_with : Option Element → Reply
@@ -52,11 +69,11 @@ reply_with (Some element) = Item element
 reply_with None = Nothing
 
 -- how a take ended: its reply is the element
-abbrev pub TakeWaited : (ℕ → Type 0) → (ℕ → Type 0) → Seen → Seen → Result Element WaitFault → Type 0
-TakeWaited gives stops old new (Ok element) = Waited gives stops old new Take (Ok (Item element))
-TakeWaited gives stops old new (Err fault) = Waited gives stops old new Take (Err fault)
+abbrev pub TakeWaited : (ℕ → Type 0) → (ℕ → Bool → Type 0) → Seen → Seen → Result Element WaitFault → Type 0
+TakeWaited gives answers old new (Ok element) = Waited gives answers old new Take (Ok (Item element))
+TakeWaited gives answers old new (Err fault) = Waited gives answers old new Take (Err fault)
 
 -- how a timed poll ended: its reply is the element, or that there is none
-abbrev pub PollForWaited : (ℕ → Type 0) → (ℕ → Type 0) → Seen → Seen → ℕ → ℕ → Result (Option Element) WaitFault → Type 0
-PollForWaited gives stops old new start timeout (Ok got) = Waited gives stops old new (PollFor start timeout) (Ok (reply_with got))
-PollForWaited gives stops old new start timeout (Err fault) = Waited gives stops old new (PollFor start timeout) (Err fault)
+abbrev pub PollForWaited : (ℕ → Type 0) → (ℕ → Bool → Type 0) → Seen → Seen → ℕ → ℕ → Result (Option Element) WaitFault → Type 0
+PollForWaited gives answers old new start timeout (Ok got) = Waited gives answers old new (PollFor start timeout) (Ok (reply_with got))
+PollForWaited gives answers old new start timeout (Err fault) = Waited gives answers old new (PollFor start timeout) (Err fault)

@@ -23,9 +23,9 @@ const LONGEST_REST: u64 = 20;
 /// wake is lost for longer than one rest.
 #[derive(Drop)]
 pub struct Bell {
-    // It has its own cache lines, as all threads that offer write it. Who rings changes it under the lock, and
-    // who rests compares it under the lock and lets go of the lock only by falling asleep: so no ring falls
-    // between the comparison and the sleep.
+    // It has its own cache lines, as all threads that offer write it. A ringer changes it under the lock; a sleeper
+    // compares it under the lock, and lets go of the lock only by falling asleep. So no ring falls between the
+    // comparison and the sleep.
     state: CachePadded<Mutex<BellState>>,
     // Where threads sleep that rest for no element. A notification calls the system only where one sleeps.
     rung: Condvar,

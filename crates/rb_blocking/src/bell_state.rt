@@ -43,7 +43,7 @@ impl BellState {
     }
 
     /// Whether there was a ring since the count was `seen` that matters to a call which looks again at the
-    /// moment `until`. It is so too where there were many.
+    /// moment `until`. Also true after more than 16 rings.
     pub(crate) fn has_missed(&self, seen: u64, until: u64) -> bool {
         let rings = self.count.wrapping_sub(seen);
         if rings > RECENT {
@@ -93,7 +93,7 @@ impl BellState {
         self.places[place].leave()
     }
 
-    /// Wakes a call that would look again only after this expiry. Where it rests, if there is one.
+    /// Wakes a call that would look again only after this expiry. Returns its place, if any.
     pub(crate) fn wake_one(&mut self, expiry: u64) -> Option<usize>
         ensures place { IfSome result (λ place. place < PLACES) }
         ensures count { self.new.count ≡ self.old.count }

@@ -16,7 +16,7 @@ use std::sync::Wait;
 ///
 /// The ring wakes one waiting call, and only one that would try again by itself after the element has expired.
 /// The faults are those of the call: `Full` where the history has as many events as its capacity, `Memory`
-/// where there is none for the element. Then nothing was offered, and nothing is rung.
+/// if there is none for the element; then nothing happens.
 pub fn offer_ring<T: Timer, R: Wait>(
     rt: &R,
     shared: &Shared<T>,

@@ -78,8 +78,8 @@ impl Rests {
         self.woken = rested.woken;
     }
 
-    /// The call has ended so. Where it was woken and takes no element, it wakes another in its place, which
-    /// may take what it was woken for.
+    /// Called at the end. If it was woken but took nothing, it wakes another call in its place, which may take
+    /// what it was woken for.
     pub(crate) fn hand_on<R: Wait>(&self, rt: &R, bell: &Bell, waited: &Result<Reply, WaitFault>) {
         if !self.woken {
             return;

@@ -1,4 +1,4 @@
-ghost use Rattle.std.specs.Prelude.{◌≡◌, ◌↔◌, ℕ, ◌≤◌, ◌<◌, true, false};
+ghost use Rattle.std.specs.Prelude.{◌≡◌, ◌↔◌, ℕ, Bool, ◌<◌, true};
 
 use crate::gate::Gate;
 
@@ -10,13 +10,12 @@ pub struct TurnGate {
 }
 
 impl Gate for TurnGate {
-    ghost stops = { λ gate turns. gate.limit ≤ turns };
+    ghost answers = { λ gate turns goes_on. (goes_on ≡ true) ↔ (turns < gate.limit) };
 
     // It says no exactly after as many turns as its limit is, or more.
     fn turn(&mut self, turns: u64) -> bool
-        ensures stops { result ≡ false → self.old.limit ≤ turns }
-        ensures same { (n : ℕ) → (self.new.limit ≤ n) ↔ (self.old.limit ≤ n) }
-        ensures exact { (result ≡ true) ↔ (turns < self.old.limit) }
+        ensures answers { (result ≡ true) ↔ (turns < self.old.limit) }
+        ensures same { (n : ℕ) (goes_on : Bool) → ((goes_on ≡ true) ↔ (n < self.new.limit)) ↔ ((goes_on ≡ true) ↔ (n < self.old.limit)) }
     {
         turns < self.limit
     }

@@ -1,4 +1,4 @@
-ghost use Rattle.std.specs.Prelude.{◌≡◌, ◌↔◌, ℕ, OnErr, IfOk, IsErrOf};
+ghost use Rattle.std.specs.Prelude.{◌≡◌, ◌↔◌, ℕ, Bool};
 ghost use Rattle.rb_queue.specs.declared.ask.Ask.TheVariants.{Take, PollFor};
 ghost use Rattle.rb_kept.specs.Tries.{TakesMemory};
 ghost use Rattle.rb_lock.specs.Passes.{Learns};
@@ -34,8 +34,8 @@ pub fn take<T: Timer, C: Clock, G: Gate, R: Wait + time::Clock>(
 ) -> Result<Element, WaitFault>
     requires pass { pass.old.table ≡ shared.now }
     ensures learns { Learns pass.old pass.new }
-    ensures waited { TakeWaited (C.gives clock.now) (G.stops gate.old) pass.old pass.new result }
-    ensures gate { (turns : ℕ) → G.stops gate.new turns ↔ G.stops gate.old turns }
+    ensures waited { TakeWaited (C.gives clock.now) (G.answers gate.old) pass.old pass.new result }
+    ensures gate { (turns : ℕ) (goes_on : Bool) → G.answers gate.new turns goes_on ↔ G.answers gate.old turns goes_on }
 {
     match wait(rt, shared, pass, clock, gate, bell, &Ask::Take)? {
         Reply::Item(element) => Ok(element),
@@ -60,8 +60,8 @@ pub fn poll_for<T: Timer, C: Clock, G: Gate, R: Wait + time::Clock>(
 ) -> Result<Option<Element>, WaitFault>
     requires pass { pass.old.table ≡ shared.now }
     ensures learns { Learns pass.old pass.new }
-    ensures waited { PollForWaited (C.gives clock.now) (G.stops gate.old) pass.old pass.new start timeout result }
-    ensures gate { (turns : ℕ) → G.stops gate.new turns ↔ G.stops gate.old turns }
+    ensures waited { PollForWaited (C.gives clock.now) (G.answers gate.old) pass.old pass.new start timeout result }
+    ensures gate { (turns : ℕ) (goes_on : Bool) → G.answers gate.new turns goes_on ↔ G.answers gate.old turns goes_on }
 {
     let ask = Ask::PollFor { start, timeout };
     match wait(rt, shared, pass, clock, gate, bell, &ask)? {
@@ -85,8 +85,8 @@ fn wait<T: Timer, C: Clock, G: Gate, R: Wait + time::Clock>(
     requires pass { pass.old.table ≡ shared.now }
     requires memory { TakesMemory ask.now → ⊥ }
     ensures learns { Learns pass.old pass.new }
-    ensures waited { Waited (C.gives clock.now) (G.stops gate.old) pass.old pass.new ask.now result }
-    ensures gate { (turns : ℕ) → G.stops gate.new turns ↔ G.stops gate.old turns }
+    ensures waited { Waited (C.gives clock.now) (G.answers gate.old) pass.old pass.new ask.now result }
+    ensures gate { (turns : ℕ) (goes_on : Bool) → G.answers gate.new turns goes_on ↔ G.answers gate.old turns goes_on }
 {
     let mut rests = Rests::new(ask, bell.count(rt));
     let waited = try_often(rt, shared, pass, clock, gate, bell, ask, &mut rests);
@@ -111,8 +111,8 @@ fn try_often<T: Timer, C: Clock, G: Gate, R: Wait + time::Clock>(
     requires pass { pass.old.table ≡ shared.now }
     requires memory { TakesMemory ask.now → ⊥ }
     ensures learns { Learns pass.old pass.new }
-    ensures waited { Waited (C.gives clock.now) (G.stops gate.old) pass.old pass.new ask.now result }
-    ensures gate { (turns : ℕ) → G.stops gate.new turns ↔ G.stops gate.old turns }
+    ensures waited { Waited (C.gives clock.now) (G.answers gate.old) pass.old pass.new ask.now result }
+    ensures gate { (turns : ℕ) (goes_on : Bool) → G.answers gate.new turns goes_on ↔ G.answers gate.old turns goes_on }
 {
     // The proof reads here that the pass has seen a legal history.
     let _ = pass.name();

@@ -2,8 +2,8 @@
 use Rattle.std.specs.Prelude.{ℕ}
 use Rattle.rb_ending.specs.declared.broker_fault.BrokerFault.{BrokerFault}
 use Rattle.rb_ending.specs.declared.broker_fault.BrokerFault.TheVariants as Broker
-use Rattle.rb_replay.specs.declared.history_fault.HistoryFault.{HistoryFault}
-use Rattle.rb_replay.specs.declared.history_fault.HistoryFault.TheVariants as History
+use Rattle.rb_history.specs.declared.history_fault.HistoryFault.{HistoryFault}
+use Rattle.rb_history.specs.declared.history_fault.HistoryFault.TheVariants as History
 use Rattle.rb_session.specs.declared.session_fault.SessionFault.{SessionFault}
 use Rattle.rb_session.specs.declared.session_fault.SessionFault.TheVariants as Session
 

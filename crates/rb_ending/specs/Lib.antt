@@ -1,4 +1,4 @@
-pub use Rattle.rb_replay.specs.Written
+pub use Rattle.rb_history.specs.Written
 pub use Rattle.rb_session.specs.Ran
 pub mod BrokerFault
 pub mod Recording

@@ -1,9 +1,9 @@
 -- What becomes of the history of a run.
 use Rattle.std.specs.Prelude.{◌≡◌, ℕ, List, Option, None, Some, Result, Ok}
 use Rattle.rb_kept.specs.Log.{Log}
-use Rattle.rb_replay.specs.HistoryText.{history_text}
-use Rattle.rb_replay.specs.Written.{Writes}
-use Rattle.rb_replay.specs.declared.history_fault.HistoryFault.{HistoryFault}
+use Rattle.rb_history.specs.HistoryText.{history_text}
+use Rattle.rb_history.specs.Written.{Writes}
+use Rattle.rb_history.specs.declared.history_fault.HistoryFault.{HistoryFault}
 
 -- there was nothing and is nothing, or what there was has become something in this relation to it
 abbrev pub Becomes : {H : Type 0} → (H → H → Type 0) → Option H → Option H → Type 0

@@ -1,6 +1,6 @@
 ghost use Rattle.std.specs.Prelude.{◌≡◌};
 
-use rb_replay::HistoryFault;
+use rb_history::HistoryFault;
 use rb_session::SessionFault;
 use std::alloc::AllocError;
 use thiserror::Error;

@@ -1,7 +1,7 @@
 ghost use Rattle.rb_ending.specs.Recording.{RecordsRun};
 
+use rb_history::{HistoryFault, write_history};
 use rb_kept::Kept;
-use rb_replay::{HistoryFault, write_history};
 use rb_timer::Timer;
 use std::alloc::Global;
 use std::io::Write;

@@ -5,6 +5,7 @@
 #![tactic(auto)]
 
 mod fault;
+mod laws;
 mod lock;
 mod pair;
 mod pass;
@@ -16,6 +17,7 @@ mod steps;
 mod view;
 
 pub use fault::{CloseFault, OpenFault, SplitFault};
+pub use laws::most_names_has_its_value;
 pub use pair::MOST_NAMES;
 pub use pass::Pass;
 pub use shared::Shared;

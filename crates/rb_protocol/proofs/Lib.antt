@@ -7,3 +7,4 @@ pub mod Readings
 pub mod Texts
 pub mod Attempts
 pub mod WrittenBytes
+pub mod Sending

@@ -9,6 +9,8 @@
 mod error_word;
 mod format;
 mod keywords;
+mod laws;
+mod limited_reader;
 mod limits;
 mod line_fault;
 mod line_reply;
@@ -16,14 +18,18 @@ mod line_words;
 mod number;
 mod reply_line;
 mod request;
+mod send;
 mod writing;
 
 pub use error_word::ErrorWord;
 pub use format::{LINE_FEED, SPACE};
+pub use laws::limits_have_their_values;
+pub use limited_reader::LimitedReader;
 pub use limits::{BUFFER_BYTES, MOST_READS};
 pub use line_fault::LineFault;
 pub use line_reply::{LineReply, MOST_REPLY_BYTES, REPLY_ROOM, write_reply};
 pub use line_words::cut_word;
 pub use number::read_number;
 pub use request::{MOST_LINE_BYTES, Request, one_reading, read_request, request_has_text};
+pub use send::{flush, send_at_once, send_line};
 pub use writing::{WriteFault, write_out};

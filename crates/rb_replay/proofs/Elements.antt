@@ -11,9 +11,6 @@ use Rattle.std.specs.Map.{lookup, remove_entry}
 use Rattle.std.specs.Ordering.{match_ordering}
 use Rattle.std.specs.declared.cmp.Ordering.{Ordering}
 use Rattle.std.specs.declared.cmp.Ordering.TheVariants.{Less, Equal, Greater}
-use mathlib.Core.HLevel.{Σ_prop_path}
-use Rattle.std.proofs.Props.{props}
-use Rattle.rb_delayed.specs.declared.element.TheConstants.{GREATEST_ATTEMPT}
 use Rattle.rb_queue.specs.Draft.{IsDrafted}
 use Rattle.rb_queue.specs.declared.draft.Draft.{Draft}
 use Rattle.rb_delayed.specs.declared.element.Element.{Element}
@@ -24,6 +21,7 @@ use Rattle.rb_queue.specs.Calls.{Acts}
 use Rattle.rb_queue.specs.declared.act.Act.TheVariants as acts
 use Rattle.rb_queue.proofs.Options.{same_or_not}
 use Rattle.rb_queue.proofs.Bags.{get_inserted, get_removed, get_inserted_same, get_inserted_other, get_removed_same, get_removed_other, remove_absent}
+use Rattle.rb_history.proofs.SameElements.{same_element}
 use Rattle.rb_replay.specs.ReplayedQueue.{AreFiled, HasElements}
 
 -- the order of the two ids that are compared has no meaning
@@ -115,24 +113,6 @@ removed_anyway old new id false acts =
     nothing : (o : Option Element) → map.get old.bag id ≡ o → map.get old.bag id ≡ None
     nothing None is = is
     nothing (Some element) is = let found_it : false ≡ true = acts.permitted.1 (subst IsSome (sym is) refl) in absurd (cc)
-
--- elements with the same fields are one
-pub same_element : (one other : Element) → one.id ≡ other.id → one.expiry ≡ other.expiry → one.origin ≡ other.origin → one.first ≡ other.first
-    → one.attempt ≡ other.attempt → one.payload ≡ other.payload → one ≡ other
-same_element one other id expiry origin first attempt payload =
-    let pairs : ◌≡◌ {A = (n : ℕ) × ((1 ≤ n) × (n ≤ GREATEST_ATTEMPT))}
-    (one.attempt, (one.attempt_from_one, one.attempt_in_range)) (other.attempt, (other.attempt_from_one, other.attempt_in_range)) =
-    Σ_prop_path (λ n. hlevel props) attempt in
-    λ i. record {
-      id = id i;
-      expiry = expiry i;
-      origin = origin i;
-      first = first i;
-      attempt = (pairs i).0;
-      payload = payload i;
-      attempt_from_one = (pairs i).1.0;
-      attempt_in_range = (pairs i).1.1;
-    }
 
 -- the queue's element is the one that was drafted from it
 pub drafted_from : (element made : Element) (draft : Draft) → IsDrafted draft made → made.id ≡ element.id → draft.expiry ≡ element.expiry

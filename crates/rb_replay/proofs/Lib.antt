@@ -1,26 +1,8 @@
--- The lemmas of this crate, by subject: texts written and read, histories done again and checked.
-pub mod Lines
+-- The lemmas of this crate, by subject: histories done again and checked.
 pub mod Elements
 pub mod Judgements
 pub mod Replays
 pub mod Ordered
-pub mod Spelled
-pub mod Keywords
-pub mod FirstFeeds
-pub mod EventLines
-pub mod Settlings
-pub mod KeepLines
-pub mod Bodies
-pub mod Parts
-pub mod WordTexts
-pub mod EventTexts
-pub mod FirstTexts
-pub mod OneTexts
-pub mod FaultlessTexts
-pub mod EachReadings
 pub mod ReadAgain
-pub mod WholeTexts
 pub mod AttemptIndexes
 pub mod ChainedHistories
-pub mod OneFaults
-pub mod RightValues

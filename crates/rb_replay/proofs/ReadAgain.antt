@@ -6,16 +6,16 @@ use Rattle.rb_queue.specs.declared.event.Event.{Event}
 use Rattle.rb_queue.specs.declared.opening.Opening.{Opening}
 use Rattle.rb_kept.specs.declared.kept.TheConstants.{MOST_CALLS}
 use Rattle.rb_replay.specs.Checking.{Checks}
-use Rattle.rb_replay.specs.HistoryText.{history_text}
-use Rattle.rb_replay.specs.Ranges.{IsRightHistory, IsRightOpening, AreRightEvents}
-use Rattle.rb_replay.specs.Readings.{IsTextIn, Reads, IsReadAs}
+use Rattle.rb_history.specs.HistoryText.{history_text}
+use Rattle.rb_history.specs.Ranges.{IsRightHistory, IsRightOpening, AreRightEvents}
+use Rattle.rb_history.specs.Readings.{IsTextIn, Reads, IsReadAs}
 use Rattle.rb_replay.specs.WrittenHistories.{IsAudited, IsReadAgain}
-use Rattle.rb_replay.specs.declared.history.History.{History}
+use Rattle.rb_history.specs.declared.history.History.{History}
 use Rattle.rb_replay.specs.declared.replay_fault.ReplayFault.{ReplayFault}
 use Rattle.rb_replay.specs.declared.replay_fault.ReplayFault.TheVariants.{At, Memory}
-use Rattle.rb_replay.specs.declared.text_fault.TextFault.{TextFault}
-use Rattle.rb_replay.specs.declared.version.Version.TheVariants.{Three}
-use Rattle.rb_replay.proofs.EachReadings.{reads_each}
+use Rattle.rb_history.specs.declared.text_fault.TextFault.{TextFault}
+use Rattle.rb_history.specs.declared.version.Version.TheVariants.{Three}
+use Rattle.rb_history.proofs.EachReadings.{reads_each}
 
 -- an event in a legal list is allowed behind those before it
 allowed_behind : (from : State) (front behind : List Event) (event : Event) → AllowsAll from (front ++ event ∷ behind) → Allows (state_from from front) event

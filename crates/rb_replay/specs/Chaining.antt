@@ -5,7 +5,7 @@ use Rattle.rb_queue.specs.declared.act.Act.TheVariants.{Offer}
 use Rattle.rb_queue.specs.declared.event.Event.{Event}
 use Rattle.rb_queue.specs.declared.opening.Opening.{Opening}
 use Rattle.rb_retry.specs.declared.policy.Policy.{Policy}
-use Rattle.rb_replay.specs.Offers.{offers_in}
+use Rattle.rb_history.specs.Offers.{offers_in}
 use Rattle.rb_replay.specs.GivenElements.{elements_given}
 use Rattle.rb_replay.specs.Links.{Past, IsLinked}
 use Rattle.rb_replay.specs.LinkTests.{LinkTests}

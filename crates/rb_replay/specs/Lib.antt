@@ -1,7 +1,3 @@
-pub mod EventText
-pub mod HistoryText
-pub mod Written
-pub mod Tails
 pub mod ReasonText
 pub mod Tests
 pub mod Refusal
@@ -10,17 +6,7 @@ pub mod Judging
 pub mod Checking
 pub mod Replaying
 pub mod Opens
-pub mod Ranges
-pub mod LineReading
-pub mod Feeds
-pub mod TextFaults
-pub mod OpeningReading
-pub mod Offers
-pub mod Firsts
-pub mod Readings
 pub mod WrittenHistories
-pub mod BodyReading
-pub mod Settling
 pub mod GivenElements
 pub mod Links
 pub mod LinkTests

@@ -7,13 +7,13 @@ use Rattle.rb_queue.specs.declared.event.Event.{Event}
 use Rattle.rb_queue.specs.declared.opening.Opening.{Opening}
 use Rattle.rb_kept.specs.declared.kept.TheConstants.{MOST_CALLS}
 use Rattle.rb_replay.specs.Checking.{Checks}
-use Rattle.rb_replay.specs.HistoryText.{history_text}
-use Rattle.rb_replay.specs.Ranges.{IsRightHistory, IsRightOpening, AreRightEvents}
-use Rattle.rb_replay.specs.Readings.{Reads, IsReadAs}
-use Rattle.rb_replay.specs.declared.history.History.{History}
+use Rattle.rb_history.specs.HistoryText.{history_text}
+use Rattle.rb_history.specs.Ranges.{IsRightHistory, IsRightOpening, AreRightEvents}
+use Rattle.rb_history.specs.Readings.{Reads, IsReadAs}
+use Rattle.rb_history.specs.declared.history.History.{History}
 use Rattle.rb_replay.specs.declared.replay_fault.ReplayFault.{ReplayFault}
 use Rattle.rb_replay.specs.declared.replay_fault.ReplayFault.TheVariants.{At, Memory}
-use Rattle.rb_replay.specs.declared.text_fault.TextFault.{TextFault}
+use Rattle.rb_history.specs.declared.text_fault.TextFault.{TextFault}
 
 -- this is the audit of the history, want of memory aside
 abbrev pub IsAudited : Opening → List Event → Result Audit ReplayFault → Type 0

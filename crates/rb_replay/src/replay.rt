@@ -5,7 +5,7 @@ use crate::judge::{JudgeFault, judge};
 use crate::reason::Reason;
 use crate::replay_fault::ReplayFault;
 use crate::replayed_queue::ReplayedQueue;
-use crate::write::MOST_EVENTS;
+use rb_history::MOST_EVENTS;
 use rb_queue::{Event, Opening};
 use std::alloc::Global;
 

@@ -3,7 +3,7 @@ use Rattle.std.proofs.Common.{◌≡◌, ℕ, List, Result, Err, inl, inr, subst
 use Rattle.rb_queue.specs.declared.event.Event.{Event}
 use Rattle.rb_queue.specs.declared.opening.Opening.{Opening}
 use Rattle.rb_replay.specs.Opens.{Opens}
-use Rattle.rb_replay.specs.Readings.{IsTextOf}
+use Rattle.rb_history.specs.Readings.{IsTextOf}
 use Rattle.rb_replay.specs.declared.opening_fault.OpeningFault.{OpeningFault}
 use Rattle.rb_replay.specs.declared.opening_fault.OpeningFault.TheVariants.{At, TooLarge}
 use Rattle.rb_replay.specs.declared.reason.Reason.{Reason}

@@ -3,7 +3,7 @@ use Rattle.std.proofs.Common.{◌≡◌, ℕ, List, Option, Result, IfOk, subst}
 use Rattle.rb_queue.specs.declared.event.Event.{Event}
 use Rattle.rb_queue.specs.declared.opening.Opening.{Opening}
 use Rattle.rb_retry.specs.declared.policy.Policy.{Policy}
-use Rattle.rb_replay.specs.Readings.{IsTextOf}
+use Rattle.rb_history.specs.Readings.{IsTextOf}
 use Rattle.rb_runs.specs.Verdict.{IsVerdictOf, IsVerdictOn}
 use Rattle.rb_ending.specs.declared.broker_fault.BrokerFault.{BrokerFault}
 use Rattle.rb_runs.specs.declared.verdict.Verdict.{Verdict}

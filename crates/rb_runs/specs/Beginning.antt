@@ -4,11 +4,11 @@ use Rattle.rb_queue.specs.History.{IsLegal, state_of}
 use Rattle.rb_queue.specs.declared.event.Event.{Event}
 use Rattle.rb_queue.specs.declared.opening.Opening.{Opening}
 use Rattle.rb_replay.specs.Opens.{IsTooLarge, Opens}
-use Rattle.rb_replay.specs.Readings.{IsTextOf}
+use Rattle.rb_history.specs.Readings.{IsTextOf}
 use Rattle.rb_replay.specs.Refusal.{Refuses}
-use Rattle.rb_replay.specs.TextFaults.{HasFault}
+use Rattle.rb_history.specs.TextFaults.{HasFault}
 use Rattle.rb_replay.specs.declared.reason.Reason.{Reason}
-use Rattle.rb_replay.specs.declared.text_fault.TextReason.{TextReason}
+use Rattle.rb_history.specs.declared.text_fault.TextReason.{TextReason}
 use Rattle.rb_ending.specs.declared.broker_fault.BrokerFault.{BrokerFault}
 use Rattle.rb_ending.specs.declared.broker_fault.BrokerFault.TheVariants.{BadOpening, Memory}
 

@@ -11,9 +11,9 @@ pub use Rattle.rb_ending.specs.Recording
 pub use Rattle.rb_ending.specs.AuditText
 pub use Rattle.rb_replay.specs.Checking
 pub use Rattle.rb_replay.specs.Chaining
-pub use Rattle.rb_replay.specs.Readings
+pub use Rattle.rb_history.specs.Readings
 pub use Rattle.rb_replay.specs.Opens
-pub use Rattle.rb_replay.specs.Written
+pub use Rattle.rb_history.specs.Written
 pub mod Verdict
 pub mod Beginning
 pub mod FileText

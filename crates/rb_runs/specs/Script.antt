@@ -3,7 +3,7 @@ use Rattle.std.specs.Prelude.{◌≡◌, ◌≢◌, ℕ, List, [], Option, Resul
 use Rattle.rb_ledger.specs.Totals.{nothing}
 use Rattle.rb_queue.specs.declared.opening.Opening.{Opening}
 use Rattle.rb_kept.specs.Log.{Log}
-use Rattle.rb_replay.specs.declared.history_fault.HistoryFault.{HistoryFault}
+use Rattle.rb_history.specs.declared.history_fault.HistoryFault.{HistoryFault}
 use Rattle.rb_retry.specs.KeptSteps.{KeptState, KeptSteps, SetsKept}
 use Rattle.rb_retry.specs.declared.policy.Policy.{Policy}
 use Rattle.rb_session.specs.declared.ended.Ended.{Ended}

@@ -6,10 +6,11 @@ use Rattle.rb_queue.specs.declared.opening.Opening.{Opening}
 use Rattle.rb_retry.specs.declared.policy.Policy.{Policy}
 use Rattle.rb_replay.specs.Checking.{Checks}
 use Rattle.rb_replay.specs.Chaining.{Chains}
-use Rattle.rb_replay.specs.Readings.{IsTextOf}
-use Rattle.rb_replay.specs.ReasonText.{reason_text, text_reason_text}
+use Rattle.rb_history.specs.Readings.{IsTextOf}
+use Rattle.rb_history.specs.TextReasonText.{text_reason_text}
+use Rattle.rb_replay.specs.ReasonText.{reason_text}
 use Rattle.rb_replay.specs.ChainReasonText.{chain_reason_text}
-use Rattle.rb_replay.specs.TextFaults.{HasFault}
+use Rattle.rb_history.specs.TextFaults.{HasFault}
 use Rattle.rb_replay.specs.declared.chain_fault.ChainFault.{ChainFault}
 use Rattle.rb_replay.specs.declared.chain_fault.ChainFault.TheVariants as chain
 use Rattle.rb_replay.specs.declared.chain_reason.ChainReason.{ChainReason}

@@ -2,7 +2,6 @@
 //! opening that a history leads to.
 #![tactic(auto)]
 
-mod limited_reader;
 mod opening;
 mod over_timer;
 mod reading;

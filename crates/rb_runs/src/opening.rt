@@ -1,7 +1,7 @@
 ghost use Rattle.std.specs.Prelude.{List};
 ghost use Rattle.rb_queue.specs.declared.event.Event.{Event};
-ghost use Rattle.rb_replay.specs.Ranges.{IsRightOpening, AreRightEvents};
-ghost use Rattle.rb_replay.specs.Readings.{IsTextOf};
+ghost use Rattle.rb_history.specs.Ranges.{IsRightOpening, AreRightEvents};
+ghost use Rattle.rb_history.specs.Readings.{IsTextOf};
 ghost use Rattle.rb_runs.specs.Beginning.{BeginsIn, Continues};
 
 use rb_ending::BrokerFault;

@@ -1,9 +1,8 @@
 ghost use Rattle.std.specs.Prelude.{◌≡◌, ◌<◌, IfOk, length, vec_len};
 ghost use Rattle.rb_runs.specs.FileText.{ReadsAll, IsUsedUpAt};
 
-use crate::limited_reader::LimitedReader;
 use rb_ending::BrokerFault;
-use rb_protocol::BUFFER_BYTES;
+use rb_protocol::{BUFFER_BYTES, LimitedReader};
 use std::alloc::{AllocError, Global};
 use std::io::{ErrorKind, Read};
 

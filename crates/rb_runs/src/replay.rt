@@ -1,8 +1,8 @@
 ghost use Rattle.std.specs.Prelude.{◌≡◌, List, IfOk, IfErr, string_bytes};
 ghost use Rattle.rb_queue.specs.declared.event.Event.{Event};
 ghost use Rattle.rb_queue.specs.declared.opening.Opening.{Opening};
-ghost use Rattle.rb_replay.specs.Ranges.{IsRightOpening, AreRightEvents};
-ghost use Rattle.rb_replay.specs.Readings.{IsTextOf};
+ghost use Rattle.rb_history.specs.Ranges.{IsRightOpening, AreRightEvents};
+ghost use Rattle.rb_history.specs.Readings.{IsTextOf};
 ghost use Rattle.rb_runs.specs.Verdict.{IsVerdictOf, IsVerdictOn, Tells};
 ghost use Rattle.rb_runs.specs.declared.verdict.Verdict.{Verdict};
 

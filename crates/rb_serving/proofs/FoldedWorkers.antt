@@ -1,5 +1,5 @@
 -- Passes of workers that are folded into the first, one after the other.
-use Rattle.std.proofs.Common.{◌≡◌, ℕ, ◌-◌, ◌<◌, List, [], ◌∷◌, ◌++◌, Option, refl, sym, ap, ap₂, ◌∙◌, arith, length-append, append_assoc}
+use Rattle.std.proofs.Common.{Bool, ◌≡◌, ℕ, ◌-◌, ◌<◌, List, [], ◌∷◌, ◌++◌, Option, refl, sym, ap, ap₂, ◌∙◌, arith, length-append, append_assoc}
 use Rattle.std.proofs.lemmas.List.{append-nil}
 use Rattle.rb_lock.specs.Passes.{Seen, Learns, record_of, folded_with}
 use Rattle.rb_lock.specs.declared.record.Record.{Record}
@@ -12,9 +12,9 @@ use Rattle.rb_serving.specs.declared.visit.Visit.{Visit}
 use Rattle.rb_serving.specs.declared.visit_counts.VisitCounts.{VisitCounts}
 use Rattle.rb_serving.proofs.ServedVisits.{counts_both, all_visits-more, workers_more}
 
-module _ {I O G C : Type 0} (lets_in : Visit I O G → Type 0) (turns_away : Type 0) (remaining : I → Option (List ℕ)) (contents : O → Option (List ℕ)) (gives : C → ℕ → Type 0) (stops : G → ℕ → Type 0) (policy : Policy) (delivery : Delivery) (clock : C) where
+module _ {I O G C : Type 0} (lets_in : Visit I O G → Type 0) (turns_away : Type 0) (remaining : I → Option (List ℕ)) (contents : O → Option (List ℕ)) (gives : C → ℕ → Type 0) (answers : G → ℕ → Bool → Type 0) (policy : Policy) (delivery : Delivery) (clock : C) where
   -- no worker leaves the pass as it is
-  pub folds_none : (count : ℕ) (pass : Seen) → count ≡ 0 → FoldsWorkers lets_in turns_away remaining contents gives stops policy delivery clock count pass pass no_visit
+  pub folds_none : (count : ℕ) (pass : Seen) → count ≡ 0 → FoldsWorkers lets_in turns_away remaining contents gives answers policy delivery clock count pass pass no_visit
   folds_none count pass none = record {
     records = [];
     many = sym none;
@@ -30,13 +30,13 @@ module _ {I O G C : Type 0} (lets_in : Visit I O G → Type 0) (turns_away : Typ
 
   -- one worker more is folded in last
   pub folds_one_more : (count : ℕ) (old cut rest done new : Seen) (counts more : VisitCounts) → 0 < count → Learns old cut → cut.mine ≡ old.mine
-      → FoldsWorkers lets_in turns_away remaining contents gives stops policy delivery clock (count - 1) cut rest more → IsDone lets_in turns_away remaining contents gives stops policy delivery clock done counts → new ≡ folded_with rest done
-      → FoldsWorkers lets_in turns_away remaining contents gives stops policy delivery clock count old new (both_counts more counts)
+      → FoldsWorkers lets_in turns_away remaining contents gives answers policy delivery clock (count - 1) cut rest more → IsDone lets_in turns_away remaining contents gives answers policy delivery clock done counts → new ≡ folded_with rest done
+      → FoldsWorkers lets_in turns_away remaining contents gives answers policy delivery clock count old new (both_counts more counts)
   folds_one_more count old cut rest done new counts more some learns mine others worked is = record {
     records = others.records ++ record_of done ∷ [];
     many = omega (arith, some, others.many, length-append others.records (record_of done ∷ []));
     visits = others.visits ++ worked.visits ∷ [];
-    served = workers_more lets_in turns_away remaining contents gives stops policy delivery clock others.visits others.records worked.visits done others.served worked.worker;
+    served = workers_more lets_in turns_away remaining contents gives answers policy delivery clock others.visits others.records worked.visits done others.served worked.worker;
     counted = ap₂ both_counts others.counted worked.counted ∙ counts_both (all_visits others.visits) worked.visits ∙ ap counts_of (sym (all_visits-more others.visits worked.visits));
     folded = ap (λ (pass : Seen). pass.folded) is
         ∙ ap₂ (λ (front back : List Record). front ++ record_of done ∷ back) (others.folded ∙ ap (λ (front : List Record). front ++ others.records) learns.folded) worked.alone

@@ -1,5 +1,5 @@
 -- Visits that were served, one after the other, and their counts.
-use Rattle.std.proofs.Common.{◌≡◌, ℕ, ◌+◌, min, List, [], ◌∷◌, ◌++◌, Option, None, Some, refl, sym, subst, ap, ap₂, ◌∙◌, arith, length, length-append, append_assoc}
+use Rattle.std.proofs.Common.{Bool, ◌≡◌, ℕ, ◌+◌, min, List, [], ◌∷◌, ◌++◌, Option, None, Some, refl, sym, subst, ap, ap₂, ◌∙◌, arith, length, length-append, append_assoc}
 use Rattle.std.proofs.lemmas.List.{append-nil}
 use Rattle.rb_ledger.specs.Totals.{capped_sum}
 use Rattle.rb_ledger.specs.declared.totals.TheConstants.{GREATEST_COUNT}
@@ -61,32 +61,32 @@ pub all_visits-more : (visits : List (List (Option Served))) (own : List (Option
 all_visits-more [] own = append-nil own
 all_visits-more (first ∷ visits) own = ap (λ v. first ++ v) (all_visits-more visits own) ∙ sym (append_assoc first (all_visits visits) own)
 
-module _ {I O G C : Type 0} (lets_in : Visit I O G → Type 0) (turns_away : Type 0) (remaining : I → Option (List ℕ)) (contents : O → Option (List ℕ)) (gives : C → ℕ → Type 0) (stops : G → ℕ → Type 0) (policy : Policy) (delivery : Delivery) (clock : C) where
+module _ {I O G C : Type 0} (lets_in : Visit I O G → Type 0) (turns_away : Type 0) (remaining : I → Option (List ℕ)) (contents : O → Option (List ℕ)) (gives : C → ℕ → Type 0) (answers : G → ℕ → Bool → Type 0) (policy : Policy) (delivery : Delivery) (clock : C) where
   -- one visit more was served
-  pub visits_served : (old mid new : Seen) (visits : List (Option Served)) (visit : Served) → AreVisits lets_in turns_away remaining contents gives stops policy delivery clock old visits mid
-      → IsVisit lets_in turns_away remaining contents gives stops policy delivery clock mid visit new → AreVisits lets_in turns_away remaining contents gives stops policy delivery clock old (visits ++ Some visit ∷ []) new
-  visits_served old mid new [] visit same one = (new, subst (λ pass. IsVisit lets_in turns_away remaining contents gives stops policy delivery clock pass visit new) same one, refl)
+  pub visits_served : (old mid new : Seen) (visits : List (Option Served)) (visit : Served) → AreVisits lets_in turns_away remaining contents gives answers policy delivery clock old visits mid
+      → IsVisit lets_in turns_away remaining contents gives answers policy delivery clock mid visit new → AreVisits lets_in turns_away remaining contents gives answers policy delivery clock old (visits ++ Some visit ∷ []) new
+  visits_served old mid new [] visit same one = (new, subst (λ pass. IsVisit lets_in turns_away remaining contents gives answers policy delivery clock pass visit new) same one, refl)
   visits_served old mid new (None ∷ visits) visit (away, are) one = (away, visits_served old mid new visits visit are one)
   visits_served old mid new (Some first ∷ visits) visit (between, is, are) one = (between, is, visits_served between mid new visits visit are one)
 
   -- one visitor more was refused
-  pub visits_refused : (old new : Seen) (visits : List (Option Served)) → AreVisits lets_in turns_away remaining contents gives stops policy delivery clock old visits new
-      → turns_away → AreVisits lets_in turns_away remaining contents gives stops policy delivery clock old (visits ++ None ∷ []) new
+  pub visits_refused : (old new : Seen) (visits : List (Option Served)) → AreVisits lets_in turns_away remaining contents gives answers policy delivery clock old visits new
+      → turns_away → AreVisits lets_in turns_away remaining contents gives answers policy delivery clock old (visits ++ None ∷ []) new
   visits_refused old new [] same refused = (refused, same)
   visits_refused old new (None ∷ visits) (away, are) refused = (away, visits_refused old new visits are refused)
   visits_refused old new (Some first ∷ visits) (between, is, are) refused = (between, is, visits_refused between new visits are refused)
 
   -- one worker more
-  pub workers_more : (visits : List (List (Option Served))) (records : List Record) (own : List (Option Served)) (pass : Seen) → AreWorkers lets_in turns_away remaining contents gives stops policy delivery clock visits records
-      → IsWorker lets_in turns_away remaining contents gives stops policy delivery clock own pass → AreWorkers lets_in turns_away remaining contents gives stops policy delivery clock (visits ++ own ∷ []) (records ++ record_of pass ∷ [])
+  pub workers_more : (visits : List (List (Option Served))) (records : List Record) (own : List (Option Served)) (pass : Seen) → AreWorkers lets_in turns_away remaining contents gives answers policy delivery clock visits records
+      → IsWorker lets_in turns_away remaining contents gives answers policy delivery clock own pass → AreWorkers lets_in turns_away remaining contents gives answers policy delivery clock (visits ++ own ∷ []) (records ++ record_of pass ∷ [])
   workers_more [] [] own pass are worker = ((pass, worker, refl), tt)
   workers_more [] (one ∷ records) own pass are worker = absurd are
   workers_more (first ∷ visits) [] own pass are worker = absurd are
   workers_more (first ∷ visits) (one ∷ records) own pass (is, are) worker = (is, workers_more visits records own pass are worker)
 
   -- one visitor more was refused, and is counted
-  pub works_refused : (old new : Seen) (counts visit next : VisitCounts) → WorksOff lets_in turns_away remaining contents gives stops policy delivery clock old new counts
-      → turns_away → visit ≡ refused_visit → next ≡ both_counts counts visit → WorksOff lets_in turns_away remaining contents gives stops policy delivery clock old new next
+  pub works_refused : (old new : Seen) (counts visit next : VisitCounts) → WorksOff lets_in turns_away remaining contents gives answers policy delivery clock old new counts
+      → turns_away → visit ≡ refused_visit → next ≡ both_counts counts visit → WorksOff lets_in turns_away remaining contents gives answers policy delivery clock old new next
   works_refused old new counts visit next works away refused is = record {
     visits = works.visits ++ None ∷ [];
     served = visits_refused old new works.visits works.served away;
@@ -95,9 +95,9 @@ module _ {I O G C : Type 0} (lets_in : Visit I O G → Type 0) (turns_away : Typ
 
   -- one visit more was served, and is counted
   pub works_served : (old mid new : Seen) (counts more next : VisitCounts) (ended : Result Ended SessionFault) (reader reader_left : I) (writer writer_left : O) (gate : G)
-      → WorksOff lets_in turns_away remaining contents gives stops policy delivery clock old mid counts → lets_in (record { reader = reader; writer = writer; gate = gate })
-      → Exchanges (remaining reader) (remaining reader_left) (contents writer) (contents writer_left) (λ came sent. RanVisit gives stops policy delivery clock gate (IsAtEnd (remaining reader_left)) mid came sent ended new)
-      → more ≡ ended_visit ended → next ≡ both_counts counts more → WorksOff lets_in turns_away remaining contents gives stops policy delivery clock old new next
+      → WorksOff lets_in turns_away remaining contents gives answers policy delivery clock old mid counts → lets_in (record { reader = reader; writer = writer; gate = gate })
+      → Exchanges (remaining reader) (remaining reader_left) (contents writer) (contents writer_left) (λ came sent. RanVisit gives answers policy delivery clock gate (IsAtEnd (remaining reader_left)) mid came sent ended new)
+      → more ≡ ended_visit ended → next ≡ both_counts counts more → WorksOff lets_in turns_away remaining contents gives answers policy delivery clock old new next
   works_served old mid new counts more next ended reader reader_left writer writer_left gate works let_in ran ends is =
       let served : Served = record { came = ran.came; sent = ran.sent; ended = ended } in record {
         visits = works.visits ++ Some served ∷ [];

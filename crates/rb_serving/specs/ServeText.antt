@@ -3,7 +3,7 @@ use Rattle.std.specs.Prelude.{◌≡◌, ℕ, List, ◌++◌, Option, Result, Ok
 use Rattle.std.specs.Io.KnownBytes.{Appends, Keeps}
 use Rattle.rb_queue.specs.declared.audit.Audit.{Audit}
 use Rattle.rb_kept.specs.Log.{Log}
-use Rattle.rb_replay.specs.declared.history_fault.HistoryFault.{HistoryFault}
+use Rattle.rb_history.specs.declared.history_fault.HistoryFault.{HistoryFault}
 use Rattle.rb_ending.specs.AuditText.{audit_text}
 use Rattle.rb_ending.specs.BrokerFault.{fault_of_history}
 use Rattle.rb_ending.specs.Recording.{RecordsRun}

@@ -1,5 +1,5 @@
 -- What serving visits leaves of the passes, and what a server gives.
-use Rattle.std.specs.Prelude.{◌≡◌, ℕ, List, [], ◌∷◌, ◌++◌, length, Option}
+use Rattle.std.specs.Prelude.{Bool, ◌≡◌, ℕ, List, [], ◌∷◌, ◌++◌, length, Option}
 use Rattle.rb_queue.specs.Counts.{audit_of}
 use Rattle.rb_queue.specs.declared.audit.Audit.{Audit}
 use Rattle.rb_queue.specs.declared.opening.Opening.{Opening}
@@ -30,11 +30,11 @@ pub record IsReport (pass : Seen) (visits : VisitCounts) (kept : Log) (audit : A
   pub holds : HasCallsOf kept (all_records pass)
   pub counted : counts ≡ visits
 
-module _ {I O G C : Type 0} (lets_in : Visit I O G → Type 0) (turns_away : Type 0) (remaining : I → Option (List ℕ)) (contents : O → Option (List ℕ)) (gives : C → ℕ → Type 0) (stops : G → ℕ → Type 0) (policy : Policy) (delivery : Delivery) (clock : C) where
+module _ {I O G C : Type 0} (lets_in : Visit I O G → Type 0) (turns_away : Type 0) (remaining : I → Option (List ℕ)) (contents : O → Option (List ℕ)) (gives : C → ℕ → Type 0) (answers : G → ℕ → Bool → Type 0) (policy : Policy) (delivery : Delivery) (clock : C) where
   -- what a pass did that served visits until there were no more, and their counts
   pub record WorksOff (old new : Seen) (counts : VisitCounts) : Type 0 where
     pub visits : List (Option Served)
-    pub served : AreVisits lets_in turns_away remaining contents gives stops policy delivery clock old visits new
+    pub served : AreVisits lets_in turns_away remaining contents gives answers policy delivery clock old visits new
     pub counted : counts ≡ counts_of visits
 
   -- what a worker's thread gives: a pass with nothing folded into it, and the counts of the visits that it
@@ -42,7 +42,7 @@ module _ {I O G C : Type 0} (lets_in : Visit I O G → Type 0) (turns_away : Typ
   pub record IsDone (pass : Seen) (counts : VisitCounts) : Type 0 where
     pub alone : pass.folded ≡ []
     pub visits : List (Option Served)
-    pub worker : IsWorker lets_in turns_away remaining contents gives stops policy delivery clock visits pass
+    pub worker : IsWorker lets_in turns_away remaining contents gives answers policy delivery clock visits pass
     pub counted : counts ≡ counts_of visits
 
   -- The passes of so many workers were folded into the pass, which made no call itself. These are the counts of
@@ -51,7 +51,7 @@ module _ {I O G C : Type 0} (lets_in : Visit I O G → Type 0) (turns_away : Typ
     pub records : List Record
     pub many : length records ≡ workers
     pub visits : List (List (Option Served))
-    pub served : AreWorkers lets_in turns_away remaining contents gives stops policy delivery clock visits records
+    pub served : AreWorkers lets_in turns_away remaining contents gives answers policy delivery clock visits records
     pub counted : counts ≡ counts_of (all_visits visits)
     pub folded : new.folded ≡ old.folded ++ records
     pub table : new.table ≡ old.table
@@ -72,7 +72,7 @@ module _ {I O G C : Type 0} (lets_in : Visit I O G → Type 0) (turns_away : Typ
     pub many : length records ≡ workers
     pub holds : HasCallsOf kept (first ∷ records)
     pub visits : List (List (Option Served))
-    pub served : AreWorkers lets_in turns_away remaining contents gives stops policy delivery clock visits records
+    pub served : AreWorkers lets_in turns_away remaining contents gives answers policy delivery clock visits records
     pub counted : counts ≡ counts_of (all_visits visits)
 
 -- the faults that may end a server

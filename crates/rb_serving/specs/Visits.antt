@@ -1,5 +1,5 @@
 -- What became of those who came to a door, and of the pass of the worker that served them.
-use Rattle.std.specs.Prelude.{◌≡◌, ℕ, ◌+◌, min, List, [], ◌∷◌, ◌++◌, length, Option, None, Some, Result}
+use Rattle.std.specs.Prelude.{Bool, ◌≡◌, ℕ, ◌+◌, min, List, [], ◌∷◌, ◌++◌, length, Option, None, Some, Result}
 use Rattle.std.specs.Io.KnownBytes.{Appends, Consumes, IsAtEnd}
 use Rattle.rb_ledger.specs.declared.totals.TheConstants.{GREATEST_COUNT}
 use Rattle.rb_lock.specs.Passes.{Seen, record_of}
@@ -19,8 +19,6 @@ pub record Served : Type 0 where
   pub came : List ℕ
   pub sent : List ℕ
   pub ended : Result Ended SessionFault
-
--- Of those who came, in this order, each was served, or was refused at the door.
 
 -- how many visits were refused at the door or ended by a fault
 abbrev pub faults_of : List (Option Served) → ℕ
@@ -56,14 +54,14 @@ pub record IsDeskOf {C G : Type 0} (clock : C) (gate : G) (pass : Seen) (desk : 
 
 -- A session was run over what came of the visitor, at such a desk, and its replies were delivered so: from what
 -- the pass had seen to what it has seen then.
-pub record RanVisit {C G : Type 0} (gives : C → ℕ → Type 0) (stops : G → ℕ → Type 0) (policy : Policy) (delivery : Delivery) (clock : C) (gate : G) (Over : Type 0) (old : Seen) (came sent : List ℕ) (ended : Result Ended SessionFault) (new : Seen) : Type 0 where
+pub record RanVisit {C G : Type 0} (gives : C → ℕ → Type 0) (answers : G → ℕ → Bool → Type 0) (policy : Policy) (delivery : Delivery) (clock : C) (gate : G) (Over : Type 0) (old : Seen) (came sent : List ℕ) (ended : Result Ended SessionFault) (new : Seen) : Type 0 where
   pub from : SharedState C G
   pub begun : IsDeskOf clock gate old from
   pub to : SharedState C G
-  pub ran : RanDelivered (λ desk moment. gives desk.clock moment) SetsShared (SharedSteps gives stops) policy delivery Over from came sent ended to
+  pub ran : RanDelivered (λ desk moment. gives desk.clock moment) SetsShared (SharedSteps gives answers) policy delivery Over from came sent ended to
   pub seen : to.pass ≡ new
 
-module _ {I O G C : Type 0} (lets_in : Visit I O G → Type 0) (turns_away : Type 0) (remaining : I → Option (List ℕ)) (contents : O → Option (List ℕ)) (gives : C → ℕ → Type 0) (stops : G → ℕ → Type 0) (policy : Policy) (delivery : Delivery) (clock : C) where
+module _ {I O G C : Type 0} (lets_in : Visit I O G → Type 0) (turns_away : Type 0) (remaining : I → Option (List ℕ)) (contents : O → Option (List ℕ)) (gives : C → ℕ → Type 0) (answers : G → ℕ → Bool → Type 0) (policy : Policy) (delivery : Delivery) (clock : C) where
   -- A visitor was let in, and the session of this visit was run: what came was read from its reader, what was sent
   -- went to its writer, and its gate could end the waits.
   pub record IsVisit (old : Seen) (served : Served) (new : Seen) : Type 0 where
@@ -73,7 +71,7 @@ module _ {I O G C : Type 0} (lets_in : Visit I O G → Type 0) (turns_away : Typ
     pub writer_left : O
     pub consumed : Consumes (remaining visit.reader) (remaining reader_left) served.came
     pub appended : Appends (contents visit.writer) (contents writer_left) served.sent
-    pub ran : RanVisit gives stops policy delivery clock visit.gate (IsAtEnd (remaining reader_left)) old served.came served.sent served.ended new
+    pub ran : RanVisit gives answers policy delivery clock visit.gate (IsAtEnd (remaining reader_left)) old served.came served.sent served.ended new
 
   -- The pass served those who were let in, one after the other, and did nothing else.
   abbrev pub AreVisits : Seen → List (Option Served) → Seen → Type 0

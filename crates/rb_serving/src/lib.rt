@@ -5,6 +5,7 @@
 #![tactic(auto)]
 
 mod door;
+mod laws;
 mod serve_clock;
 mod serve_end;
 mod serve_report;
@@ -18,6 +19,7 @@ mod worker;
 mod workers;
 
 pub use door::{Door, DoorFault};
+pub use laws::pause_has_its_value;
 pub use serve_clock::ServeClock;
 pub use serve_end::end_server;
 pub use serve_report::ServeReport;

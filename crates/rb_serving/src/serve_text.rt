@@ -3,7 +3,7 @@ ghost use Rattle.rb_serving.specs.ServeText.{Prints, listening_text, report_text
 
 use crate::serve_report::ServeReport;
 use rb_ending::{BrokerFault, audit_line};
-use rb_session::send_at_once;
+use rb_protocol::send_at_once;
 use rb_timer::Timer;
 use std::alloc::{AllocError, Global};
 use std::io::Write;

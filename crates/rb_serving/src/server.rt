@@ -48,7 +48,7 @@ pub fn serve_door<
     opening: Opening,
 ) -> Result<ServeReport<T>, BrokerFault>
     ensures served { IfOk result (λ report. IsServersRun
-        (D.lets_in door.now) (D.turns_away door.now) D.Reader.remaining D.Writer.contents C.gives D.Gate.stops
+        (D.lets_in door.now) (D.turns_away door.now) D.Reader.remaining D.Writer.contents C.gives D.Gate.answers
         options.now.policy AtOnce clock.now opening options.now.calls options.now.workers report.kept report.audit
         (record { sessions = report.sessions; faults = report.faults; lost = report.lost })) }
     ensures fault { IfErr result EndsServing }
@@ -75,7 +75,7 @@ pub fn serve_door_gathered<
     opening: Opening,
 ) -> Result<ServeReport<T>, BrokerFault>
     ensures served { IfOk result (λ report. IsServersRun
-        (D.lets_in door.now) (D.turns_away door.now) D.Reader.remaining D.Writer.contents C.gives D.Gate.stops
+        (D.lets_in door.now) (D.turns_away door.now) D.Reader.remaining D.Writer.contents C.gives D.Gate.answers
         options.now.policy (Gathered BeforeReadsAndWaits) clock.now opening options.now.calls options.now.workers report.kept report.audit
         (record { sessions = report.sessions; faults = report.faults; lost = report.lost })) }
     ensures fault { IfErr result EndsServing }
@@ -100,7 +100,7 @@ fn serve_delivering<
     opening: Opening,
 ) -> Result<ServeReport<T>, BrokerFault>
     ensures served { IfOk result (λ report. IsServersRun
-        (D.lets_in door.now) (D.turns_away door.now) D.Reader.remaining D.Writer.contents C.gives D.Gate.stops
+        (D.lets_in door.now) (D.turns_away door.now) D.Reader.remaining D.Writer.contents C.gives D.Gate.answers
         options.now.policy delivery clock.now opening options.now.calls options.now.workers report.kept report.audit
         (record { sessions = report.sessions; faults = report.faults; lost = report.lost })) }
     ensures fault { IfErr result EndsServing }

@@ -19,7 +19,7 @@ use std::time;
 
 /// Serves one visit after the other, until the door has no more.
 ///
-/// The pass makes all their calls and no others, and what was folded into it stays. It waits for
+/// The pass makes all their calls and no others, and folded passes are kept. It waits for
 /// visits, and while another pass calls.
 pub(crate) fn work<T: Timer, D: Door, C: Clock, R: Wait + time::Clock>(
     rt: &R,
@@ -30,7 +30,7 @@ pub(crate) fn work<T: Timer, D: Door, C: Clock, R: Wait + time::Clock>(
     ensures worked { IsWorked pass result.0 }
     ensures visits { WorksOff
         (D.lets_in service.now.door.now) (D.turns_away service.now.door.now) D.Reader.remaining D.Writer.contents
-        C.gives D.Gate.stops service.now.policy.now service.now.delivery service.now.clock.now pass result.0 result.1 }
+        C.gives D.Gate.answers service.now.policy.now service.now.delivery service.now.clock.now pass result.0 result.1 }
 {
     let mut counts = VisitCounts::none();
     for _ in rt.forever() {
@@ -66,7 +66,7 @@ fn serve_visit<
     requires pass { pass.old.table ≡ service.now.shared.now }
     ensures worked { IsWorked pass.old pass.new }
     ensures ran { Exchanges (I.remaining visit.reader) (I.remaining result.1) (O.contents visit.writer) (O.contents result.2) (λ came sent.
-        RanVisit C.gives G.stops service.now.policy.now service.now.delivery service.now.clock.now visit.gate
+        RanVisit C.gives G.answers service.now.policy.now service.now.delivery service.now.clock.now visit.gate
         (IsAtEnd (I.remaining result.1)) pass.old came sent result.0 pass.new) }
 {
     let Visit {

@@ -22,7 +22,7 @@ struct OfService<'a, T: Timer, D: Door, C: Clock>(&'a Service<'a, T, D, C>);
 impl<'a, T: Timer, D: Door, C: Clock> Promise<(Pass<T>, VisitCounts)> for OfService<'a, T, D, C> {
     ghost kept_by = { λ promise worked. (worked.0.table ≡ promise.0.now.shared.now)
         × IsDone (D.lets_in promise.0.now.door.now) (D.turns_away promise.0.now.door.now) D.Reader.remaining D.Writer.contents
-        C.gives D.Gate.stops promise.0.now.policy.now promise.0.now.delivery promise.0.now.clock.now worked.0 worked.1 };
+        C.gives D.Gate.answers promise.0.now.policy.now promise.0.now.delivery promise.0.now.clock.now worked.0 worked.1 };
 }
 
 /// Runs this many workers at once, and folds the pass of each into this one.
@@ -43,7 +43,7 @@ pub(crate) fn serve_all<
     requires pass { pass.table ≡ service.now.shared.now }
     ensures folds { IfOk result (λ served. FoldsWorkers
         (D.lets_in service.now.door.now) (D.turns_away service.now.door.now) D.Reader.remaining D.Writer.contents
-        C.gives D.Gate.stops service.now.policy.now service.now.delivery service.now.clock.now count pass served.0 served.1) }
+        C.gives D.Gate.answers service.now.policy.now service.now.delivery service.now.clock.now count pass served.0 served.1) }
     ensures fault { IfErr result (λ fault. fault ≡ Worker) }
 {
     thread::scope(
@@ -53,7 +53,7 @@ pub(crate) fn serve_all<
             requires { pass.table ≡ service.now.shared.now }
             ensures { IfOk result (λ served. FoldsWorkers
                 (D.lets_in service.entry.now.door.now) (D.turns_away service.entry.now.door.now) D.Reader.remaining D.Writer.contents
-                C.gives D.Gate.stops service.entry.now.policy.now service.entry.now.delivery service.entry.now.clock.now
+                C.gives D.Gate.answers service.entry.now.policy.now service.entry.now.delivery service.entry.now.clock.now
                 count pass served.0 served.1) × IfErr result (λ fault. fault ≡ Worker) }
         { start_all(rt, scope, service, pass, count) },
     )
@@ -78,7 +78,7 @@ fn start_all<
     requires pass { pass.table ≡ service.now.shared.now }
     ensures folds { IfOk result (λ served. FoldsWorkers
         (D.lets_in service.now.door.now) (D.turns_away service.now.door.now) D.Reader.remaining D.Writer.contents
-        C.gives D.Gate.stops service.now.policy.now service.now.delivery service.now.clock.now count pass served.0 served.1) }
+        C.gives D.Gate.answers service.now.policy.now service.now.delivery service.now.clock.now count pass served.0 served.1) }
     ensures fault { IfErr result (λ fault. fault ≡ Worker) }
 {
     if count == 0 {
@@ -121,7 +121,7 @@ fn start<
             requires { (pass.table ≡ service.now.shared.now) × (pass.folded ≡ []) × (pass.mine ≡ []) }
             ensures { (result.0.table ≡ service.entry.now.shared.now)
                 × IsDone (D.lets_in service.entry.now.door.now) (D.turns_away service.entry.now.door.now) D.Reader.remaining D.Writer.contents
-                C.gives D.Gate.stops service.entry.now.policy.now service.entry.now.delivery service.entry.now.clock.now
+                C.gives D.Gate.answers service.entry.now.policy.now service.entry.now.delivery service.entry.now.clock.now
                 result.0 result.1 }
         { work(rt, service, pass) },
     ) {

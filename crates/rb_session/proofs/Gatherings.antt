@@ -8,7 +8,8 @@ use Rattle.rb_queue.specs.declared.reply.Reply.{Reply}
 use Rattle.rb_retry.specs.declared.desk_fault.DeskFault.{DeskFault}
 use Rattle.rb_retry.specs.declared.policy.Policy.{Policy}
 use Rattle.rb_session.specs.Turn.{Point, point}
-use Rattle.rb_session.specs.Exchange.{Exchanges, Sends}
+use Rattle.rb_session.specs.Exchange.{Exchanges}
+use Rattle.rb_protocol.specs.Sending.{Sends}
 use Rattle.rb_session.specs.Outlet.{FailsToSend, RanThrough, HandedOn}
 use Rattle.rb_session.specs.declared.ended.Ended.{Ended}
 use Rattle.rb_session.specs.declared.ended.Ended.TheVariants.{Quit, EndOfInput}
@@ -18,6 +19,11 @@ use Rattle.rb_session.specs.declared.session_fault.SessionFault.{SessionFault}
 use Rattle.rb_session.specs.declared.session_fault.SessionFault.TheVariants.{Memory, Read, Write, ReadTurns}
 use Rattle.rb_session.specs.Growth.{KeepsFront}
 use Rattle.rb_session.specs.Gathered.{LosesReplies, RanGathered}
+
+-- what was sent is behind what there was
+pub sends_grow : {T : Type 0} (result : Result T WriteFault) (old new : Option (List ℕ)) (text : List ℕ) → Sends result old text new → KeepsFront old new
+sends_grow (Ok done) old new text all = (text, all)
+sends_grow (Err fault) old new text (sent, unsent, parts, some) = (sent, some)
 
 -- what is sent past an empty gathering goes behind what was sent before
 passed : (old mid new : Option (List ℕ)) (before gathered bytes : List ℕ) → Keeps (append_known old before) (append_known mid gathered) → gathered ≡ [] → Appends mid new bytes

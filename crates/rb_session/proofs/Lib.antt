@@ -1,6 +1,5 @@
 -- The lemmas of this crate, by subject: how lines are read and served, how replies are sent, and devices that tell
 -- their bytes.
-pub mod Sending
 pub mod LongerExchanges
 pub mod Buffers
 pub mod LineFeeds

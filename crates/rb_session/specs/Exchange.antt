@@ -1,7 +1,6 @@
 -- What came from a reader, and what a writer was sent.
-use Rattle.std.specs.Prelude.{◌≡◌, ℕ, List, ◌++◌, Option, Some, Result, Ok, Err}
+use Rattle.std.specs.Prelude.{◌≡◌, ℕ, List, ◌++◌, Option, Some}
 use Rattle.std.specs.Io.KnownBytes.{Appends, Consumes, IsAtEnd}
-use Rattle.rb_protocol.specs.declared.writing.WriteFault.{WriteFault}
 
 -- These bytes came and these were sent, and of the two this holds. A device that tells its bytes had what
 -- came at its front, or has what was sent at its end. From what the reader had left to what it has left, and
@@ -12,11 +11,6 @@ pub record Exchanges (left left' got got' : Option (List ℕ)) (Holds : List ℕ
   pub consumed : Consumes left left' came
   pub appended : Appends got got' sent
   pub holds : Holds came sent
-
--- a text was sent whole, or its first part
-abbrev pub Sends : {T : Type 0} → Result T WriteFault → Option (List ℕ) → List ℕ → Option (List ℕ) → Type 0
-Sends (Ok _) got text got' = Appends got got' text
-Sends (Err fault) got text got' = (sent : List ℕ) × (unsent : List ℕ) × (text ≡ sent ++ unsent) × Appends got got' sent
 
 -- the law of readers that tell their bytes: these were what came, and then what is left
 abbrev pub CameFirst : Type 0

@@ -2,8 +2,7 @@ ghost use Rattle.std.specs.Prelude.{◌≡◌};
 ghost use Rattle.std.proofs.Common.{refl, ◌∙◌};
 
 use crate::outlet::Outlet;
-use crate::send::{flush, send_line};
-use rb_protocol::WriteFault;
+use rb_protocol::{WriteFault, flush, send_line};
 use std::io::Write;
 
 /// An outlet that holds nothing back: it passes each line to the writer at once.

@@ -7,8 +7,7 @@ ghost use Rattle.rb_session.specs.declared.hands_on.HandsOn.TheVariants.{BeforeR
 
 use crate::hands_on::HandsOn;
 use crate::outlet::Outlet;
-use crate::send::{flush, send_at_once};
-use rb_protocol::{WriteFault, write_out};
+use rb_protocol::{WriteFault, flush, send_at_once, write_out};
 use std::io::Write;
 
 /// The greatest number of bytes that are gathered.

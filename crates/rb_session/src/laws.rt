@@ -1,5 +1,8 @@
+ghost use Rattle.std.specs.Prelude.{◌≡◌};
 ghost use Rattle.rb_session.specs.Exchange.{CameFirst, SentLast};
 ghost use Rattle.rb_session.specs.Events.{MakesByLines, MakesByClosing, RecordsByLines, RecordsByClosing};
+ghost use Rattle.rb_session.specs.declared.gathering.TheConstants.{GATHERED_BYTES};
+ghost use Rattle.rb_session.specs.declared.held_jobs.TheConstants.{MOST_HELD};
 
 use rb_retry::{Desk, KeptDesk};
 use rb_timer::Timer;
@@ -29,4 +32,11 @@ pub fn history_of_session<'a, T: Timer + 'a>()
         ⟦<KeptDesk<'a, T> as Desk>⟧.gives ⟦<KeptDesk<'a, T> as Desk>⟧.Sets ⟦<KeptDesk<'a, T> as Desk>⟧.Steps }
     ensures closing { RecordsByClosing
         ⟦<KeptDesk<'a, T> as Desk>⟧.gives ⟦<KeptDesk<'a, T> as Desk>⟧.Sets ⟦<KeptDesk<'a, T> as Desk>⟧.Steps }
+{}
+
+/// A session holds at most so many jobs, and gathers at most so many bytes of replies. Every other clause names the
+/// constants.
+pub fn session_limits_have_their_values()
+    ensures held { MOST_HELD ≡ 64 }
+    ensures gathered { GATHERED_BYTES ≡ 65536 }
 {}

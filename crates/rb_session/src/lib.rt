@@ -17,13 +17,11 @@ mod gathering;
 mod hands_on;
 mod held_jobs;
 mod laws;
-mod limited_reader;
 mod line_buffer;
 mod outlet;
 mod replies;
 mod reply_text;
 mod run;
-mod send;
 mod session;
 mod session_fault;
 mod stop;
@@ -34,8 +32,9 @@ pub use ended::Ended;
 pub use gathered::run_gathered;
 pub use hands_on::HandsOn;
 pub use held_jobs::MOST_HELD;
-pub use laws::{came_first, events_of_session, history_of_session, sent_last};
+pub use laws::{
+    came_first, events_of_session, history_of_session, sent_last, session_limits_have_their_values,
+};
 pub use outlet::Outlet;
 pub use run::{run_session, run_session_through};
-pub use send::{flush, send_at_once, send_line};
 pub use session_fault::SessionFault;

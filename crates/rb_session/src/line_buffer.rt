@@ -4,10 +4,11 @@ ghost use Rattle.rb_protocol.specs.Reading.{IsReading};
 ghost use Rattle.rb_protocol.specs.declared.limits.TheConstants.{BUFFER_BYTES};
 ghost use Rattle.rb_session.specs.declared.line_buffer.TheConstants.{MOST_RAW_BYTES};
 
-use crate::limited_reader::LimitedReader;
 use crate::outlet::Outlet;
 use memchr::memchr;
-use rb_protocol::{BUFFER_BYTES, LINE_FEED, LineFault, MOST_LINE_BYTES, Request, read_request};
+use rb_protocol::{
+    BUFFER_BYTES, LINE_FEED, LimitedReader, LineFault, MOST_LINE_BYTES, Request, read_request,
+};
 use std::alloc::{AllocError, Global};
 use std::io;
 use std::io::Read;
@@ -67,12 +68,14 @@ impl LineBuffer {
 
     /// Reads once, and appends what comes to the bytes that are held. Returns how many bytes came:
     /// 0 at the end of the input.
+    ///
+    /// Nothing may be held back then, so that no client waits for a reply that it has not got.
     pub fn read_from<R: Read, O: Outlet>(
         &mut self,
         reader: &mut LimitedReader<'_, R>,
-        outlet: &O,
+        _outlet: &O,
     ) -> io::Result<usize>
-        requires clear { O.IsClear outlet.now }
+        requires clear { O.IsClear _outlet.now }
         requires some_left { 0 < reader.old.left }
         ensures taken { (bytes : List ℕ) → IsUnserved self.old bytes → HasNoLineFeed bytes
             → TakesMore bytes (R.remaining reader.old.inner.now) result self.new (R.remaining reader.new.inner.now) }
@@ -81,7 +84,7 @@ impl LineBuffer {
     {
         self.make_room();
         let end = self.end;
-        match reader.read(outlet, &mut self.bytes[end..]) {
+        match reader.read(&mut self.bytes[end..]) {
             Ok(count) => {
                 self.end += count;
                 Ok(count)

@@ -1,6 +1,6 @@
 ghost use Rattle.std.specs.Prelude.{ℕ, List, Option, OnOk, OnErr};
 ghost use Rattle.std.specs.Io.KnownBytes.{Keeps};
-ghost use Rattle.rb_session.specs.Exchange.{Sends};
+ghost use Rattle.rb_protocol.specs.Sending.{Sends};
 
 use rb_protocol::WriteFault;
 

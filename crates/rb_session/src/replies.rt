@@ -2,7 +2,7 @@ ghost use Rattle.std.specs.Prelude.{map};
 ghost use Rattle.rb_protocol.specs.ReplyText.{text_of};
 ghost use Rattle.rb_protocol.specs.declared.line_reply.LineReply.TheVariants as lines;
 ghost use Rattle.rb_session.specs.Session.{texts_of};
-ghost use Rattle.rb_session.specs.Exchange.{Sends};
+ghost use Rattle.rb_protocol.specs.Sending.{Sends};
 ghost use Rattle.rb_session.specs.Progress.{replies_of};
 
 use crate::held_jobs::HeldJobs;

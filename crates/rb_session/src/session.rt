@@ -8,13 +8,12 @@ ghost use Rattle.rb_session.specs.Progress.{ServesLines, AnswersEnd, Stops, IsCl
 
 use crate::answer::answer;
 use crate::held_jobs::HeldJobs;
-use crate::limited_reader::LimitedReader;
 use crate::line_buffer::LineBuffer;
 use crate::outlet::Outlet;
 use crate::replies::send_replies;
 use crate::reply_text::ReplyText;
 use crate::stop::Stop;
-use rb_protocol::{ErrorWord, LineFault, LineReply, Request, WriteFault};
+use rb_protocol::{ErrorWord, LimitedReader, LineFault, LineReply, Request, WriteFault};
 use rb_retry::{Desk, Policy};
 use std::alloc::{AllocError, Global};
 use std::io::{ErrorKind, Read};

@@ -1,5 +1,5 @@
 -- How a call that does not wait for an element ends, and how many a desk over a shared queue has made.
-use Rattle.std.proofs.Common.{◌≢◌, ℕ, ◌≤◌, ◌==◌, [], refl, arith, length, length-drop, drop, Ok, Err}
+use Rattle.std.proofs.Common.{◌≢◌, ℕ, ◌≤◌, ◌==◌, Bool, [], refl, arith, length, length-drop, drop, Ok, Err}
 use Rattle.std.proofs.lemmas.List.Sums.{length-filter, count_by-le-length}
 use Rattle.rb_queue.specs.declared.ask.Ask.{Ask}
 use Rattle.rb_queue.specs.declared.ask.Ask.TheVariants.{Take, PollFor}
@@ -37,13 +37,13 @@ at_once gives Take handed no_take no_poll = absurd (no_take refl)
 at_once gives (PollFor start timeout) handed no_take no_poll = absurd (no_poll start timeout refl)
 at_once gives _ handed no_take no_poll = refl
 
-module _ (gives stops : ℕ → Type 0) (old new : Seen) (handed : ℕ) (ask : Ask) where
+module _ (gives : ℕ → Type 0) (answers : ℕ → Bool → Type 0) (old new : Seen) (handed : ℕ) (ask : Ask) where
   -- a refusal changes nothing
-  pub ends_refused : (fault : CallFault) → Answered old new (try_of old handed ask) (Err fault) → Ends gives stops old new handed ask (Err (fault_of fault))
+  pub ends_refused : (fault : CallFault) → Answered old new (try_of old handed ask) (Err fault) → Ends gives answers old new handed ask (Err (fault_of fault))
   ends_refused Full (same, full) = record { full = full; mine = same }
   ends_refused Memory (same, room, takes) = (same, room, takes)
 
   -- a reply is that of one call more
   pub ends_replied : (reply : Reply) → ask ≢ Take → ((start timeout : ℕ) → ask ≢ PollFor start timeout)
-      → Answered old new (try_of old handed ask) (Ok (Done reply)) → Ends gives stops old new handed ask (Ok reply)
+      → Answered old new (try_of old handed ask) (Ok (Done reply)) → Ends gives answers old new handed ask (Ok reply)
   ends_replied reply no_take no_poll replied = (handed, at_once gives ask handed no_take no_poll, replied)

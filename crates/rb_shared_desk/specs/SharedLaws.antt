@@ -13,6 +13,7 @@ use Rattle.rb_queue.specs.declared.reply.Reply.{Reply}
 use Rattle.rb_lock.specs.Passes.{Seen, IsSoundPass, Learns, log_at}
 use Rattle.rb_lock.specs.SharedCalls.{Replied}
 use Rattle.rb_blocking.specs.WaitingCalls.{try_of}
+use Rattle.rb_blocking.specs.WaitLaws.{stopped_unmade}
 use Rattle.rb_retry.specs.Made.{Made, made_after, made_by}
 use Rattle.rb_retry.specs.Asked.{MayGet, IsMomentOf, Makes}
 use Rattle.rb_retry.specs.RecordLaws.{recorded_reply, may_wait, made_after-more}
@@ -102,18 +103,18 @@ module _ (old new : Seen) (sound : IsSoundPass old) (learns : Learns old new) wh
       ∙ ap (λ (mades : List Made). mades ++ record { event = event; reply = reply_of old.opening (before ++ event ∷ []) } ∷ []) same
       ∙ ap (λ (reply : Option Reply). mine ++ record { event = event; reply = reply } ∷ []) replied.records.reply
 
-module _ {C G : Type 0} (gives : C → ℕ → Type 0) (stops : G → ℕ → Type 0) (old new : SharedState C G) (handed : ℕ) (ask : Ask) where
+module _ {C G : Type 0} (gives : C → ℕ → Type 0) (answers : G → ℕ → Bool → Type 0) (old new : SharedState C G) (handed : ℕ) (ask : Ask) where
   -- what was made through the desk is what its pass has made since
-  through : (result : Result Reply DeskFault) → SharedSteps gives stops old handed ask result new → (mades : List Made)
+  through : (result : Result Reply DeskFault) → SharedSteps gives answers old handed ask result new → (mades : List Made)
       → made_by new.pass.name new.pass.opening new.pass.seen ≡ mades → made_through new ≡ drop old.before mades
   through result steps mades is = ap made_through steps.stays ∙ ap (drop old.before) is
 
   -- if the pass made no more calls, neither did the desk
-  none_more : (result : Result Reply DeskFault) → SharedSteps gives stops old handed ask result new → new.pass.mine ≡ old.pass.mine → made_through new ≡ made_through old
+  none_more : (result : Result Reply DeskFault) → SharedSteps gives answers old handed ask result new → new.pass.mine ≡ old.pass.mine → made_through new ≡ made_through old
   none_more result steps same =
       through result steps (made_by old.pass.name old.pass.opening old.pass.seen) (own_stays old.pass new.pass steps.sound steps.learns same)
 
-  pub shared_makes : (answer : Reply) → SharedSteps gives stops old handed ask (Ok answer) new → Makes (gives old.clock) handed ask answer (made_through old) (made_through new)
+  pub shared_makes : (answer : Reply) → SharedSteps gives answers old handed ask (Ok answer) new → Makes (gives old.clock) handed ask answer (made_through old) (made_through new)
   shared_makes answer steps =
       let asked : ℕ = steps.ends.0 in
       let replied : Replied old.pass new.pass (try_of old.pass asked ask) answer = steps.ends.2 in
@@ -129,10 +130,13 @@ module _ {C G : Type 0} (gives : C → ℕ → Type 0) (stops : G → ℕ → Ty
         answered = recorded_reply (log_at old.pass replied.before) (try_of old.pass asked ask) answer replied.event replied.records;
       }
 
-  pub shared_refuses : (fault : DeskFault) → SharedSteps gives stops old handed ask (Err fault) new → MayGet ask fault × (made_through new ≡ made_through old)
+  pub shared_refuses : (fault : DeskFault) → SharedSteps gives answers old handed ask (Err fault) new → MayGet ask fault × (made_through new ≡ made_through old)
   shared_refuses Full steps = (tt, none_more (Err Full) steps steps.ends.mine)
   shared_refuses Memory steps = (steps.ends.2, none_more (Err Memory) steps steps.ends.0)
-  shared_refuses Stopped steps = (may_wait ask _ steps.ends.waits.waits, none_more (Err Stopped) steps steps.ends.mine)
+  shared_refuses Stopped steps = (
+    may_wait ask _ steps.ends.last.waits.waits,
+    none_more (Err Stopped) steps (stopped_unmade (gives old.clock) (answers old.gate) old.pass new.pass ask steps.ends),
+  )
 
 pub shared_stays : {C G : Type 0} (old new : SharedState C G) (moment : ℕ) (result : Option ℕ) → SetsShared old moment result new → made_through new ≡ made_through old
 shared_stays old new moment result sets = ap made_through sets.1

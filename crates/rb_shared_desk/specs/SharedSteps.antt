@@ -1,5 +1,5 @@
 -- What a desk over a shared queue does.
-use Rattle.std.specs.Prelude.{◌≡◌, ◌↔◌, ℕ, ◌≤◌, List, length, drop, Option, None, Result, Ok, Err}
+use Rattle.std.specs.Prelude.{◌≡◌, ◌↔◌, ℕ, ◌≤◌, Bool, List, length, drop, Option, None, Result, Ok, Err}
 use Rattle.atomic_table.specs.Seated.{TableId}
 use Rattle.rb_queue.specs.declared.ask.Ask.{Ask}
 use Rattle.rb_queue.specs.declared.opening.Opening.{Opening}
@@ -43,12 +43,12 @@ fault_of_wait waits.Stopped = Stopped
 
 -- How an ask ended, and what the pass has seen after it. With a reply the pass has made this one call more;
 -- with a fault none, since what it has seen is full, or no memory could be had, or the gate stopped the wait.
-abbrev pub Ends : (ℕ → Type 0) → (ℕ → Type 0) → Seen → Seen → ℕ → Ask → Result Reply DeskFault → Type 0
-Ends gives stops old new handed ask (Ok reply) =
+abbrev pub Ends : (ℕ → Type 0) → (ℕ → Bool → Type 0) → Seen → Seen → ℕ → Ask → Result Reply DeskFault → Type 0
+Ends gives answers old new handed ask (Ok reply) =
     (asked : ℕ) × IsMomentOf gives ask handed asked × Replied old new (try_of old asked ask) reply
-Ends gives stops old new handed ask (Err Full) = EndsFull old new
-Ends gives stops old new handed ask (Err Memory) = (new.mine ≡ old.mine) × HasRoom (log_of new) × TakesMemory ask
-Ends gives stops old new handed ask (Err Stopped) = IsStopped gives stops old new ask
+Ends gives answers old new handed ask (Err Full) = EndsFull old new
+Ends gives answers old new handed ask (Err Memory) = (new.mine ≡ old.mine) × HasRoom (log_of new) × TakesMemory ask
+Ends gives answers old new handed ask (Err Stopped) = IsStopped gives answers old new ask
 
 module _ {C G : Type 0} where
   abbrev pub name_of : SharedState C G → SharedName
@@ -69,13 +69,13 @@ module _ {C G : Type 0} where
   abbrev pub SetsShared : SharedState C G → ℕ → Option ℕ → SharedState C G → Type 0
   SetsShared old moment result new = (result ≡ None) × (new ≡ old)
 
-  module _ (gives : C → ℕ → Type 0) (stops : G → ℕ → Type 0) where
-    -- The ask ended so, and the pass has learned. What the gate stops at is as before, and nothing else has
+  module _ (gives : C → ℕ → Type 0) (answers : G → ℕ → Bool → Type 0) where
+    -- The ask ended so, and the pass has learned. What the gate answers is as before, and nothing else has
     -- changed.
     pub record SharedSteps (old : SharedState C G) (handed : ℕ) (ask : Ask) (result : Result Reply DeskFault) (new : SharedState C G) : Type 0 where
       pub earlier : old.before ≤ length old.pass.mine
       pub sound : IsSoundPass old.pass
       pub learns : Learns old.pass new.pass
-      pub ends : Ends (gives old.clock) (stops old.gate) old.pass new.pass handed ask result
-      pub gate : (turns : ℕ) → stops new.gate turns ↔ stops old.gate turns
+      pub ends : Ends (gives old.clock) (answers old.gate) old.pass new.pass handed ask result
+      pub gate : (turns : ℕ) (goes_on : Bool) → answers new.gate turns goes_on ↔ answers old.gate turns goes_on
       pub stays : new ≡ record old { pass = new.pass; gate = new.gate }

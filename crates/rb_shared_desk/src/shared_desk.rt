@@ -104,7 +104,7 @@ impl<'a, T: Timer, C: Clock, G: Gate, R: Wait + time::Clock> Desk for SharedDesk
 
     ghost Sets = { SetsShared };
 
-    ghost Steps = { SharedSteps C.gives G.stops };
+    ghost Steps = { SharedSteps C.gives G.answers };
 
     fn now(&self) -> u64 {
         self.clock.now()
@@ -148,9 +148,9 @@ impl<'a, T: Timer, C: Clock, G: Gate, R: Wait + time::Clock> Desk for SharedDesk
         }
     }
 
-    ghost makes = { shared_makes C.gives G.stops };
+    ghost makes = { shared_makes C.gives G.answers };
 
-    ghost refuses = { shared_refuses C.gives G.stops };
+    ghost refuses = { shared_refuses C.gives G.answers };
 
     ghost stays = { shared_stays };
 }

@@ -101,7 +101,7 @@ pub struct TellingGate<'a> {
 }
 
 impl<'a> Gate for TellingGate<'a> {
-    ghost stops = { λ _ _. Unit {0} };
+    ghost answers = { λ _ _ _. Unit {0} };
 
     fn turn(&mut self, turns: u64) -> bool {
         if turns == 0 {

@@ -74,7 +74,7 @@ impl CountingGate {
 }
 
 impl Gate for CountingGate {
-    ghost stops = { λ gate turns. gate.gate.limit ≤ turns };
+    ghost answers = { λ gate turns goes_on. (goes_on ≡ true) ↔ (turns < gate.gate.limit) };
 
     fn turn(&mut self, turns: u64) -> bool {
         self.asked = self.asked.saturating_add(1);

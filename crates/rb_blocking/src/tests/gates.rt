@@ -27,7 +27,7 @@ struct RingingGate<'a, R> {
 }
 
 impl<'a, R: Wait> Gate for RingingGate<'a, R> {
-    ghost stops = { λ _ _. Unit {0} };
+    ghost answers = { λ _ _ _. Unit {0} };
 
     fn turn(&mut self, turns: u64) -> bool {
         if turns != self.next {

@@ -50,7 +50,7 @@ struct CrowdGate<'a> {
 }
 
 impl<'a> Gate for CrowdGate<'a> {
-    ghost stops = { λ _ _. Unit {0} };
+    ghost answers = { λ _ _ _. Unit {0} };
 
     fn turn(&mut self, _turns: u64) -> bool {
         self.counts.turns.fetch_add(1, Ordering::SeqCst);

@@ -25,7 +25,7 @@ struct LosersGate<'a> {
 }
 
 impl<'a> Gate for LosersGate<'a> {
-    ghost stops = { λ _ _. Unit {0} };
+    ghost answers = { λ _ _ _. Unit {0} };
 
     fn turn(&mut self, turns: u64) -> bool {
         if turns == 0 {

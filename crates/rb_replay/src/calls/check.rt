@@ -5,7 +5,7 @@ ghost use Rattle.rb_replay.specs.Checking.{Checks};
 
 use crate::replay::replay;
 use crate::replay_fault::ReplayFault;
-use crate::write::MOST_EVENTS;
+use rb_history::MOST_EVENTS;
 use rb_queue::{Audit, Event, Opening};
 use std::alloc::Global;
 

@@ -1,10 +1,10 @@
 ghost use Rattle.std.specs.Prelude.{◌≡◌};
 ghost use Rattle.rb_replay.specs.Opens.{Opens, opening_fault};
 
-use crate::history::History;
 use crate::opening_fault::OpeningFault;
 use crate::replay::replay;
 use crate::replay_fault::ReplayFault;
+use rb_history::History;
 use rb_queue::Opening;
 use std::alloc::Global;
 

@@ -28,7 +28,7 @@ struct CountingGate {
 }
 
 impl Gate for CountingGate {
-    ghost stops = { λ gate turns. Unit {0} };
+    ghost answers = { λ gate turns goes_on. Unit {0} };
 
     fn turn(&mut self, _turns: u64) -> bool {
         self.asked = self.asked.saturating_add(1);

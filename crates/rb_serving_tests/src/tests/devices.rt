@@ -45,7 +45,7 @@ pub struct NotedGate<'a> {
 impl<'a> Gate for NotedGate<'a> {
     ghost use Rattle.rb_serving_tests.specs.declared.tests.devices.TheConstants.{MOST_TURNS};
 
-    ghost stops = { λ gate turns. MOST_TURNS ≤ turns };
+    ghost answers = { λ gate turns goes_on. (goes_on ≡ true) ↔ (turns < MOST_TURNS) };
 
     fn turn(&mut self, turns: u64) -> bool {
         let _ = self.turns.fetch_add(1, Ordering::SeqCst);

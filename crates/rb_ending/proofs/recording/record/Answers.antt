@@ -1,9 +1,9 @@
 -- The device got what writing the history gave it: the text of the kept queue's opening and history.
 use Rattle.std.proofs.Common.{◌≡◌, List, ℕ, Option, Some, Result, sym, subst}
 use Rattle.rb_kept.specs.Log.{Log}
-use Rattle.rb_replay.specs.HistoryText.{history_text}
-use Rattle.rb_replay.specs.Written.{Writes}
-use Rattle.rb_replay.specs.declared.history_fault.HistoryFault.{HistoryFault}
+use Rattle.rb_history.specs.HistoryText.{history_text}
+use Rattle.rb_history.specs.Written.{Writes}
+use Rattle.rb_history.specs.declared.history_fault.HistoryFault.{HistoryFault}
 use Rattle.rb_ending.specs.Recording.{RecordsRun}
 use Rattle.rb_ending.proofs.recording.record.Goals as goal
 

@@ -1,6 +1,6 @@
 -- A history's text is read as that history, so what is said of its opening is said of the text's.
 use Rattle.std.proofs.Common.{Err, Ok, subst}
-use Rattle.rb_replay.specs.Readings.{IsReadAs}
+use Rattle.rb_history.specs.Readings.{IsReadAs}
 use Rattle.rb_ending.specs.declared.broker_fault.BrokerFault.TheVariants.{BadOpening}
 use Rattle.rb_runs.proofs.Beginnings.{begins_nowhere, goes_on_same, refused, too_large}
 use Rattle.rb_runs.proofs.opening.opening_in.Goals as goal

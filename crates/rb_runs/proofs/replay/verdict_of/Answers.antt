@@ -1,7 +1,7 @@
 -- A verdict on what was read is one on the text, and the text of a history can be read.
 use Rattle.std.proofs.Common.{Err, subst}
 use Rattle.std.proofs.lemmas.Result.{IfOk-weaker}
-use Rattle.rb_replay.specs.Readings.{IsReadAs}
+use Rattle.rb_history.specs.Readings.{IsReadAs}
 use Rattle.rb_runs.proofs.Verdicts.{verdict_of_text, verdict_same}
 use Rattle.rb_runs.proofs.replay.verdict_of.Goals as goal
 

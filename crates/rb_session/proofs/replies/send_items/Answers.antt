@@ -7,7 +7,7 @@ use Rattle.rb_protocol.specs.declared.line_reply.LineReply.TheVariants as lines
 use Rattle.rb_session.specs.Session.{texts_of}
 use Rattle.std.specs.Io.KnownBytes.{Appends}
 use Rattle.std.proofs.KnownBytes.{Appends-trans}
-use Rattle.rb_session.proofs.Sending.{sends_then, sends_part}
+use Rattle.rb_protocol.proofs.Sending.{sends_then, sends_part}
 use Rattle.rb_session.proofs.ReplyTexts.{texts_of-append}
 use Rattle.rb_session.proofs.replies.send_items.Goals as goal
 

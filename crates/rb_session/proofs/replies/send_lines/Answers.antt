@@ -6,9 +6,9 @@ use Rattle.rb_protocol.specs.declared.line_reply.LineReply.{LineReply}
 use Rattle.rb_protocol.specs.declared.line_reply.LineReply.TheVariants as lines
 use Rattle.rb_session.specs.Session.{texts_of}
 use Rattle.std.specs.Io.KnownBytes.{Appends}
-use Rattle.rb_session.specs.Exchange.{Sends}
+use Rattle.rb_protocol.specs.Sending.{Sends}
 use Rattle.rb_session.specs.Progress.{replies_of}
-use Rattle.rb_session.proofs.Sending.{sends_then, sends_part}
+use Rattle.rb_protocol.proofs.Sending.{sends_then, sends_part}
 use Rattle.rb_session.proofs.replies.send_lines.Goals as goal
 
 -- what comes behind the first line of a reply

@@ -1,5 +1,5 @@
 -- All lines were sent, and the flush keeps what was sent, whether it succeeds or not.
-use Rattle.rb_session.proofs.Sending.{sends_all}
+use Rattle.rb_protocol.proofs.Sending.{sends_all}
 use Rattle.rb_session.proofs.replies.send_replies.Goals as goal
 
 pub returns-clause-sent : goal.returns-clause-sent

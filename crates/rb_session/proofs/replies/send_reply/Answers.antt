@@ -1,6 +1,6 @@
 -- The outlet is sent the bytes of the reply's line, and takes all of them or the first few.
 use Rattle.std.proofs.Common.{subst, ◌∙◌}
-use Rattle.rb_session.specs.Exchange.{Sends}
+use Rattle.rb_protocol.specs.Sending.{Sends}
 use Rattle.rb_session.proofs.replies.send_reply.Goals as goal
 
 pub returns-clause-sent : goal.returns-clause-sent

@@ -5,7 +5,7 @@ use Rattle.rb_protocol.specs.ReplyText.{text_of}
 use Rattle.rb_protocol.specs.declared.line_reply.LineReply.TheVariants as lines
 use Rattle.rb_protocol.specs.declared.error_word.ErrorWord.TheVariants as words
 use Rattle.rb_session.specs.Session.{texts_of, rest_text}
-use Rattle.rb_session.proofs.Sending.{sends_failed, sends_done}
+use Rattle.rb_protocol.proofs.Sending.{sends_failed, sends_done}
 use Rattle.rb_session.proofs.session.finish.Goals as goal
 
 -- bytes behind the last line feed get one line

@@ -1,8 +1,8 @@
 -- A line that fits is gathered without new memory; a longer one goes out behind what was gathered.
 use Rattle.std.proofs.Common.{arith}
 use Rattle.rb_session.specs.Growth.{grows_on}
-use Rattle.rb_session.proofs.Sending.{sends_nothing, sends_grow}
-use Rattle.rb_session.proofs.Gatherings.{sends_past}
+use Rattle.rb_protocol.proofs.Sending.{sends_nothing}
+use Rattle.rb_session.proofs.Gatherings.{sends_grow, sends_past}
 use Rattle.rb_session.proofs.gathering.GatheringOutlet.send.Goals as goal
 use Rattle.rb_session.proofs.gathering.GatheringOutlet.send.Goals.{then-line-room+in_ok-empty+else-line-room-2, else-line-room}
 

@@ -4,7 +4,7 @@ use Rattle.std.proofs.KnownBytes.{Appends-nil, Appends-kept}
 use Rattle.rb_session.specs.Buffer.{IsUnserved}
 use Rattle.rb_session.specs.Progress.{replies_of}
 use Rattle.rb_session.specs.Turn.{point}
-use Rattle.rb_session.proofs.Sending.{sends_failed, sends_done}
+use Rattle.rb_protocol.proofs.Sending.{sends_failed, sends_done}
 use Rattle.rb_session.proofs.Turns.{IsNextTurn, stands_first, goes_on, quits, fails}
 use Rattle.rb_session.proofs.Outlets.{failed}
 use Rattle.rb_session.proofs.session.Session.serve_lines.Given.{Over}

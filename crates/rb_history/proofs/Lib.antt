@@ -1,0 +1,20 @@
+-- The lemmas of this crate, by subject: what is written, and what a text is read as.
+pub mod Lines
+pub mod SameElements
+pub mod Spelled
+pub mod Keywords
+pub mod FirstFeeds
+pub mod EventLines
+pub mod Settlings
+pub mod KeepLines
+pub mod Bodies
+pub mod Parts
+pub mod WordTexts
+pub mod EventTexts
+pub mod FirstTexts
+pub mod OneTexts
+pub mod FaultlessTexts
+pub mod EachReadings
+pub mod WholeTexts
+pub mod OneFaults
+pub mod RightValues

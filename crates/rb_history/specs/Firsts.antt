@@ -1,0 +1,23 @@
+-- The expiry of a job's first offer, which the texts of the first two versions do not tell.
+use Rattle.std.specs.Prelude.{◌≡◌, ℕ, ◌==◌, All, List, [], ◌∷◌, ◌++◌, Option, Some, None, if◌then◌else◌}
+use Rattle.rb_delayed.specs.declared.element.Element.{Element}
+use Rattle.rb_queue.specs.declared.event.Event.{Event}
+use Rattle.rb_history.specs.Offers.{offers_in}
+use Rattle.rb_history.specs.declared.version.Version.{Version}
+use Rattle.rb_history.specs.declared.version.Version.TheVariants.{One, Two, Three}
+
+-- the expiry of the earliest of these elements with the origin
+abbrev pub earliest : List Element → ℕ → Option ℕ
+earliest [] origin = None
+earliest (element ∷ elements) origin =
+    if element.origin == origin then Some element.expiry else earliest elements origin
+
+-- each of these elements has as its first expiry that of the earliest with its origin
+abbrev pub HaveEarliest : List Element → Type 0
+HaveEarliest elements = All (λ (element : Element). earliest elements element.origin ≡ Some element.first) elements
+
+-- the first expiries of what was kept and offered are told, or follow from the lines
+abbrev pub FirstsFollow : Version → List Element → List Event → Type 0
+FirstsFollow One kept events = HaveEarliest (kept ++ offers_in events)
+FirstsFollow Two kept events = HaveEarliest (kept ++ offers_in events)
+FirstsFollow Three kept events = Unit {0}

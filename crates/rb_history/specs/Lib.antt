@@ -1,0 +1,15 @@
+pub mod EventText
+pub mod HistoryText
+pub mod Written
+pub mod Tails
+pub mod Ranges
+pub mod LineReading
+pub mod Feeds
+pub mod TextFaults
+pub mod TextReasonText
+pub mod OpeningReading
+pub mod Offers
+pub mod Firsts
+pub mod Readings
+pub mod BodyReading
+pub mod Settling

@@ -1,0 +1,9 @@
+-- What a writer has got of a text that was sent to it.
+use Rattle.std.specs.Prelude.{◌≡◌, ℕ, List, ◌++◌, Option, Result, Ok, Err}
+use Rattle.std.specs.Io.KnownBytes.{Appends}
+use Rattle.rb_protocol.specs.declared.writing.WriteFault.{WriteFault}
+
+-- a text was sent whole, or its first part
+abbrev pub Sends : {T : Type 0} → Result T WriteFault → Option (List ℕ) → List ℕ → Option (List ℕ) → Type 0
+Sends (Ok _) got text got' = Appends got got' text
+Sends (Err fault) got text got' = (sent : List ℕ) × (unsent : List ℕ) × (text ≡ sent ++ unsent) × Appends got got' sent

@@ -1,6 +1,0 @@
--- The law is the lemma of `OneFaults`: a text has its first fault and no other.
-use Rattle.rb_replay.proofs.OneFaults.{one_fault}
-use Rattle.rb_replay.proofs.laws.one_fault.Goals as goal
-
-pub returns : goal.returns
-returns c = one_fault
