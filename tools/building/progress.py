@@ -1,0 +1,64 @@
+"""What a build tells on standard error."""
+from __future__ import annotations
+
+import contextlib
+import re
+import sys
+import time
+
+# What rt says when a proof begins, and when it has to wait for another checkout on this machine.
+BEGINS = re.compile(rb"^rt: chose --jobs \d+ for ", re.MULTILINE)
+WAITS = re.compile(rb"^rt: .*\bwaiting\b.*$", re.MULTILINE)
+
+
+def say(what: str) -> None:
+    """Writes a line to standard error."""
+    show(f"broker: {what}\n".encode(errors="replace"))
+
+
+def show(text: bytes) -> None:
+    """Writes to standard error. A build goes on if nobody reads that, or if there is none."""
+    if sys.stderr is not None:
+        with contextlib.suppress(OSError):
+            sys.stderr.buffer.write(text)
+            sys.stderr.buffer.flush()
+
+
+class Progress:
+    """How far a build is. A crate whose proof was kept is counted and not named, since rt has nothing to do for it."""
+
+    def __init__(self, crates: int) -> None:
+        self._crates = crates
+        self._built = 0
+        self._began = time.monotonic()
+        self._proving: dict[str, float] = {}
+        self._waiting: set[str] = set()
+        self._ended: list[str] = []
+        self._told: tuple[str, ...] = ()
+
+    def seconds(self) -> int:
+        return int(time.monotonic() - self._began)
+
+    def hear(self, crate: str, output: bytes) -> None:
+        """Learns from what rt has written so far whether a crate is being proved, or waits."""
+        waits = WAITS.search(output)
+        if crate not in self._proving and BEGINS.search(output):
+            self._proving[crate] = time.monotonic()
+        elif crate not in self._waiting and waits:
+            self._waiting.add(crate)
+            say(f"{self.seconds()} s: {crate}: {waits[0].decode(errors='replace')}")
+
+    def built(self, crate: str) -> None:
+        self._built += 1
+        if crate in self._proving:
+            self._ended.append(f"{crate} took {time.monotonic() - self._proving.pop(crate):.0f} s")
+
+    def tell(self) -> None:
+        """Says what has changed since it was last told, if something has."""
+        proving = tuple(self._proving)
+        if not self._ended and proving == self._told:
+            return
+        parts = [*self._ended, f"{self._built} of {self._crates} crates built"]
+        parts += [f"proving {', '.join(proving)}"] if proving else []
+        say(f"{self.seconds()} s: {'; '.join(parts)}")
+        self._ended, self._told = [], proving
