@@ -1,13 +1,12 @@
 -- What an option's value says, and which subcommand was met with which values.
-use Rattle.std.proofs.Common.{◌≡◌, ℕ, Option, Some, None, IsSome, codes, refl, sym, ap, ap₂, ◌∙◌}
+use Rattle.std.proofs.Common.{◌≡◌, Option, Some, None, codes, sym, ap, ap₂, ◌∙◌}
 use Rattle.std.specs.Prelude.{option_map}
 use Rattle.std.proofs.lemmas.Option.{none-some, same_Some}
-use Rattle.clap.specs.Words.{Text, rows_of}
+use Rattle.clap.specs.Words.{rows_of}
 use Rattle.clap.specs.declared.parser.matches.Found.{Found}
 use Rattle.clap.proofs.WalkLemmas.{first_value-rows, one_text-rows}
 use Rattle.rb_retry.specs.declared.policy.Policy.{Policy}
 use Rattle.rb_arguments.specs.CommandLine.{FoundChains, GivesChains, number_in, pace_in}
-use Rattle.std.specs.Str.Parse.{digits_value, without_leading_plus}
 
 -- what is met has this name and these rows, so it is the two
 pub name_with_rows : {B N R : Type 0} (pair : B → N × R) (met : Option B) (name : N) (rows : R)

@@ -1,6 +1,6 @@
 -- The index of what came before, after each change.
 use Rattle.std.proofs.Common.{◌≡◌, ℕ, zero, suc, ◌+◌, ◌<◌, ◌≤◌, ◌==◌, ◌&&◌, ◌||◌, List, [], ◌∷◌, ◌++◌, length, take, get_or, set, refl, sym, ap, subst, ◌∙◌, arith, append_assoc, length-append, Bool, true, false, cond, Option, Some, None}
-use Rattle.std.proofs.lemmas.List.{append-nil, length-set, take_more}
+use Rattle.std.proofs.lemmas.List.{length-set, take_more}
 use Rattle.std.proofs.lemmas.Option.{same_Some}
 use Rattle.std.proofs.lemmas.List.Folds.{find-append, list_any-append}
 use Rattle.std.proofs.lemmas.List.Elements.{filter_map-append}
@@ -22,13 +22,11 @@ use Rattle.std.specs.BTreeSet.{BTreeSet}
 use Rattle.rb_delayed.specs.declared.element.Element.{Element}
 use Rattle.rb_queue.specs.Bag.{Bag, bag_from}
 use Rattle.rb_queue.specs.Opening.{AreInOrder}
-use Rattle.rb_queue.specs.Effect.{Effect, inserts, gives, discards, empties, effect_of, inserted, given}
-use Rattle.rb_queue.specs.Replies.{with_inserted}
-use Rattle.rb_queue.specs.declared.act.Act.{Act}
+use Rattle.rb_queue.specs.Effect.{given}
 use Rattle.rb_queue.proofs.Bags.{get_inserted}
 use Rattle.rb_queue.proofs.Queues.{absent_before, bag_from-more, named_at}
 use Rattle.rb_replay.specs.Links.{Past, is_attempt}
-use Rattle.rb_replay.specs.AttemptIndex.{attempt_cmp, attempt_of, offer_at, offer_of, next_id_of, IsPlaceOf, element_of, first_given_in, begun, given_first, Recalls, past_after, Keeps, MarksLater, RecallsOffer, KeepsOpened, KeepsOffer, KeepsGiven}
+use Rattle.rb_replay.specs.AttemptIndex.{attempt_cmp, attempt_of, offer_at, offer_of, next_id_of, IsPlaceOf, element_of, first_given_in, begun, given_first, Recalls, MarksLater, RecallsOffer, KeepsOpened, KeepsOffer, KeepsGiven}
 use Rattle.rb_replay.specs.declared.offered_element.OfferedElement.{OfferedElement}
 use Rattle.rb_replay.specs.declared.attempt.Attempt.{Attempt}
 use Rattle.rb_replay.specs.declared.attempt_index.AttemptIndex.{AttemptIndex}

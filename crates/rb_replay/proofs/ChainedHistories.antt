@@ -1,5 +1,5 @@
 -- A history whose offers are checked one after the other.
-use Rattle.std.proofs.Common.{◌≡◌, ◌≢◌, ℕ, zero, suc, ◌+◌, ◌-◌, ◌<◌, ◌≤◌, ◌⊎◌, inl, inr, List, [], ◌∷◌, ◌++◌, length, take, drop, get_or, refl, sym, ap, subst, ◌∙◌, arith, append_assoc, length-append, Bool, true, false, cond, Option, Some, None, Result, Ok, Err}
+use Rattle.std.proofs.Common.{◌≡◌, ℕ, zero, suc, ◌+◌, ◌-◌, ◌<◌, ◌≤◌, ◌⊎◌, inl, inr, List, [], ◌∷◌, ◌++◌, length, take, drop, get_or, refl, sym, ap, subst, ◌∙◌, arith, append_assoc, length-append, Bool, true, false, cond, Option, Some, None, Result, Ok, Err}
 use Rattle.std.proofs.lemmas.Bool.Decides.{nat_tests}
 use Rattle.std.proofs.lemmas.List.{append-nil, take_more, take_at, take-append-drop, length-take}
 use Rattle.std.proofs.lemmas.Option.{same_Some}
@@ -24,13 +24,13 @@ use Rattle.rb_retry.specs.declared.policy.Policy.{Policy}
 use Rattle.rb_history.specs.Offers.{offers_in}
 use Rattle.rb_replay.specs.GivenElements.{elements_given_from}
 use Rattle.rb_replay.specs.Tests.{Test, NoTest}
-use Rattle.rb_replay.specs.Links.{Past, is_attempt, parent_in, CameBefore, Begins, Follows, GoesOn, IsLinked}
-use Rattle.rb_replay.specs.LinkTests.{FollowTests, ParentTests, BeginTests, GoOnTests, LinkTests}
+use Rattle.rb_replay.specs.Links.{Past, is_attempt, parent_in, CameBefore, Follows, GoesOn, IsLinked}
+use Rattle.rb_replay.specs.LinkTests.{FollowTests, ParentTests, GoOnTests, LinkTests}
 use Rattle.rb_replay.specs.Chaining.{past_of, IsChained, Unchains}
 use Rattle.rb_replay.specs.AttemptIndex.{attempt_of, next_id_of, Recalls, IsNext, Keeps, past_after, EventIsLinked, ChainTests}
 use Rattle.rb_replay.specs.declared.attempt.Attempt.{Attempt}
 use Rattle.rb_replay.specs.declared.chain_reason.ChainReason.{ChainReason}
-use Rattle.rb_replay.specs.declared.chain_reason.ChainReason.TheVariants.{NoParent, Twice}
+use Rattle.rb_replay.specs.declared.chain_reason.ChainReason.TheVariants.{Twice}
 use Rattle.rb_replay.specs.declared.attempt_index.AttemptIndex.{AttemptIndex}
 use Rattle.rb_replay.proofs.AttemptIndexes.{of_attempt}
 

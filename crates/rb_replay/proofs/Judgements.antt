@@ -16,10 +16,10 @@ use Rattle.rb_queue.specs.Calls.{AreHeads, Acts}
 use Rattle.rb_queue.specs.declared.act.Act.TheVariants as acts
 use Rattle.rb_queue.proofs.Options.{at_value, has_and, value_and, of_each}
 use Rattle.rb_replay.specs.declared.reason.Reason.{Reason}
-use Rattle.rb_replay.specs.declared.reason.Reason.TheVariants.{NotNone, NotLeast, NotAll}
+use Rattle.rb_replay.specs.declared.reason.Reason.TheVariants.{NotNone, NotAll}
 use Rattle.rb_replay.specs.declared.judge.JudgeFault.{JudgeFault}
 use Rattle.rb_replay.specs.declared.judge.JudgeFault.TheVariants.{Refused, Memory}
-use Rattle.rb_replay.specs.Refusal.{Test, NoTest, LeastTests, HeadTests, DrainTests}
+use Rattle.rb_replay.specs.Refusal.{Test, NoTest, HeadTests, DrainTests}
 use Rattle.rb_replay.specs.Judging.{Passes, Judges, Gave}
 
 -- an element that expires no later than the least is least

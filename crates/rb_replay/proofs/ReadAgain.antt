@@ -1,5 +1,5 @@
 -- What is written of a run is read again.
-use Rattle.std.proofs.Common.{◌≡◌, ◌≤◌, List, [], ◌∷◌, ◌++◌, length, subst, refl, Result, Ok, Err, IfOk, arith}
+use Rattle.std.proofs.Common.{◌≤◌, List, [], ◌∷◌, ◌++◌, length, subst, refl, Result, Ok, Err, arith}
 use Rattle.rb_queue.specs.History.{State, start_of, state_after, state_from, Allows, AllowsAll, IsLegal}
 use Rattle.rb_queue.specs.declared.audit.Audit.{Audit}
 use Rattle.rb_queue.specs.declared.event.Event.{Event}
@@ -7,13 +7,11 @@ use Rattle.rb_queue.specs.declared.opening.Opening.{Opening}
 use Rattle.rb_kept.specs.declared.kept.TheConstants.{MOST_CALLS}
 use Rattle.rb_replay.specs.Checking.{Checks}
 use Rattle.rb_history.specs.HistoryText.{history_text}
-use Rattle.rb_history.specs.Ranges.{IsRightHistory, IsRightOpening, AreRightEvents}
-use Rattle.rb_history.specs.Readings.{IsTextIn, Reads, IsReadAs}
+use Rattle.rb_history.specs.Ranges.{IsRightOpening, AreRightEvents}
+use Rattle.rb_history.specs.Readings.{IsTextIn}
 use Rattle.rb_replay.specs.WrittenHistories.{IsAudited, IsReadAgain}
-use Rattle.rb_history.specs.declared.history.History.{History}
 use Rattle.rb_replay.specs.declared.replay_fault.ReplayFault.{ReplayFault}
 use Rattle.rb_replay.specs.declared.replay_fault.ReplayFault.TheVariants.{At, Memory}
-use Rattle.rb_history.specs.declared.text_fault.TextFault.{TextFault}
 use Rattle.rb_history.specs.declared.version.Version.TheVariants.{Three}
 use Rattle.rb_history.proofs.EachReadings.{reads_each}
 
