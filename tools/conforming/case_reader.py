@@ -1,4 +1,4 @@
-"""The reading of a case file. crates/rb_cases/src/case_reader.rt describes its contents."""
+"""The reading of a case file. crates/rb_cases/src/case.rt describes its contents."""
 from __future__ import annotations
 
 import os

@@ -134,7 +134,7 @@ class WordsTest(unittest.TestCase):
 
 
 class CaseReaderTest(unittest.TestCase):
-    """The reading of a case file, by the table of crates/rb_cases/src/case_reader.rt."""
+    """The reading of a case file, by the table of crates/rb_cases/src/case.rt."""
 
     def read(self, text: str | bytes):
         """The cases of a file with this text."""
@@ -146,11 +146,11 @@ class CaseReaderTest(unittest.TestCase):
 
     def test_the_texts_of_a_case(self):
         (case,) = self.read(
-            "# remark\ncase a name\nargs --calls 7\n>*3 A \\# \\(# 10)\n>~ B\\(3 xy)\\\\\\r\\n\\x41\n"
+            "# remark\ncase a name\nargs --calls 7\n>*3 A \\# \\(# 10) \\(# *5 %7 +1)\n>~ B\\(3 xy)\\\\\\r\\n\\x41\n"
             "< é\nfrom~\nends quit 2\n"
         )
         self.assertEqual((case.name, case.line, case.words), ("a name", 2, ["--calls", "7"]))
-        self.assertEqual(case.text(">"), b"A 0 10\nA 1 11\nA 2 12\nBxyxyxy\\\r\nA")
+        self.assertEqual(case.text(">"), b"A 0 10 1\nA 1 11 6\nA 2 12 4\nBxyxyxy\\\r\nA")
         self.assertEqual((case.text("<"), case.text("from")), ("é\n".encode(), b""))
         self.assertEqual((case.lost, case.fault, "from" in case.texts, "=" in case.texts), (2, None, True, False))
 
@@ -172,6 +172,9 @@ class CaseReaderTest(unittest.TestCase):
             ("case a\n> \\x4\n", "2: no such escape"),
             ("case a\n>*x A\n", "2: no number"),
             ("case a\n> \\(x a)\n", "2: no number"),
+            ("case a\n> \\(# *x)\n", "2: no number"),
+            ("case a\n> \\(# %0)\n", "2: no number"),
+            ("case a\n>*2 \\(# +18446744073709551615)\n", "2: no number"),
             ("case a\nstatus 256\n", "2: no number"),
             ("case a\nends quit\n", "2: no number"),
             ("case a\nends well\n", "2: no such end"),

@@ -42,8 +42,32 @@ def bytes_of_piece(piece: re.Match[str], index: int) -> bytes:
     if piece["index"]:
         return b"%d" % index
     if piece["times"] == "#":
-        return b"%d" % (index + number_of(piece["unit"]))
+        return b"%d" % counted(index, piece["unit"])
     return number_of(piece["times"]) * piece["unit"].encode()
+
+
+def counted(counter: int, steps: str) -> int:
+    """What a counter comes to by these steps, one after the other: `65` or `+65` adds, `*5` multiplies, and `%7` leaves
+    the remainder."""
+    for step in steps.split():
+        sign, number = (step[0], step[1:]) if step[0] in "*%+" else ("+", step)
+        counter = stepped(counter, sign, number_of(number))
+    return counter
+
+
+def stepped(counter: int, sign: str, number: int) -> int:
+    """What a counter comes to by one step."""
+    if sign == "*":
+        counter *= number
+    elif sign == "+":
+        counter += number
+    elif number > 0:
+        counter %= number
+    else:
+        raise Flaw("no number")
+    if counter >= 1 << 64:
+        raise Flaw("no number")
+    return counter
 
 
 def split_form(word: str) -> tuple[str, int | None]:

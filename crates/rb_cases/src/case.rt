@@ -1,6 +1,41 @@
+//! What a case is, and how it is written.
+//!
+//! A file of cases is read as `reader.rt` says. Each line of a case begins with one word:
+//!
+//! | Line | Meaning |
+//! |---|---|
+//! | `case NAME` | the case's name, as it is printed |
+//! | `args WORDS` | the words after `script` or `replay`, without the timer and the files |
+//! | `from TEXT` | a line of the history that the script's run continues |
+//! | `> TEXT` | a line of the script |
+//! | `< TEXT` | a line of the replies |
+//! | `= TEXT` | a line of the history: the one that a script must write, or that is replayed |
+//! | `ends TEXT` | how a script ends: `quit N` or `input N` if N held jobs are lost, or the fault's text |
+//! | `verdict TEXT` | the line that a replay must print |
+//! | `status N` | the exit status of a replay |
+//! | `timer T` | the script is only run over this timer |
+//! | `reads N` | the script is only read in pieces of this many bytes: `whole`, 1 or 7, and not cut at every place |
+//! | `reader fails N` | a read fails after N bytes of the script |
+//! | `reader interrupted` | every second read is interrupted, beginning with the first |
+//! | `writer fails N` | the writer's call with this number fails; writes and flushes are counted, from 0 |
+//! | `writer takes N` | a write takes at most N bytes |
+//! | `recorder fails N` | the call with this number of the history's device fails |
+//!
+//! `from`, `>`, `<` and `=` are given once for each line of their text. `>~ TEXT` is a line without
+//! its end, and `>*500 TEXT` is 500 lines; the other three work alike. Without a `=` line a
+//! script's run keeps no history, and `=~` alone says that nothing is written to it. Every other
+//! word may be given once. A case with `ends` is a script; a case with `verdict` and `status` is a
+//! replay, and has none of the words of a script.
+//!
+//! A TEXT of these four may have escapes, of which `text.rt` tells. Their counter is the number of the
+//! line among those of a `*`, counted from 0.
+
 use crate::devices::Devices;
+use crate::differences::difference;
+use crate::entry::Entry;
 use crate::flaw::Flaw;
 use crate::form::Form;
+use crate::malformed::{Malformed, at_line};
 use crate::numbers::number;
 use crate::text::Text;
 use std::alloc::{AllocError, Global};
@@ -9,9 +44,8 @@ use std::str::SplitWhitespace;
 /// A run, and how it must come out.
 #[derive(Drop)]
 pub struct Case {
-    /// The number of its first line.
-    pub line: usize,
-    pub name: String,
+    line: usize,
+    name: String,
     pub args: Option<String>,
     pub from: Text,
     pub input: Text,
@@ -23,8 +57,58 @@ pub struct Case {
     pub devices: Devices,
 }
 
+impl Entry for Case {
+    fn first_word() -> &'static str {
+        "case"
+    }
+
+    fn begin(alloc: Global, line: usize, rest: &str) -> Result<Self, Flaw> {
+        if rest.trim().is_empty() {
+            return Err(Flaw::Name);
+        }
+        Ok(Case::new(alloc, line, rest)?)
+    }
+
+    fn take(&mut self, alloc: Global, _number: usize, line: &str) -> Result<(), Flaw> {
+        let (word, text) = line.split_once(' ').unwrap_or((line, ""));
+        match word {
+            "args" => once(&mut self.args, text.to_string(alloc)?),
+            "ends" => once(&mut self.ends, ending(text)?.to_string(alloc)?),
+            "verdict" => once(&mut self.verdict, text.to_string(alloc)?),
+            "status" => once(&mut self.status, status_of(text)?),
+            "timer" | "reads" | "reader" | "writer" | "recorder" => self.devices.take(word, text),
+            _ => self.take_text(word, text),
+        }
+    }
+
+    fn check(&self) -> Result<(), Flaw> {
+        if !self.is_script() && !self.is_replay() {
+            return Err(Flaw::NoOutcome);
+        }
+        if self.is_replay() && (self.is_script() || self.has_script_words()) {
+            return Err(Flaw::Mixed);
+        }
+        if self.verdict.is_some() != self.status.is_some() {
+            return Err(Flaw::Half);
+        }
+        self.devices.check(self.input.bytes.len())
+    }
+
+    fn line(&self) -> usize {
+        self.line
+    }
+
+    fn name(&self) -> &str {
+        &self.name
+    }
+
+    fn difference(&self, alloc: Global) -> Result<Option<String>, Malformed> {
+        at_line(self.line, difference(alloc, self).map_err(Flaw::from))
+    }
+}
+
 impl Case {
-    pub fn new(alloc: Global, line: usize, name: &str) -> Result<Case, AllocError> {
+    fn new(alloc: Global, line: usize, name: &str) -> Result<Case, AllocError> {
         Ok(Case {
             line,
             name: name.to_string(alloc)?,
@@ -40,18 +124,6 @@ impl Case {
         })
     }
 
-    /// Takes a line that begins with this word.
-    pub fn take(&mut self, alloc: Global, word: &str, text: &str) -> Result<(), Flaw> {
-        match word {
-            "args" => once(&mut self.args, text.to_string(alloc)?),
-            "ends" => once(&mut self.ends, ending(text)?.to_string(alloc)?),
-            "verdict" => once(&mut self.verdict, text.to_string(alloc)?),
-            "status" => once(&mut self.status, status_of(text)?),
-            "timer" | "reads" | "reader" | "writer" | "recorder" => self.devices.take(word, text),
-            _ => self.take_text(word, text),
-        }
-    }
-
     // Takes a line of one of the texts.
     fn take_text(&mut self, word: &str, text: &str) -> Result<(), Flaw> {
         let (mark, form) = Form::split(word)?;
@@ -62,20 +134,6 @@ impl Case {
             "=" => self.history.push(form, text),
             _ => Err(Flaw::Word),
         }
-    }
-
-    /// Whether the case has all that it needs, and nothing else.
-    pub fn check(&self) -> Result<(), Flaw> {
-        if !self.is_script() && !self.is_replay() {
-            return Err(Flaw::NoOutcome);
-        }
-        if self.is_replay() && (self.is_script() || self.has_script_words()) {
-            return Err(Flaw::Mixed);
-        }
-        if self.verdict.is_some() != self.status.is_some() {
-            return Err(Flaw::Half);
-        }
-        self.devices.check(self.input.bytes.len())
     }
 
     /// Whether a script is run; otherwise a history is replayed.

@@ -107,7 +107,8 @@ fn set_once<T: Copy>(place: &mut Option<T>, value: T) -> Result<(), Flaw> {
     Ok(())
 }
 
-fn timer_of(name: &str) -> Result<&'static str, Flaw> {
+/// The timer of this name.
+pub fn timer_of(name: &str) -> Result<&'static str, Flaw> {
     for timer in TIMERS {
         if timer == name {
             return Ok(timer);

@@ -1,14 +1,16 @@
-use std::alloc::AllocError;
+use std::alloc::{AllocError, AllocFailed};
 
-/// What is wrong with a line of a case file.
+/// What is wrong with a line of a file of cases or of tables.
 #[derive(Clone, Copy)]
 pub enum Flaw {
     /// The line does not begin with a word of a case.
     Word,
-    /// A line of a case comes before the first `case`, or the file has no case.
-    NoCase,
-    /// The case has no name.
+    /// A line comes before the first `case` or `table`, or the file has none.
+    NoEntry,
+    /// The case or table has no name.
     Name,
+    /// A case or table before has the same name.
+    SameName,
     /// A `\` is followed by something that may not follow it.
     Escape,
     /// There is no number where one is needed.
@@ -25,7 +27,27 @@ pub enum Flaw {
     Mixed,
     /// The reader is to fail past the end of the input.
     BehindInput,
-    /// There is not enough memory for the case.
+    /// There is no kind of tables of this name.
+    Kind,
+    /// The kind has no set-up that begins with this word.
+    SetUp,
+    /// The table has the line for the second time, and it may have it once.
+    Again,
+    /// No history leads to the opening that a table begins with.
+    Opening,
+    /// The table, or a part between `times` and `end`, has no row.
+    NoRow,
+    /// A row has no answer.
+    NoAnswer,
+    /// There is `times` without `end`, `end` without `times`, or one `times` within another.
+    Times,
+    /// The kind has no such command.
+    Command,
+    /// The command needs a queue, or a share, that has not begun.
+    Early,
+    /// A payload is not 1 to 64 visible bytes.
+    Payload,
+    /// There is not enough memory for the case or table.
     Memory,
 }
 
@@ -34,8 +56,9 @@ impl Flaw {
     pub fn as_str(self) -> &'static str {
         match self {
             Flaw::Word => "no word of a case",
-            Flaw::NoCase => "no case has begun",
-            Flaw::Name => "a case without a name",
+            Flaw::NoEntry => "no case or table has begun",
+            Flaw::Name => "a case or table without a name",
+            Flaw::SameName => "a second case or table of this name",
             Flaw::Escape => "no such escape",
             Flaw::Number => "no number",
             Flaw::Device => "no such timer, size of reads or fault",
@@ -44,6 +67,16 @@ impl Flaw {
             Flaw::Half => "a case with one of `verdict` and `status`",
             Flaw::Mixed => "a case with words of a script and of a replay",
             Flaw::BehindInput => "a reader that fails behind the end of the input",
+            Flaw::Kind => "no such kind of table",
+            Flaw::SetUp => "no such set-up",
+            Flaw::Again => "for the second time in this table",
+            Flaw::Opening => "no history to begin with",
+            Flaw::NoRow => "a table, or its part, without a row",
+            Flaw::NoAnswer => "a row without an answer",
+            Flaw::Times => "`times` and `end` do not go together",
+            Flaw::Command => "no such command",
+            Flaw::Early => "no queue or share has begun",
+            Flaw::Payload => "no payload",
             Flaw::Memory => "out of memory",
         }
     }
@@ -51,6 +84,12 @@ impl Flaw {
 
 impl From<AllocError> for Flaw {
     fn from(_: AllocError) -> Flaw {
+        Flaw::Memory
+    }
+}
+
+impl<T: Drop> From<AllocFailed<T>> for Flaw {
+    fn from(_: AllocFailed<T>) -> Flaw {
         Flaw::Memory
     }
 }

@@ -1,36 +1,50 @@
-//! Runs the cases of text files, and prints a line about each.
+//! Runs the cases and tables of text files, and prints a line about each.
 //!
-//! The words of the command line are the files; `case_reader.rt` describes one. A script is run
-//! over each timer, and read whole, byte by byte, seven bytes at a time and, if it has at most
-//! 1,000 bytes, in two parts, cut at every place. The last line has the counts. The exit status is
-//! 0 if every case came out as it must, 1 if one did not, and 2 if a file can't be read or is
-//! malformed; standard error then names the file, the line and the reason.
+//! The words of the command line are the files. One whose name ends in `.rows` has tables, which `table.rt`
+//! describes, and any other has cases, which `case.rt` describes. A script is run over each timer, and read
+//! whole, byte by byte, seven bytes at a time and, if it has at most 1,000 bytes, in two parts, cut at every
+//! place. The last line has the counts. The exit status is 0 if every case and table came out as it must, 1 if
+//! one did not, and 2 if a file can't be read or is malformed; standard error then names the file, the line and
+//! the reason.
 #![tactic(auto)]
 
 mod case;
-mod case_reader;
+mod counters;
 mod devices;
 mod differences;
+mod elements;
+mod entry;
 mod flaw;
 mod form;
+mod kind;
 mod malformed;
 mod numbers;
 mod outcome;
+mod queue_subject;
+mod reader;
 mod reads;
 mod replays;
 mod report;
+mod row;
 mod scripts;
 mod sink;
 mod source;
 mod stopped;
+mod subject;
+mod table;
+mod tables;
 mod text;
+mod timer_subject;
 
 use case::Case;
-use case_reader::read_cases;
+use entry::Entry;
+use malformed::Malformed;
+use reader::read_entries;
 use report::Report;
 use std::process::ExitCode;
 use std::{env, fs, io};
 use stopped::Stopped;
+use table::Table;
 
 fn main(rt: HostRuntime) -> ExitCode {
     match run_all(&rt) {
@@ -39,11 +53,11 @@ fn main(rt: HostRuntime) -> ExitCode {
     }
 }
 
-// Runs the cases of all files, and prints the count.
+// Runs all files, and prints the count.
 fn run_all(rt: &HostRuntime) -> Result<Report, Stopped> {
     let words = words_of(rt)?;
     if words.len() < 2 {
-        return Err(stop(rt, "no file of cases is named"));
+        return Err(stop(rt, "no file of cases or tables is named"));
     }
     let mut report = Report::new();
     for path in words.iter().skip(1) {
@@ -64,54 +78,85 @@ fn command_line(rt: &HostRuntime) -> io::Result<Vec<String>> {
     Ok(env::args(rt)?.collect(rt.alloc())?)
 }
 
-// Runs the cases of a file, once all of it is read.
 fn run_file(rt: &HostRuntime, path: &str, report: &mut Report) -> Result<(), Stopped> {
-    let cases = cases_of(rt, path)?;
-    for case in cases.iter() {
-        run_case(rt, path, case, report)?;
-    }
-    Ok(())
-}
-
-fn cases_of(rt: &HostRuntime, path: &str) -> Result<Vec<Case>, Stopped> {
     let Ok(text) = fs::read_to_string(rt, path) else {
         let _ = eprintln!(rt; "{path}: the file can't be read as text");
         return Err(Stopped);
     };
-    match read_cases(rt.alloc(), &text) {
-        Ok(cases) => Ok(cases),
-        Err(malformed) => {
-            let (line, reason) = (malformed.line, malformed.flaw.as_str());
-            let _ = eprintln!(rt; "{path}:{line}: {reason}");
-            Err(Stopped)
-        }
+    if path.ends_with(".rows") {
+        run_entries::<Table>(rt, path, &text, report)
+    } else {
+        run_entries::<Case>(rt, path, &text, report)
     }
 }
 
-// Runs a case, and prints its line.
-fn run_case(rt: &HostRuntime, path: &str, case: &Case, report: &mut Report) -> Result<(), Stopped> {
-    let Ok(difference) = differences::difference(rt.alloc(), case) else {
-        return Err(stop(rt, "out of memory"));
-    };
-    report.add(difference.is_some());
-    let name = case.name.as_str();
-    let printed = match difference {
-        None => println!(rt; "{path}: {name}: ok"),
-        Some(text) => println!(rt; "{path}: {name}: {text}"),
-    };
-    if printed.is_err() {
-        return Err(stop(rt, "standard output can't be written"));
+// Runs the cases or tables of a file, once all of it is read.
+fn run_entries<E: Entry>(
+    rt: &HostRuntime,
+    path: &str,
+    text: &str,
+    report: &mut Report,
+) -> Result<(), Stopped> {
+    match read_entries::<E>(rt.alloc(), text) {
+        Ok(entries) => run_each(rt, path, &entries, report),
+        Err(malformed) => Err(stop_at(rt, path, malformed)),
+    }
+}
+
+fn run_each<E: Entry>(
+    rt: &HostRuntime,
+    path: &str,
+    entries: &[E],
+    report: &mut Report,
+) -> Result<(), Stopped> {
+    for entry in entries {
+        run_entry(rt, path, entry, report)?;
     }
     Ok(())
 }
 
-// Prints the last line.
-fn count(rt: &HostRuntime, report: &Report) -> Result<(), Stopped> {
-    let (cases, wrong) = (report.cases, report.wrong);
-    match println!(rt; "{cases} cases, {wrong} not as they must be") {
+// Runs a case or a table, and prints its line.
+fn run_entry<E: Entry>(
+    rt: &HostRuntime,
+    path: &str,
+    entry: &E,
+    report: &mut Report,
+) -> Result<(), Stopped> {
+    match entry.difference(rt.alloc()) {
+        Ok(difference) => {
+            report.add(E::first_word() == "table", difference.is_some());
+            print_line(
+                rt,
+                path,
+                entry.name(),
+                difference.as_deref().unwrap_or("ok"),
+            )
+        }
+        Err(malformed) => Err(stop_at(rt, path, malformed)),
+    }
+}
+
+fn print_line(rt: &HostRuntime, path: &str, name: &str, told: &str) -> Result<(), Stopped> {
+    match println!(rt; "{path}: {name}: {told}") {
         Ok(()) => Ok(()),
         Err(_) => Err(stop(rt, "standard output can't be written")),
     }
+}
+
+// Prints the last line.
+fn count(rt: &HostRuntime, report: &Report) -> Result<(), Stopped> {
+    let (cases, tables, wrong) = (report.cases, report.tables, report.wrong);
+    match println!(rt; "{cases} cases and {tables} tables, {wrong} not as they must be") {
+        Ok(()) => Ok(()),
+        Err(_) => Err(stop(rt, "standard output can't be written")),
+    }
+}
+
+// Says where a file is malformed.
+fn stop_at(rt: &HostRuntime, path: &str, malformed: Malformed) -> Stopped {
+    let (line, reason) = (malformed.line, malformed.flaw.as_str());
+    let _ = eprintln!(rt; "{path}:{line}: {reason}");
+    Stopped
 }
 
 // Says why the run stops.

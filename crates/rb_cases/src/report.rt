@@ -1,20 +1,26 @@
 use std::process::ExitCode;
 
-/// How many cases were run, and how many of them did not come out as they must.
+/// How many cases and tables were run, and how many of them did not come out as they must.
 #[derive(Clone, Copy)]
 pub struct Report {
     pub cases: u64,
+    pub tables: u64,
     pub wrong: u64,
 }
 
 impl Report {
     pub fn new() -> Report {
-        Report { cases: 0, wrong: 0 }
+        Report {
+            cases: 0,
+            tables: 0,
+            wrong: 0,
+        }
     }
 
-    /// Counts one more case.
-    pub fn add(&mut self, is_wrong: bool) {
-        self.cases = self.cases.saturating_add(1);
+    /// Counts one more table, or else one more case.
+    pub fn add(&mut self, is_table: bool, is_wrong: bool) {
+        self.tables = self.tables.saturating_add(u64::from(is_table));
+        self.cases = self.cases.saturating_add(u64::from(!is_table));
         self.wrong = self.wrong.saturating_add(u64::from(is_wrong));
     }
 

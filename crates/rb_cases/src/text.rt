@@ -1,15 +1,35 @@
+//! The texts of cases and tables, and their escapes:
+//!
+//! | Escape | Means |
+//! |---|---|
+//! | `\\` | a backslash |
+//! | `\r`, `\n` | a carriage return, a line feed |
+//! | `\xFF` | the byte of these two digits |
+//! | `\(65 a)` | 65 times the text after the number |
+//! | `\#` | the counter, a number |
+//! | `\(# 65)` | the sum of the counter and 65 |
+//! | `\(# *5 %7 +65)` | the same with further steps, one after the other: a product, a remainder, a sum |
+
+use crate::counters::counted;
 use crate::flaw::Flaw;
 use crate::form::Form;
 use crate::numbers::number;
 use std::alloc::{AllocError, Global};
 
-/// A text of a case: a script, its replies or a history.
+/// A text that is given line by line: a script, its replies or a history.
 #[derive(Drop)]
 pub struct Text {
     alloc: Global,
     pub bytes: Vec<u8>,
-    /// Whether a line of the case gives it. It may be empty then.
+    /// Whether a line gives it. It may be empty then.
     pub is_given: bool,
+}
+
+/// The bytes of a text on one line, with this counter.
+pub fn bytes_of(alloc: Global, counter: usize, told: &str) -> Result<Vec<u8>, Flaw> {
+    let mut text = Text::new(alloc);
+    text.push_told(counter, told)?;
+    Ok(text.bytes)
 }
 
 impl Text {
@@ -21,7 +41,7 @@ impl Text {
         }
     }
 
-    /// Appends what a line of the case gives.
+    /// Appends what a line gives.
     pub fn push(&mut self, form: Form, told: &str) -> Result<(), Flaw> {
         self.is_given = true;
         match form {
@@ -92,7 +112,7 @@ impl Text {
         }
     }
 
-    // Appends the text of `65 a)`, or the sum of `# 65)`.
+    // Appends the text of `65 a)`, or the number of `# 65)`.
     fn push_repeated<'a>(&mut self, index: usize, told: &'a str) -> Result<&'a str, Flaw> {
         let Some((inner, rest)) = told.split_once(')') else {
             return Err(Flaw::Escape);
@@ -101,7 +121,7 @@ impl Text {
             return Err(Flaw::Escape);
         };
         if count == "#" {
-            return self.push_number(index.saturating_add(number(unit)?), rest);
+            return self.push_number(counted(index, unit)?, rest);
         }
         self.push_units(number(count)?, unit.as_bytes())?;
         Ok(rest)

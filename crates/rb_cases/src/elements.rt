@@ -1,0 +1,48 @@
+//! Elements, as the lines of a history tell them: `ID EXPIRY ORIGIN FIRST ATTEMPT PAYLOAD`.
+
+use crate::flaw::Flaw;
+use crate::numbers::number;
+use rb_delayed::{Element, GREATEST_ATTEMPT, Payload};
+use rb_queue::Draft;
+use std::alloc::{AllocError, Global};
+
+/// An element, with a word before it.
+pub fn element_text(alloc: Global, word: &str, element: &Element) -> Result<String, AllocError> {
+    let payload = String::from_utf8_lossy(alloc, element.payload.as_bytes())?;
+    let (id, expiry, origin) = (element.id, element.expiry, element.origin);
+    let (first, attempt) = (element.first, element.attempt);
+    format!(in alloc; "{word}{id} {expiry} {origin} {first} {attempt} {payload}")
+}
+
+/// The draft of a job's first element.
+pub fn first_draft(expiry: &str, payload: &str) -> Result<Draft, Flaw> {
+    Ok(Draft::first(number(expiry)? as u64, payload_of(payload)?))
+}
+
+/// The draft of a later attempt: its words are those of the element but for the id.
+pub fn later_draft(
+    expiry: &str,
+    origin: &str,
+    first: &str,
+    attempt: &str,
+    payload: &str,
+) -> Result<Draft, Flaw> {
+    Ok(Draft {
+        expiry: number(expiry)? as u64,
+        origin: Some(number(origin)? as u64),
+        first: Some(number(first)? as u64),
+        attempt: attempt_of(attempt)?,
+        payload: payload_of(payload)?,
+    })
+}
+
+fn attempt_of(word: &str) -> Result<u32, Flaw> {
+    match u32::try_from(number(word)?) {
+        Ok(attempt) if (1..=GREATEST_ATTEMPT).contains(&attempt) => Ok(attempt),
+        _ => Err(Flaw::Number),
+    }
+}
+
+fn payload_of(word: &str) -> Result<Payload, Flaw> {
+    Payload::new(word.as_bytes()).map_err(|_| Flaw::Payload)
+}

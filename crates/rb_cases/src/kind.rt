@@ -1,0 +1,28 @@
+use crate::flaw::Flaw;
+
+/// What the rows of a table are about.
+#[derive(Clone, Copy)]
+pub enum Kind {
+    /// Commands to a timer, over each of the four.
+    Timer,
+    /// Calls of a kept queue, over each of the four timers.
+    Queue,
+}
+
+impl Kind {
+    /// The kind of this name.
+    pub fn of(name: &str) -> Result<Kind, Flaw> {
+        match name {
+            "timer" => Ok(Kind::Timer),
+            "queue" => Ok(Kind::Queue),
+            _ => Err(Flaw::Kind),
+        }
+    }
+
+    /// Whether its tables are run over each timer.
+    pub fn has_timer(self) -> bool {
+        match self {
+            Kind::Timer | Kind::Queue => true,
+        }
+    }
+}

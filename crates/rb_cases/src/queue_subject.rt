@@ -1,0 +1,322 @@
+//! A kept queue and its callers.
+//!
+//! The set-up may have lines `from TEXT`, as in a case file: the history that the queue's opening continues. Without
+//! them it is the empty opening. An ELEMENT is `ID EXPIRY ORIGIN FIRST ATTEMPT PAYLOAD`.
+//!
+//! | Command | Answer |
+//! |---|---|
+//! | `begin CAPACITY` | `begun`, or the fault's text; it comes before all the others, and begins anew |
+//! | `SEAT ASKED ASK` | the step of a run of this one try |
+//! | `no try` | how many steps a run of no try has |
+//! | `given N` | the element at this place, from 0, among those of the last drain: ELEMENT, or `none` |
+//! | `audit` | the numbers of the audit: calls, offered, given, removed, cleared, left, opening |
+//! | `share` | the calls of the callers' share, and the elements that they offered and were given |
+//! | `split` | `split`: from then on the calls of seat 0 count in the share, those of all other seats in another |
+//! | `other share` | the same numbers of that other share |
+//! | `join` | `joined`: the two are one share again |
+//! | `capacity` | how many calls there is room for |
+//! | `events` | how many events the history has |
+//! | `last` | the line of the last event in the history's text, or `none` |
+//! | `line N` | a line of that text, counted from 1, or `none` |
+//!
+//! | ASK | Step |
+//! |---|---|
+//! | `offer EXPIRY PAYLOAD`, of a job's first element | `offered ELEMENT` |
+//! | `offer EXPIRY ORIGIN FIRST ATTEMPT PAYLOAD` | `offered ELEMENT` |
+//! | `poll`, `take`, `pollfor START TIMEOUT` | `item ELEMENT`, `nothing`, or `later EXPIRY` or `later none` |
+//! | `peek` | `head ELEMENT`, or `nothing` |
+//! | `remove ID` | `removed yes`, or `removed no` |
+//! | `drain MAX` | `drained N` |
+//! | `clear` | `cleared` |
+//! | `size` | `size N` |
+//! | any | the fault's text |
+
+use crate::elements::{element_text, first_draft, later_draft};
+use crate::flaw::Flaw;
+use crate::form::Form;
+use crate::malformed::{Malformed, at_line};
+use crate::numbers::number;
+use crate::row::Line;
+use crate::subject::{Subject, words_in};
+use crate::text::Text;
+use crate::timer_subject::moment_text;
+use rb_delayed::Element;
+use rb_kept::{CallFault, Kept, NewFault, Outcome, Step, Try};
+use rb_ledger::Tally;
+use rb_queue::{Ask, Audit, Event, Items, Opening, Reply};
+use rb_replay::{MOST_EVENTS, write_history};
+use rb_runs::opening_in;
+use rb_timer::Timer;
+use std::alloc::{AllocError, Global};
+use std::str;
+
+#[derive(Drop)]
+pub struct QueueSubject<T: Timer> {
+    from: Text,
+    // What was handed back by a queue that could not be made, for the next one to begin with.
+    handed_back: Option<Opening>,
+    run: Option<Run<T>>,
+}
+
+#[derive(Drop)]
+struct Run<T: Timer> {
+    kept: Kept<T>,
+    share: Tally,
+    other_share: Option<Tally>,
+    // What the last drain gave.
+    given: Items,
+}
+
+impl<T: Timer> Subject for QueueSubject<T> {
+    fn begin(alloc: Global, set_up: &[Line]) -> Result<Self, Malformed> {
+        let mut from = Text::new(alloc);
+        for line in set_up {
+            at_line(line.number, take_from(&mut from, &line.text))?;
+        }
+        Ok(QueueSubject {
+            from,
+            handed_back: None,
+            run: None,
+        })
+    }
+
+    fn answer(&mut self, alloc: Global, command: &[u8]) -> Result<String, Flaw> {
+        let words = words_in(alloc, command)?;
+        match *words.as_slice() {
+            ["begin", capacity] => self.begin_run(alloc, number(capacity)? as u64),
+            _ => match &mut self.run {
+                Some(run) => run.answer(alloc, &words),
+                None => Err(Flaw::Early),
+            },
+        }
+    }
+}
+
+// Takes a line of the history that the opening continues.
+fn take_from(from: &mut Text, line: &str) -> Result<(), Flaw> {
+    let (word, rest) = line.split_once(' ').unwrap_or((line, ""));
+    match Form::split(word)? {
+        ("from", form) => from.push(form, rest),
+        _ => Err(Flaw::SetUp),
+    }
+}
+
+fn opening_of(alloc: Global, from: &Text) -> Result<Opening, Flaw> {
+    if !from.is_given {
+        return Ok(Opening::empty(alloc));
+    }
+    opening_in(alloc, &from.bytes).map_err(|_| Flaw::Opening)
+}
+
+impl<T: Timer> QueueSubject<T> {
+    fn begin_run(&mut self, alloc: Global, capacity: u64) -> Result<String, Flaw> {
+        let opening = match self.handed_back.take() {
+            Some(opening) => opening,
+            None => opening_of(alloc, &self.from)?,
+        };
+        match begun(alloc, capacity, opening) {
+            Ok(run) => {
+                self.run = Some(run);
+                Ok("begun".to_string(alloc)?)
+            }
+            Err((opening, fault)) => {
+                self.handed_back = Some(opening);
+                Ok(fault.to_string(alloc)?)
+            }
+        }
+    }
+}
+
+fn begun<T: Timer>(
+    alloc: Global,
+    capacity: u64,
+    opening: Opening,
+) -> Result<Run<T>, (Opening, NewFault)> {
+    let (kept, share) = Kept::new_from(alloc, capacity, opening)?;
+    Ok(Run {
+        kept,
+        share,
+        other_share: None,
+        given: Items::new(Vec::new(alloc)),
+    })
+}
+
+impl<T: Timer> Run<T> {
+    fn answer(&mut self, alloc: Global, words: &[&str]) -> Result<String, Flaw> {
+        match *words {
+            ["no", "try"] => self.make_no_try(alloc),
+            ["audit"] => Ok(audit_text(alloc, self.kept.audit())?),
+            ["share"] => Ok(share_text(alloc, &self.share)?),
+            ["split"] => self.split(alloc),
+            ["other", "share"] => self.other_share_text(alloc),
+            ["join"] => self.join(alloc),
+            ["capacity"] => Ok(self.kept.capacity().to_string(alloc)?),
+            ["events"] => Ok(self.kept.history().len().to_string(alloc)?),
+            ["last"] => last_text(alloc, self.kept.opening(), self.kept.history()),
+            ["line", line] => self.line_text(alloc, number(line)?),
+            ["given", place] => Ok(given_text(alloc, &self.given, number(place)?)?),
+            [seat, asked, ..] => self.make_try(alloc, try_of(seat, asked, words)?),
+            _ => Err(Flaw::Command),
+        }
+    }
+
+    fn make_no_try(&mut self, alloc: Global) -> Result<String, Flaw> {
+        let steps = self.kept.run_tries(&mut self.share, Vec::new(alloc))?;
+        Ok(steps.len().to_string(alloc)?)
+    }
+
+    fn make_try(&mut self, alloc: Global, one: Try) -> Result<String, Flaw> {
+        let share = match &mut self.other_share {
+            Some(other) if one.seat > 0 => other,
+            _ => &mut self.share,
+        };
+        let mut steps = self.kept.run_tries(share, vec![in alloc; one]?)?;
+        match steps.pop() {
+            Some(step) => self.step_text(alloc, step),
+            None => Err(Flaw::Memory),
+        }
+    }
+
+    fn step_text(&mut self, alloc: Global, step: Step) -> Result<String, Flaw> {
+        match step {
+            Ok(Outcome::Done(Reply::Drained(items))) => {
+                self.given = items;
+                let count = self.given.as_slice().len();
+                Ok(format!(in alloc; "drained {count}")?)
+            }
+            Ok(Outcome::Done(reply)) => Ok(reply_text(alloc, &reply)?),
+            Ok(Outcome::Later(next)) => later_text(alloc, next),
+            Err(fault) => fault_text(alloc, fault),
+        }
+    }
+
+    fn split(&mut self, alloc: Global) -> Result<String, Flaw> {
+        self.other_share = Some(self.share.split());
+        Ok("split".to_string(alloc)?)
+    }
+
+    fn other_share_text(&self, alloc: Global) -> Result<String, Flaw> {
+        match &self.other_share {
+            Some(other) => Ok(share_text(alloc, other)?),
+            None => Err(Flaw::Early),
+        }
+    }
+
+    fn join(&mut self, alloc: Global) -> Result<String, Flaw> {
+        match self.other_share.take() {
+            Some(other) => self.share.join(other),
+            None => return Err(Flaw::Early),
+        }
+        Ok("joined".to_string(alloc)?)
+    }
+
+    fn line_text(&self, alloc: Global, line: usize) -> Result<String, Flaw> {
+        let text = history_text(alloc, self.kept.opening(), self.kept.history())?;
+        Ok(line_in(alloc, &text, line.saturating_sub(1))?)
+    }
+}
+
+fn try_of(seat: &str, asked: &str, words: &[&str]) -> Result<Try, Flaw> {
+    Ok(Try {
+        seat: number(seat)? as u64,
+        asked: number(asked)? as u64,
+        ask: ask_of(words.get(2..).unwrap_or(&[]))?,
+    })
+}
+
+fn ask_of(words: &[&str]) -> Result<Ask, Flaw> {
+    match *words {
+        ["offer", expiry, payload] => Ok(Ask::Offer(first_draft(expiry, payload)?)),
+        ["offer", expiry, origin, first, attempt, payload] => {
+            Ok(Ask::Offer(later_draft(expiry, origin, first, attempt, payload)?))
+        }
+        ["poll"] => Ok(Ask::Poll),
+        ["take"] => Ok(Ask::Take),
+        ["pollfor", start, timeout] => timed_poll(start, timeout),
+        ["peek"] => Ok(Ask::Peek),
+        ["remove", id] => Ok(Ask::Remove(number(id)? as u64)),
+        ["drain", max] => Ok(Ask::Drain(number(max)? as u64)),
+        ["clear"] => Ok(Ask::Clear),
+        ["size"] => Ok(Ask::Size),
+        _ => Err(Flaw::Command),
+    }
+}
+
+fn timed_poll(start: &str, timeout: &str) -> Result<Ask, Flaw> {
+    Ok(Ask::PollFor {
+        start: number(start)? as u64,
+        timeout: number(timeout)? as u64,
+    })
+}
+
+fn later_text(alloc: Global, next: Option<u64>) -> Result<String, Flaw> {
+    let next = moment_text(alloc, next)?;
+    Ok(format!(in alloc; "later {next}")?)
+}
+
+fn fault_text(alloc: Global, fault: CallFault) -> Result<String, Flaw> {
+    Ok(fault.to_string(alloc)?)
+}
+
+// A reply, but to a drain.
+fn reply_text(alloc: Global, reply: &Reply) -> Result<String, AllocError> {
+    match reply {
+        Reply::Offered(element) => element_text(alloc, "offered ", element),
+        Reply::Item(element) => element_text(alloc, "item ", element),
+        Reply::Head(element) => element_text(alloc, "head ", element),
+        Reply::Removed(true) => "removed yes".to_string(alloc),
+        Reply::Removed(false) => "removed no".to_string(alloc),
+        Reply::Cleared => "cleared".to_string(alloc),
+        Reply::Size(size) => format!(in alloc; "size {size}"),
+        Reply::Nothing | Reply::Drained(_) => "nothing".to_string(alloc),
+    }
+}
+
+fn given_text(alloc: Global, given: &Items, place: usize) -> Result<String, AllocError> {
+    match given.as_slice().get(place) {
+        Some(element) => element_text(alloc, "", element),
+        None => "none".to_string(alloc),
+    }
+}
+
+fn audit_text(alloc: Global, audit: Audit) -> Result<String, AllocError> {
+    let (calls, offered, given) = (audit.calls, audit.offered, audit.given);
+    let (removed, cleared) = (audit.removed, audit.cleared);
+    let (left, opening) = (audit.left, audit.opening);
+    format!(in alloc; "{calls} {offered} {given} {removed} {cleared} {left} {opening}")
+}
+
+fn share_text(alloc: Global, tally: &Tally) -> Result<String, AllocError> {
+    let (calls, offered, given) = (tally.calls(), tally.offered(), tally.given());
+    format!(in alloc; "{calls} {offered} {given}")
+}
+
+// The line of the last event. Before it are two lines and those of the opening's elements.
+fn last_text(alloc: Global, opening: &Opening, history: &[Event]) -> Result<String, Flaw> {
+    let last = history
+        .get(history.len().saturating_sub(1)..)
+        .unwrap_or(&[]);
+    if last.is_empty() {
+        return Ok("none".to_string(alloc)?);
+    }
+    let text = history_text(alloc, opening, last)?;
+    let before = opening.elements.as_slice().len().saturating_add(2);
+    Ok(line_in(alloc, &text, before)?)
+}
+
+fn history_text(alloc: Global, opening: &Opening, history: &[Event]) -> Result<Vec<u8>, Flaw> {
+    let mut written = Vec::new(alloc);
+    if history.len() > MOST_EVENTS {
+        return Err(Flaw::Memory);
+    }
+    match write_history(alloc, opening, history, &mut written) {
+        Ok(()) => Ok(written),
+        Err(_) => Err(Flaw::Memory),
+    }
+}
+
+// The line with this number, counted from 0, without its end.
+fn line_in(alloc: Global, text: &[u8], number: usize) -> Result<String, AllocError> {
+    let text = str::from_utf8(text).unwrap_or_default();
+    text.lines().nth(number).unwrap_or("none").to_string(alloc)
+}

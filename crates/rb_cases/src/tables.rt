@@ -1,0 +1,122 @@
+use crate::devices::TIMERS;
+use crate::flaw::Flaw;
+use crate::kind::Kind;
+use crate::malformed::{Malformed, at_line};
+use crate::queue_subject::QueueSubject;
+use crate::row::{Block, Row};
+use crate::subject::Subject;
+use crate::table::Table;
+use crate::text::bytes_of;
+use crate::timer_subject::TimerSubject;
+use rb_binary::BinaryTimer;
+use rb_pairing::PairingTimer;
+use rb_timer::{ListTimer, Timer};
+use rb_wheel::WheelTimer;
+use std::alloc::Global;
+
+/// What came in place of an answer in the first row that did not get one of its own.
+pub fn table_difference(alloc: Global, table: &Table) -> Result<Option<String>, Malformed> {
+    match table.kind {
+        Kind::Timer | Kind::Queue => over_timers(alloc, table),
+    }
+}
+
+fn over_timers(alloc: Global, table: &Table) -> Result<Option<String>, Malformed> {
+    for timer in TIMERS {
+        if table.is_over(timer)
+            && let Some(text) = over_timer(alloc, table, timer)?
+        {
+            return Ok(Some(text));
+        }
+    }
+    Ok(None)
+}
+
+fn over_timer(alloc: Global, table: &Table, timer: &str) -> Result<Option<String>, Malformed> {
+    match timer {
+        "heap" => over::<BinaryTimer>(alloc, table, "over heap, "),
+        "pairing" => over::<PairingTimer>(alloc, table, "over pairing, "),
+        "wheel" => over::<WheelTimer>(alloc, table, "over wheel, "),
+        _ => over::<ListTimer>(alloc, table, "over list, "),
+    }
+}
+
+fn over<T: Timer>(alloc: Global, table: &Table, place: &str) -> Result<Option<String>, Malformed> {
+    match table.kind {
+        Kind::Timer => run_table::<TimerSubject<T>>(alloc, table, place),
+        Kind::Queue => run_table::<QueueSubject<T>>(alloc, table, place),
+    }
+}
+
+// Runs all rows. What is printed of a row begins with `place`.
+fn run_table<S: Subject>(
+    alloc: Global,
+    table: &Table,
+    place: &str,
+) -> Result<Option<String>, Malformed> {
+    let mut subject = S::begin(alloc, &table.set_up)?;
+    for block in table.blocks.iter() {
+        if let Some(text) = run_block(alloc, &mut subject, block, place)? {
+            return Ok(Some(text));
+        }
+    }
+    Ok(None)
+}
+
+fn run_block<S: Subject>(
+    alloc: Global,
+    subject: &mut S,
+    block: &Block,
+    place: &str,
+) -> Result<Option<String>, Malformed> {
+    for round in 0..block.times {
+        if let Some(text) = run_rows(alloc, subject, &block.rows, round, place)? {
+            return Ok(Some(text));
+        }
+    }
+    Ok(None)
+}
+
+fn run_rows<S: Subject>(
+    alloc: Global,
+    subject: &mut S,
+    rows: &[Row],
+    round: usize,
+    place: &str,
+) -> Result<Option<String>, Malformed> {
+    for row in rows {
+        let difference = row_difference(alloc, subject, row, round, place);
+        if let Some(text) = at_line(row.line, difference)? {
+            return Ok(Some(text));
+        }
+    }
+    Ok(None)
+}
+
+fn row_difference<S: Subject>(
+    alloc: Global,
+    subject: &mut S,
+    row: &Row,
+    round: usize,
+    place: &str,
+) -> Result<Option<String>, Flaw> {
+    let command = bytes_of(alloc, round, &row.command)?;
+    let came = subject.answer(alloc, &command)?;
+    if is_right(alloc, row, round, &came)? {
+        return Ok(None);
+    }
+    let wanted = bytes_of(alloc, round, &row.answers)?;
+    let wanted = String::from_utf8_lossy(alloc, &wanted)?;
+    let line = row.line;
+    Ok(Some(format!(in alloc; "{place}line {line}: {came:?} in place of {wanted:?}")?))
+}
+
+// Whether the answer is one of the row's.
+fn is_right(alloc: Global, row: &Row, round: usize, came: &str) -> Result<bool, Flaw> {
+    for answer in row.answers.split(" or ") {
+        if bytes_of(alloc, round, answer)?.as_slice() == came.as_bytes() {
+            return Ok(true);
+        }
+    }
+    Ok(false)
+}
