@@ -166,15 +166,25 @@ impl<T: Timer> Run<T> {
     }
 
     fn make_try(&mut self, alloc: Global, one: Try) -> Result<String, Flaw> {
-        let share = match &mut self.other_share {
-            Some(other) if one.seat > 0 => other,
-            _ => &mut self.share,
-        };
-        let mut steps = self.kept.run_tries(share, vec![in alloc; one]?)?;
+        let mut steps = self.run_try(one.seat > 0, vec![in alloc; one]?)?;
         match steps.pop() {
             Some(step) => self.step_text(alloc, step),
             None => Err(Flaw::Memory),
         }
+    }
+
+    // Counts the try in the other share, if there is one and `is_other` says so.
+    fn run_try(&mut self, is_other: bool, tries: Vec<Try>) -> Result<Vec<Step>, AllocError> {
+        let Some(mut other) = self.other_share.take() else {
+            return self.kept.run_tries(&mut self.share, tries);
+        };
+        let steps = if is_other {
+            self.kept.run_tries(&mut other, tries)
+        } else {
+            self.kept.run_tries(&mut self.share, tries)
+        };
+        self.other_share = Some(other);
+        steps
     }
 
     fn step_text(&mut self, alloc: Global, step: Step) -> Result<String, Flaw> {

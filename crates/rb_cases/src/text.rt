@@ -67,6 +67,9 @@ impl Text {
     fn push_told(&mut self, index: usize, told: &str) -> Result<(), Flaw> {
         let mut rest = told;
         for _ in 0..told.len() {
+            if rest.is_empty() {
+                return Ok(());
+            }
             rest = self.push_piece(index, rest)?;
         }
         Ok(())
