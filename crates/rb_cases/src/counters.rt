@@ -6,17 +6,25 @@ use crate::numbers::number;
 pub fn counted(counter: usize, steps: &str) -> Result<usize, Flaw> {
     let mut sum = counter;
     for step in steps.split_whitespace() {
-        sum = stepped(sum, step)?;
+        let (sign, digits) = parts_of(step);
+        sum = stepped(sum, sign, number(digits)?).ok_or(Flaw::Number)?;
     }
     Ok(sum)
 }
 
-fn stepped(sum: usize, step: &str) -> Result<usize, Flaw> {
+fn parts_of(step: &str) -> (&str, &str) {
     match step.split_at_checked(1) {
-        Some(("*", factor)) => sum.checked_mul(number(factor)?),
-        Some(("%", divisor)) => sum.checked_rem(number(divisor)?),
-        Some(("+", summand)) => sum.checked_add(number(summand)?),
-        _ => sum.checked_add(number(step)?),
+        Some(("*", digits)) => ("*", digits),
+        Some(("%", digits)) => ("%", digits),
+        Some(("+", digits)) => ("+", digits),
+        _ => ("+", step),
     }
-    .ok_or(Flaw::Number)
+}
+
+fn stepped(sum: usize, sign: &str, by: usize) -> Option<usize> {
+    match sign {
+        "*" => sum.checked_mul(by),
+        "%" => sum.checked_rem(by),
+        _ => sum.checked_add(by),
+    }
 }
