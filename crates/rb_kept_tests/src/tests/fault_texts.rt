@@ -1,27 +1,41 @@
+use super::fixtures::expect_text;
+use rb_delayed::PayloadFault;
 use rb_kept::{CallFault, NewFault};
 use std::alloc::Global;
 use std::process::Abort;
 
-fn expect_shown(rt: &impl Abort, shown: &str, wanted: &str) {
-    assert_eq!(rt; shown, wanted);
+fn expect_payload_fault(rt: &impl Abort, alloc: Global, fault: PayloadFault, text: &str) {
+    let shown = fault.to_string(alloc).ok().expect(rt, "a text");
+    expect_text(rt, &shown, text);
 }
 
 fn expect_call_fault(rt: &impl Abort, alloc: Global, fault: CallFault, text: &str) {
     let shown = fault.to_string(alloc).ok().expect(rt, "a text");
-    expect_shown(rt, shown.as_str(), text);
+    expect_text(rt, &shown, text);
 }
 
-fn expect_new_fault_shown(rt: &impl Abort, alloc: Global, fault: NewFault, text: &str) {
+fn expect_new_fault(rt: &impl Abort, alloc: Global, fault: NewFault, text: &str) {
     let shown = fault.to_string(alloc).ok().expect(rt, "a text");
-    expect_shown(rt, shown.as_str(), text);
+    expect_text(rt, &shown, text);
 }
 
 #[test]
 fn shows_faults(rt: HostRuntime) {
     let alloc = rt.alloc();
-    let room = "a history has room for 1 to 1,000,000 calls";
-    expect_new_fault_shown(&rt, alloc, NewFault::BadCapacity, room);
-    expect_new_fault_shown(&rt, alloc, NewFault::Memory, "out of memory");
-    expect_call_fault(&rt, alloc, CallFault::Full, "the history is full");
+    let bad_byte = "the byte at place 7 is not a visible ASCII character";
+    expect_payload_fault(
+        &rt,
+        alloc,
+        PayloadFault::Empty,
+        "a payload has at least one byte",
+    );
+    expect_payload_fault(
+        &rt,
+        alloc,
+        PayloadFault::TooLong,
+        "a payload has at most 64 bytes",
+    );
+    expect_payload_fault(&rt, alloc, PayloadFault::BadByte(7), bad_byte);
+    expect_new_fault(&rt, alloc, NewFault::Memory, "out of memory");
     expect_call_fault(&rt, alloc, CallFault::Memory, "out of memory");
 }

@@ -2,6 +2,7 @@ use super::fixtures::{
     done, element, expect, expect_element, expect_number, expect_opening, expect_step, later,
     offer, offered,
 };
+use super::queue_refusals::queue_refusals;
 use super::timer_refusals::timer_refusals;
 use rb_delayed::Element;
 use rb_kept::{CallFault, Kept, NewFault, Outcome, Step, Try};
@@ -16,14 +17,14 @@ use std::process::Abort;
 const REFUSALS: u32 = 0;
 
 // Past several growths of slots, timer and directory.
-pub const MANY: u64 = 20;
+const MANY: u64 = 20;
 
 // The later the offer, the sooner it expires. At 95 elements 5 to 19 are expired.
-pub fn expiry_of(id: u64) -> u64 {
+fn expiry_of(id: u64) -> u64 {
     100 - id % 100
 }
 
-pub fn numbered(rt: &impl Abort, id: u64) -> Element {
+fn numbered(rt: &impl Abort, id: u64) -> Element {
     element(rt, id, expiry_of(id), b"a")
 }
 
@@ -350,8 +351,10 @@ fn run_on(rt: &impl Abort, alloc: Global) -> u32 {
 #[test]
 fn a_refusal_changes_nothing(rt: HostRuntime) {
     let of_timers = timer_refusals(&rt, rt.alloc());
+    let of_queue = queue_refusals::<ListTimer>(&rt, rt.alloc());
     let begun_empty = run_through::<ListTimer>(&rt, rt.alloc());
     let begun_with_elements = run_on(&rt, rt.alloc());
-    let of_queues = begun_empty.saturating_add(begun_with_elements);
-    assert_eq!(rt; of_timers.saturating_add(of_queues), REFUSALS);
+    let of_kept = begun_empty.saturating_add(begun_with_elements);
+    let below = of_timers.saturating_add(of_queue);
+    assert_eq!(rt; below.saturating_add(of_kept), REFUSALS);
 }

@@ -1,101 +1,132 @@
-// Runs that go on from an opening.
-
-use super::exchanges::{Line, Run, answers, expect_lines_from_two, offers, waits};
-use super::fixtures::{
-    ListKept, expect_handed_back, expect_number, expect_opening, item, opening, retried, timed_poll,
-};
-use rb_kept::NewFault;
-use rb_queue::{Act, Ask, Opening, Reply};
-use std::alloc::Global;
+use super::fixtures::{element, expect, expect_element, expect_number, payload};
+use rb_delayed::Element;
+use rb_queue::{DelayQueue, Items, Opening};
+use rb_timer::ListTimer;
+use std::alloc::{AllocError, Global};
 use std::process::Abort;
+use std::test::Fail;
 
-fn hand_back(rt: &impl Abort, alloc: Global, capacity: u64) {
-    let refused = ListKept::new_from(alloc, capacity, opening(rt, alloc)).err();
-    let handed_back = Some((opening(rt, alloc), NewFault::BadCapacity));
-    expect_handed_back(rt, &refused, &handed_back, capacity);
+fn expect_empty(rt: &impl Abort, opening: &Opening) {
+    expect_number(rt, opening.next_id, 0);
+    expect_number(rt, opening.last_at, 0);
+    expect(rt, opening.elements.as_slice().is_empty(), "no element");
+}
+
+fn is_made_empty(alloc: Global, empty: Opening) -> bool {
+    Opening::new(Items::new(Vec::new(alloc)), 0, 0) == Some(empty)
 }
 
 #[test]
-fn a_refused_opening_is_handed_back(rt: HostRuntime) {
-    hand_back(&rt, rt.alloc(), 0);
-    hand_back(&rt, rt.alloc(), 1_000_001);
-    hand_back(&rt, rt.alloc(), u64::MAX);
+fn an_empty_opening_begins_at_zero(rt: HostRuntime) {
+    expect_empty(&rt, &Opening::empty(rt.alloc()));
+    let is_made = is_made_empty(rt.alloc(), Opening::empty(rt.alloc()));
+    expect(&rt, is_made, "the opening of no element");
 }
 
-// The first call, of this moment asked, is at that moment or at the opening's last.
-fn size_at(rt: &impl Abort, alloc: Global, asked: u64, at: u64) {
-    let lines = [
-        answers(asked, Ask::Size, Reply::Size(2)),
-        Line::Last(asked, at, Act::Size(2)),
-        Line::Audit([1, 0, 0, 0, 0, 2, 2]),
-    ];
-    expect_lines_from_two(rt, alloc, &lines);
+// Elements of these ids and expiries.
+fn standing(rt: &impl Abort, alloc: Global, entries: &[(u64, u64)]) -> Result<Items, AllocError> {
+    let mut elements = Vec::new(alloc);
+    for &(id, expiry) in entries {
+        elements.push(element(rt, id, expiry, b"job"))?;
+    }
+    Ok(Items::new(elements))
 }
 
-#[test]
-fn no_event_is_before_the_opening(rt: HostRuntime) {
-    size_at(&rt, rt.alloc(), 0, 30);
-    size_at(&rt, rt.alloc(), 29, 30);
-    size_at(&rt, rt.alloc(), 30, 30);
-    size_at(&rt, rt.alloc(), 31, 31);
+fn expect_elements(rt: &impl Abort, elements: &[Element], entries: &[(u64, u64)]) {
+    expect_number(rt, elements.len() as u64, entries.len() as u64);
+    for (found, &(id, expiry)) in elements.iter().zip(entries) {
+        expect_element(rt, found, &element(rt, id, expiry, b"job"));
+    }
 }
 
-// An ask that waits looks from the opening's last moment on, too.
-#[test]
-fn asks_wait_from_the_openings_last_moment(rt: HostRuntime) {
-    let lines = [
-        waits(0, Ask::Take, Some(40)),
-        waits(0, timed_poll(20, 11), Some(40)),
-        answers(0, timed_poll(20, 10), Reply::Nothing),
-        Line::Audit([1, 0, 0, 0, 0, 2, 2]),
-    ];
-    expect_lines_from_two(&rt, rt.alloc(), &lines);
+fn expect_opening(rt: &impl Abort, opening: &Opening, entries: &[(u64, u64)], next_id: u64) {
+    expect_elements(rt, opening.elements.as_slice(), entries);
+    expect_number(rt, opening.next_id, next_id);
+    expect_number(rt, opening.last_at, 40);
 }
 
-fn lines_of_a_run(rt: &impl Abort) -> [Line; 10] {
-    [
-        Line::Audit([0, 0, 0, 0, 0, 2, 2]),
-        answers(0, Ask::Size, Reply::Size(2)),
-        offers(rt, 31, 7, 60, b"c"),
-        answers(39, Ask::Poll, Reply::Nothing),
-        answers(40, Ask::Poll, item(rt, 5, 40, b"b")),
-        answers(50, Ask::Take, Reply::Item(retried(rt))),
-        offers(rt, 51, 8, 70, b"d"),
-        answers(51, Ask::Remove(7), Reply::Removed(true)),
-        answers(51, Ask::Remove(5), Reply::Removed(false)),
-        Line::Audit([8, 2, 2, 1, 0, 1, 2]),
-    ]
+// Whether these elements and this next id make an opening, which then holds what was given.
+fn make_opening(rt: &impl Abort, items: Items, entries: &[(u64, u64)], next_id: u64) -> bool {
+    match Opening::new(items, next_id, 40) {
+        None => false,
+        Some(opening) => {
+            expect_opening(rt, &opening, entries, next_id);
+            true
+        }
+    }
 }
 
 #[test]
-fn a_run_goes_on_from_its_opening(rt: HostRuntime) {
-    let mut run = Run::begun(&rt, rt.alloc());
-    run.expect_lines(&rt, &lines_of_a_run(&rt));
-    expect_begun(&rt, rt.alloc(), &run);
+fn an_opening_has_rising_ids_below_the_next(rt: HostRuntime) -> Result<(), Fail> {
+    for (entries, next_id, is_opening) in [
+        ([(0, 9), (2, 3)].as_slice(), 3, true),
+        ([(0, 9), (2, 3)].as_slice(), 2, false),
+        ([(0, 9), (2, 3)].as_slice(), 0, false),
+        ([(1, 3), (0, 9)].as_slice(), 2, false),
+        ([(1, 3), (1, 9)].as_slice(), 2, false),
+        ([(0, 1), (2, 1), (1, 1)].as_slice(), 9, false),
+        ([].as_slice(), 7, true),
+        ([].as_slice(), 1_099_511_627_776, true),
+        ([].as_slice(), 1_099_511_627_777, false),
+        ([].as_slice(), u64::MAX, false),
+        ([(1_099_511_627_775, 1)].as_slice(), 1_099_511_627_776, true),
+        (
+            [(1_099_511_627_776, 1)].as_slice(),
+            1_099_511_627_777,
+            false,
+        ),
+    ] {
+        let items = standing(&rt, rt.alloc(), entries)?;
+        let is_made = make_opening(&rt, items, entries, next_id);
+        expect(&rt, is_made == is_opening, "whether it is an opening");
+    }
+    Ok(())
 }
 
-fn expect_begun(rt: &impl Abort, alloc: Global, run: &Run) {
-    expect_opening(rt, run.kept.opening(), &opening(rt, alloc));
-    expect_number(rt, run.kept.capacity(), 9);
+// Elements of one expiry, in the order of their ids, with room for one more.
+fn million(rt: &impl Abort, alloc: Global) -> Result<Vec<Element>, AllocError> {
+    let mut elements = Vec::with_capacity(alloc, 1_000_001)?;
+    let payload = payload(rt, b"job");
+    for id in 0..1_000_000_u64 {
+        elements.push(Element {
+            id,
+            expiry: 5,
+            origin: id,
+            first: 5,
+            attempt: 1,
+            payload,
+        })?;
+    }
+    Ok(elements)
+}
+
+// A queue begins with the most elements and the greatest next id. Gives the elements.
+fn expect_most(rt: &impl Abort, alloc: Global, elements: Vec<Element>) -> Vec<Element> {
+    let opening = Opening::new(Items::new(elements), 1_099_511_627_776, u64::MAX);
+    let opening = opening.expect(rt, "an opening");
+    expect_begun(rt, alloc, &opening);
+    opening.elements.into_vec()
+}
+
+fn expect_begun(rt: &impl Abort, alloc: Global, opening: &Opening) {
+    let begun = DelayQueue::<ListTimer>::new_from(alloc, opening);
+    expect_goes_on(rt, &mut begun.ok().expect(rt, "a queue"));
+}
+
+fn expect_goes_on(rt: &impl Abort, queue: &mut DelayQueue<ListTimer>) {
+    expect_number(rt, queue.size(), 1_000_000);
+    expect_number(rt, queue.next_id(), 1_099_511_627_776);
+}
+
+fn expect_too_many(rt: &impl Abort, elements: Vec<Element>) {
+    let opening = Opening::new(Items::new(elements), 1_000_001, 0);
+    expect(rt, opening.is_none(), "too many");
 }
 
 #[test]
-fn a_clear_counts_the_openings_elements(rt: HostRuntime) {
-    let lines = [
-        offers(&rt, 30, 7, 60, b"c"),
-        answers(30, Ask::Clear, Reply::Cleared),
-        Line::Audit([2, 1, 0, 0, 3, 0, 2]),
-    ];
-    expect_lines_from_two(&rt, rt.alloc(), &lines);
-}
-
-fn expect_empty_opening(rt: &impl Abort, alloc: Global, run: &Run) {
-    expect_opening(rt, run.kept.opening(), &Opening::empty(alloc));
-    run.expect_audit(rt, [0; 7]);
-}
-
-#[test]
-fn a_new_queue_has_the_empty_opening(rt: HostRuntime) {
-    let run = Run::new(&rt, rt.alloc(), 1);
-    expect_empty_opening(&rt, rt.alloc(), &run);
+fn an_opening_has_at_most_a_million_elements(rt: HostRuntime) -> Result<(), Fail> {
+    let mut elements = expect_most(&rt, rt.alloc(), million(&rt, rt.alloc())?);
+    elements.push(element(&rt, 1_000_000, 5, b"job"))?;
+    expect_too_many(&rt, elements);
+    Ok(())
 }

@@ -1,85 +1,25 @@
 // Only the timer is refused memory, once, by a queue's ninth element or by an opening.
 
-use super::fixtures::{expect, expect_element, expect_handed_back, expect_number, payload};
-use super::memory_refusals::{MANY, expiry_of, numbered, opening_of, run_through};
+use super::fixtures::{expect, expect_handed_back, expect_number};
+use super::memory_refusals::{opening_of, run_through};
+use super::queue_refusals::queue_refusals;
 use super::refusing_timer::RefusingTimer;
-use rb_delayed::Element;
 use rb_kept::{Kept, NewFault};
-use rb_queue::{DelayQueue, Draft, Opening};
-use rb_timer::{ListTimer, Timer};
-use std::alloc::{AllocError, Global};
+use rb_queue::{DelayQueue, Opening};
+use rb_timer::ListTimer;
+use std::alloc::Global;
 use std::process::Abort;
 
-type RefusingQueue = DelayQueue<RefusingTimer<ListTimer, 8>>;
-
-// All that a queue shows of itself.
-type Shown = (u64, u64, Option<Element>, Option<u64>);
-
-fn shown(queue: &RefusingQueue) -> Shown {
-    (
-        queue.size(),
-        queue.next_id(),
-        queue.peek(),
-        queue.next_expiry(),
-    )
-}
-
-fn expect_shown(rt: &impl Abort, queue: &RefusingQueue, wanted: &Shown) {
-    expect(rt, shown(queue) == *wanted, "what the queue shows");
-}
-
-fn offered(rt: &impl Abort, queue: &mut RefusingQueue, id: u64) -> Result<Element, AllocError> {
-    let draft = Draft::first(expiry_of(id), payload(rt, b"a"));
-    assert!(rt; queue.next_id() < u64::MAX);
-    queue.offer(draft)
-}
-
-// Offers an element, again where that was refused, and answers how often it was.
-fn offers(rt: &impl Abort, queue: &mut RefusingQueue, id: u64) -> u64 {
-    let before = shown(queue);
-    let first = offered(rt, queue, id);
-    if first.is_err() {
-        expect_shown(rt, queue, &before);
-        let again = offered(rt, queue, id);
-        expect_element(rt, &again.ok().expect(rt, "an element"), &numbered(rt, id));
-        return 1;
-    }
-    expect_element(rt, &first.ok().expect(rt, "an element"), &numbered(rt, id));
-    0
-}
-
-// Offers elements 0 to 19, and answers how often it was refused.
-fn offers_many(rt: &impl Abort, queue: &mut RefusingQueue) -> u64 {
-    let mut refused = 0_u64;
-    for id in 0..MANY {
-        refused = refused.saturating_add(offers(rt, queue, id));
-    }
-    refused
-}
-
-// The later the element, the sooner it expires.
-fn expect_drained(rt: &impl Abort, queue: &mut RefusingQueue) {
-    let drained = queue.drain(u64::MAX, u64::MAX).ok().expect(rt, "items");
-    expect_number(rt, drained.as_slice().len() as u64, MANY);
-    let mut id = MANY;
-    for item in drained.as_slice() {
-        id = id.saturating_sub(1);
-        expect_element(rt, item, &numbered(rt, id));
-    }
-}
+type Refusing = RefusingTimer<ListTimer, 8>;
 
 #[test]
 fn an_offer_to_a_queue_refused_by_the_timer_changes_nothing(rt: HostRuntime) {
-    let mut queue = RefusingQueue::new(rt.alloc());
-    expect_number(&rt, offers_many(&rt, &mut queue), 1);
-    let least = Some(numbered(&rt, 19));
-    expect_shown(&rt, &queue, &(MANY, MANY, least, Some(81)));
-    expect_drained(&rt, &mut queue);
-    expect_shown(&rt, &queue, &(0, MANY, None, None));
+    let met = queue_refusals::<Refusing>(&rt, rt.alloc());
+    expect_number(&rt, u64::from(met), 1);
 }
 
 fn is_refused(alloc: Global, opening: &Opening) -> bool {
-    RefusingQueue::new_from(alloc, opening).is_err()
+    DelayQueue::<Refusing>::new_from(alloc, opening).is_err()
 }
 
 fn expect_begun(rt: &impl Abort, alloc: Global, opening: &Opening) {
@@ -98,7 +38,7 @@ fn an_opening_stays_where_the_timer_refuses(rt: HostRuntime) {
 
 #[test]
 fn an_offer_refused_by_the_timer_changes_nothing(rt: HostRuntime) {
-    let met = run_through::<RefusingTimer<ListTimer, 8>>(&rt, rt.alloc());
+    let met = run_through::<Refusing>(&rt, rt.alloc());
     expect_number(&rt, u64::from(met), 1);
 }
 
@@ -106,6 +46,6 @@ fn an_offer_refused_by_the_timer_changes_nothing(rt: HostRuntime) {
 fn an_opening_refused_by_the_timer_is_handed_back(rt: HostRuntime) {
     let given = opening_of(&rt, rt.alloc(), 9);
     let handed_back = Some((opening_of(&rt, rt.alloc(), 9), NewFault::Memory));
-    let refused = Kept::<RefusingTimer<ListTimer, 8>>::new_from(rt.alloc(), 1, given).err();
-    expect_handed_back(&rt, &refused, &handed_back, 1);
+    let refused = Kept::<Refusing>::new_from(rt.alloc(), 1, given).err();
+    expect_handed_back(&rt, &refused, &handed_back);
 }

@@ -1,5 +1,5 @@
-use super::fixtures::{element, expect_number};
-use rb_delayed::{Delayed, Element, is_expired};
+use super::fixtures::{element, expect, expect_moment, expect_number};
+use rb_delayed::{Delayed, Element, GREATEST_MOMENT, add_capped, add_delay, is_expired};
 use std::cmp::Ordering;
 use std::process::Abort;
 
@@ -8,12 +8,16 @@ fn expect_delay(rt: &impl Abort, element: &Element, now: u64, wanted: i128) {
 }
 
 fn expect_expired(rt: &impl Abort, element: &Element, now: u64, wanted: bool) {
-    assert_eq!(rt; is_expired(element, now), wanted, "at {now}");
+    expect(
+        rt,
+        is_expired(element, now) == wanted,
+        "whether it is expired",
+    );
 }
 
 #[test]
 fn a_delay_is_counted_from_a_moment(rt: HostRuntime) {
-    let element = element(&rt, 3, 150);
+    let element = element(&rt, 3, 150, b"job");
     expect_number(&rt, element.id(), 3);
     expect_number(&rt, element.expiry(), 150);
     expect_delay(&rt, &element, 100, 50);
@@ -32,9 +36,19 @@ fn expect_order(rt: &impl Abort, one: &Element, other: &Element, wanted: Orderin
 
 #[test]
 fn delays_are_ordered_as_expiries(rt: HostRuntime) {
-    let first = element(&rt, 9, 10);
-    let second = element(&rt, 1, 11);
+    let first = element(&rt, 9, 10, b"job");
+    let second = element(&rt, 1, 11, b"job");
     expect_order(&rt, &first, &second, Ordering::Less);
     expect_order(&rt, &second, &first, Ordering::Greater);
-    expect_order(&rt, &first, &element(&rt, 2, 10), Ordering::Equal);
+    expect_order(&rt, &first, &element(&rt, 2, 10, b"job"), Ordering::Equal);
+}
+
+#[test]
+fn moments_end(rt: HostRuntime) {
+    expect_moment(&rt, add_delay(100, 50), Some(150));
+    expect_moment(&rt, add_delay(GREATEST_MOMENT, 0), Some(GREATEST_MOMENT));
+    expect_moment(&rt, add_delay(GREATEST_MOMENT, 1), None);
+    expect_number(&rt, add_capped(100, 50), 150);
+    expect_number(&rt, add_capped(GREATEST_MOMENT - 1, 1), GREATEST_MOMENT);
+    expect_number(&rt, add_capped(5, GREATEST_MOMENT), GREATEST_MOMENT);
 }

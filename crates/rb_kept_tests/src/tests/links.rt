@@ -1,6 +1,6 @@
+use super::fixtures::expect;
 use rb_timer::link::Link;
 use std::process::Abort;
-use std::test::Fail;
 
 fn expect_slot(rt: &impl Abort, link: Link, slot: Option<usize>) {
     assert_eq!(rt; link.slot(), slot);
@@ -8,17 +8,16 @@ fn expect_slot(rt: &impl Abort, link: Link, slot: Option<usize>) {
 
 // The word of the greatest slot is beside that of none.
 #[test]
-fn leads_where_it_was_made_to(rt: HostRuntime) -> Result<(), Fail> {
+fn leads_where_it_was_made_to(rt: HostRuntime) {
     expect_slot(&rt, Link::none(), None);
     expect_slot(&rt, Link::to(0), Some(0));
     expect_slot(&rt, Link::to(usize::MAX - 1), Some(usize::MAX - 1));
-    Ok(())
 }
 
 // What is taken is given once.
 #[test]
-fn leads_nowhere_once_it_was_taken(rt: HostRuntime) -> Result<(), Fail> {
+fn leads_nowhere_once_it_was_taken(rt: HostRuntime) {
     let mut link = Link::to(7);
-    assert_eq!(rt; (link.take(), link.take()), (Some(7), None));
-    Ok(())
+    expect(&rt, link.take() == Some(7), "the slot");
+    expect(&rt, link.take().is_none(), "no slot");
 }

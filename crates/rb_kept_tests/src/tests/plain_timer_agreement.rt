@@ -30,7 +30,7 @@ fn next_command(random: &mut Pcg32, now: u64) -> TimerCommand {
     }
 }
 
-// 1,000 commands. The time goes on by steps of any size, from 0 to its end.
+// 1,000 commands, and in the first run 20,024. The time goes on by steps of any size, from 0 to its end.
 fn next_commands(
     random: &mut Pcg32,
     alloc: Global,
@@ -38,7 +38,8 @@ fn next_commands(
 ) -> Result<Vec<TimerCommand>, AllocError> {
     let mut now = 0u64;
     let mut commands = Vec::new(alloc);
-    for _ in 0..1000u32 {
+    let count = if run == 0 { 20_024 } else { 1000u32 };
+    for _ in 0..count {
         now = now.saturating_add(of_any_size(random) >> (run % 60));
         commands.push(next_command(random, now))?;
     }
@@ -85,7 +86,7 @@ fn expect_agrees<T: Timer>(
     Ok(())
 }
 
-// 100 runs of 1,000 commands each, the same each time.
+// 100 runs, the same each time.
 fn expect_always_agrees<T: Timer>(rt: &impl Abort, alloc: Global) -> Result<(), AllocError> {
     let mut random = Pcg32::new(88172645463325252, 1);
     for run in 0..100u32 {

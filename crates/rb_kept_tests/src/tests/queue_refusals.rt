@@ -1,16 +1,12 @@
-use super::fixtures::{
-    element, expect_found, expect_moment, expect_number, offered_first, opening_of, standing,
-};
+// A queue, whose offers and drains are refused memory: after a refusal all is as before it, what the queue shows then
+// and each element that it gives up to the end, and the call, made again, finds memory.
+
+use super::fixtures::{element, expect_found, expect_moment, expect_number, payload};
 use rb_delayed::Element;
-use rb_queue::{DelayQueue, Items, Opening};
-use rb_timer::{ListTimer, Timer};
+use rb_queue::{DelayQueue, Draft, Items, Opening};
+use rb_timer::Timer;
 use std::alloc::{AllocError, Global};
 use std::process::Abort;
-use std::test::Fail;
-
-// How many refusals the test meets. `tools/refuse_allocations` sets 1, and refuses each allocation
-// of the test in turn.
-const REFUSALS: u32 = 0;
 
 // How many elements there are, past two growths of slots, timer and directory.
 const COUNT: u64 = 20;
@@ -18,6 +14,10 @@ const COUNT: u64 = 20;
 // The later the offer, the sooner it expires: 81 to 100.
 fn expiry_of(id: u64) -> u64 {
     100_u64.saturating_sub(id)
+}
+
+fn numbered(rt: &impl Abort, id: u64) -> Element {
+    element(rt, id, expiry_of(id), b"job")
 }
 
 // All that a queue shows of itself.
@@ -33,19 +33,27 @@ fn shown<T: Timer>(queue: &DelayQueue<T>) -> Shown {
 }
 
 fn expect_shown<T: Timer>(rt: &impl Abort, queue: &DelayQueue<T>, wanted: Shown) {
-    expect_number(rt, queue.size(), wanted.0, 0);
-    expect_number(rt, queue.next_id(), wanted.1, 1);
-    expect_found(rt, queue.peek(), wanted.2, 2);
-    expect_moment(rt, queue.next_expiry(), wanted.3, 3);
+    expect_number(rt, queue.size(), wanted.0);
+    expect_number(rt, queue.next_id(), wanted.1);
+    expect_found(rt, queue.peek(), wanted.2);
+    expect_moment(rt, queue.next_expiry(), wanted.3);
 }
 
-// Five elements. Their memory is asked for again after a refusal.
-fn five(rt: &impl Abort, alloc: Global) -> Result<Items, AllocError> {
-    let entries = [(0, 100), (1, 99), (2, 98), (3, 97), (4, 96)];
-    match standing(rt, alloc, &entries) {
-        Ok(items) => Ok(items),
-        Err(_) => standing(rt, alloc, &entries),
+fn five_elements(rt: &impl Abort, alloc: Global) -> Result<Items, AllocError> {
+    let mut elements = Vec::new(alloc);
+    for id in 0..5_u64 {
+        elements.push(numbered(rt, id))?;
     }
+    Ok(Items::new(elements))
+}
+
+// The opening of five elements. Their memory is asked for again after a refusal.
+fn five(rt: &impl Abort, alloc: Global) -> Result<Opening, AllocError> {
+    let items = match five_elements(rt, alloc) {
+        Ok(items) => items,
+        Err(_) => five_elements(rt, alloc)?,
+    };
+    Ok(Opening::new(items, 5, 0).expect(rt, "an opening"))
 }
 
 // A queue, and how often it was refused.
@@ -58,6 +66,15 @@ fn begun_again<T: Timer>(alloc: Global, opening: &Opening) -> Result<Begun<T>, A
     }
 }
 
+fn offered<T: Timer>(
+    rt: &impl Abort,
+    queue: &mut DelayQueue<T>,
+    expiry: u64,
+) -> Result<Element, AllocError> {
+    assert!(rt; queue.next_id() < u64::MAX);
+    queue.offer(Draft::first(expiry, payload(rt, b"job")))
+}
+
 // The element that is offered, and how often it was refused.
 fn offered_again<T: Timer>(
     rt: &impl Abort,
@@ -65,11 +82,11 @@ fn offered_again<T: Timer>(
     expiry: u64,
 ) -> Result<(Element, u32), AllocError> {
     let before = shown(queue);
-    match offered_first(rt, queue, expiry) {
+    match offered(rt, queue, expiry) {
         Ok(element) => Ok((element, 0)),
         Err(_) => {
             expect_shown(rt, queue, before);
-            Ok((offered_first(rt, queue, expiry)?, 1))
+            Ok((offered(rt, queue, expiry)?, 1))
         }
     }
 }
@@ -93,10 +110,10 @@ fn drained_again<T: Timer>(
 
 // The items must be this many elements, from the id `last` down.
 fn expect_down_from(rt: &impl Abort, items: &[Element], last: u64, count: u64) {
-    expect_number(rt, items.len() as u64, count, last);
+    expect_number(rt, items.len() as u64, count);
     let mut id = last;
     for &item in items {
-        expect_found(rt, Some(item), Some(element(rt, id, expiry_of(id))), id);
+        expect_found(rt, Some(item), Some(numbered(rt, id)));
         id = id.saturating_sub(1);
     }
 }
@@ -108,7 +125,7 @@ fn offers<T: Timer>(
     id: u64,
 ) -> Result<u32, AllocError> {
     let (offer, times) = offered_again(rt, queue, expiry_of(id))?;
-    expect_found(rt, Some(offer), Some(element(rt, id, expiry_of(id))), id);
+    expect_found(rt, Some(offer), Some(numbered(rt, id)));
     Ok(times)
 }
 
@@ -121,8 +138,7 @@ fn offers_many<T: Timer>(rt: &impl Abort, queue: &mut DelayQueue<T>) -> Result<u
     Ok(refused)
 }
 
-// Drains at most `max`, which are this many elements from the id `last` down, and answers how
-// often it was refused.
+// Drains at most `max`, which are this many elements from the id `last` down, and answers how often it was refused.
 fn drains<T: Timer>(
     rt: &impl Abort,
     queue: &mut DelayQueue<T>,
@@ -146,24 +162,22 @@ fn offers_and_drains<T: Timer>(
     rt: &impl Abort,
     queue: &mut DelayQueue<T>,
 ) -> Result<u32, AllocError> {
-    expect_shown(rt, queue, (5, 5, Some(element(rt, 4, 96)), Some(96)));
+    expect_shown(rt, queue, (5, 5, Some(numbered(rt, 4)), Some(96)));
     let offering = offers_many(rt, queue)?;
     let draining = drains_twice(rt, queue)?;
     Ok(offering.saturating_add(draining))
 }
 
-// Begins, offers and drains, each call made again after a refusal, and returns the number of
-// refusals. After a refusal all is as before it: what a queue shows then, and each element that it
-// gives up to the end.
 fn run_through<T: Timer>(rt: &impl Abort, alloc: Global) -> Result<u32, AllocError> {
-    let opening = opening_of(rt, five(rt, alloc)?, 5, 0);
+    let opening = five(rt, alloc)?;
     let (mut queue, refused) = begun_again::<T>(alloc, &opening)?;
     let further = offers_and_drains(rt, &mut queue)?;
     Ok(refused.saturating_add(further))
 }
 
-#[test]
-fn a_refused_allocation_changes_nothing(rt: HostRuntime) -> Result<(), Fail> {
-    assert_eq!(rt; run_through::<ListTimer>(&rt, rt.alloc())?, REFUSALS);
-    Ok(())
+/// Begins, offers and drains, each call made again after a refusal, and returns the number of refusals.
+pub fn queue_refusals<T: Timer>(rt: &impl Abort, alloc: Global) -> u32 {
+    run_through::<T>(rt, alloc)
+        .ok()
+        .expect(rt, "a second refusal")
 }

@@ -1,0 +1,94 @@
+// The moments at which levels of the wheel begin, each for a wheel whose base stands at another.
+
+use rb_timer::TimerAnswer::{Entry, Inserted, Removed};
+use rb_timer::TimerCommand::{Due, Insert, Least, Remove};
+use rb_timer::{Timer, run_timer};
+use rb_wheel::WheelTimer;
+use std::alloc::{AllocError, Global};
+use std::process::Abort;
+
+// 0, the greatest moment, and 64^k - 1, 64^k and 64^k + 1: a moment on each side of where a level begins.
+static BOUNDARIES: [u64; 32] = [
+    0,
+    63,
+    64,
+    65,
+    4095,
+    4096,
+    4097,
+    262143,
+    262144,
+    262145,
+    16777215,
+    16777216,
+    16777217,
+    1073741823,
+    1073741824,
+    1073741825,
+    68719476735,
+    68719476736,
+    68719476737,
+    4398046511103,
+    4398046511104,
+    4398046511105,
+    281474976710655,
+    281474976710656,
+    281474976710657,
+    18014398509481983,
+    18014398509481984,
+    18014398509481985,
+    1152921504606846975,
+    1152921504606846976,
+    1152921504606846977,
+    18446744073709551615,
+];
+
+// Whether an entry that expires at `moment` is found due then, and not one nanosecond before, by
+// a timer whose base is `from`.
+fn finds_due(alloc: Global, from: u64, moment: u64) -> Result<bool, AllocError> {
+    let mut timer = WheelTimer::new(alloc);
+    timer.reserve(1)?;
+    let found = Entry(Some((0, moment)));
+    let commands = [
+        Due(from),
+        Insert(0, moment),
+        Least,
+        Due(moment.saturating_sub(1)),
+        Due(moment),
+        Remove(0),
+        Least,
+    ];
+    let early = if moment == 0 { found } else { Entry(None) };
+    let expected = [
+        Entry(None),
+        Inserted,
+        found,
+        early,
+        found,
+        Removed(moment),
+        Entry(None),
+    ];
+    let answers = run_timer(alloc, &mut timer, &commands)?;
+    Ok(answers.as_slice() == expected.as_slice())
+}
+
+fn expect_due(rt: &impl Abort, alloc: Global, from: u64, moment: u64) {
+    assert_eq!(rt;
+        finds_due(alloc, from, moment),
+        Ok(true),
+        "{moment} from {from}"
+    );
+}
+
+fn expect_each_due(rt: &impl Abort, alloc: Global, from: u64) {
+    for moment in &BOUNDARIES {
+        expect_due(rt, alloc, from, *moment);
+    }
+}
+
+#[test]
+fn finds_each_boundary_from_each(rt: HostRuntime) {
+    for from in &BOUNDARIES {
+        expect_each_due(&rt, rt.alloc(), *from);
+    }
+}
