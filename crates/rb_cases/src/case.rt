@@ -40,6 +40,8 @@ use crate::numbers::number;
 use crate::text::Text;
 use std::alloc::{AllocError, Global};
 use std::str::SplitWhitespace;
+use std::sync::Wait;
+use std::time;
 
 /// A run, and how it must come out.
 #[derive(Drop)]
@@ -102,7 +104,11 @@ impl Entry for Case {
         &self.name
     }
 
-    fn difference(&self, alloc: Global) -> Result<Option<String>, Malformed> {
+    fn difference<R: Wait + time::Clock>(
+        &self,
+        _rt: &R,
+        alloc: Global,
+    ) -> Result<Option<String>, Malformed> {
         at_line(self.line, difference(alloc, self).map_err(Flaw::from))
     }
 }

@@ -5,6 +5,7 @@ use crate::numbers::number;
 use rb_delayed::{Element, GREATEST_ATTEMPT, Payload};
 use rb_queue::Draft;
 use std::alloc::{AllocError, Global};
+use std::str;
 
 /// An element, with a word before it.
 pub fn element_text(alloc: Global, word: &str, element: &Element) -> Result<String, AllocError> {
@@ -12,6 +13,25 @@ pub fn element_text(alloc: Global, word: &str, element: &Element) -> Result<Stri
     let (id, expiry, origin) = (element.id, element.expiry, element.origin);
     let (first, attempt) = (element.first, element.attempt);
     format!(in alloc; "{word}{id} {expiry} {origin} {first} {attempt} {payload}")
+}
+
+/// The element of these words.
+pub fn element_of(words: &[&str]) -> Result<Element, Flaw> {
+    let [id, expiry, origin, first, attempt, payload] = *words else {
+        return Err(Flaw::Command);
+    };
+    let attempt = attempt_of(attempt)?;
+    if !(1..=GREATEST_ATTEMPT).contains(&attempt) {
+        return Err(Flaw::Number);
+    }
+    Ok(Element {
+        id: number(id)? as u64,
+        expiry: number(expiry)? as u64,
+        origin: number(origin)? as u64,
+        first: number(first)? as u64,
+        attempt,
+        payload: payload_of(payload)?,
+    })
 }
 
 /// The draft of a job's first element.
@@ -45,4 +65,9 @@ fn attempt_of(word: &str) -> Result<u32, Flaw> {
 
 fn payload_of(word: &str) -> Result<Payload, Flaw> {
     Payload::new(word.as_bytes()).map_err(|_| Flaw::Payload)
+}
+
+/// The bytes of a payload, all of which are visible.
+pub fn payload_text(payload: &Payload) -> &str {
+    str::from_utf8(payload.as_bytes()).unwrap_or_default()
 }

@@ -1,6 +1,8 @@
 use crate::flaw::Flaw;
 use crate::malformed::Malformed;
 use std::alloc::Global;
+use std::sync::Wait;
+use std::time;
 
 /// What a file has many of, one after the other: cases, or tables.
 pub trait Entry: Drop + Sized {
@@ -22,5 +24,9 @@ pub trait Entry: Drop + Sized {
     fn name(&self) -> &str;
 
     /// Runs it. Returns what differs from it, if anything does.
-    fn difference(&self, alloc: Global) -> Result<Option<String>, Malformed>;
+    fn difference<R: Wait + time::Clock>(
+        &self,
+        rt: &R,
+        alloc: Global,
+    ) -> Result<Option<String>, Malformed>;
 }

@@ -45,6 +45,8 @@ pub enum Flaw {
     Command,
     /// The command needs a queue, or a share, that has not begun.
     Early,
+    /// No queue has room for so many calls.
+    Capacity,
     /// A payload is not 1 to 64 visible bytes.
     Payload,
     /// There is not enough memory for the case or table.
@@ -76,6 +78,7 @@ impl Flaw {
             Flaw::Times => "`times` and `end` do not go together",
             Flaw::Command => "no such command",
             Flaw::Early => "no queue or share has begun",
+            Flaw::Capacity => "no capacity of a queue",
             Flaw::Payload => "no payload",
             Flaw::Memory => "out of memory",
         }

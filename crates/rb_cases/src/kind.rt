@@ -7,6 +7,12 @@ pub enum Kind {
     Timer,
     /// Calls of a kept queue, over each of the four timers.
     Queue,
+    /// Lines of the protocol.
+    Lines,
+    /// Words of the command line.
+    Words,
+    /// Jobs at the desks where no call waits.
+    Jobs,
 }
 
 impl Kind {
@@ -15,6 +21,9 @@ impl Kind {
         match name {
             "timer" => Ok(Kind::Timer),
             "queue" => Ok(Kind::Queue),
+            "lines" => Ok(Kind::Lines),
+            "words" => Ok(Kind::Words),
+            "jobs" => Ok(Kind::Jobs),
             _ => Err(Flaw::Kind),
         }
     }
@@ -23,6 +32,7 @@ impl Kind {
     pub fn has_timer(self) -> bool {
         match self {
             Kind::Timer | Kind::Queue => true,
+            Kind::Lines | Kind::Words | Kind::Jobs => false,
         }
     }
 }

@@ -10,13 +10,17 @@
 
 mod case;
 mod counters;
+mod desks;
 mod devices;
 mod differences;
 mod elements;
 mod entry;
+mod fixed_clock;
 mod flaw;
 mod form;
+mod job_subject;
 mod kind;
+mod line_subject;
 mod malformed;
 mod numbers;
 mod outcome;
@@ -35,6 +39,7 @@ mod table;
 mod tables;
 mod text;
 mod timer_subject;
+mod word_subject;
 
 use case::Case;
 use entry::Entry;
@@ -42,26 +47,27 @@ use malformed::Malformed;
 use reader::read_entries;
 use report::Report;
 use std::process::ExitCode;
-use std::{env, fs, io};
+use std::sync::Wait;
+use std::{env, fs, io, time};
 use stopped::Stopped;
 use table::Table;
 
 fn main(rt: HostRuntime) -> ExitCode {
-    match run_all(&rt) {
+    match run_all(&rt, &rt) {
         Ok(report) => report.status(),
         Err(Stopped) => ExitCode::from(2),
     }
 }
 
 // Runs all files, and prints the count.
-fn run_all(rt: &HostRuntime) -> Result<Report, Stopped> {
+fn run_all<R: Wait + time::Clock>(rt: &HostRuntime, handle: &R) -> Result<Report, Stopped> {
     let words = words_of(rt)?;
     if words.len() < 2 {
         return Err(stop(rt, "no file of cases or tables is named"));
     }
     let mut report = Report::new();
     for path in words.iter().skip(1) {
-        run_file(rt, path, &mut report)?;
+        run_file(rt, handle, path, &mut report)?;
     }
     count(rt, &report)?;
     Ok(report)
@@ -78,51 +84,59 @@ fn command_line(rt: &HostRuntime) -> io::Result<Vec<String>> {
     Ok(env::args(rt)?.collect(rt.alloc())?)
 }
 
-fn run_file(rt: &HostRuntime, path: &str, report: &mut Report) -> Result<(), Stopped> {
+fn run_file<R: Wait + time::Clock>(
+    rt: &HostRuntime,
+    handle: &R,
+    path: &str,
+    report: &mut Report,
+) -> Result<(), Stopped> {
     let Ok(text) = fs::read_to_string(rt, path) else {
         let _ = eprintln!(rt; "{path}: the file can't be read as text");
         return Err(Stopped);
     };
     if path.ends_with(".rows") {
-        run_entries::<Table>(rt, path, &text, report)
+        run_entries::<Table, R>(rt, handle, path, &text, report)
     } else {
-        run_entries::<Case>(rt, path, &text, report)
+        run_entries::<Case, R>(rt, handle, path, &text, report)
     }
 }
 
 // Runs the cases or tables of a file, once all of it is read.
-fn run_entries<E: Entry>(
+fn run_entries<E: Entry, R: Wait + time::Clock>(
     rt: &HostRuntime,
+    handle: &R,
     path: &str,
     text: &str,
     report: &mut Report,
 ) -> Result<(), Stopped> {
     match read_entries::<E>(rt.alloc(), text) {
-        Ok(entries) => run_each(rt, path, &entries, report),
+        Ok(entries) => run_each(rt, handle, path, &entries, report),
         Err(malformed) => Err(stop_at(rt, path, malformed)),
     }
 }
 
-fn run_each<E: Entry>(
+fn run_each<E: Entry, R: Wait + time::Clock>(
     rt: &HostRuntime,
+    handle: &R,
     path: &str,
     entries: &[E],
     report: &mut Report,
 ) -> Result<(), Stopped> {
     for entry in entries {
-        run_entry(rt, path, entry, report)?;
+        run_entry(rt, handle, path, entry, report)?;
     }
     Ok(())
 }
 
 // Runs a case or a table, and prints its line.
-fn run_entry<E: Entry>(
+fn run_entry<E: Entry, R: Wait + time::Clock>(
     rt: &HostRuntime,
+    handle: &R,
     path: &str,
     entry: &E,
     report: &mut Report,
 ) -> Result<(), Stopped> {
-    match entry.difference(rt.alloc()) {
+    match entry.difference(handle, rt.alloc()) {
         Ok(difference) => {
             report.add(E::first_word() == "table", difference.is_some());
             print_line(

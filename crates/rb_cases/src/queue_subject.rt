@@ -37,7 +37,7 @@ use crate::form::Form;
 use crate::malformed::{Malformed, at_line};
 use crate::numbers::number;
 use crate::row::Line;
-use crate::subject::{Subject, words_in};
+use crate::subject::{FromSetUp, Subject, words_in};
 use crate::text::Text;
 use crate::timer_subject::moment_text;
 use rb_delayed::Element;
@@ -67,7 +67,7 @@ struct Run<T: Timer> {
     given: Items,
 }
 
-impl<T: Timer> Subject for QueueSubject<T> {
+impl<T: Timer> FromSetUp for QueueSubject<T> {
     fn begin(alloc: Global, set_up: &[Line]) -> Result<Self, Malformed> {
         let mut from = Text::new(alloc);
         for line in set_up {
@@ -79,7 +79,9 @@ impl<T: Timer> Subject for QueueSubject<T> {
             run: None,
         })
     }
+}
 
+impl<T: Timer> Subject for QueueSubject<T> {
     fn answer(&mut self, alloc: Global, command: &[u8]) -> Result<String, Flaw> {
         let words = words_in(alloc, command)?;
         match *words.as_slice() {
@@ -234,7 +236,8 @@ fn try_of(seat: &str, asked: &str, words: &[&str]) -> Result<Try, Flaw> {
     })
 }
 
-fn ask_of(words: &[&str]) -> Result<Ask, Flaw> {
+/// The ask of these words.
+pub fn ask_of(words: &[&str]) -> Result<Ask, Flaw> {
     match *words {
         ["offer", expiry, payload] => Ok(Ask::Offer(first_draft(expiry, payload)?)),
         ["offer", expiry, origin, first, attempt, payload] => {
@@ -268,8 +271,8 @@ fn fault_text(alloc: Global, fault: CallFault) -> Result<String, Flaw> {
     Ok(fault.to_string(alloc)?)
 }
 
-// A reply, but to a drain.
-fn reply_text(alloc: Global, reply: &Reply) -> Result<String, AllocError> {
+/// A reply, but to a drain.
+pub fn reply_text(alloc: Global, reply: &Reply) -> Result<String, AllocError> {
     match reply {
         Reply::Offered(element) => element_text(alloc, "offered ", element),
         Reply::Item(element) => element_text(alloc, "item ", element),
@@ -282,7 +285,8 @@ fn reply_text(alloc: Global, reply: &Reply) -> Result<String, AllocError> {
     }
 }
 
-fn given_text(alloc: Global, given: &Items, place: usize) -> Result<String, AllocError> {
+/// The element at a place of what a drain gave.
+pub fn given_text(alloc: Global, given: &Items, place: usize) -> Result<String, AllocError> {
     match given.as_slice().get(place) {
         Some(element) => element_text(alloc, "", element),
         None => "none".to_string(alloc),

@@ -6,11 +6,13 @@ use std::str;
 
 /// What the rows of a table are about: it performs their commands.
 pub trait Subject: Drop + Sized {
-    /// Makes one as the set-up says.
-    fn begin(alloc: Global, set_up: &[Line]) -> Result<Self, Malformed>;
-
     /// Performs a command, whose escapes have been read, and tells its answer.
     fn answer(&mut self, alloc: Global, command: &[u8]) -> Result<String, Flaw>;
+}
+
+/// A subject that is made as the set-up says.
+pub trait FromSetUp: Subject {
+    fn begin(alloc: Global, set_up: &[Line]) -> Result<Self, Malformed>;
 }
 
 /// Refuses set-up, for a subject that has none.

@@ -22,6 +22,9 @@
 //! |---|---|---|
 //! | `timer` | commands to a timer | `timer_subject.rt` |
 //! | `queue` | calls of a kept queue | `queue_subject.rt` |
+//! | `lines` | lines of the protocol | `line_subject.rt` |
+//! | `words` | words of the command line | `word_subject.rt` |
+//! | `jobs` | jobs at the desks where no call waits | `job_subject.rt` |
 
 use crate::devices::timer_of;
 use crate::entry::Entry;
@@ -32,11 +35,13 @@ use crate::numbers::number;
 use crate::row::{Block, Line, Row};
 use crate::tables::table_difference;
 use std::alloc::{AllocError, Global};
+use std::sync::Wait;
+use std::time;
 
 /// Commands of one kind, each with its answer.
 #[derive(Drop)]
 pub struct Table {
-    line: usize,
+    pub line: usize,
     pub kind: Kind,
     name: String,
     over: Option<&'static str>,
@@ -85,8 +90,12 @@ impl Entry for Table {
         &self.name
     }
 
-    fn difference(&self, alloc: Global) -> Result<Option<String>, Malformed> {
-        table_difference(alloc, self)
+    fn difference<R: Wait + time::Clock>(
+        &self,
+        rt: &R,
+        alloc: Global,
+    ) -> Result<Option<String>, Malformed> {
+        table_difference(rt, alloc, self)
     }
 }
 

@@ -1,23 +1,35 @@
+use crate::desks::desks_difference;
 use crate::devices::TIMERS;
 use crate::flaw::Flaw;
 use crate::kind::Kind;
+use crate::line_subject::LineSubject;
 use crate::malformed::{Malformed, at_line};
 use crate::queue_subject::QueueSubject;
 use crate::row::{Block, Row};
-use crate::subject::Subject;
+use crate::subject::{FromSetUp, Subject};
 use crate::table::Table;
 use crate::text::bytes_of;
 use crate::timer_subject::TimerSubject;
+use crate::word_subject::WordSubject;
 use rb_binary::BinaryTimer;
 use rb_pairing::PairingTimer;
 use rb_timer::{ListTimer, Timer};
 use rb_wheel::WheelTimer;
 use std::alloc::Global;
+use std::sync::Wait;
+use std::time;
 
 /// What came in place of an answer in the first row that did not get one of its own.
-pub fn table_difference(alloc: Global, table: &Table) -> Result<Option<String>, Malformed> {
+pub fn table_difference<R: Wait + time::Clock>(
+    rt: &R,
+    alloc: Global,
+    table: &Table,
+) -> Result<Option<String>, Malformed> {
     match table.kind {
         Kind::Timer | Kind::Queue => over_timers(alloc, table),
+        Kind::Lines => run_table::<LineSubject>(alloc, table, ""),
+        Kind::Words => run_table::<WordSubject>(alloc, table, ""),
+        Kind::Jobs => desks_difference(rt, alloc, table),
     }
 }
 
@@ -44,19 +56,29 @@ fn over_timer(alloc: Global, table: &Table, timer: &str) -> Result<Option<String
 fn over<T: Timer>(alloc: Global, table: &Table, place: &str) -> Result<Option<String>, Malformed> {
     match table.kind {
         Kind::Timer => run_table::<TimerSubject<T>>(alloc, table, place),
-        Kind::Queue => run_table::<QueueSubject<T>>(alloc, table, place),
+        _ => run_table::<QueueSubject<T>>(alloc, table, place),
     }
 }
 
 // Runs all rows. What is printed of a row begins with `place`.
-fn run_table<S: Subject>(
+fn run_table<S: FromSetUp>(
     alloc: Global,
     table: &Table,
     place: &str,
 ) -> Result<Option<String>, Malformed> {
     let mut subject = S::begin(alloc, &table.set_up)?;
-    for block in table.blocks.iter() {
-        if let Some(text) = run_block(alloc, &mut subject, block, place)? {
+    run_blocks(alloc, &mut subject, &table.blocks, place)
+}
+
+/// Runs the rows of all blocks.
+pub fn run_blocks<S: Subject>(
+    alloc: Global,
+    subject: &mut S,
+    blocks: &[Block],
+    place: &str,
+) -> Result<Option<String>, Malformed> {
+    for block in blocks {
+        if let Some(text) = run_block(alloc, subject, block, place)? {
             return Ok(Some(text));
         }
     }

@@ -18,7 +18,7 @@ use crate::flaw::Flaw;
 use crate::malformed::Malformed;
 use crate::numbers::number;
 use crate::row::Line;
-use crate::subject::{Subject, refuse_set_up, words_in};
+use crate::subject::{FromSetUp, Subject, refuse_set_up, words_in};
 use rb_timer::{Timer, TimerAnswer, TimerCommand, run_timer};
 use std::alloc::{AllocError, Global};
 
@@ -27,14 +27,16 @@ pub struct TimerSubject<T: Timer> {
     timer: T,
 }
 
-impl<T: Timer> Subject for TimerSubject<T> {
+impl<T: Timer> FromSetUp for TimerSubject<T> {
     fn begin(alloc: Global, set_up: &[Line]) -> Result<Self, Malformed> {
         refuse_set_up(set_up)?;
         Ok(TimerSubject {
             timer: T::new(alloc),
         })
     }
+}
 
+impl<T: Timer> Subject for TimerSubject<T> {
     fn answer(&mut self, alloc: Global, command: &[u8]) -> Result<String, Flaw> {
         let words = words_in(alloc, command)?;
         answer_to(alloc, &mut self.timer, &words)

@@ -1,0 +1,15 @@
+ghost use Rattle.std.specs.Prelude.{◌≡◌};
+
+use rb_blocking::Clock;
+
+/// A clock that always reads this moment.
+#[derive(Clone, Copy)]
+pub struct FixedClock(pub u64);
+
+impl Clock for FixedClock {
+    ghost gives = { λ clock moment. moment ≡ clock.0 };
+
+    fn now(&self) -> u64 {
+        self.0
+    }
+}

@@ -1,0 +1,239 @@
+//! The lines of the protocol, and a text to which replies are appended.
+//!
+//! | Command | Answer |
+//! |---|---|
+//! | `request LINE` | the request in small letters, or the first fault: `line`, `syntax`, `number` or `payload` |
+//! | `reply REPLY` | the line that is appended to the text |
+//! | `behind REPLY` | the line that is appended to each of several texts, some of which have to grow |
+//! | `length` | how many bytes the text has |
+//! | `part FROM LENGTH` | so many bytes of the text |
+//! | `constant NAME` | the number of this name |
+//!
+//! A REPLY is one of these, where an ELEMENT is `ID EXPIRY ORIGIN FIRST ATTEMPT PAYLOAD`:
+//!
+//! | REPLY |
+//! |---|
+//! | `offered ID EXPIRY`, `again ID EXPIRY` |
+//! | `item ELEMENT`, `head ELEMENT` |
+//! | `removed yes`, `removed no` |
+//! | `drained N`, `size N`, `done ID`, `dead ID`, `now MOMENT` |
+//! | `nothing`, `cleared`, `stopped`, `bye` |
+//! | `error WORD`, with the word of the error's line |
+//!
+//! There is no set-up.
+
+use crate::elements::{element_of, payload_text};
+use crate::flaw::Flaw;
+use crate::malformed::Malformed;
+use crate::numbers::number;
+use crate::row::Line;
+use crate::subject::{FromSetUp, Subject, refuse_set_up, words_in};
+use rb_delayed::Payload;
+use rb_protocol::{
+    ErrorWord, LINE_FEED, LineFault, LineReply, MOST_LINE_BYTES, MOST_REPLY_BYTES, REPLY_ROOM,
+    Request, SPACE, cut_word, read_request, write_reply,
+};
+use std::alloc::{AllocError, Global};
+
+// The texts behind which a reply is written: how many bytes they have, and for how many more there
+// is room.
+const TEXTS: [(usize, usize); 8] = [
+    (0, 0),
+    (10, 0),
+    (1_000, 0),
+    (100_000, 0),
+    (0, REPLY_ROOM),
+    (10, REPLY_ROOM),
+    (1_000, REPLY_ROOM),
+    (100_000, REPLY_ROOM),
+];
+
+#[derive(Drop)]
+pub struct LineSubject {
+    // All replies so far.
+    text: Vec<u8>,
+}
+
+impl FromSetUp for LineSubject {
+    fn begin(alloc: Global, set_up: &[Line]) -> Result<Self, Malformed> {
+        refuse_set_up(set_up)?;
+        Ok(LineSubject {
+            text: Vec::new(alloc),
+        })
+    }
+}
+
+impl Subject for LineSubject {
+    fn answer(&mut self, alloc: Global, command: &[u8]) -> Result<String, Flaw> {
+        let (word, rest) = cut_word(command);
+        let rest = rest.unwrap_or(&[]);
+        match word {
+            b"request" => Ok(reading_text(alloc, rest)?),
+            b"reply" => Ok(self.append(alloc, &reply_in(alloc, rest)?)?),
+            b"behind" => Ok(behind_texts(alloc, &reply_in(alloc, rest)?)?),
+            b"length" => Ok(self.text.len().to_string(alloc)?),
+            b"part" => self.part(alloc, rest),
+            b"constant" => Ok(constant(rest)?.to_string(alloc)?),
+            _ => Err(Flaw::Command),
+        }
+    }
+}
+
+impl LineSubject {
+    fn append(&mut self, alloc: Global, reply: &LineReply) -> Result<String, AllocError> {
+        let before = self.text.len();
+        write_reply(reply, &mut self.text)?;
+        String::from_utf8_lossy(alloc, self.text.get(before..).unwrap_or(&[]))
+    }
+
+    fn part(&self, alloc: Global, told: &[u8]) -> Result<String, Flaw> {
+        let words = words_in(alloc, told)?;
+        let [from, length] = *words.as_slice() else {
+            return Err(Flaw::Command);
+        };
+        let from = number(from)?;
+        let part = self.text.get(from..from.saturating_add(number(length)?));
+        Ok(String::from_utf8_lossy(alloc, part.unwrap_or(&[]))?)
+    }
+}
+
+fn behind_texts(alloc: Global, reply: &LineReply) -> Result<String, AllocError> {
+    let mut line = Vec::new(alloc);
+    write_reply(reply, &mut line)?;
+    for (length, room) in TEXTS {
+        if !stands_behind(alloc, reply, &line, length, room)? {
+            return format!(in alloc; "not so behind {length} bytes, with room for {room}");
+        }
+    }
+    String::from_utf8_lossy(alloc, &line)
+}
+
+// Whether the reply is this line behind such a text, which does not grow if there is room.
+fn stands_behind(
+    alloc: Global,
+    reply: &LineReply,
+    line: &[u8],
+    length: usize,
+    room: usize,
+) -> Result<bool, AllocError> {
+    let most = length.saturating_add(room);
+    let mut text = Vec::with_capacity(alloc, most)?;
+    text.resize(length, b'x')?;
+    let is_exact = text.capacity() == most;
+    write_reply(reply, &mut text)?;
+    let is_kept = room == 0 || text.capacity() == most;
+    Ok(is_exact && is_kept && text.get(length..) == Some(line))
+}
+
+fn constant(name: &[u8]) -> Result<usize, Flaw> {
+    match name {
+        b"MOST_LINE_BYTES" => Ok(MOST_LINE_BYTES),
+        b"SPACE" => Ok(usize::from(SPACE)),
+        b"LINE_FEED" => Ok(usize::from(LINE_FEED)),
+        b"MOST_REPLY_BYTES" => Ok(MOST_REPLY_BYTES),
+        b"REPLY_ROOM" => Ok(REPLY_ROOM),
+        _ => Err(Flaw::Command),
+    }
+}
+
+fn reading_text(alloc: Global, line: &[u8]) -> Result<String, AllocError> {
+    match read_request(line) {
+        Ok(request) => request_text(alloc, &request),
+        Err(LineFault::Line) => "line".to_string(alloc),
+        Err(LineFault::Syntax) => "syntax".to_string(alloc),
+        Err(LineFault::Number) => "number".to_string(alloc),
+        Err(LineFault::Payload) => "payload".to_string(alloc),
+    }
+}
+
+fn request_text(alloc: Global, request: &Request) -> Result<String, AllocError> {
+    match request {
+        Request::Offer { delay, payload } => offer_text(alloc, "offer", *delay, payload),
+        Request::OfferAt { expiry, payload } => offer_text(alloc, "offerat", *expiry, payload),
+        Request::Poll => "poll".to_string(alloc),
+        Request::PollFor(timeout) => format!(in alloc; "pollfor {timeout}"),
+        Request::Take => "take".to_string(alloc),
+        Request::Peek => "peek".to_string(alloc),
+        Request::Remove(id) => format!(in alloc; "remove {id}"),
+        Request::Drain(most) => format!(in alloc; "drain {most}"),
+        Request::Clear => "clear".to_string(alloc),
+        Request::Size => "size".to_string(alloc),
+        Request::Done(id) => format!(in alloc; "done {id}"),
+        Request::Fail(id) => format!(in alloc; "fail {id}"),
+        Request::At(moment) => format!(in alloc; "at {moment}"),
+        Request::Quit => "quit".to_string(alloc),
+    }
+}
+
+fn offer_text(
+    alloc: Global,
+    word: &str,
+    number: u64,
+    payload: &Payload,
+) -> Result<String, AllocError> {
+    let payload = payload_text(payload);
+    format!(in alloc; "{word} {number} {payload}")
+}
+
+fn reply_in(alloc: Global, told: &[u8]) -> Result<LineReply, Flaw> {
+    let words = words_in(alloc, told)?;
+    reply_of(&words)
+}
+
+fn reply_of(words: &[&str]) -> Result<LineReply, Flaw> {
+    match *words {
+        ["item", ..] => Ok(LineReply::Item(element_of(words.get(1..).unwrap_or(&[]))?)),
+        ["head", ..] => Ok(LineReply::Head(element_of(words.get(1..).unwrap_or(&[]))?)),
+        ["error", word] => Ok(LineReply::Error(error_of(word)?)),
+        [word] => reply_alone(word),
+        [word, value] => reply_of_one(word, value),
+        [word, id, expiry] => reply_of_two(word, number(id)? as u64, number(expiry)? as u64),
+        _ => Err(Flaw::Command),
+    }
+}
+
+fn reply_alone(word: &str) -> Result<LineReply, Flaw> {
+    match word {
+        "nothing" => Ok(LineReply::Nothing),
+        "cleared" => Ok(LineReply::Cleared),
+        "stopped" => Ok(LineReply::Stopped),
+        "bye" => Ok(LineReply::Bye),
+        _ => Err(Flaw::Command),
+    }
+}
+
+fn reply_of_one(word: &str, value: &str) -> Result<LineReply, Flaw> {
+    match (word, value) {
+        ("removed", "yes") => Ok(LineReply::Removed(true)),
+        ("removed", "no") => Ok(LineReply::Removed(false)),
+        ("drained", _) => Ok(LineReply::Drained(number(value)? as u64)),
+        ("size", _) => Ok(LineReply::Size(number(value)? as u64)),
+        ("done", _) => Ok(LineReply::Done(number(value)? as u64)),
+        ("dead", _) => Ok(LineReply::Dead(number(value)? as u64)),
+        ("now", _) => Ok(LineReply::Now(number(value)? as u64)),
+        _ => Err(Flaw::Command),
+    }
+}
+
+fn reply_of_two(word: &str, id: u64, expiry: u64) -> Result<LineReply, Flaw> {
+    match word {
+        "offered" => Ok(LineReply::Offered { id, expiry }),
+        "again" => Ok(LineReply::Again { id, expiry }),
+        _ => Err(Flaw::Command),
+    }
+}
+
+fn error_of(word: &str) -> Result<ErrorWord, Flaw> {
+    match word {
+        "syntax" => Ok(ErrorWord::Syntax),
+        "number" => Ok(ErrorWord::Number),
+        "range" => Ok(ErrorWord::Range),
+        "payload" => Ok(ErrorWord::Payload),
+        "not-held" => Ok(ErrorWord::NotHeld),
+        "full" => Ok(ErrorWord::Full),
+        "memory" => Ok(ErrorWord::Memory),
+        "line" => Ok(ErrorWord::Line),
+        "held" => Ok(ErrorWord::Held),
+        _ => Err(Flaw::Command),
+    }
+}
