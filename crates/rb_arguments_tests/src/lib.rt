@@ -1,6 +1,7 @@
-//! Tests of `rb_arguments` by its public calls, with stated values.
+//! A test of `rb_arguments` by its public calls: each allocation is refused. What words are read as is in rows
+//! (`data/words.rows` of `rb_cases`).
 //!
-//! They are a crate of their own, so that the gate does not prove `rb_arguments` once more with them.
+//! It is a crate of its own, so that the gate does not prove `rb_arguments` once more with it.
 #![tactic(auto)]
 
 #[cfg(test)]

@@ -1,6 +1,5 @@
 // Each allocation of the reading of words, refused in turn.
 
-use crate::tests::fixtures::expect_same;
 use clap::Error;
 use clap::error::ErrorKind;
 use rb_arguments::{
@@ -66,16 +65,20 @@ fn is_text(found: &Option<String>, wanted: &str) -> bool {
     }
 }
 
+// A comparison is a function with no clause, which is proved once and not at each use.
+fn expect_same(rt: &impl Abort, words: &[&str], found: Option<Answer>, wanted: Answer) {
+    assert_eq!(rt; found, Some(wanted), "{words:?}");
+}
+
 // Whether the line met a refusal. It is read once more then.
 fn refused_line(rt: &impl Abort, alloc: Global, words: &[&str], answer: Answer) -> bool {
     let read = answer_of(&read_words(alloc, words));
     if read == Some(answer) {
         return false;
     }
-    let wanted = Some(Answer::Refused(ErrorKind::OutOfMemory));
-    expect_same(rt, words, &read, &wanted);
+    expect_same(rt, words, read, Answer::Refused(ErrorKind::OutOfMemory));
     let again = answer_of(&read_words(alloc, words));
-    expect_same(rt, words, &again, &Some(answer));
+    expect_same(rt, words, again, answer);
     true
 }
 
