@@ -1,4 +1,4 @@
-ghost use Rattle.std.specs.Prelude.{◌≡◌, [], vec_len, vec_capacity};
+ghost use Rattle.std.specs.Prelude.{◌≡◌, []};
 ghost use Rattle.rb_ledger.specs.Totals.{nothing};
 
 use crate::tests::devices::{ListPass, ListShared, expect_same};
@@ -7,7 +7,7 @@ use rb_kept::Kept;
 use rb_ledger::Tally;
 use rb_lock::Shared;
 use rb_queue::{Ask, Draft, Reply};
-use rb_retry::{Desk, DeskFault, Job};
+use rb_retry::{Desk, DeskFault};
 use rb_timer::{ListTimer, Timer};
 use std::alloc::Global;
 use std::process::Abort;
@@ -33,7 +33,7 @@ pub fn opened(rt: &impl Abort, alloc: Global, calls: u64) -> (ListShared, ListPa
         .expect(rt, "a shared queue")
 }
 
-pub fn payload(rt: &impl Abort) -> Payload {
+fn payload(rt: &impl Abort) -> Payload {
     Payload::new(b"a").ok().expect(rt, "a payload")
 }
 
@@ -91,16 +91,4 @@ pub fn expect_set<D: Desk>(rt: &impl Abort, desk: &mut D, moment: u64, wanted: O
 
 fn expect_moment(rt: &impl Abort, moment: Option<u64>, wanted: Option<u64>) {
     expect_same(rt, moment, wanted);
-}
-
-/// Room for this many jobs.
-pub fn room(rt: &impl Abort, alloc: Global, count: usize) -> Vec<Job>
-    ensures empty { vec_len result ≡ 0 }
-    ensures capacity { vec_capacity result ≡ count }
-{
-    Vec::with_capacity(alloc, count).ok().expect(rt, "memory")
-}
-
-pub fn expect_drained(rt: &impl Abort, drained: Result<(), DeskFault>) {
-    expect_same(rt, drained, Ok(()));
 }

@@ -139,33 +139,15 @@ fn expect_ids(rt: &impl Abort, ids: &[u64], last: u64, count: usize) {
     }
 }
 
-fn expect_drain(rt: &impl Abort, act: &Act, most: u64, last: u64, count: usize) {
-    match act {
-        Act::Drain { max, ids } => {
-            expect_number(rt, *max, most);
-            expect_ids(rt, ids.as_slice(), last, count);
-        }
-        _ => expect_holds(rt, false),
-    }
-}
-
-fn expect_act(rt: &impl Abort, act: &Act, wanted: Act) {
-    assert_eq!(rt; *act, wanted);
-}
-
-fn expect_moments(rt: &impl Abort, event: &Event, moment: u64) {
-    expect_same(rt, (event.seat, event.asked, event.at), (0, moment, moment));
-}
-
 fn expect_event(rt: &impl Abort, event: &Event, place: u64) {
-    expect_moments(rt, event, moment_of(place));
-    match deed_of(place) {
-        Deed::Offer(id) | Deed::Fail(id) => {
-            expect_act(rt, &event.act, Act::Offer(element(rt, id)));
-        }
-        Deed::Poll(id) => expect_act(rt, &event.act, Act::Poll(Some(id))),
-        Deed::Drain => expect_drain(rt, &event.act, 30, 89, 30),
-        Deed::Fetch => expect_drain(rt, &event.act, 50, 58, 19),
+    let moment = moment_of(place);
+    expect_same(rt, (event.seat, event.asked, event.at), (0, moment, moment));
+    match (deed_of(place), &event.act) {
+        (Deed::Offer(id) | Deed::Fail(id), Act::Offer(found)) => expect_element(rt, found, id),
+        (Deed::Poll(id), Act::Poll(found)) => expect_same(rt, *found, Some(id)),
+        (Deed::Drain, Act::Drain { max: 30, ids }) => expect_ids(rt, ids.as_slice(), 89, 30),
+        (Deed::Fetch, Act::Drain { max: 50, ids }) => expect_ids(rt, ids.as_slice(), 58, 19),
+        _ => rt.abort(),
     }
 }
 
@@ -178,41 +160,21 @@ fn expect_history(rt: &impl Abort, history: &[Event]) {
     }
 }
 
-fn expect_reply(rt: &impl Abort, reply: &Reply, wanted: Reply) {
-    assert_eq!(rt; *reply, wanted);
-}
-
-// Offers the first element of a job.
-fn offers<D: Desk>(rt: &impl Abort, desk: &mut D, id: u64) -> Result<(), DeskFault>
-    ensures name { D.name (D.state desk.new) ≡ D.name (D.state desk.old) }
-{
-    let offered = desk.call(100, first_offer(rt, element(rt, id).expiry));
-    see_offered(rt, offered, id)
-}
-
-fn see_offered(
+// What a call gave: the element that was offered, or elements 89 to 60.
+fn see_reply(
     rt: &impl Abort,
-    offered: Result<Reply, DeskFault>,
-    id: u64,
+    reply: Result<Reply, DeskFault>,
+    deed: Deed,
 ) -> Result<(), DeskFault> {
-    expect_reply(rt, &offered?, Reply::Offered(element(rt, id)));
+    match (reply?, deed) {
+        (Reply::Offered(found), Deed::Offer(id)) => expect_element(rt, &found, id),
+        (Reply::Drained(items), Deed::Drain) => expect_elements(rt, items.as_slice(), 89, 30),
+        _ => rt.abort(),
+    }
     Ok(())
 }
 
-// Polls an element, which becomes the last job.
-fn polls<D: Desk>(
-    rt: &impl Abort,
-    desk: &mut D,
-    place: u64,
-    id: u64,
-    jobs: &mut Vec<Job>,
-) -> Result<(), DeskFault>
-    ensures name { D.name (D.state desk.new) ≡ D.name (D.state desk.old) }
-{
-    let polled = poll(desk, moment_of(place));
-    see_polled(rt, polled, id, jobs)
-}
-
+// What was polled becomes the last job.
 fn see_polled(
     rt: &impl Abort,
     polled: Result<Option<Job>, DeskFault>,
@@ -253,14 +215,6 @@ fn fails<D: Desk>(
     see_failed(rt, ended, id, failed, jobs)
 }
 
-fn expect_again(rt: &impl Abort, verdict: Verdict, id: u64) {
-    expect_same(rt, verdict, Verdict::Again(element(rt, id)));
-}
-
-fn expect_handed_back(rt: &impl Abort, back: &Job, failed: Element) {
-    expect_same(rt, *back.element(), failed);
-}
-
 fn see_failed(
     rt: &impl Abort,
     ended: Result<Verdict, (Job, CallFault)>,
@@ -270,31 +224,15 @@ fn see_failed(
 ) -> Result<(), DeskFault> {
     match ended {
         Ok(verdict) => {
-            expect_again(rt, verdict, id);
+            expect_same(rt, verdict, Verdict::Again(element(rt, id)));
             Ok(())
         }
         Err((back, fault)) => {
-            expect_handed_back(rt, &back, failed);
+            expect_same(rt, *back.element(), failed);
             keep(rt, back, jobs);
             Err(DeskFault::from(fault))
         }
     }
-}
-
-// Drains elements 89 to 60 by the desk's call.
-fn drains<D: Desk>(rt: &impl Abort, desk: &mut D) -> Result<(), DeskFault>
-    ensures name { D.name (D.state desk.new) ≡ D.name (D.state desk.old) }
-{
-    let drained = desk.call(100, Ask::Drain(30));
-    see_drained(rt, drained)
-}
-
-fn see_drained(rt: &impl Abort, drained: Result<Reply, DeskFault>) -> Result<(), DeskFault> {
-    match drained? {
-        Reply::Drained(items) => expect_elements(rt, items.as_slice(), 89, 30),
-        _ => rt.abort(),
-    }
-    Ok(())
 }
 
 // Fetches behind one job.
@@ -315,6 +253,36 @@ fn see_fetched(
     drained?;
     expect_jobs(rt, jobs);
     Ok(())
+}
+
+// Offers the first element of a job.
+fn offers<D: Desk>(rt: &impl Abort, desk: &mut D, id: u64) -> Result<(), DeskFault>
+    ensures name { D.name (D.state desk.new) ≡ D.name (D.state desk.old) }
+{
+    let offered = desk.call(100, first_offer(rt, element(rt, id).expiry));
+    see_reply(rt, offered, Deed::Offer(id))
+}
+
+// Polls an element.
+fn polls<D: Desk>(
+    rt: &impl Abort,
+    desk: &mut D,
+    place: u64,
+    id: u64,
+    jobs: &mut Vec<Job>,
+) -> Result<(), DeskFault>
+    ensures name { D.name (D.state desk.new) ≡ D.name (D.state desk.old) }
+{
+    let polled = poll(desk, moment_of(place));
+    see_polled(rt, polled, id, jobs)
+}
+
+// Drains elements 89 to 60 by the desk's call.
+fn drains<D: Desk>(rt: &impl Abort, desk: &mut D) -> Result<(), DeskFault>
+    ensures name { D.name (D.state desk.new) ≡ D.name (D.state desk.old) }
+{
+    let drained = desk.call(100, Ask::Drain(30));
+    see_reply(rt, drained, Deed::Drain)
 }
 
 // Does a deed at a desk, and looks at what it gives.
@@ -436,24 +404,14 @@ fn has_done_kept<T: Timer>(
     }
 }
 
-fn expect_numbers(rt: &impl Abort, audit: Audit, totals: Totals) {
-    expect_same(
-        rt,
-        (audit.calls, audit.offered, audit.given, audit.left),
-        (DEEDS, 90, 90, 0),
-    );
-    expect_same(
-        rt,
-        (totals.calls, totals.offered, totals.given),
-        (DEEDS, 90, 90),
-    );
-}
-
 // The outcome of all deeds.
 fn expect_all(rt: &impl Abort, history: &[Event], audit: Audit, totals: Totals) {
     expect_number(rt, history.len() as u64, DEEDS);
     expect_history(rt, history);
-    expect_numbers(rt, audit, totals);
+    let counts = (audit.calls, audit.offered, audit.given, audit.left);
+    expect_same(rt, counts, (DEEDS, 90, 90, 0));
+    let shares = (totals.calls, totals.offered, totals.given);
+    expect_same(rt, shares, (DEEDS, 90, 90));
 }
 
 // Does all deeds at desks over a kept queue, and returns how often one was refused.
@@ -621,18 +579,14 @@ fn offers_at_last<D: Desk>(desk: &mut D, offer: Ask)
     }
 }
 
-fn expect_answer(rt: &impl Abort, answer: Result<Reply, DeskFault>, wanted: Reply) {
-    expect_same(rt, answer, Ok(wanted));
-}
-
 // What is left are the elements that the work offered.
 fn expect_left<D: Desk>(rt: &impl Abort, desk: &mut D, fillers: u64)
     ensures name { D.name (D.state desk.new) ≡ D.name (D.state desk.old) }
 {
     let polled = desk.call(100, Ask::Poll);
-    expect_answer(rt, polled, Reply::Nothing);
+    expect_same(rt, polled, Ok(Reply::Nothing));
     let size = desk.call(100, Ask::Size);
-    expect_answer(rt, size, Reply::Size(fillers));
+    expect_same(rt, size, Ok(Reply::Size(fillers)));
 }
 
 fn offers_jobs<D: Desk>(rt: &impl Abort, desk: &mut D)
@@ -659,10 +613,6 @@ fn works_off<D: Desk, C: Desk>(rt: &impl Abort, desk: &mut D, work: &Failing<C>)
     report
 }
 
-fn expect_same_report(rt: &impl Abort, found: WorkReport, wanted: WorkReport) {
-    expect_same(rt, found, wanted);
-}
-
 // A job whose second attempt was refused was run once, and each other twice.
 fn expect_report(rt: &impl Abort, report: WorkReport, runs: &[u32]) {
     let again = JOBS.saturating_sub(report.lost);
@@ -673,7 +623,7 @@ fn expect_report(rt: &impl Abort, report: WorkReport, runs: &[u32]) {
         deads: again,
         lost: report.lost,
     };
-    expect_same_report(rt, report, expected);
+    expect_same(rt, report, expected);
     let mut once = 0_u64;
     for &count in runs {
         expect_holds(rt, count == 1 || count == 2);
@@ -693,17 +643,9 @@ fn totals_of(report: WorkReport, fillers: u64) -> Totals {
     }
 }
 
-fn expect_set(rt: &impl Abort, moment: Option<u64>) {
-    expect_same(rt, moment, Some(100));
-}
-
-fn expect_totals(rt: &impl Abort, found: Totals, wanted: Totals) {
-    expect_same(rt, found, wanted);
-}
-
 fn worked_off_kept<T: Timer>(rt: &impl Abort, kept: &mut Kept<T>, tally: &mut Tally) -> WorkReport {
     let mut desk = KeptDesk::new(kept, tally);
-    expect_set(rt, desk.set(100));
+    expect_same(rt, desk.set(100), Some(100));
     let work = Failing::<KeptDesk<'_, T>>::new(rt, None);
     works_off(rt, &mut desk, &work)
 }
@@ -714,7 +656,7 @@ fn works_at_kept<T: Timer>(rt: &impl Abort, alloc: Global) -> Result<(), Fail> {
     let (mut kept, mut tally) = kept_at_last::<T>(alloc)?;
     let report = worked_off_kept(rt, &mut kept, &mut tally);
     expect_number(rt, report.lost, 0);
-    expect_totals(rt, tally.totals(), totals_of(report, 0));
+    expect_same(rt, tally.totals(), totals_of(report, 0));
     Ok(())
 }
 
@@ -754,14 +696,10 @@ fn lost_at_shared<R: Wait + time::Clock + Abort>(rt: &R, alloc: Global) -> Resul
     let second = shared.split(rt, &mut first)?;
     let report = works_at_shared(rt, &shared, &mut first, second);
     let (counted, booked) = not_all(rt, shared, first)?;
-    expect_totals(rt, counted, totals_of(report, 0));
-    expect_totals(rt, booked, totals_of(report, report.runs));
+    expect_same(rt, counted, totals_of(report, 0));
+    expect_same(rt, booked, totals_of(report, report.runs));
     expect_holds(rt, report.lost <= 1);
     Ok(u32::from(report.lost == 1))
-}
-
-fn expect_refusals(rt: &impl Abort, met: u32) {
-    expect_same(rt, met, REFUSALS);
 }
 
 #[test]
@@ -773,6 +711,7 @@ fn a_refusal_changes_nothing(rt: HostRuntime) -> Result<(), Fail> {
     let lost = lost_at_shared(&rt, alloc)?;
     let kept = refused_at_kept::<BinaryTimer>(&rt, alloc)?;
     let shared = refused_at_shared(&rt, alloc)?;
-    expect_refusals(&rt, lost.saturating_add(kept).saturating_add(shared));
+    let met = lost.saturating_add(kept).saturating_add(shared);
+    expect_same(&rt, met, REFUSALS);
     Ok(())
 }

@@ -2,16 +2,14 @@
 
 ghost use Rattle.std.specs.Prelude.{◌≡◌};
 
-use crate::tests::desks::expect_all_drained;
 use crate::tests::devices::{
     FixedClock, ListPass, ListShared, expect_count, expect_holds, expect_number, expect_same,
 };
 use crate::tests::fixtures::{expect, expect_set, offer, opened};
-use crate::tests::retries::{End, expect_end};
 use rb_blocking::{Bell, Gate, TurnGate};
-use rb_kept::Kept;
+use rb_kept::{CallFault, Kept};
 use rb_queue::{Ask, Event};
-use rb_retry::{Desk, DeskFault, Job, take};
+use rb_retry::{Desk, DeskFault, Job, Policy, Verdict, done, fail, take};
 use rb_shared_desk::SharedDesk;
 use rb_timer::ListTimer;
 use std::alloc::Global;
@@ -114,12 +112,39 @@ fn a_shared_desk_waits_by_its_gate(rt: HostRuntime) {
     expect_history(&rt, closed(&rt, shared, pass).history());
 }
 
-#[test]
-fn a_drain_at_a_shared_desk_gives_all_that_are_expired(rt: HostRuntime) {
-    let (shared, mut pass) = opened(&rt, rt.alloc(), 201);
-    let (clock, bell, mut gate) = (FixedClock(7), Bell::new(), TurnGate { limit: 0 });
-    let mut desk = SharedDesk::new(&rt, &shared, &mut pass, &clock, &mut gate, &bell);
-    expect_all_drained(&rt, rt.alloc(), &mut desk);
+// What became of a failed job, in numbers: the id and the expiry of its next attempt, or its own id.
+#[derive(Clone, Copy, Debug, PartialEq, Eq)]
+enum End {
+    Again(u64, u64),
+    Dead(u64),
+    Refused(u64, CallFault),
+}
+
+fn end_of(ended: Result<Verdict, (Job, CallFault)>) -> End {
+    match ended {
+        Ok(Verdict::Again(again)) => End::Again(again.id, again.expiry),
+        Ok(Verdict::Dead(dead)) => End::Dead(dead.id),
+        Err((job, fault)) => End::Refused(done(job).id, fault),
+    }
+}
+
+fn expect_end_of(rt: &impl Abort, ended: Result<Verdict, (Job, CallFault)>, wanted: End) {
+    expect_same(rt, end_of(ended), wanted);
+}
+
+fn two_attempts(rt: &impl Abort) -> Policy {
+    Policy::fixed(10, 2).expect(rt, "a policy")
+}
+
+fn taken(rt: &impl Abort, job: Result<Job, DeskFault>) -> Job {
+    job.ok().expect(rt, "a job")
+}
+
+// Takes a job, lets it fail at this moment, and compares what became of it.
+fn expect_end<D: Desk>(rt: &impl Abort, desk: &mut D, now: u64, wanted: End) {
+    let job = taken(rt, take(desk));
+    let ended = fail(desk, &two_attempts(rt), job, now);
+    expect_end_of(rt, ended, wanted);
 }
 
 fn fails_once<D: Desk>(rt: &impl Abort, desk: &mut D) {
