@@ -22,6 +22,14 @@ use Rattle.rb_arguments.specs.declared.words.Words.TheVariants.{Script, Replay, 
 abbrev pub with_policy : App → App
 with_policy app = with_rule (with_rule (with_rule app delay_option) rate_option) attempts_option
 
+-- a command with the options of a queue
+abbrev pub with_queue : Bor (List (Bor Text)) → App → App
+with_queue names app = with_rule (with_rule app calls_option) (timer_option names)
+
+-- a command with the files of a run and the options of a policy
+abbrev pub with_run : App → App
+with_run app = with_policy (with_rule (with_rule app history_option) from_option)
+
 -- `script` with its options
 abbrev pub script_command : Bor (List (Bor Text)) → App
 script_command names =

@@ -5,7 +5,7 @@ ghost use Rattle.clap.specs.Words.{app_of, rule_of, with_rule};
 ghost use Rattle.clap.specs.declared.builder.command.Command.TheViews.{out-Command};
 ghost use Rattle.rb_retry.specs.Retry.{AreAttempts};
 ghost use Rattle.rb_arguments.specs.Arguments.{AreTimerNames};
-ghost use Rattle.rb_arguments.specs.CommandLine.{Asks, program, replay_command, script_command, serve_command, with_policy};
+ghost use Rattle.rb_arguments.specs.CommandLine.{Asks, program, replay_command, script_command, serve_command, with_policy, with_queue, with_run};
 
 use crate::arguments::{
     attempts_option, calls_option, chains_flag, delay_option, file_argument, from_option,
@@ -72,11 +72,8 @@ fn script_command<'a>(alloc: Global) -> Result<Command<'a>, AllocError>
     let plain = Command::new(alloc, "script").about(
         "Runs a script from standard input to standard output",
     );
-    let calls = with_option(plain, calls_option(alloc))?;
-    let timer = with_option(calls, timer_option(alloc))?;
-    let history = with_option(timer, history_option(alloc))?;
-    let from = with_option(history, from_option(alloc))?;
-    with_policy(alloc, from)
+    let queue = with_queue(alloc, plain)?;
+    with_run(alloc, queue)
 }
 
 fn replay_command<'a>(alloc: Global) -> Result<Command<'a>, AllocError>
@@ -96,12 +93,31 @@ fn serve_command<'a>(alloc: Global) -> Result<Command<'a>, AllocError>
 {
     let plain = Command::new(alloc, "serve").about("Serves clients over TCP on 127.0.0.1");
     let port = with_option(plain, port_option(alloc))?;
-    let calls = with_option(port, calls_option(alloc))?;
-    let timer = with_option(calls, timer_option(alloc))?;
-    let workers = with_option(timer, workers_option(alloc))?;
+    let queue = with_queue(alloc, port)?;
+    let workers = with_option(queue, workers_option(alloc))?;
     let sessions = with_option(workers, sessions_option(alloc))?;
     let turns = with_option(sessions, turns_option(alloc))?;
-    let history = with_option(turns, history_option(alloc))?;
+    with_run(alloc, turns)
+}
+
+// The command with the options of a queue.
+fn with_queue<'a>(alloc: Global, command: Command<'a>) -> Result<Command<'a>, AllocError>
+    ensures app { IfOk result (λ wider. (names : Bor (List (Bor (List ℕ)))) × AreTimerNames names
+        × (app_of wider ≡ with_queue names (app_of command.entry))) }
+    ensures local { (out-Command command.entry).has_globals ≡ false
+        → IfOk result (λ wider. (out-Command wider).has_globals ≡ false) }
+{
+    let calls = with_option(command, calls_option(alloc))?;
+    with_option(calls, timer_option(alloc))
+}
+
+// The command with the options of what a run leaves and continues, and with those of a policy.
+fn with_run<'a>(alloc: Global, command: Command<'a>) -> Result<Command<'a>, AllocError>
+    ensures app { IfOk result (λ wider. app_of wider ≡ with_run (app_of command.entry)) }
+    ensures local { (out-Command command.entry).has_globals ≡ false
+        → IfOk result (λ wider. (out-Command wider).has_globals ≡ false) }
+{
+    let history = with_option(command, history_option(alloc))?;
     let from = with_option(history, from_option(alloc))?;
     with_policy(alloc, from)
 }

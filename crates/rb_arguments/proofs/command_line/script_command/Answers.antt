@@ -1,16 +1,13 @@
--- Each step adds one rule to the command before it, in the spec's order, the policy's at last.
-use Rattle.std.proofs.Common.{◌≡◌, ◌∙◌, ap, ap₂, codes}
+-- The options of a queue come first, and then those of a run.
+use Rattle.std.proofs.Common.{◌≡◌, ◌∙◌, ap, codes}
 use Rattle.std.proofs.lemmas.Result.{IfOk-weaker}
-use Rattle.clap.specs.Words.{app_of, new_app, with_rule}
-use Rattle.rb_arguments.specs.CommandLine.{with_policy}
+use Rattle.clap.specs.Words.{app_of, new_app}
+use Rattle.rb_arguments.specs.CommandLine.{with_queue, with_run}
 use Rattle.rb_arguments.proofs.command_line.script_command.Goals as goal
 
 pub returns-clause-app : goal.returns-clause-app
 returns-clause-app c =
-    let (names, names_are, timer_is) = c.timer_option.ensures.rule in
     let begun : app_of c.about-plain.result ≡ new_app (codes "script") = rw c.about-plain.ensures c.new.ensures.app in
-    let calls = c.in_ok-calls.ensures.app ∙ ap₂ with_rule begun c.calls_option.ensures.rule in
-    let timer = c.in_ok-timer.ensures.app ∙ ap₂ with_rule calls timer_is in
-    let history = c.in_ok-history.ensures.app ∙ ap₂ with_rule timer c.history_option.ensures.rule in
-    let from = c.in_ok-from.ensures.app ∙ ap₂ with_rule history c.from_option.ensures.rule in
-    IfOk-weaker c.with_policy.result _ _ (λ command wider. (names, names_are, wider ∙ ap with_policy from)) c.with_policy.ensures.app
+    let (names, names_are, queue_is) = c.in_ok-queue.ensures.app in
+    let queue = queue_is ∙ ap (with_queue names) begun in
+    IfOk-weaker c.with_run.result _ _ (λ command wider. (names, names_are, wider ∙ ap with_run queue)) c.with_run.ensures.app
