@@ -110,6 +110,9 @@ class WordsTest(unittest.TestCase):
             (["--patience", "0", "true"], "--patience more than 0"),
             (["--jobs", "many", "true"], "invalid int value"),
             (["/nowhere/broker"], "there is no program /nowhere/broker"),
+            (["true", "--only", "no such case"], "--only stands behind the program"),
+            (["true", "-x", "--", "--only", "no such case"], "-x stands behind the program"),
+            (["--", "/nowhere/broker", "--only", "no such case"], "there is no program /nowhere/broker"),
             (["--only", "no such case", "true"], "no case has 'no such case' in its name"),
             (["--cases", "/nowhere/a.case", "true"], "/nowhere/a.case"),
             (["--cases", "/", "true"], "Is a directory"),
@@ -118,6 +121,13 @@ class WordsTest(unittest.TestCase):
                 status, lines, errors = conform(*words)
                 self.assertEqual((status, lines), (2, []))
                 self.assertIn(told, errors.splitlines()[-1])
+
+    def test_options_of_the_program(self):
+        case = ("--only", "quit ends a session before a whole")
+        for words in [("--", sys.executable, "-B", WRONG[1]), (sys.executable, "--", "-B", WRONG[1])]:
+            with self.subTest(words=words):
+                status, lines, _ = conform(*case, *words, "no BYE", Options.program)
+                self.assertEqual((status, counts_of(lines[-1])[1:]), (1, [1, 0]), lines)
 
     def test_a_file_that_is_no_program(self):
         with tempfile.NamedTemporaryFile("w") as it:
