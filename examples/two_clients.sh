@@ -7,8 +7,10 @@ set -euo pipefail
 
 top=$(readlink -f -- "${BASH_SOURCE[0]}") && top=${top%/*/*}
 port=${1:-7011}
+broker=$top/broker
+[[ -x $broker ]] || broker=rb_broker # as the package installs it
 
-exec {server}< <("$top/broker" serve --port "$port" --sessions 2)
+exec {server}< <("$broker" serve --port "$port" --sessions 2)
 read -r line <&"$server" # "listening 127.0.0.1:PORT": from here on clients can connect
 echo "server: $line"
 

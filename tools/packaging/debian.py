@@ -1,7 +1,6 @@
 """The Debian package, made of the tree by dpkg-deb."""
 from __future__ import annotations
 
-import email.utils
 import gzip
 import hashlib
 import os
@@ -10,11 +9,13 @@ import subprocess
 import tempfile
 
 from packaging import SOURCES, Fault
+from packaging.changes import changelog
 from packaging.program import Needs, needs_of
-from packaging.tree import DOCUMENTS, content_of, kibibytes, lay_out, remove, settle, write
+from packaging.tree import DOCUMENTS, content_of, is_file, kibibytes, lay_out, remove, settle, write
 from packaging.version import Version
 
 SCRIPTS = ("postinst", "prerm", "postrm")
+NEEDED_BY_SCRIPTS = "iproute2"  # a stop cuts sessions by its ss
 
 
 def make_package(program: str, version: Version, folder: str) -> str:
@@ -47,27 +48,17 @@ def pack(root: str, version: Version, path: str) -> str:
     return path
 
 
-def changelog(version: Version) -> str:
-    """The one entry that Debian's format requires."""
-    date = email.utils.formatdate(version.moment)
-    owner = "Nixerba maintainers <maintainers@users.noreply.nixerba.example>"
-    what = "  * Built from the repository; its history says what changed."
-    return f"rb-broker ({version.text}) unstable; urgency=medium\n\n{what}\n\n -- {owner}  {date}\n"
-
-
 def write_control(root: str, version: Version, needs: Needs) -> None:
     """Writes the folder DEBIAN: what dpkg must know about the package."""
     parts = {
         "version": version.text,
         "architecture": needs.architecture,
         "size": str(kibibytes(root)),
-        "depends": needs.depends,
+        "depends": ", ".join(it for it in (NEEDED_BY_SCRIPTS, needs.depends) if it),
     }
     control = content_of(f"{SOURCES}/debian/control").decode()
     for name, part in parts.items():
         control = control.replace(f"@{name}@", part)
-    if not needs.depends:
-        control = control.replace("Depends: \n", "")
     sums = md5sums(root)
     write(root, "DEBIAN/control", control.encode())
     write(root, "DEBIAN/conffiles", content_of(f"{SOURCES}/debian/conffiles"))
@@ -79,5 +70,5 @@ def write_control(root: str, version: Version, needs: Needs) -> None:
 def md5sums(root: str) -> str:
     """A line for each file that is no conffile, by which `dpkg --verify` finds what was changed."""
     paths = sorted(f"{folder}/{it}" for folder, _, names in os.walk(root) for it in names)
-    places = [it[len(root) + 1 :] for it in paths if not it.startswith(f"{root}/etc/")]
+    places = [it[len(root) + 1 :] for it in paths if is_file(it) and not it.startswith(f"{root}/etc/")]
     return "".join(f"{hashlib.md5(content_of(f'{root}/{it}')).hexdigest()}  {it}\n" for it in places)

@@ -5,12 +5,18 @@ import os
 import re
 import socket
 import subprocess
+from collections.abc import Mapping
 from types import TracebackType
 from typing import Optional
 
 from packaging import Fault
+from packaging.commands import Unit
 from packaging.running import PATIENCE, Told, fault_unless, run
 from serving.server import Tally
+from serving.session import Session
+
+FEW = {"RB_BROKER_OPTIONS": "--workers 4 --sessions 40 --calls 1000"}
+ONE = {"RB_BROKER_OPTIONS": "--workers 1 --sessions 1"}
 
 
 def free_port() -> int:
@@ -21,19 +27,18 @@ def free_port() -> int:
 
 
 class Serving:
-    """A server of the program that is installed below a root, in the folder of its state. It is gone at the end."""
+    """A server by the commands of the unit that is installed below a root, in the folder of its state. It is gone at
+    the end. The settings replace those of the installed file of options, and `port` a free one."""
 
-    def __init__(self, root: str, state: str, sessions: int) -> None:
-        program = f"{root}/usr/bin/rb_broker"
-        self.stop = f"{root}/usr/lib/rb_broker/stop_server"
-        self.prepared = run(f"{root}/usr/lib/rb_broker/prepare_run", program, folder=state)
+    def __init__(self, root: str, state: str, settings: Mapping[str, str], port: Optional[int] = None) -> None:
+        os.makedirs(state, exist_ok=True)
         for _ in range(20):
-            self.port = free_port()
-            words = ["serve", "--port", self.port, "--from", "opening.txt", "--history", "history.txt"]
-            words += ["--workers", 4, "--sessions", sessions, "--calls", 1000]
+            self.port = port or free_port()
+            self.unit = Unit(root, "rb_broker@.service", self.port, settings)
+            self.prepared = run(*self.unit.command("ExecStartPre"), f"{root}/usr/bin/rb_broker", folder=state)
             pipe = subprocess.PIPE
             self.process = subprocess.Popen(
-                [program, *map(str, words)], cwd=state, stdout=pipe, stderr=pipe, encoding="utf-8"
+                self.unit.command("ExecStart"), cwd=state, stdout=pipe, stderr=pipe, encoding="utf-8"
             )
             if self.process.stdout and self.process.stdout.readline() == f"listening 127.0.0.1:{self.port}\n":
                 return
@@ -64,6 +69,20 @@ class Serving:
         except OSError as fault:
             return repr(fault)
 
+    def stop_words(self, wait: int, cut: int) -> list[str]:
+        """The words of the unit's stop, with how long it waits for open sessions, and how long after it cuts them."""
+        self.unit.settings.update(RB_BROKER_STOP_SECONDS=str(wait), RB_BROKER_CUT_SECONDS=str(cut))
+        return self.unit.command("ExecStop", str(self.process.pid))
+
+    def stop(self, wait: int, cut: int) -> tuple[Told, Told]:
+        """Stops it by the unit's command. Gives what that told, and what the server did."""
+        # Nobody else waits for the process, so it has to be waited for beside the stop.
+        pipe = subprocess.PIPE
+        stop = subprocess.Popen(self.stop_words(wait, cut), stdout=pipe, stderr=pipe, encoding="utf-8")
+        ended = self.end()
+        said, errors = stop.communicate(timeout=PATIENCE)
+        return Told(stop.returncode, said, errors), ended
+
     def end(self) -> Told:
         """Its result, once it has ended. Its first line was read before."""
         try:
@@ -75,10 +94,10 @@ class Serving:
 
 def try_service(tally: Tally, root: str, state: str) -> None:
     """Runs of one service: a good stop, a run that continues it and is killed, and one that finds a damaged history."""
-    with Serving(root, state, 40) as server:
+    with Serving(root, state, FEW) as server:
         try_client(tally, server)
-        try_stops(tally, server)
-    with Serving(root, state, 40) as server:
+        try_stop(tally, server)
+    with Serving(root, state, FEW) as server:
         replies = server.talk("SIZE\nTAKE\nDONE 1\nQUIT\n")
         is_right = re.fullmatch(r"SIZE 1\nITEM 1 \d+ 1 b\nDONE 1\nBYE\n", replies) is not None
         tally.count("a run that goes on", fault_unless(is_right, replies))
@@ -86,7 +105,7 @@ def try_service(tally: Tally, root: str, state: str) -> None:
     with open(f"{state}/history.txt", "r+", encoding="utf-8") as it:
         tally.count("the history of a killed run", it.read())
         it.write("history 3\nopen 0 0 0\n0 0 0 si")
-    with Serving(root, state, 1) as server:
+    with Serving(root, state, ONE) as server:
         wanted = "prepare_run: history.txt is no legal history, and is damaged.txt now\n"
         is_right = server.prepared == Told(0, "", wanted) and os.path.exists(f"{state}/damaged.txt")
         tally.count("a damaged history", fault_unless(is_right, server.prepared))
@@ -103,19 +122,14 @@ def try_client(tally: Tally, server: Serving) -> None:
     tally.count("a client of the installed program", fault_unless(is_right, replies))
 
 
-def try_stops(tally: Tally, server: Serving) -> None:
-    """A stop of no process leaves the sessions alone, one with an open session gives up, the last one succeeds."""
-    port, process = str(server.port), str(server.process.pid)
-    told = run(server.stop, port, "", "9")
-    tally.count("a stop of no process", fault_unless(told == Told(0, "", ""), told))
-    with socket.create_connection(("127.0.0.1", server.port), timeout=PATIENCE):
-        told = run(server.stop, port, process, "1")
-        wanted = f"stop_server: the server at port {port} has not ended after 1 s\n"
-        tally.count("a stop with an open session", fault_unless(told == Told(1, "", wanted), told))
-    # Nobody else waits for the process, so it has to be waited for beside the stop.
-    stop = subprocess.Popen([server.stop, port, process, str(PATIENCE)])
-    told = server.end()
-    tally.count("the stop", fault_unless(stop.wait() == 0, stop.returncode))
-    audit = '{"calls":3,"cleared":0,"given":1,"left":1,"offered":2,"opening":0,"removed":0}'
+def try_stop(tally: Tally, server: Serving) -> None:
+    """A stop of no process leaves the sessions alone; one with no open session succeeds, and has nothing to say."""
+    with Session(server.port) as it:
+        told = run(*server.unit.command("ExecStop"))
+        is_right = told == Told(0, "", "") and it.ask("SIZE") == "SIZE 1"
+        tally.count("a stop of no process", fault_unless(is_right, told))
+    told, ended = server.stop(30, 30)
+    tally.count("the stop", fault_unless(told == Told(0, "", ""), told))
+    audit = '{"calls":4,"cleared":0,"given":1,"left":1,"offered":2,"opening":0,"removed":0}'
     wanted = f"sessions 40 faults 0 lost 0\n{audit}\n"
-    tally.count("the server's end", fault_unless(told == Told(0, wanted, ""), told))
+    tally.count("the server's end", fault_unless(ended == Told(0, wanted, ""), ended))

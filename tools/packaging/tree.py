@@ -8,20 +8,33 @@ import shutil
 
 from packaging import SOURCES, TOP, Fault
 from packaging.bash_completion import bash_completion
+from packaging.pages import PAGES, installed_page
 from packaging.table import read_table
 from packaging.zsh_completion import zsh_completion
 
 DOCUMENTS = "usr/share/doc/rb-broker"
 PAGE = "usr/share/man/man1/rb_broker.1.gz"
+TOOLS = "usr/share/rb_broker/tools"
+PYTHON = "usr/lib/python3/dist-packages"
 
 # Where files of packaging/ go, and whether they are commands.
 COPIED = {
     "rb_broker@.service": ("usr/lib/systemd/system/rb_broker@.service", False),
+    "rb_broker_silent@.service": ("usr/lib/systemd/system/rb_broker_silent@.service", False),
+    "rb_broker_silent@.timer": ("usr/lib/systemd/system/rb_broker_silent@.timer", False),
     "rb_broker.default": ("etc/default/rb_broker", False),
     "prepare_run": ("usr/lib/rb_broker/prepare_run", True),
     "stop_server": ("usr/lib/rb_broker/stop_server", True),
+    "cut_sessions": ("usr/lib/rb_broker/cut_sessions", True),
+    "cut_silent": ("usr/lib/rb_broker/cut_silent", True),
     "debian/copyright": (f"{DOCUMENTS}/copyright", False),
 }
+
+# What the pages tell their readers to look at or to run, below the folder of documents as below this repository's.
+BESIDE_PAGES = ("docs/*.png", "examples/*", "clients/python/examples/*.py")
+
+# The tools that become commands, each with the folder of its modules.
+COMMANDS = {"report": "reporting", "load": "loading"}
 
 
 def write(root: str, place: str, content: bytes, is_command: bool = False) -> None:
@@ -52,23 +65,53 @@ def lay_out(root: str, program: str) -> None:
     table = read_table()
     write(root, "usr/share/bash-completion/completions/rb_broker", bash_completion(table).encode())
     write(root, "usr/share/zsh/vendor-completions/_rb_broker", zsh_completion(table).encode())
-    for name in ("PROTOCOL.md", "HISTORY.md", "OPERATING.md"):
-        write(root, f"{DOCUMENTS}/{name}", content_of(f"{TOP}/docs/{name}"))
-    for path in sorted(glob.glob(f"{TOP}/examples/*.txt")):
-        write(root, f"{DOCUMENTS}/examples/{os.path.basename(path)}", content_of(path))
+    lay_out_documents(root)
+    lay_out_tools(root)
+
+
+def lay_out_documents(root: str) -> None:
+    """Lays out the pages, and what they name beside them."""
+    beside = sorted(path for form in BESIDE_PAGES for path in glob.glob(f"{TOP}/{form}"))
+    names = [path[len(TOP) + 1 :] for path in beside]
+    for path, name in zip(beside, names):
+        write(root, f"{DOCUMENTS}/{name}", content_of(path), os.access(path, os.X_OK))
+    for page in PAGES:
+        text = content_of(f"{TOP}/{page}").decode()
+        write(root, f"{DOCUMENTS}/{page}", installed_page(page, text, {*PAGES, *names}).encode())
+
+
+def lay_out_tools(root: str) -> None:
+    """Lays out the tools that the pages name, each as a command rb_broker_NAME, and the client package for Python."""
+    for name, modules in COMMANDS.items():
+        write(root, f"{TOOLS}/{name}", content_of(f"{TOP}/tools/{name}"), is_command=True)
+        copy_modules(root, f"{TOP}/tools/{modules}", f"{TOOLS}/{modules}")
+        os.symlink(f"../share/rb_broker/tools/{name}", f"{root}/usr/bin/rb_broker_{name}")
+    copy_modules(root, f"{TOP}/clients/python/src/rb_broker_client", f"{PYTHON}/rb_broker_client")
+
+
+def copy_modules(root: str, folder: str, place: str) -> None:
+    """Copies the files of a folder that are no tests, and none of the folders in it."""
+    names = sorted(it for it in os.listdir(folder) if os.path.isfile(f"{folder}/{it}") and not it.startswith("test_"))
+    for name in names:
+        write(root, f"{place}/{name}", content_of(f"{folder}/{name}"))
 
 
 def settle(root: str, moment: int) -> None:
     """Gives every file and folder this time, so that the same files make the same package."""
     for folder, _, names in os.walk(root):
         for path in [folder, *(f"{folder}/{it}" for it in names)]:
-            os.utime(path, (moment, moment))
+            os.utime(path, (moment, moment), follow_symlinks=False)
 
 
 def kibibytes(root: str) -> int:
     """The size of the files as the field Installed-Size counts it."""
     paths = [f"{folder}/{it}" for folder, folders, names in os.walk(root) for it in folders + names]
-    return sum(-(-os.path.getsize(it) // 1024) if os.path.isfile(it) else 1 for it in paths)
+    return sum(-(-os.path.getsize(it) // 1024) if is_file(it) else 1 for it in paths)
+
+
+def is_file(path: str) -> bool:
+    """Whether it is a file of its own, and no link to one."""
+    return os.path.isfile(path) and not os.path.islink(path)
 
 
 def remove(root: str) -> None:

@@ -5,12 +5,16 @@ import os
 import shutil
 
 from packaging import TOP, Fault
+from packaging.cutting import try_cuts
+from packaging.installed import try_installed
 from packaging.page import check_layout
 from packaging.running import Told, fault_unless, run
 from packaging.service import try_service
 from packaging.shells import check_bash, check_zsh
+from packaging.stopping import try_stops
 from packaging.table import Table
 from packaging.unit import check_by_systemd
+from serving.cuts import reason_not_to_cut
 from serving.server import Tally
 
 
@@ -24,8 +28,11 @@ def try_package(tally: Tally, program: str, table: Table, folder: str) -> None:
     write_empty(f"{folder}/files/one.txt")
     check_bash(tally, f"{root}/usr/share/bash-completion/completions/rb_broker", f"{folder}/files", table)
     check_zsh(tally, f"{root}/usr/share/zsh/vendor-completions/_rb_broker", table)
-    os.mkdir(f"{folder}/state")
     try_service(tally, root, f"{folder}/state")
+    reason = reason_not_to_cut()
+    try_cuts(tally, root, f"{folder}/cuts", reason)
+    try_stops(tally, root, f"{folder}/stops", reason)
+    try_installed(tally, root, folder)
     remove(tally, root)
 
 

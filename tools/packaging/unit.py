@@ -12,8 +12,19 @@ from packaging.table import Command, Option, Table
 from packaging.told import accepts
 from serving.server import Tally
 
+SECOND = 1_000_000_000  # nanoseconds
+
 UNIT = f"{SOURCES}/rb_broker@.service"
+SILENT_UNIT = f"{SOURCES}/rb_broker_silent@.service"
 DEFAULTS = f"{SOURCES}/rb_broker.default"
+UNITS = ("rb_broker@.service", "rb_broker_silent@.service", "rb_broker_silent@.timer")
+
+# The settings beside the options, each with the unit that has its default, and its range.
+SETTINGS = {
+    "RB_BROKER_STOP_SECONDS": (UNIT, "1 to 3600"),
+    "RB_BROKER_CUT_SECONDS": (UNIT, "1 to 3600"),
+    "RB_BROKER_SILENT_SECONDS": (SILENT_UNIT, "0 to 86400"),
+}
 
 
 def text_of(path: str) -> str:
@@ -51,16 +62,30 @@ def check_unit(tally: Tally, program: str, table: Table) -> None:
 
 def check_settings(tally: Tally, program: str, serve: Command, unit: str, defaults: str) -> None:
     """Both files give a variable the same value, which the program accepts and the page tells."""
-    for name in ("RB_BROKER_OPTIONS", "RB_BROKER_STOP_SECONDS"):
-        told = {setting_of(unit, name), setting_of(defaults, name)}
+    options = setting_of(defaults, "RB_BROKER_OPTIONS")
+    told = {setting_of(unit, "RB_BROKER_OPTIONS"), options}
+    tally.count("RB_BROKER_OPTIONS of unit and file", fault_unless(len(told) == 1, told))
+    is_right = accepts(program, serve, shlex.split(options)) is True
+    tally.count("the words of RB_BROKER_OPTIONS", fault_unless(is_right, f"{options} are refused"))
+    check_advice(tally, options)
+    page = " ".join(plain(text_of(PAGE)).replace("\n.B ", " ").split())
+    for name, (place, values) in SETTINGS.items():
+        default = setting_of(defaults, name)
+        told = {setting_of(text_of(place), name), default}
         tally.count(f"{name} of unit and file", fault_unless(len(told) == 1, told))
-    words = shlex.split(setting_of(defaults, "RB_BROKER_OPTIONS"))
-    is_right = accepts(program, serve, words) is True
-    tally.count("the words of RB_BROKER_OPTIONS", fault_unless(is_right, f"{words} are refused"))
-    stopping = plain(text_of(PAGE)).partition(".SH STOPPING")[2].partition("\n.SH")[0]
-    wanted = f"is 1 to 3600 seconds, default {setting_of(defaults, 'RB_BROKER_STOP_SECONDS')}."
-    is_right = wanted in " ".join(stopping.split())
-    tally.count("the page's RB_BROKER_STOP_SECONDS", fault_unless(is_right, f"it is not {wanted!r}"))
+        wanted = f"{name} {values} seconds, default {default}"
+        tally.count(f"the page's {name}", fault_unless(wanted in page, f"it has no {wanted!r}"))
+
+
+def check_advice(tally: Tally, options: str) -> None:
+    """The options are what OPERATING.md tells to set before production."""
+    words = options.split()
+    values = {name: int(value) for name, value in zip(words[::2], words[1::2])}
+    is_right = (
+        values["--delay"] >= SECOND and values["--attempts"] > values["--workers"] and values["--turns"] == 50
+        and values["--calls"] == 1_000_000 and values["--sessions"] == 10_000
+    )
+    tally.count("what RB_BROKER_OPTIONS advises", fault_unless(is_right, values))
 
 
 def check_by_systemd(tally: Tally, root: str, folder: str) -> None:
@@ -68,11 +93,12 @@ def check_by_systemd(tally: Tally, root: str, folder: str) -> None:
     if not shutil.which("systemd-analyze"):
         print("systemd-analyze is not installed: the unit is not tried by it")
         return
-    unit = text_of(f"{root}/usr/lib/systemd/system/rb_broker@.service")
-    copy = f"{folder}/rb_broker@.service"
-    with open(copy, "w", encoding="utf-8") as it:
-        it.write(re.sub(r"^(Exec\w+=)/", rf"\1{root}/", unit, flags=re.M))
-    told = run("systemd-analyze", "verify", "--man=no", copy)
-    # What it says of other units, those of this machine, is passed over.
-    faults = [it for it in told.errors.splitlines() if "rb_broker" in it]
-    tally.count("systemd-analyze verify", fault_unless(not faults and told.status == 0, told))
+    for name in UNITS:
+        unit = text_of(f"{root}/usr/lib/systemd/system/{name}")
+        with open(f"{folder}/{name}", "w", encoding="utf-8") as it:
+            it.write(re.sub(r"^(Exec\w+=\+?)/", rf"\1{root}/", unit, flags=re.M))
+    for name in UNITS:
+        told = run("systemd-analyze", "verify", "--man=no", f"{folder}/{name}")
+        # What it says of other units, those of this machine, is passed over.
+        faults = [it for it in told.errors.splitlines() if "rb_broker" in it]
+        tally.count(f"systemd-analyze verify {name}", fault_unless(not faults and told.status == 0, told))

@@ -40,7 +40,7 @@ class Tally:
     """Counts what is as it must be, and prints what is not."""
 
     def __init__(self):
-        self.passed = self.failed = 0
+        self.passed = self.failed = self.passed_over = 0
 
     def count(self, name, fault):
         if fault:
@@ -49,7 +49,13 @@ class Tally:
         else:
             self.passed += 1
 
+    def pass_over(self, name, reason):
+        """Counts what can't be tried here, and says so."""
+        self.passed_over += 1
+        print(f"{name}: passed over: {reason}")
+
     def end(self):
-        """Prints the count, and returns whether everything is as it must be."""
-        print(f"{self.passed} as they must be, {self.failed} not")
+        """Prints the count, and returns whether everything that was tried is as it must be."""
+        rest = f", {self.passed_over} passed over" if self.passed_over else ""
+        print(f"{self.passed} as they must be, {self.failed} not{rest}")
         return self.failed == 0

@@ -1,0 +1,123 @@
+"""What the package installs beside the program: the tools, examples and pages that its pages tell users to use."""
+from __future__ import annotations
+
+import gzip
+import json
+import os
+import re
+import shutil
+import signal
+import subprocess
+import sys
+
+from packaging import TOP
+from packaging.running import PATIENCE, Told, fault_unless, run
+from packaging.service import ONE, Serving
+from packaging.tree import DOCUMENTS, PYTHON
+from serving.server import Tally
+
+# Fails each job for the first seconds of the run, and then does it; ends when all are done.
+RAISES = """
+import logging, sys, time
+from rb_broker_client import Producer, Worker
+port, seconds, jobs = map(int, sys.argv[1:])
+logging.disable()
+with Producer(port) as producer:
+    for number in range(jobs):
+        producer.offer(0, f"job-{number}")
+done, began = set(), time.monotonic()
+def handle(job):
+    if time.monotonic() < began + seconds:
+        raise RuntimeError("not yet")
+    done.add(job.payload)
+    if len(done) == jobs:
+        worker.stop()
+worker = Worker(handle, port)
+report = worker.run()
+print(len(done), report.done, report.dead, report.lost)
+"""
+
+
+def python(root: str, *words: str) -> Told:
+    """Runs Python as a user would, with the installed package where python3 would find it."""
+    return run("env", f"PYTHONPATH={root}/{PYTHON}", sys.executable, *words)
+
+
+def try_installed(tally: Tally, root: str, folder: str) -> None:
+    """Runs each of the installed commands once, and follows the links of the installed pages."""
+    told = run(f"{TOP}/tools/check_links", f"{root}/{DOCUMENTS}")
+    tally.count("the links of the installed pages", fault_unless(told.status == 0, told))
+    check_changelog(tally, root, folder)
+    try_load(tally, root, f"{folder}/load")
+    try_examples(tally, root, f"{folder}/rollover")
+    try_default_retries(tally, root, f"{folder}/retries")
+
+
+def check_changelog(tally: Tally, root: str, folder: str) -> None:
+    """Debian's changelog has each change of CHANGELOG.md, and dpkg can read it."""
+    with open(f"{TOP}/CHANGELOG.md", encoding="utf-8") as it:
+        wanted = re.findall(r"^- ", it.read(), re.M)
+    with gzip.open(f"{root}/{DOCUMENTS}/changelog.gz", "rt", encoding="utf-8") as packed:
+        text = packed.read()
+    found = re.findall(r"^  \* (?:Added|Changed|Fixed|Removed|Security): \S", text, re.M)
+    is_right = len(found) == len(wanted) > 0
+    tally.count("Debian's changelog", fault_unless(is_right, f"it has {len(found)} changes, not {len(wanted)}"))
+    if not shutil.which("dpkg-parsechangelog"):
+        tally.pass_over("dpkg-parsechangelog", "it is not installed")
+        return
+    with open(f"{folder}/changelog", "w", encoding="utf-8") as copy:
+        copy.write(text)
+    told = run("dpkg-parsechangelog", "-l", f"{folder}/changelog", "--show-field", "Source")
+    tally.count("dpkg-parsechangelog", fault_unless(told == Told(0, "rb-broker\n", ""), told))
+
+
+def try_load(tally: Tally, root: str, state: str) -> None:
+    """rb_broker_load puts load on a server, and rb_broker_report sums up its history."""
+    few = {"RB_BROKER_OPTIONS": "--workers 4 --sessions 4 --calls 10000"}
+    with Serving(root, state, few) as server:
+        words = ["--port", str(server.port), "--clients", "4", "--rate", "100", "--seconds", "1"]
+        told = run(f"{root}/usr/bin/rb_broker_load", *words)
+        ended = server.end()
+    tally.count("rb_broker_load", fault_unless(told.status == 0 and "\nerrors 0\n" in told.said, told))
+    calls = json.loads(ended.said.splitlines()[-1])["calls"]
+    told = run(f"{root}/usr/bin/rb_broker_report", f"{state}/history.txt")
+    is_right = told.status == 0 and f" {calls} events, 4 seats" in told.said
+    tally.count("rb_broker_report", fault_unless(is_right, (calls, told)))
+
+
+def try_examples(tally: Tally, root: str, folder: str) -> None:
+    """The rollover script serves, two clients of bash and the worker in Perl find their server, and the script ends."""
+    examples = f"{root}/{DOCUMENTS}/examples"
+    os.mkdir(folder)
+    with Serving(root, f"{folder}/port", ONE) as free:
+        free.kill()  # its port is free now
+    settings = {**os.environ, "RB_BROKER": f"{root}/usr/bin/rb_broker"}
+    words = [f"{examples}/rollover.sh", str(free.port), folder, "600", "--sessions", "20"]
+    pipe = subprocess.PIPE
+    script = subprocess.Popen(words, stdout=pipe, stderr=pipe, encoding="utf-8", env=settings)
+    assert script.stdout
+    line = script.stdout.readline()
+    tally.count("the rollover script's run", fault_unless(line.startswith("rollover: run 1 serves"), line))
+    replies = free.talk("OFFER 0 one\nQUIT\n")
+    if shutil.which("perl"):
+        words = ["perl", f"{examples}/worker.pl", str(free.port), "true"]
+        worker = subprocess.Popen(words, stdout=pipe, encoding="utf-8")
+        assert worker.stdout
+        line = worker.stdout.readline()
+        worker.send_signal(signal.SIGTERM)
+        worker.communicate(timeout=PATIENCE)
+        tally.count("the worker in Perl", fault_unless(line == "one, attempt 1: done\n", (line, replies)))
+    else:
+        tally.pass_over("the worker in Perl", "perl is not installed")
+    script.send_signal(signal.SIGTERM)
+    said, errors = script.communicate(timeout=PATIENCE)
+    is_right = script.returncode == 0 and not errors and said.endswith("stopped in good order after run 1, 0 left\n")
+    tally.count("the rollover script's end", fault_unless(is_right, (said, errors)))
+
+
+def try_default_retries(tally: Tally, root: str, state: str) -> None:
+    """With the installed options no job is dead of a handler that raises for 20 seconds."""
+    jobs = 200
+    with Serving(root, state, {}) as server:
+        told = python(root, "-c", RAISES, str(server.port), "20", str(jobs))
+    tally.count("a handler that raises for 20 s", fault_unless(told == Told(0, f"{jobs} {jobs} 0 0\n", ""), told))
