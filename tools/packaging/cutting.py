@@ -152,31 +152,41 @@ def visit(port: int, over: threading.Event) -> None:
             pass
 
 
+def speak(session: Session, over: threading.Event) -> None:
+    """Asks something every tenth of a second, for half a minute at most."""
+    for _ in range(300):
+        if over.wait(0.1):
+            return
+        session.ask("SIZE")
+
+
 def try_silent(tally: Tally, root: str, folder: str) -> None:
-    """Cut is the session that says nothing for a second, and none before that, and none that speaks."""
+    """Cut is the session that says nothing for two seconds, and none before that, and none that speaks."""
     with ExitStack() as stack:
         server = stack.enter_context(Serving(root, f"{folder}/silent", TWO))
-        told = cut_silent(root, server.port, 1)
+        told = cut_silent(root, server.port, 2)
         tally.count("silent sessions of a server without", fault_unless(told == Told(0, "", ""), told))
         silent, busy = (stack.enter_context(Session(server.port)) for _ in range(2))
         held = silent.ask("OFFER 0 job"), silent.ask("TAKE")
-        for _ in range(6):
-            busy.ask("SIZE")
-            time.sleep(0.2)
+        over = threading.Event()
+        speaker = threading.Thread(target=speak, args=(busy, over))
+        speaker.start()
+        time.sleep(2.2)
         told = cut_silent(root, server.port, 30)
         tally.count("a session that may be silent for longer", fault_unless(told == Told(0, "", ""), told))
         told = cut_silent(root, server.port, 0)
         tally.count("no limit of silence", fault_unless(told == Told(0, "", ""), told))
-        busy.ask("SIZE")
-        told = cut_silent(root, server.port, 1)
-        said = f"cut_silent: port {server.port}: sessions that were cut after 1 s of silence: 1\n"
+        told = cut_silent(root, server.port, 2)
+        said = f"cut_silent: port {server.port}: sessions that were cut after 2 s of silence: 1\n"
         tally.count("silent sessions", fault_unless(told == Told(0, said, "") and silent.is_cut(), (told, held)))
+        told = cut_silent(root, server.port, 2)
+        tally.count("a session that speaks", fault_unless(told == Told(0, "", ""), told))
+        over.set()
+        speaker.join()
         reply = busy.ask("POLLFOR 60000000000")
         is_right = re.fullmatch(r"ITEM 1 \d+ 2 job", reply) is not None
         tally.count("the job of a silent session", fault_unless(is_right, reply))
-        told = cut_silent(root, server.port, 1)
-        tally.count("a session that speaks", fault_unless(told == Told(0, "", ""), told))
-    told = cut_silent(root, server.port, 1)
+    told = cut_silent(root, server.port, 2)
     tally.count("silent sessions without a server", fault_unless(told == Told(0, "", ""), told))
 
 

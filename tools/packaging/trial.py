@@ -5,6 +5,7 @@ import os
 import shutil
 
 from packaging import TOP, Fault
+from packaging.booted import try_units
 from packaging.cutting import try_cuts
 from packaging.installed import try_installed
 from packaging.page import check_layout
@@ -21,7 +22,8 @@ from serving.server import Tally
 def try_package(tally: Tally, program: str, table: Table, folder: str) -> None:
     """Makes, installs, uses and removes the package, all below an empty folder."""
     root = f"{folder}/root"
-    install(tally, made(tally, program, folder), root)
+    package = made(tally, program, folder)
+    install(tally, package, root)
     check_layout(tally, f"{root}/usr/share/man/man1/rb_broker.1.gz")
     check_by_systemd(tally, root, folder)
     os.mkdir(f"{folder}/files")
@@ -34,6 +36,7 @@ def try_package(tally: Tally, program: str, table: Table, folder: str) -> None:
     try_stops(tally, root, f"{folder}/stops", reason)
     try_installed(tally, root, folder)
     remove(tally, root)
+    try_units(tally, package, f"{folder}/machine", reason)
 
 
 def write_empty(path: str) -> None:

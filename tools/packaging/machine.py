@@ -1,0 +1,102 @@
+"""A systemd of its own, in namespaces over this machine's files, to run the units of a package."""
+from __future__ import annotations
+
+import os
+import shutil
+import subprocess
+import time
+from types import TracebackType
+from typing import Optional
+
+from packaging import TOP
+from packaging.running import Told, run
+
+SYSTEMD = "/lib/systemd/systemd"
+UNITS = (
+    "sysinit.target", "basic.target", "shutdown.target", "multi-user.target", "sockets.target", "timers.target",
+    "systemd-journald.service", "systemd-journald.socket", "systemd-journald-dev-log.socket",
+)
+NAMESPACES = ("--mount", "--pid", "--uts", "--ipc", "--cgroup")
+PATIENCE = 20  # seconds in which it is up
+
+
+def own_cgroup() -> str:
+    """The folder of this process's cgroup, of the second version, or nothing."""
+    with open("/proc/mounts", encoding="utf-8") as mounts, open("/proc/self/cgroup", encoding="utf-8") as own:
+        folders = [it.split()[1] for it in mounts if it.split()[2] == "cgroup2"]
+        places = [it.strip()[3:] for it in own if it.startswith("0::")]
+    return f"{folders[0]}{places[0]}".rstrip("/") if folders and places else ""
+
+
+def reason_not_to_boot() -> str:
+    """Why no systemd can be started here, or nothing."""
+    if os.geteuid() != 0:
+        return "this user is not root"
+    missing = [it for it in (SYSTEMD, "unshare", "nsenter", "setpriv") if not shutil.which(it)]
+    if missing:
+        return f"there is no {missing[0]}"
+    return "" if own_cgroup() else "there are no cgroups of the second version"
+
+
+class Machine:
+    """The system. It shares this machine's network, and what it writes stays in a folder. It is gone at the end."""
+
+    def __init__(self, folder: str) -> None:
+        os.makedirs(f"{folder}/upper")
+        self.folder = folder
+        self.cgroup = f"{own_cgroup()}/rb_check_{os.getpid()}"
+        os.mkdir(self.cgroup)
+        # Each of the three ends when the one before has ended, whatever becomes of this one.
+        words = ["setpriv", "--pdeathsig", "KILL", "unshare", *NAMESPACES, "--fork", "--kill-child"]
+        words += [f"{TOP}/tools/packaging/boot_systemd", folder, *UNITS]
+        enter = f'echo $$ > "{self.cgroup}/cgroup.procs"; exec "$@"'
+        with open(f"{folder}/console", "w", encoding="utf-8") as console:
+            self.process = subprocess.Popen(
+                ["bash", "-c", enter, "bash", *words], stdin=subprocess.DEVNULL, stdout=console, stderr=console
+            )
+
+    def __enter__(self) -> Machine:
+        return self
+
+    def __exit__(
+        self, kind: Optional[type[BaseException]], fault: Optional[BaseException], trace: Optional[TracebackType]
+    ) -> None:
+        self.process.kill()
+        self.process.wait()
+        for _ in range(50):  # until the last process is gone
+            folders = [it for it, _, _ in os.walk(self.cgroup, topdown=False)]
+            try:
+                for it in folders:
+                    os.rmdir(it)
+                return
+            except OSError:
+                time.sleep(0.1)
+
+    def is_up(self) -> bool:
+        """Waits until systemd answers. Gives whether it does."""
+        until = time.monotonic() + PATIENCE
+        while time.monotonic() < until and self.process.poll() is None:
+            if self.run("systemctl", "is-active", "basic.target").said == "active\n":
+                return True
+            time.sleep(0.2)
+        return False
+
+    def console(self) -> str:
+        """What was said before systemd had its journal."""
+        with open(f"{self.folder}/console", encoding="utf-8", errors="replace") as it:
+            return it.read().strip()
+
+    def run(self, *words: str) -> Told:
+        """Runs a command in it."""
+        with open(f"/proc/{self.process.pid}/task/{self.process.pid}/children", encoding="ascii") as it:
+            children = it.read().split()
+        if not children:
+            return Told(-1, "", "nothing runs in it\n")
+        enter = ["nsenter", "--target", children[0], "--mount", "--pid", "--uts", "--ipc", "--cgroup", "--root", "--wd"]
+        return run(*enter, "env", "-i", "PATH=/usr/sbin:/usr/bin", "LC_ALL=C.UTF-8", *words)
+
+    def write(self, path: str, text: str) -> None:
+        """Writes a file of it."""
+        run_text = ["sh", "-c", 'printf "%s" "$2" > "$1"', "sh", path, text]
+        told = self.run(*run_text)
+        assert told.status == 0, told
