@@ -11,10 +11,13 @@ import subprocess
 import sys
 
 from packaging import TOP
+from packaging.pages import PAGES
 from packaging.running import PATIENCE, Told, fault_unless, run
 from packaging.service import ONE, Serving
-from packaging.tree import DOCUMENTS, PYTHON
+from packaging.tree import COMMANDS, DOCUMENTS, PYTHON
 from serving.server import Tally
+
+OF_A_CHECKOUT = {"package", "conform"}  # beside the checks
 
 # Fails each job for the first seconds of the run, and then does it; ends when all are done.
 RAISES = """
@@ -47,10 +50,25 @@ def try_installed(tally: Tally, root: str, folder: str) -> None:
     """Runs each of the installed commands once, and follows the links of the installed pages."""
     told = run(f"{TOP}/tools/check_links", f"{root}/{DOCUMENTS}")
     tally.count("the links of the installed pages", fault_unless(told.status == 0, told))
+    check_commands(tally, root)
     check_changelog(tally, root, folder)
     try_load(tally, root, f"{folder}/load")
     try_examples(tally, root, f"{folder}/rollover")
     try_default_retries(tally, root, f"{folder}/retries")
+
+
+def check_commands(tally: Tally, root: str) -> None:
+    """Each tool that an installed page names is a command, unless it is for those who have a checkout."""
+    named: set[str] = set()
+    for page in PAGES:
+        with open(f"{root}/{DOCUMENTS}/{page}", encoding="utf-8") as it:
+            named |= set(re.findall(r"\btools/([a-z_]+)\b(?!/)", it.read()))
+    wanted = {it for it in named - OF_A_CHECKOUT if not it.startswith("check_")}
+    fault = fault_unless(wanted == set(COMMANDS), f"they are {wanted}, and the commands {set(COMMANDS)}")
+    tally.count("the tools that the pages name", fault)
+    for name in COMMANDS:
+        told = run(f"{root}/usr/bin/rb_broker_{name}", "--help")
+        tally.count(f"rb_broker_{name} --help", fault_unless(told.status == 0, told))
 
 
 def check_changelog(tally: Tally, root: str, folder: str) -> None:

@@ -31,7 +31,7 @@ COPIED = {
 }
 
 # What the pages tell their readers to look at or to run, below the folder of documents as below this repository's.
-BESIDE_PAGES = ("docs/*.png", "examples/*", "clients/python/examples/*.py")
+BESIDE_PAGES = ("docs/*.png", "docs/*.svg", "examples/*", "clients/python/examples/*.py")
 
 # The tools that become commands, each with the folder of its modules.
 COMMANDS = {"report": "reporting", "load": "loading"}
