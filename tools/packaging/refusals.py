@@ -30,8 +30,6 @@ def refuse_words_about_sessions(tally: Tally, folder: str) -> None:
     refused(tally, 2, "the words are PORT PROCESS SECONDS CUT_SECONDS", folder, stop, "1", "1", "1")
     refused(tally, 2, "PORT is 1 to 65535", folder, stop, "0", "1", "1", "1")
     refused(tally, 2, "PROCESS is a number", folder, stop, "1", "x", "1", "1")
-    refused(tally, 2, ": SECONDS is 1 to 3600", folder, stop, "1", "1", "3601", "1")
-    refused(tally, 2, "CUT_SECONDS is 1 to 3600", folder, stop, "1", "1", "1", "0")
     refused(tally, 2, "the words are PORT PROCESS [SECONDS]", folder, cut, "1")
     refused(tally, 2, "PORT is 1 to 65535", folder, cut, "65536", "1")
     refused(tally, 2, "PROCESS is a number", folder, cut, "1", "")

@@ -69,12 +69,12 @@ class Serving:
         except OSError as fault:
             return repr(fault)
 
-    def stop_words(self, wait: int, cut: int) -> list[str]:
+    def stop_words(self, wait: object, cut: object) -> list[str]:
         """The words of the unit's stop, with how long it waits for open sessions, and how long after it cuts them."""
         self.unit.settings.update(RB_BROKER_STOP_SECONDS=str(wait), RB_BROKER_CUT_SECONDS=str(cut))
         return self.unit.command("ExecStop", str(self.process.pid))
 
-    def stop(self, wait: int, cut: int) -> tuple[Told, Told]:
+    def stop(self, wait: object, cut: object) -> tuple[Told, Told]:
         """Stops it by the unit's command. Gives what that told, and what the server did."""
         # Nobody else waits for the process, so it has to be waited for beside the stop.
         pipe = subprocess.PIPE

@@ -18,11 +18,24 @@ HOUR = 3_600_000_000_000  # nanoseconds
 
 def try_stops(tally: Tally, root: str, folder: str, reason: str) -> None:
     """A stop where sessions can be cut, and one where they can't. The reason is why they can't be here, if so."""
+    try_wrong_times(tally, root, folder)
     try_a_stop_in_vain(tally, root, folder)
     if reason:
         tally.pass_over("a stop with open sessions", reason)
     else:
         try_a_stop_with_cuts(tally, root, f"{folder}/cuts")
+
+
+def try_wrong_times(tally: Tally, root: str, folder: str) -> None:
+    """A time that is no number of the range is told, and the server is stopped all the same."""
+    with Serving(root, f"{folder}/times", TWO) as server:
+        told, ended = server.stop("soon", 3601)
+    lines = "".join(
+        f"stop_server: {name} is 1 to 3600, not '{value}', and is taken as 60\n"
+        for name, value in (("SECONDS", "soon"), ("CUT_SECONDS", "3601"))
+    )
+    is_right = told == Told(0, "", lines) and ended.status == 0
+    tally.count("a stop with wrong times", fault_unless(is_right, (told, ended)))
 
 
 def try_a_stop_in_vain(tally: Tally, root: str, folder: str) -> None:
