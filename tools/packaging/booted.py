@@ -11,16 +11,17 @@ from packaging.service import free_port
 from serving.server import Tally
 from serving.session import Session
 
-# A client with a unit of its own, which leaves when it is stopped and not before.
+# A client with a unit of its own, which leaves ten seconds after it is stopped.
 CLIENT = """[Unit]
-After=rb_broker@{port}.service
+{after}
 [Service]
 ExecStart=/usr/bin/python3 -c "{code}"
 """
 CODE = (
-    "import signal; from rb_broker_client import Worker; worker = Worker(print, {port}); "
-    "signal.signal(signal.SIGTERM, worker.stop); worker.run()"
+    "import signal, threading; from rb_broker_client import Worker; worker = Worker(print, {port}); "
+    "signal.signal(signal.SIGTERM, lambda *_: threading.Timer(10, worker.stop).start()); worker.run()"
 )
+
 # Fewer sessions than as installed, since each stop uses up those that are left.
 OPTIONS = 'RB_BROKER_OPTIONS="--workers 16 --sessions 200 --turns 50"\n'
 # Triggers of other packages, such as an index of all manual pages, would take most of the time.
@@ -65,6 +66,14 @@ class Service:
             if self.machine.run("ss", "-Hltn", f"src 127.0.0.1:{self.port}").said:
                 return
             time.sleep(0.1)
+
+    def has_client(self) -> bool:
+        """Waits until a client is served. Gives whether one is."""
+        for _ in range(100):
+            if "users:" in self.machine.run("ss", "-Htnp", f"src 127.0.0.1:{self.port}").said:
+                return True
+            time.sleep(0.1)
+        return False
 
     def stop(self, *others: str) -> Told:
         """Stops it, and others with it."""
@@ -119,22 +128,17 @@ def try_silence(tally: Tally, service: Service) -> None:
 
 
 def try_order(tally: Tally, service: Service) -> None:
-    """A client whose unit has After= is stopped first, so nothing is cut."""
-    code = CODE.format(port=service.port)
-    service.machine.write("/run/units/client.service", CLIENT.format(port=service.port, code=code))
-    service.machine.run("systemctl", "daemon-reload")
-    service.start(stop=60)
-    service.machine.run("systemctl", "start", "client.service")
-    for _ in range(100):
-        if service.machine.run("ss", "-Htn", f"src 127.0.0.1:{service.port}").said:
-            break
-        time.sleep(0.1)
-    began = time.monotonic()
-    told = service.stop("client.service")
-    took = time.monotonic() - began
-    journal = service.journal()
-    is_right = told.status == 0 and not cuts_in(journal) and "faults 0 lost 0" in journal and took < 20
-    tally.count("a client's unit with After=", fault_unless(is_right, (told, took, journal)))
+    """A client whose unit has After= is stopped first, so nothing is cut, though it takes its time; else it is cut."""
+    for after in (f"After={service.name}", ""):
+        code = CODE.format(port=service.port)
+        service.machine.write("/run/units/client.service", CLIENT.format(after=after, code=code))
+        service.machine.run("systemctl", "daemon-reload")
+        service.start(stop=1)
+        service.machine.run("systemctl", "start", "client.service")
+        is_there = service.has_client()
+        told, journal = service.stop("client.service"), service.journal()
+        is_right = is_there and told.status == 0 and bool(cuts_in(journal)) == (not after)
+        tally.count(f"a client's unit with {after or 'no After='}", fault_unless(is_right, (told, journal)))
 
 
 def try_removal(tally: Tally, service: Service) -> None:

@@ -1,6 +1,7 @@
 """A systemd of its own, in namespaces over this machine's files, to run the units of a package."""
 from __future__ import annotations
 
+import glob
 import os
 import shutil
 import subprocess
@@ -17,7 +18,7 @@ UNITS = (
     "systemd-journald.service", "systemd-journald.socket", "systemd-journald-dev-log.socket",
 )
 NAMESPACES = ("--mount", "--pid", "--uts", "--ipc", "--cgroup")
-PATIENCE = 20  # seconds in which it is up
+PATIENCE = 60  # seconds in which it is up, and in which it is gone
 
 
 def own_cgroup() -> str:
@@ -38,12 +39,24 @@ def reason_not_to_boot() -> str:
     return "" if own_cgroup() else "there are no cgroups of the second version"
 
 
+def is_removed(cgroup: str) -> bool:
+    """Removes a cgroup with those in it, unless a process is left there. Gives whether it did."""
+    try:
+        for folder in [it for it, _, _ in os.walk(cgroup, topdown=False)]:
+            os.rmdir(folder)
+        return True
+    except OSError:
+        return False
+
+
 class Machine:
     """The system. It shares this machine's network, and what it writes stays in a folder. It is gone at the end."""
 
     def __init__(self, folder: str) -> None:
         os.makedirs(f"{folder}/upper")
         self.folder = folder
+        for left in glob.glob(f"{own_cgroup()}/rb_check_*"):
+            is_removed(left)  # of a check that was killed
         self.cgroup = f"{own_cgroup()}/rb_check_{os.getpid()}"
         os.mkdir(self.cgroup)
         # Each of the three ends when the one before has ended, whatever becomes of this one.
@@ -63,14 +76,9 @@ class Machine:
     ) -> None:
         self.process.kill()
         self.process.wait()
-        for _ in range(50):  # until the last process is gone
-            folders = [it for it, _, _ in os.walk(self.cgroup, topdown=False)]
-            try:
-                for it in folders:
-                    os.rmdir(it)
-                return
-            except OSError:
-                time.sleep(0.1)
+        until = time.monotonic() + PATIENCE
+        while not is_removed(self.cgroup) and time.monotonic() < until:
+            time.sleep(0.1)
 
     def is_up(self) -> bool:
         """Waits until systemd answers. Gives whether it does."""
@@ -97,6 +105,5 @@ class Machine:
 
     def write(self, path: str, text: str) -> None:
         """Writes a file of it."""
-        run_text = ["sh", "-c", 'printf "%s" "$2" > "$1"', "sh", path, text]
-        told = self.run(*run_text)
+        told = self.run("sh", "-c", 'printf "%s" "$2" > "$1"', "sh", path, text)
         assert told.status == 0, told
