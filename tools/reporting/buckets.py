@@ -9,7 +9,7 @@ from array import array
 from bisect import bisect_left
 from typing import List, NamedTuple, Tuple
 
-Point = Tuple[int, int]
+Point = Tuple[int, float]
 
 
 class Buckets(NamedTuple):
@@ -31,13 +31,13 @@ class Buckets(NamedTuple):
     def width(self) -> float:
         return (self.edges[-1] - self.edges[0]) / len(self)
 
-    def slices(self, moments: array) -> List[slice]:
+    def slices(self, moments: array[int]) -> List[slice]:
         """The places of each bucket's entries in a column of rising moments."""
         places = [bisect_left(moments, edge) for edge in self.edges]
         return [slice(low, high) for low, high in zip(places, places[1:])]
 
 
-def thinned(moments: array, values: array, buckets: Buckets) -> List[Point]:
+def thinned(moments: array[int], values: array[int], buckets: Buckets) -> List[Point]:
     """The points of a series: all of them if they are few, otherwise up to four of each bucket."""
     if len(moments) <= 4 * len(buckets):
         return list(zip(moments, values))

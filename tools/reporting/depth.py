@@ -6,6 +6,7 @@ from dataclasses import dataclass, field
 from typing import Tuple
 
 from reporting import acts
+from reporting.columns import in_rising_order
 from reporting.history import NONE, History
 
 
@@ -13,9 +14,9 @@ from reporting.history import NONE, History
 class Depth:
     """A series with an entry wherever one of the two numbers may have changed."""
 
-    moments: array = field(default_factory=lambda: array("Q"))
-    standing: array = field(default_factory=lambda: array("l"))
-    expired: array = field(default_factory=lambda: array("l"))
+    moments: array[int] = field(default_factory=lambda: array("Q"))
+    standing: array[int] = field(default_factory=lambda: array("i"))
+    expired: array[int] = field(default_factory=lambda: array("i"))
 
     def note(self, moment: int, standing: int, expired: int) -> None:
         self.moments.append(moment)
@@ -23,7 +24,7 @@ class Depth:
         self.expired.append(expired)
 
     @staticmethod
-    def _greatest(moments: array, values: array) -> Tuple[int, int]:
+    def _greatest(moments: array[int], values: array[int]) -> Tuple[int, int]:
         greatest = max(values)
         return greatest, moments[values.index(greatest)]
 
@@ -38,7 +39,7 @@ class Depth:
         return self._greatest(self.moments, self.expired)
 
 
-def _expiries_on_the_way(history: History) -> array:
+def _expiries_on_the_way(history: History) -> array[int]:
     """When elements in the queue that had been offered before expired, in rising order."""
     elements, moments, end = history.elements, history.events.moments, history.end
     found = array("Q")
@@ -46,7 +47,7 @@ def _expiries_on_the_way(history: History) -> array:
         since = history.start if offered == NONE else moments[offered]
         if since < expiry <= (end if left == NONE else moments[left]):
             found.append(expiry)
-    return array("Q", sorted(found))
+    return in_rising_order(found)
 
 
 def depth_of(history: History) -> Depth:

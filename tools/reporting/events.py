@@ -14,13 +14,13 @@ Told = Tuple[int, int]
 
 
 class EventReader:
-    """Adds one event after the other. Raises a `Wrong` or an `OverflowError` if a line says what can't be."""
+    """Adds the events of a run in their order. Raises a `Wrong` or an `OverflowError` if a line says what can't be."""
 
     def __init__(self, history: History, queue: ReportedQueue) -> None:
         self.history, self._queue = history, queue
-        self._last = history.opened_at
-        self._event = 0
-        self._seats, self._moments = history.events.seats, history.events.moments
+        self._last = history.end
+        self._event = len(history.events)
+        self._seats, self._asked, self._moments = history.events.seats, history.events.asked, history.events.moments
         self._acts, self._subjects = history.events.acts, history.events.subjects
         self._readers: Dict[str, Callable[[Match[bytes], int], Told]] = {
             "offer": self._offer, "take": self._take, "poll": self._poll, "pollfor": self._poll_for,
@@ -30,11 +30,13 @@ class EventReader:
     def read(self, match: Match[bytes]) -> None:
         """Adds the event of a line that the grammar's pattern matched."""
         seat, asked, at = match.group(1, 2, 3)
-        moment = int(at)
+        moment = asked_moment = int(at)
         if asked != at or moment < self._last:
-            self._test(int(asked), moment)
+            asked_moment = int(asked)
+            self._test(asked_moment, moment)
         act, subject = self._readers[match.lastgroup or ""](match, moment)
         self._seats.append(int(seat))
+        self._asked.append(asked_moment)
         self._moments.append(moment)
         self._acts.append(act)
         self._subjects.append(subject)

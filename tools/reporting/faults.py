@@ -7,15 +7,16 @@ class Wrong(Exception):
 
 
 class Damaged(Exception):
-    """The line of this number, from 1, is not one of a history, or says what no queue does."""
+    """The line of this number, from 1, is not one of a history, or says what no queue does, or does not continue the
+    run before. The file is named where there may be several."""
 
     def __init__(self, line: int, what: str) -> None:
         super().__init__(line, what)
-        self.line, self.what = line, what
+        self.line, self.what, self.file = line, what, ""
 
     def __str__(self) -> str:
-        return f"line {self.line}: {self.what}"
+        return f"{self.file}: line {self.line}: {self.what}" if self.file else f"line {self.line}: {self.what}"
 
 
 class NoJob(Exception):
-    """The history has no job of this origin."""
+    """The history has no job of this origin or payload."""

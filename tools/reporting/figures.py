@@ -2,15 +2,26 @@
 from __future__ import annotations
 
 from dataclasses import dataclass
-from typing import Callable, List, NamedTuple
+from typing import Callable, List, NamedTuple, Optional
 
 from reporting import acts
+from reporting.dates import Dates
 from reporting.depth import Depth, depth_of
 from reporting.findings import Finding, findings_of
-from reporting.history import History
+from reporting.history import History, Run
 from reporting.jobs import Jobs, jobs_of
 from reporting.lateness import Lateness, lateness_of
+from reporting.policy import Policy
+from reporting.retries import Retries, retries_of
 from reporting.seats import Seats, seats_of
+
+
+class RunFigures(NamedTuple):
+    """One of several runs, from the moment of its opening to that of its last event."""
+
+    run: Run
+    end: int
+    given: int
 
 
 class Calls(NamedTuple):
@@ -24,14 +35,17 @@ class Calls(NamedTuple):
 
 @dataclass(frozen=True)
 class Figures:
-    """A history with its figures."""
+    """A history with its figures, and what the report was told about it."""
 
     name: str
     history: History
+    policy: Policy
+    dates: Optional[Dates]
     calls: List[Calls]
     depth: Depth
     lateness: Lateness
     jobs: Jobs
+    retries: Retries
     seats: Seats
     findings: List[Finding]
 
@@ -42,6 +56,17 @@ class Figures:
     @property
     def given(self) -> int:
         return len(self.lateness.rising)
+
+    @property
+    def runs(self) -> List[RunFigures]:
+        return [_run(self.history, run) for run in self.history.runs]
+
+
+def _run(history: History, run: Run) -> RunFigures:
+    events, stop = history.events, run.first_event + run.events
+    given = sum(events.acts.count(act, run.first_event, stop) for act in acts.GIVES_ONE)
+    given += sum(events.subjects[event] for event in events.all_of(acts.DRAIN) if run.first_event <= event < stop)
+    return RunFigures(run, events.moments[stop - 1] if run.events else run.opened_at, given)
 
 
 def _calls(history: History, keyword: str) -> Calls:
@@ -55,15 +80,19 @@ def _calls(history: History, keyword: str) -> Calls:
     return Calls(keyword, sum(counts.values()), found, nothing)
 
 
-def figures_of(name: str, history: History, look: Callable[[], None] = lambda: None) -> Figures:
+def figures_of(
+    name: str, history: History, look: Callable[[], None] = lambda: None, policy: Policy = Policy(),
+    dates: Optional[Dates] = None,
+) -> Figures:
     """Counts everything. `look` is called now and then, so that progress can be shown."""
     depth = depth_of(history)
     look()
-    jobs = jobs_of(history)
+    jobs, retries = jobs_of(history), retries_of(history, policy)
     look()
     lateness = lateness_of(history)
     look()
     seats = seats_of(history)
     look()
     calls = [_calls(history, keyword) for keyword in acts.KEYWORDS]
-    return Figures(name, history, calls, depth, lateness, jobs, seats, findings_of(history, depth, jobs))
+    findings = findings_of(history, depth, jobs, policy, retries)
+    return Figures(name, history, policy, dates, calls, depth, lateness, jobs, retries, seats, findings)

@@ -32,6 +32,15 @@ class Grammar(NamedTuple):
     event: Pattern[bytes]
 
 
+class Head(NamedTuple):
+    """What the first lines of a text tell: the version, and the `open` line's numbers, which are 0 in version 1."""
+
+    version: int
+    next_id: int = 0
+    opened_at: int = 0
+    kept: int = 0
+
+
 # The groups of an element's words, in a `keep` line and in an event.
 KEPT_GROUPS, OFFERED_GROUPS = tuple(range(1, 7)), tuple(range(4, 10))
 

@@ -1,14 +1,15 @@
-"""A history in columns: its opening, its elements and its events.
+"""A history in columns: its opening, its elements and its events, of one run or of several that follow one another.
 
 An element has a *row*: those of the opening come first, in rising order of their ids, and then each offered one. An
 event has an *index*, from 0. All columns of elements have one entry for each row, all of events one for each index.
+A run that continues the one before adds to the same columns: an element that was left keeps its row.
 """
 from __future__ import annotations
 
 from array import array
-from bisect import bisect_left
+from bisect import bisect_left, bisect_right
 from dataclasses import dataclass, field
-from typing import Dict, Optional
+from typing import Dict, List, Optional
 
 # Takes the place of a row or an event if there is none.
 NONE = -1
@@ -18,16 +19,16 @@ NONE = -1
 class Elements:
     """The columns of the elements. The act of the event in which an element left shows how it left."""
 
-    ids: array = field(default_factory=lambda: array("Q"))
-    expiries: array = field(default_factory=lambda: array("Q"))
-    origins: array = field(default_factory=lambda: array("Q"))
-    firsts: array = field(default_factory=lambda: array("Q"))
-    attempts: array = field(default_factory=lambda: array("H"))
-    roots: array = field(default_factory=lambda: array("i"))  # the first row of the same job
-    offered_in: array = field(default_factory=lambda: array("i"))  # an event, or NONE for one of the opening
-    left_in: array = field(default_factory=lambda: array("i"))  # an event, or NONE for one that is left at the end
+    ids: array[int] = field(default_factory=lambda: array("Q"))
+    expiries: array[int] = field(default_factory=lambda: array("Q"))
+    origins: array[int] = field(default_factory=lambda: array("Q"))
+    firsts: array[int] = field(default_factory=lambda: array("Q"))
+    attempts: array[int] = field(default_factory=lambda: array("H"))
+    roots: array[int] = field(default_factory=lambda: array("i"))  # the first row of the same job
+    offered_in: array[int] = field(default_factory=lambda: array("i"))  # an event, or NONE for one of the opening
+    left_in: array[int] = field(default_factory=lambda: array("i"))  # an event, or NONE for one that is left at the end
     payloads: bytearray = field(default_factory=bytearray)  # one after the other
-    payload_ends: array = field(default_factory=lambda: array("Q"))
+    payload_ends: array[int] = field(default_factory=lambda: array("I"))
 
     def __len__(self) -> int:
         return len(self.ids)
@@ -42,18 +43,42 @@ class Events:
     """The columns of the events. A subject is the element's row, the number that a drain gave or a size counted, or
     NONE."""
 
-    seats: array = field(default_factory=lambda: array("Q"))
-    moments: array = field(default_factory=lambda: array("Q"))
+    seats: array[int] = field(default_factory=lambda: array("Q"))
+    asked: array[int] = field(default_factory=lambda: array("Q"))  # the moments that were handed in
+    moments: array[int] = field(default_factory=lambda: array("Q"))  # at which the calls took effect
     acts: bytearray = field(default_factory=bytearray)
-    subjects: array = field(default_factory=lambda: array("q"))
+    subjects: array[int] = field(default_factory=lambda: array("i"))
 
     def __len__(self) -> int:
         return len(self.acts)
 
+    def all_of(self, act: int) -> array[int]:
+        """The indices of all events with this act."""
+        found, event = array("i"), self.acts.find(act)
+        while event >= 0:
+            found.append(event)
+            event = self.acts.find(act, event + 1)
+        return found
+
+
+@dataclass
+class Run:
+    """The part of a history that one text tells."""
+
+    name: str
+    version: int
+    opened_at: int  # the moment of the last event before
+    kept: int  # how many elements its opening has
+    first_event: int
+    first_row: int  # of the elements that it offers
+    events: int = 0
+    offered: int = 0
+    left: int = 0  # how many elements are in the queue at its end
+
 
 @dataclass
 class History:
-    """A history as its text describes it, and how its elements form jobs."""
+    """A history as its texts describe it, and how its elements form jobs. The opening is that of the first run."""
 
     version: int = 3
     next_id: int = 0  # the opening's
@@ -62,6 +87,7 @@ class History:
     elements: Elements = field(default_factory=Elements)
     events: Events = field(default_factory=Events)
     strays: Dict[int, int] = field(default_factory=dict)  # first rows by origin, where `row_of` the origin is not it
+    runs: List[Run] = field(default_factory=list)
 
     @property
     def start(self) -> int:
@@ -70,8 +96,10 @@ class History:
 
     @property
     def end(self) -> int:
-        """The moment of the last event, or the opening's if there is none."""
-        return self.events.moments[-1] if self.events.moments else self.opened_at
+        """The moment of the last event, or the last opening's if there is none."""
+        if self.events.moments:
+            return self.events.moments[-1]
+        return self.runs[-1].opened_at if self.runs else self.opened_at
 
     def row_of(self, id: int) -> Optional[int]:
         """The row of the element of this id, whether it is in the queue or has left."""
@@ -88,3 +116,7 @@ class History:
             return stray
         row = self.row_of(origin)
         return row if row is not None and self.elements.origins[row] == origin else None
+
+    def run_of(self, event: int) -> int:
+        """Which of the runs an event belongs to, from 1."""
+        return bisect_right([run.first_event for run in self.runs], event)

@@ -24,11 +24,11 @@ class Attempts(NamedTuple):
 class Jobs(NamedTuple):
     """For each row, if it is a root, how many elements its job has and how many were given; 0 for other rows."""
 
-    elements: array
-    given: array
+    elements: array[int]
+    given: array[int]
     attempts: List[Attempts]
-    roots: List[int]
-    again: List[int]  # the roots of the jobs that were offered again, those with the most elements first
+    roots: array[int]
+    again: array[int]  # the roots of the jobs that were offered again, those with the most elements first
 
 
 def jobs_of(history: History) -> Jobs:
@@ -43,9 +43,9 @@ def jobs_of(history: History) -> Jobs:
             attempts_given[attempt] += 1
     offered = Counter(elements.attempts)
     attempts = [Attempts(it, offered[it], attempts_given[it]) for it in sorted(offered)]
-    roots = [row for row, count in enumerate(counts) if count]
+    roots = array("i", (row for row, count in enumerate(counts) if count))
     again = sorted((root for root in roots if counts[root] > 1), key=lambda root: -counts[root])
-    return Jobs(counts, given, attempts, roots, again)
+    return Jobs(counts, given, attempts, roots, array("i", again))
 
 
 def lives(history: History, roots: Iterable[int]) -> Dict[int, List[int]]:
@@ -63,6 +63,21 @@ def life(history: History, origin: int) -> List[int]:
     if root is None:
         raise NoJob(f"no job of origin {origin}")
     return lives(history, [root])[root]
+
+
+def with_payload(history: History, text: str) -> List[int]:
+    """The roots of the jobs with this payload or, if it ends with a `*`, with one that begins with what is before."""
+    wanted, begins = text.encode(), text.endswith("*")
+    wanted = wanted[:-1] if begins else wanted
+    elements, payloads, start = history.elements, history.elements.payloads, 0
+    found: Dict[int, None] = {}
+    for end, root in zip(elements.payload_ends, elements.roots):
+        if payloads.startswith(wanted, start, end) and (begins or end - start == len(wanted)):
+            found[root] = None
+        start = end
+    if not found:
+        raise NoJob(f"no job of payload {text}")
+    return list(found)
 
 
 def given_events(history: History, rows: Iterable[int]) -> List[Tuple[int, int]]:

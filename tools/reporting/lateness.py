@@ -2,10 +2,11 @@
 from __future__ import annotations
 
 from array import array
-from typing import List, NamedTuple, Sequence
+from typing import Iterator, List, NamedTuple, Sequence
 
 from reporting import acts
 from reporting.buckets import Buckets
+from reporting.columns import in_rising_order
 from reporting.history import NONE, History
 
 GIVES = acts.GIVES_ONE | {acts.DRAIN}
@@ -20,9 +21,9 @@ def rank(values: Sequence[int], share: float) -> int:
 class Lateness(NamedTuple):
     """The given elements in the order of their rows: when and how late. And how late, in rising order."""
 
-    moments: array
-    delays: array
-    rising: array
+    moments: array[int]
+    delays: array[int]
+    rising: array[int]
 
     @property
     def median(self) -> int:
@@ -37,14 +38,14 @@ class Lateness(NamedTuple):
     def greatest(self) -> int:
         return self.rising[-1]
 
-    def in_buckets(self, buckets: Buckets) -> List[List[int]]:
+    def in_buckets(self, buckets: Buckets) -> Iterator[List[int]]:
         """How late those given in each bucket were, in rising order."""
-        found: List[List[int]] = [[] for _ in range(len(buckets))]
+        found = [array("Q") for _ in range(len(buckets))]
         start, number = buckets.edges[0], len(buckets)
         length = buckets.edges[-1] - start
         for moment, delay in zip(self.moments, self.delays):
             found[(moment - start) * number // length].append(delay)
-        return [sorted(some) for some in found]
+        return map(sorted, found)
 
 
 def lateness_of(history: History) -> Lateness:
@@ -55,4 +56,4 @@ def lateness_of(history: History) -> Lateness:
         if left != NONE and all_acts[left] in GIVES:
             when.append(moments[left])
             delays.append(moments[left] - expiry)
-    return Lateness(when, delays, array("Q", sorted(delays)))
+    return Lateness(when, delays, in_rising_order(delays))

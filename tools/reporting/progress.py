@@ -3,7 +3,7 @@ from __future__ import annotations
 
 import sys
 import time
-from typing import BinaryIO, Optional
+from typing import BinaryIO
 
 PATIENCE, BETWEEN = 2.0, 0.2  # seconds before the first line, and between two
 
@@ -25,10 +25,10 @@ class Progress:
         sys.stderr.flush()
         self._width = len(text)
 
-    def say_read(self, file: BinaryIO, size: Optional[int]) -> None:
+    def say_read(self, path: str, file: BinaryIO, size: int) -> None:
         """Says how much of a file has been read, if its size is known."""
         if self._is_shown and size:
-            self.say(f"reading: {100 * file.tell() // size} %")
+            self.say(f"reading {path}: {100 * file.tell() // size} %")
 
     def end(self) -> None:
         """Leaves the line empty."""

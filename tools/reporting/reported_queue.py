@@ -1,7 +1,7 @@
 """The queue of a history while it is read: which elements are in it, and what may happen to them."""
 from __future__ import annotations
 
-from typing import Optional, Tuple
+from typing import Iterator, Optional, Tuple
 
 from reporting.faults import Wrong
 from reporting.history import NONE, History
@@ -23,6 +23,18 @@ class ReportedQueue:
         self._strays = history.strays
         self._rows = self._number = 0
         self._cleared = 0  # all rows before this one have left
+
+    @property
+    def next_id(self) -> int:
+        """The id of the element that is offered next."""
+        return self._history.next_id + self._rows - self._history.kept
+
+    def __len__(self) -> int:
+        return self._number
+
+    def rows(self) -> Iterator[int]:
+        """The rows of the elements that are in the queue, in rising order of their ids."""
+        return (row for row in range(self._cleared, self._rows) if self._left_in[row] == NONE)
 
     def keep(self, words: ElementWords) -> None:
         """Adds an element of the opening. The ids rise, and are below the next one."""

@@ -43,10 +43,8 @@ def seats_of(history: History) -> Seats:
     chosen = set(busiest)
     by_act = Counter(pair for pair in zip(events.seats, events.acts) if pair[0] in chosen)
     drained: Counter[int] = Counter()
-    place = events.acts.find(acts.DRAIN)
-    while place >= 0:
-        drained[events.seats[place]] += events.subjects[place]
-        place = events.acts.find(acts.DRAIN, place + 1)
+    for event in events.all_of(acts.DRAIN):
+        drained[events.seats[event]] += events.subjects[event]
     lasts = dict(zip(events.seats, events.moments))
     firsts = {seat: events.moments[events.seats.index(seat)] for seat in busiest}
     return Seats([_seat(seat, by_act, drained[seat], firsts[seat], lasts[seat]) for seat in busiest], len(calls))

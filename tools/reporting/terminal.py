@@ -1,37 +1,64 @@
 """The report as text."""
 from __future__ import annotations
 
-from typing import List
+from typing import List, Optional, Sequence
 
 from reporting import acts
+from reporting.dates import Dates
 from reporting.figures import Figures
 from reporting.history import NONE, History
+from reporting.jobs import given_events, lives
 from reporting.tables import table
 from reporting.units import counted, number, percent, span
 
 MOST_ATTEMPTS = 20
 MOST_JOBS = 10
+MOST_LISTED = 1000  # jobs that were asked for
+
+LEAVES_OUT = "The time between two runs is left out, so later dates are too early by it."
+DONE_OR_DEAD = "  Each is done or dead: the end of a job has no event, so a history does not tell which."
 
 
 def report(figures: Figures) -> List[str]:
     """The lines of a report."""
-    parts = [_head(figures), _calls(figures), _depth(figures), _lateness(figures), _attempts(figures), _again(figures),
-             _seats(figures), _findings(figures)]
+    parts = [_head(figures), _runs(figures), _calls(figures), _depth(figures), _lateness(figures), _attempts(figures),
+             _again(figures), _seats(figures), _findings(figures), _last_attempts(figures)]
     lines: List[str] = []
-    for part in parts:
+    for part in filter(None, parts):
         lines += [*part, ""]
     return lines[:-1]
 
 
 def _head(figures: Figures) -> List[str]:
-    history = figures.history
+    history, dates = figures.history, figures.dates
     lasted = span(history.end - history.start)
-    return [
-        f"{figures.name}: history {history.version}, {counted(len(history.events), 'event')}, "
+    runs = len(history.runs)
+    kind = f"history {history.version}" if runs == 1 else counted(runs, "run")
+    lines = [
+        f"{figures.name}: {kind}, {counted(len(history.events), 'event')}, "
         f"{counted(figures.seats.total, 'seat')}, from {history.start} to {history.end} ns ({lasted})",
         f"{counted(history.kept, 'element')} at the start, {figures.offered:,} offered, {figures.given:,} given, "
         f"{figures.depth.standing[-1]:,} left at the end",
     ]
+    if dates:
+        lines.append(f"from {dates.text(history.start)} to {dates.text(history.end)} UTC")
+    if dates and dates.leaves_out:
+        lines.append(LEAVES_OUT)
+    return lines
+
+
+def _runs(figures: Figures) -> List[str]:
+    """A line for each run, if there are several."""
+    if len(figures.history.runs) == 1:
+        return []
+    dates, lines = figures.dates, []
+    for place, (run, end, given) in enumerate(figures.runs, 1):
+        began = dates.text(run.opened_at) if dates else str(run.opened_at)
+        lines.append((str(place), run.name, began, span(end - run.opened_at), number(run.events), number(run.kept),
+                      number(run.offered), number(given), number(run.left)))
+    heading = ("run", "history", "began (UTC)" if dates else "began at (ns)", "lasted", "events", "at the start",
+               "offered", "given", "left")
+    return ["Runs", *table(heading, lines, left=2)]
 
 
 def _calls(figures: Figures) -> List[str]:
@@ -99,23 +126,66 @@ def _findings(figures: Figures) -> List[str]:
     return lines if figures.findings else [*lines, "  nothing"]
 
 
-def life_of_job(history: History, rows: List[int]) -> List[str]:
-    """The life of a job, of which these are the rows: what became of each attempt. All moments are in full."""
-    elements = history.elements
-    root = rows[0]
-    head = (f"job {elements.origins[root]}: payload {elements.payload(root)}, first expiry {elements.firsts[root]}, "
-            f"{counted(len(rows), 'element')}")
-    heading = ("attempt", "id", "offered at", "by seat", "expiry", "left at", "to seat", "by", "late by")
-    return [head, *table(heading, [_attempt(history, row) for row in rows], left=0)]
+def _last_attempts(figures: Figures) -> List[str]:
+    """The jobs that were given their last attempt, if the report was told which one that is."""
+    last, roots = figures.policy.attempts, figures.retries.last_given
+    if last is None:
+        return []
+    lines = [f"Given attempt {last}, the last: {counted(len(roots), 'job')}", *([DONE_OR_DEAD] if roots else [])]
+    return [*lines, *_jobs(figures.history, roots)]
 
 
-def _attempt(history: History, row: int) -> List[str]:
-    elements, events = history.elements, history.events
-    offered, left, expiry = elements.offered_in[row], elements.left_in[row], elements.expiries[row]
-    came = ["before", ""] if offered == NONE else [str(events.moments[offered]), str(events.seats[offered])]
-    words = [str(elements.attempts[row]), str(elements.ids[row]), *came, str(expiry)]
-    if left == NONE:
-        return [*words, "", "", "still there", ""]
-    moment, act = events.moments[left], events.acts[left]
-    gave = act not in (acts.REMOVE, acts.CLEAR)
-    return [*words, str(moment), str(events.seats[left]), acts.ACTS[act].keyword, span(moment - expiry) if gave else ""]
+def found_jobs(history: History, payload: str, roots: Sequence[int]) -> List[str]:
+    """The jobs that were found by a payload."""
+    return [f"{counted(len(roots), 'job')} of payload {payload}", *_jobs(history, roots)]
+
+
+def _jobs(history: History, roots: Sequence[int]) -> List[str]:
+    """A table of jobs, and how many more there are."""
+    elements, rows = history.elements, []
+    for root, life in lives(history, roots[:MOST_LISTED]).items():
+        given, left = given_events(history, life), elements.left_in[life[-1]]
+        rows.append((str(elements.origins[root]), elements.payload(root), number(len(life)), number(len(given)),
+                     "in the queue" if left == NONE else acts.ACTS[history.events.acts[left]].keyword,
+                     "" if left == NONE else str(history.events.moments[left])))
+    if not rows:
+        return []
+    heading = ("origin", "payload", "elements", "given", "last left by", "at (ns)")
+    return [*table(heading, rows, left=2), *_more(len(roots), MOST_LISTED, "job")]
+
+
+class Life:
+    """The lines of a job's life: what became of each attempt. All moments are in full, and all dates to the
+    nanosecond."""
+
+    def __init__(self, history: History, dates: Optional[Dates]) -> None:
+        self._history, self._dates = history, dates
+
+    def lines(self, rows: Sequence[int]) -> List[str]:
+        """The lines of the job of which these are the rows."""
+        elements, root = self._history.elements, rows[0]
+        head = (f"job {elements.origins[root]}: payload {elements.payload(root)}, "
+                f"first expiry {self._moment(elements.firsts[root])}, {counted(len(rows), 'element')}")
+        heading = ("attempt", "id", "offered at", "by seat", "expiry", "left at", "to seat", "by", "late by")
+        return [head, *table(heading, [self._attempt(row) for row in rows], left=0)]
+
+    def _moment(self, moment: int) -> str:
+        return self._dates.text(moment, 9) if self._dates else str(moment)
+
+    def _event(self, event: int) -> List[str]:
+        """When an event took effect, and at which seat, of which run if there are several."""
+        events = self._history.events
+        several = len(self._history.runs) > 1
+        seat = f"{events.seats[event]} of run {self._history.run_of(event)}" if several else str(events.seats[event])
+        return [self._moment(events.moments[event]), seat]
+
+    def _attempt(self, row: int) -> List[str]:
+        elements, events = self._history.elements, self._history.events
+        offered, left, expiry = elements.offered_in[row], elements.left_in[row], elements.expiries[row]
+        came = ["before", ""] if offered == NONE else self._event(offered)
+        words = [str(elements.attempts[row]), str(elements.ids[row]), *came, self._moment(expiry)]
+        if left == NONE:
+            return [*words, "", "", "still there", ""]
+        act = events.acts[left]
+        late = "" if act in (acts.REMOVE, acts.CLEAR) else span(events.moments[left] - expiry)
+        return [*words, *self._event(left), acts.ACTS[act].keyword, late]

@@ -1,10 +1,15 @@
 """What several tests need: histories from lines, and the tool as a command."""
 from __future__ import annotations
 
+import importlib.util
 import io
 import subprocess
 import sys
-from typing import Sequence
+import tempfile
+import unittest
+from importlib.machinery import SourceFileLoader
+from typing import List, Sequence
+from unittest import mock
 
 from reporting.figures import Figures, figures_of
 from reporting.history import History
@@ -48,6 +53,43 @@ def figures(text: str) -> Figures:
 def offer(id: int, expiry: int, payload: str = "a", at: int = 0) -> str:
     """The line of a first attempt."""
     return f"1 {at} {at} offer {id} {expiry} {id} {expiry} 1 {payload}"
+
+
+class FilesTest(unittest.TestCase):
+    """Tests that write histories into a folder of their own."""
+
+    def setUp(self) -> None:
+        room = tempfile.TemporaryDirectory(prefix="rb-report-")
+        self.addCleanup(room.cleanup)
+        self.room = room.name
+
+    def file(self, name: str, text: str) -> str:
+        path = f"{self.room}/{name}"
+        with open(path, "w", encoding="utf-8") as file:
+            file.write(text)
+        return path
+
+    def lines(self, *words: str) -> List[str]:
+        """What tools/report prints if all is well."""
+        ran = run(*words)
+        self.assertEqual((ran.returncode, ran.stderr), (0, ""))
+        return ran.stdout.splitlines()
+
+
+def refused_words(*words: str) -> str:
+    """What tools/report says of words that it refuses with status 2, without the start of a process."""
+    loader = SourceFileLoader("report_command", REPORT)
+    spec = importlib.util.spec_from_loader(loader.name, loader)
+    assert spec is not None
+    command = importlib.util.module_from_spec(spec)
+    loader.exec_module(command)
+    with mock.patch("sys.argv", [REPORT, *words]), mock.patch("sys.stderr", io.StringIO()) as said:
+        try:
+            command.words()
+        except SystemExit as end:
+            assert end.code == 2
+            return said.getvalue()
+    raise AssertionError(f"{words} are not refused")
 
 
 def run(*words: str, given: str = "") -> subprocess.CompletedProcess[str]:

@@ -4,28 +4,19 @@ from __future__ import annotations
 import os
 import subprocess
 import sys
-import tempfile
 import unittest
 from typing import Tuple
 from unittest import mock
 
 from reporting.progress import Progress
 from reporting.tests import REPORT
-from reporting.tests.support import RUN, offer, run, text_of
+from reporting.tests.support import RUN, FilesTest, offer, run, text_of
 
 
-class CommandTest(unittest.TestCase):
+class CommandTest(FilesTest):
     def setUp(self) -> None:
-        room = tempfile.TemporaryDirectory(prefix="rb-report-")
-        self.addCleanup(room.cleanup)
-        self.room = room.name
+        super().setUp()
         self.history = self.file("run.txt", RUN)
-
-    def file(self, name: str, text: str) -> str:
-        path = f"{self.room}/{name}"
-        with open(path, "w", encoding="utf-8") as file:
-            file.write(text)
-        return path
 
     def refused(self, *words: str) -> Tuple[int, str]:
         """The status of a run that prints nothing, and its last line on standard error, which is not a traceback."""

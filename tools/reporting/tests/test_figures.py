@@ -62,7 +62,7 @@ class FiguresTest(unittest.TestCase):
     def test_jobs_and_attempts(self) -> None:
         jobs = figures(RUN).jobs
         self.assertEqual(jobs.attempts, [Attempts(1, 2, 2), Attempts(2, 2, 2)])
-        self.assertEqual((jobs.roots, jobs.again), ([0, 1, 2], [2]))
+        self.assertEqual((list(jobs.roots), list(jobs.again)), ([0, 1, 2], [2]))
         self.assertEqual((list(jobs.elements), list(jobs.given)), ([1, 1, 2, 0], [1, 1, 2, 0]))
 
     def test_the_rows_of_a_job(self) -> None:

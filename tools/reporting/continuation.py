@@ -1,0 +1,46 @@
+"""Whether a run begins with what the run before it left: the next id, the last moment, and the same elements."""
+from __future__ import annotations
+
+from typing import List
+
+from reporting.faults import Wrong
+from reporting.grammar import Head
+from reporting.history import History
+from reporting.reported_queue import ElementWords, ReportedQueue
+
+
+class Continuation:
+    """Follows the opening of a run line by line. Each method raises a `Wrong` if the run before left something else."""
+
+    def __init__(self, history: History, queue: ReportedQueue, version: int) -> None:
+        self._history, self._queue = history, queue
+        self._before = history.runs[-1].name
+        self._rows = queue.rows()
+        # A first expiry that a text leaves out is that of the text's earliest line, which need not be the job's.
+        self._tells_first = all(it == 3 for it in (version, *(run.version for run in history.runs)))
+
+    def open(self, head: Head) -> None:
+        for what, here, there in (
+            ("opens with the next id", head.next_id, self._queue.next_id),
+            ("opens at moment", head.opened_at, self._history.end),
+            ("opens with a count of", head.kept, len(self._queue)),
+        ):
+            if here != there:
+                raise Wrong(f"it does not continue {self._before}: it {what} {here}, and {there} would follow")
+
+    def keep(self, words: ElementWords) -> None:
+        """Follows a `keep` line. There are as many as elements in the queue, by the `open` line."""
+        here, there = [word.decode() for word in words if word], self._words(next(self._rows))
+        if not self._tells_first:
+            there.pop(3)
+            if len(here) > len(there):
+                here.pop(3)
+        if here != there:
+            raise Wrong(f"it does not continue {self._before}: it keeps {' '.join(here)}, and {' '.join(there)} would"
+                        " follow")
+
+    def _words(self, row: int) -> List[str]:
+        elements = self._history.elements
+        numbers = (elements.ids[row], elements.expiries[row], elements.origins[row], elements.firsts[row],
+                   elements.attempts[row])
+        return [*map(str, numbers), elements.payload(row)]

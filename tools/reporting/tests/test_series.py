@@ -1,0 +1,185 @@
+"""Runs that follow one another: their order, what does not continue, one life of a job, totals, and dates."""
+from __future__ import annotations
+
+import os
+
+from reporting.dates import Dates, date_text, nanoseconds_of
+from reporting.faults import Damaged
+from reporting.progress import Progress
+from reporting.series import read_series
+from reporting.tests.support import FilesTest, offer, refused_words, run, text_of
+
+# Three runs in which job 0 has an attempt each, the last of which is given at the very end.
+RUNS = ["""history 3
+open 0 0 0
+1 0 0 offer 0 0 0 0 1 a
+2 5 5 take 0
+2 9 9 offer 1 1009 0 0 2 a
+1 20 20 offer 2 500 2 500 1 b
+end 4
+""", """history 3
+open 3 20 2
+keep 1 1009 0 0 2 a
+keep 2 500 2 500 1 b
+1 600 600 take 2
+1 1010 1010 take 1
+1 1020 1020 offer 3 2020 0 0 3 a
+end 3
+""", """history 3
+open 4 1020 1
+keep 3 2020 0 0 3 a
+3 2030 2030 poll 3
+end 1
+"""]
+
+# A text behind the first run, its line that does not continue, and what is said of it.
+NOT_CONTINUED = [
+    (RUNS[1].replace("open 3", "open 4"), 2, "it opens with the next id 4, and 3 would follow"),
+    (RUNS[1].replace("3 20 2", "3 21 2"), 2, "it opens at moment 21, and 20 would follow"),
+    ("history 3\nopen 3 20 1\nkeep 1 1009 0 0 2 a\nend 0\n", 2, "it opens with a count of 1, and 2 would follow"),
+    (RUNS[1].replace("keep 1 1009", "keep 0 1009"), 3, "it keeps 0 1009 0 0 2 a, and 1 1009 0 0 2 a would follow"),
+    (RUNS[1].replace("keep 2 500", "keep 2 501"), 4, "it keeps 2 501 2 500 1 b, and 2 500 2 500 1 b would follow"),
+    (RUNS[1].replace("2 500 1 b", "2 400 1 b"), 4, "it keeps 2 500 2 400 1 b"),
+    (RUNS[1].replace("500 1 b", "500 2 b"), 4, "it keeps 2 500 2 500 2 b"),
+    (RUNS[1].replace("1 b", "1 c"), 4, "it keeps 2 500 2 500 1 c"),
+]
+
+
+class RunsTest(FilesTest):
+    """Tests with the files of three runs."""
+
+    def setUp(self) -> None:
+        super().setUp()
+        self.paths = [self.file(f"run-{place}.txt", text) for place, text in enumerate(RUNS, 1)]
+
+
+class SeriesTest(RunsTest):
+    def test_totals(self) -> None:
+        lines = self.lines(*self.paths)
+        self.assertEqual(lines[:2], [
+            f"{self.paths[0]} to {self.paths[2]}: 3 runs, 8 events, 3 seats, from 0 to 2030 ns (2.03 µs)",
+            "0 elements at the start, 4 offered, 4 given, 0 left at the end",
+        ])
+        self.assertEqual([line.split() for line in lines[5:8]], [
+            ["1", self.paths[0], "0", "20", "ns", "4", "0", "3", "1", "2"],
+            ["2", self.paths[1], "20", "1.00", "µs", "3", "2", "1", "2", "1"],
+            ["3", self.paths[2], "1020", "1.01", "µs", "1", "1", "0", "1", "0"],
+        ])
+        # Late by 5 and 100 and 1 and 10 nanoseconds.
+        self.assertIn("  median             5 ns    5 ns", lines)
+        self.assertIn("  greatest         100 ns  100 ns", lines)
+        self.assertIn("Jobs: 2; offered again: 1 (50.0 %)", lines)
+
+    def test_the_life_of_a_job_over_its_runs(self) -> None:
+        self.assertEqual([line.split() for line in self.lines(*self.paths, "--job", "0")[2:]], [
+            ["1", "0", "0", "1", "of", "run", "1", "0", "5", "2", "of", "run", "1", "take", "5", "ns"],
+            ["2", "1", "9", "2", "of", "run", "1", "1009", "1010", "1", "of", "run", "2", "take", "1", "ns"],
+            ["3", "3", "1020", "1", "of", "run", "2", "2020", "2030", "3", "of", "run", "3", "poll", "10", "ns"],
+        ])
+
+    def test_runs_are_put_in_their_order(self) -> None:
+        one, two, three = self.paths
+        self.assertEqual(self.lines(three, one, two), self.lines(one, two, three))
+
+    def test_later_runs_alone(self) -> None:
+        head = self.lines(*self.paths[1:])[1]
+        self.assertEqual(head, "2 elements at the start, 1 offered, 3 given, 0 left at the end")
+
+    def test_a_run_that_does_not_continue(self) -> None:
+        for text, line, says in NOT_CONTINUED:
+            with self.subTest(says=says):
+                other = self.file("other.txt", text)
+                with self.assertRaises(Damaged) as caught:
+                    read_series([self.paths[0], other], Progress())
+                start = f"{other}: line {line}: it does not continue {self.paths[0]}: "
+                self.assertEqual(str(caught.exception)[:len(start)], start)
+                self.assertIn(says, str(caught.exception))
+
+    def test_a_run_that_is_missing(self) -> None:
+        one, _, three = self.paths
+        ran = run(one, three)
+        self.assertEqual((ran.returncode, ran.stdout), (1, ""))
+        self.assertIn(f"{three}: line 2: it does not continue {one}", ran.stderr)
+
+    def test_a_damaged_run_is_named(self) -> None:
+        damaged = self.file("run-2.txt", RUNS[1].replace("take 1\n", "take 7\n"))
+        self.assertEqual(run(*self.paths).stderr, f"report: {damaged}: line 6: element 7 is not in the queue\n")
+
+    def test_versions_may_change(self) -> None:
+        first = self.file("first.txt", "history 1\n1 0 0 offer 0 90 0 1 a\n1 5 5 offer 1 99 1 1 b\nend 2\n")
+        second = self.file(
+            "second.txt", "history 2\nopen 2 5 2\nkeep 0 90 0 1 a\nkeep 1 99 1 1 b\n1 90 90 take 0\nend 1\n")
+        third = self.file("third.txt", "history 3\nopen 2 90 1\nkeep 1 99 1 99 1 b\n1 99 99 take 1\nend 1\n")
+        self.assertEqual(self.lines(first, second, third)[1].split(",")[1:3], [" 2 offered", " 2 given"])
+
+    def test_a_clear_empties_what_an_earlier_run_left(self) -> None:
+        cleared = self.file("cleared.txt", RUNS[1].partition("1 600")[0] + "1 30 30 clear\n1 30 30 size 0\nend 2\n")
+        self.assertIn("0 left at the end", self.lines(self.paths[0], cleared)[1])
+
+    def test_the_columns_of_all_runs(self) -> None:
+        history = read_series(self.paths, Progress())
+        self.assertEqual(list(history.elements.ids), [0, 1, 2, 3])
+        self.assertEqual(list(history.elements.roots), [0, 0, 2, 0])
+        self.assertEqual(list(history.elements.left_in), [1, 5, 4, 7])
+        self.assertEqual([history.run_of(event) for event in range(8)], [1, 1, 1, 1, 2, 2, 2, 3])
+        self.assertEqual([it.left for it in history.runs], [2, 1, 0])
+
+
+class DatesTest(RunsTest):
+    def test_dates_of_a_run(self) -> None:
+        lines = self.lines(self.paths[0], "--began", "2026-11-26T08:00:00Z")
+        self.assertIn("from 2026-11-26 08:00:00.000 to 2026-11-26 08:00:00.000 UTC", lines)
+
+    def test_dates_of_a_life(self) -> None:
+        later = self.file("later.txt", text_of(offer(0, 3_600_000_000_007), "1 3600000000008 3600000000008 take 0"))
+        lines = self.lines(later, "--job", "0", "--began", "2026-11-26 23:30:00.5+00:30")
+        self.assertEqual(lines[2].split()[2:11], [
+            "2026-11-26", "23:00:00.500000000", "1", "2026-11-27", "00:00:00.500000007", "2026-11-27",
+            "00:00:00.500000008", "1", "take"])
+
+    def test_the_time_between_runs_is_known_only_if_each_is_told(self) -> None:
+        says = "The time between two runs is left out, so later dates are too early by it."
+        first, second, third = "2026-11-26T08:00Z", "2026-11-26T09:00Z", "2026-11-27T08:00Z"
+        lines = self.lines(*self.paths, "--began", first)
+        self.assertIn(says, lines)
+        self.assertIn("from 2026-11-26 08:00:00.000 to 2026-11-26 08:00:00.000 UTC", lines)
+        lines = self.lines(*self.paths, "--began", first, "--began", second, "--began", third)
+        self.assertNotIn(says, lines)
+        self.assertIn("from 2026-11-26 08:00:00.000 to 2026-11-27 08:00:00.000 UTC", lines)
+        life = self.lines(*self.paths, "--job", "0", "--began", first, "--began", second, "--began", third)
+        # The second attempt was taken 990 ns after the second run began, at the moment 20.
+        self.assertIn("2026-11-26 09:00:00.000000990", life[3])
+
+    def test_dates_begin_with_the_run_and_not_with_its_first_event(self) -> None:
+        history = read_series(self.paths[1:], Progress())
+        dates = Dates.of(history, [nanoseconds_of("@100")])
+        self.assertEqual([dates.date(moment) for moment in (20, 1020)], [100 * 10**9, 100 * 10**9 + 1000])
+
+    def test_dates_that_can_be_told(self) -> None:
+        told = {
+            "2026-11-26T08:00:00Z": 1_795_680_000 * 10**9, "2026-11-26 08:00": 1_795_680_000 * 10**9,
+            "2026-11-26 09:00:00.123456789 +0100": 1_795_680_000 * 10**9 + 123_456_789,
+            "2026-11-26 08:00:00 UTC": 1_795_680_000 * 10**9, "@1795680000": 1_795_680_000 * 10**9,
+            "@1795680000.5": 1_795_680_000 * 10**9 + 500_000_000, "1970-01-01T00:00Z": 0,
+        }
+        self.assertEqual({text: nanoseconds_of(text) for text in told}, told)
+
+    def test_dates_that_are_none(self) -> None:
+        for text in ("", "now", "2026-11-26", "2026-02-30T08:00Z", "2026-11-26T25:00Z", "1969-12-31T23:59Z",
+                     "1970-01-01T00:30+01:00", "9999-12-31T23:59:59-05:00", "2026-11-26T08:00Zulu", "@", "@-1",
+                     "2026-11-26T08:00:00.1234567890Z", "٢٠٢٦-11-26T08:00Z"):
+            with self.subTest(text=text):
+                self.assertRaises(ValueError, nanoseconds_of, text)
+        self.assertIn("'now' is no TIME: no date and time", refused_words("run.txt", "--began", "now"))
+
+    def test_dates_of_the_greatest_moment(self) -> None:
+        self.assertEqual(date_text(nanoseconds_of("2026-11-26T08:00Z") + 2**64 - 1, 9), "2611-06-17 07:34:33.709551615")
+
+    def test_too_few_or_many_times(self) -> None:
+        says = "--began is given once, or once for each history"
+        self.assertIn(says, refused_words(*self.paths, "--began", "@1", "--began", "@2"))
+        self.assertIn(says, refused_words(self.paths[0], "--began", "@1", "--began", "@2"))
+
+    def test_the_page_does_not_replace_any_of_the_runs(self) -> None:
+        self.assertIn("--html names a history itself", refused_words(*self.paths, "--html", self.paths[2]))
+        self.assertEqual(os.path.getsize(self.paths[2]), len(RUNS[2]))
