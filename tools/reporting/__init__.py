@@ -3,13 +3,17 @@ a page. The columns of a history are `array`s, so that 1,000,000 events take ten
 
     acts.py, grammar.py, history.py               what a text says, and its columns
     reader.py, events.py, reported_queue.py, faults.py  the reading, with the queue that the text describes
-    depth.py, lateness.py, jobs.py, seats.py      figures
+    series.py, continuation.py                    the files of runs that follow one another
+    policy.py, dates.py                           what the report is told about a history
+    depth.py, rates.py, lateness.py, jobs.py, retries.py, seats.py  figures
     findings.py, figures.py                       what looks wrong, and all figures of a history
-    buckets.py, units.py                          long series made short, and numbers as people read them
+    buckets.py, columns.py, units.py              long series made short or sorted, and numbers as people read them
     tables.py, terminal.py                        the report as text
-    svg.py, plot.py, *_plot.py, *_plots.py        the plots of the page
+    svg.py, time_axis.py, span_axis.py            the axes of plots, and what else they are drawn with
+    plot.py, *_plot.py, *_plots.py                the plots of the page
     lives.py                                      the lives of jobs, as the page has them
-    page.py, page.css, page.js                    the page
+    page.py, page_parts.py, page.css              the page
+    page.js, lives.js, jobs.js, readings.js       what it does in a browser
     progress.py                                   a line that says how far a long report is
 
 The tests are below tests/, with a maker of large histories. tools/check_report runs them.

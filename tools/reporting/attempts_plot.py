@@ -6,11 +6,12 @@ from typing import List, Sequence, Tuple
 from reporting import svg
 from reporting.figures import Figures
 from reporting.jobs import Attempts
-from reporting.plot import Plot
-from reporting.svg import BOTTOM, LEFT, RIGHT, TOP, Scale, Tick
+from reporting.plot import Plot, Reading
+from reporting.svg import SHARES, Tick
 from reporting.units import counted, number
 
 MOST_GROUPS = 40
+FEWEST_PLACES = 5  # so that few bars are not as wide as the page
 
 
 def grouped(attempts: Sequence[Attempts], most: int) -> List[Tuple[str, int, int]]:
@@ -30,21 +31,23 @@ def grouped(attempts: Sequence[Attempts], most: int) -> List[Tuple[str, int, int
 def attempts_plot(figures: Figures) -> Plot:
     """How many elements of each attempt were offered and given."""
     groups = grouped(figures.jobs.attempts, MOST_GROUPS)
-    y = Scale(0, max([1, *(offered for _, offered, _ in groups)]), BOTTOM, TOP)
-    width = min(120.0, (RIGHT - LEFT) / max(1, len(groups)))
-    marks, ticks = [], []
+    y = svg.count_scale(offered for _, offered, _ in groups)
+    width = SHARES / max(FEWEST_PLACES, len(groups))
+    bars, ticks, readings = [], [], []
     for place, (label, offered, given) in enumerate(groups):
-        left = LEFT + place * width
-        told = f"attempt {label}: {number(offered)} offered, {number(given)} given"
-        marks.append(svg.bar(left + width * 0.12, width * 0.36, y.at(offered), BOTTOM, "offered", told))
-        marks.append(svg.bar(left + width * 0.52, width * 0.36, y.at(given), BOTTOM, "given", told))
-        if width >= 60:
-            marks.append(svg.text(round(left + width * 0.3, 1), y.at(offered) - 3, number(offered), "x value"))
-            marks.append(svg.text(round(left + width * 0.7, 1), y.at(given) - 3, number(given), "x value"))
-        if not place % (1 + len(groups) // 20):
-            ticks.append(Tick(round(left + width / 2, 1), label))
-    axes = [svg.y_axis(svg.count_ticks(y), "elements"), svg.x_axis(ticks, "attempt of the job")]
+        left, told = place * width, f"attempt {label}: {number(offered)} offered, {number(given)} given"
+        for part, value, kind in ((0.08, offered, "offered"), (0.5, given, "given")):
+            bars.append(svg.bar(left + part * width, width * 0.4, y.at(value), kind, told))
+            room = svg.room_for(number(value), width * 0.42)
+            if room is not None:
+                middle = svg.share(left + (part + 0.2) * width)
+                bars.append(svg.text(middle, y.at(value) - 3, number(value), f"x value {room}"))
+        ticks.append(Tick(round(left + width * 0.49, 1), label))
+        readings.append(Reading(round(left, 1), told))
+    readings.append(Reading(round(len(groups) * width, 1), ""))
     noun = "attempt" if len(groups) == len(figures.jobs.attempts) else "range"
     caption = f"{counted(2 * len(groups), 'bar')}: two for each of {counted(len(groups), noun)}."
     legend = (("offered", "offered, or there at the start"), ("given", "given"))
-    return Plot("Attempts", legend, svg.drawing("attempts", "elements of each attempt", [*axes, *marks]), caption)
+    parts = [svg.y_axis(svg.count_ticks(y), "elements"), *bars, svg.x_axis(ticks, "attempt of the job")]
+    drawing = svg.drawing("attempts", "elements of each attempt", parts)
+    return Plot("attempts", "Attempts", legend, drawing, caption, readings)

@@ -20,7 +20,7 @@ class EventReader:
         self.history, self._queue = history, queue
         self._last = history.end
         self._event = len(history.events)
-        self._seats, self._asked, self._moments = history.events.seats, history.events.asked, history.events.moments
+        self._seats, self._moments = history.events.seats, history.events.moments
         self._acts, self._subjects = history.events.acts, history.events.subjects
         self._readers: Dict[str, Callable[[Match[bytes], int], Told]] = {
             "offer": self._offer, "take": self._take, "poll": self._poll, "pollfor": self._poll_for,
@@ -30,13 +30,14 @@ class EventReader:
     def read(self, match: Match[bytes]) -> None:
         """Adds the event of a line that the grammar's pattern matched."""
         seat, asked, at = match.group(1, 2, 3)
-        moment = asked_moment = int(at)
+        moment = int(at)
         if asked != at or moment < self._last:
-            asked_moment = int(asked)
-            self._test(asked_moment, moment)
+            self._test(int(asked), moment)
         act, subject = self._readers[match.lastgroup or ""](match, moment)
+        if asked != at and act == acts.OFFER and self.history.elements.attempts[subject] > 1:
+            self.history.events.late.append(self._event)
+            self.history.events.late_asked.append(int(asked))
         self._seats.append(int(seat))
-        self._asked.append(asked_moment)
         self._moments.append(moment)
         self._acts.append(act)
         self._subjects.append(subject)

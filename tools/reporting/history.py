@@ -44,13 +44,20 @@ class Events:
     NONE."""
 
     seats: array[int] = field(default_factory=lambda: array("Q"))
-    asked: array[int] = field(default_factory=lambda: array("Q"))  # the moments that were handed in
     moments: array[int] = field(default_factory=lambda: array("Q"))  # at which the calls took effect
     acts: bytearray = field(default_factory=bytearray)
     subjects: array[int] = field(default_factory=lambda: array("i"))
+    late: array[int] = field(default_factory=lambda: array("i"))  # the events of later attempts that were asked before
+    late_asked: array[int] = field(default_factory=lambda: array("Q"))  # and when each was asked
 
     def __len__(self) -> int:
         return len(self.acts)
+
+    def asked(self, event: int) -> int:
+        """The moment that was handed in with the offer of a later attempt."""
+        place = bisect_left(self.late, event)
+        found = place < len(self.late) and self.late[place] == event
+        return self.late_asked[place] if found else self.moments[event]
 
     def all_of(self, act: int) -> array[int]:
         """The indices of all events with this act."""

@@ -2,7 +2,7 @@
 from __future__ import annotations
 
 from array import array
-from typing import Iterator, List, NamedTuple, Sequence
+from typing import Iterator, List, NamedTuple, Sequence, Tuple
 
 from reporting import acts
 from reporting.buckets import Buckets
@@ -19,10 +19,9 @@ def rank(values: Sequence[int], share: float) -> int:
 
 
 class Lateness(NamedTuple):
-    """The given elements in the order of their rows: when and how late. And how late, in rising order."""
+    """How late the elements of a history were given, in rising order."""
 
-    moments: array[int]
-    delays: array[int]
+    history: History
     rising: array[int]
 
     @property
@@ -43,17 +42,19 @@ class Lateness(NamedTuple):
         found = [array("Q") for _ in range(len(buckets))]
         start, number = buckets.edges[0], len(buckets)
         length = buckets.edges[-1] - start
-        for moment, delay in zip(self.moments, self.delays):
+        for moment, delay in _given(self.history):
             found[(moment - start) * number // length].append(delay)
         return map(sorted, found)
 
 
 def lateness_of(history: History) -> Lateness:
     """How late each element was that a poll, a take, a timed poll or a drain gave."""
+    return Lateness(history, in_rising_order(array("Q", (delay for _, delay in _given(history)))))
+
+
+def _given(history: History) -> Iterator[Tuple[int, int]]:
+    """When each element was given, and how late, in the order of the rows."""
     elements, moments, all_acts = history.elements, history.events.moments, history.events.acts
-    when, delays = array("Q"), array("Q")
     for expiry, left in zip(elements.expiries, elements.left_in):
         if left != NONE and all_acts[left] in GIVES:
-            when.append(moments[left])
-            delays.append(moments[left] - expiry)
-    return Lateness(when, delays, in_rising_order(delays))
+            yield moments[left], moments[left] - expiry

@@ -5,43 +5,55 @@ from bisect import bisect_left
 from typing import List, NamedTuple, Sequence
 
 from reporting import svg
-from reporting.buckets import Buckets
 from reporting.figures import Figures
 from reporting.lateness import rank
-from reporting.plot import Plot, time_axis, time_scale
-from reporting.svg import BOTTOM, LEFT, RIGHT, TOP, Scale, Tick
+from reporting.plot import Plot, Reading
+from reporting.span_axis import SpanAxis
+from reporting.svg import SHARES, Tick
+from reporting.time_axis import TimeAxis
 from reporting.units import counted, mark, number, span
 
 MOST_BUCKETS = 180
+LEAST_DASH = 2.0  # shares
 ROUND = {0, *(10**power for power in range(20))}  # spans at which a range of lateness is marked
+
+
+class Late(NamedTuple):
+    """How late what was given in one stretch of time was."""
+
+    gifts: int
+    median: int
+    greatest: int
 
 
 def lateness_plot(figures: Figures) -> Plot:
     """How late elements were given, over time: the median and the greatest of each bucket."""
-    lateness, (x, title) = figures.lateness, time_scale(figures.history)
-    buckets = Buckets.over(figures.history.start, figures.history.end, MOST_BUCKETS)
-    top = lateness.greatest if lateness.rising else 0
-    y = Scale(0, max(1.0, svg.level(top)), BOTTOM, TOP)
-    parts = [svg.y_axis(_level_ticks(y, top), "lateness"), time_axis(x, title)]
-    found = [(place, some) for place, some in enumerate(lateness.in_buckets(buckets)) if some]
-    for kind, share in (("greatest", 1.0), ("median", 0.5)):
-        dashes = []
-        for place, some in found:
-            value = rank(some, share)
-            low, high = x.at(buckets.edges[place]), x.at(buckets.edges[place + 1])
-            dashes.append(f"M{low} {y.at(svg.level(value))}h{max(2.0, round(high - low, 1))}")
-        parts.append(f'<path class="dash {kind}" d="{"".join(dashes)}"/>')
-    gave = counted(len(lateness.rising), "gift")
-    caption = (f"{counted(len(found), 'median')} and as many greatest values, of {gave}: one of each"
-               f" {span(round(buckets.width))} in which something was given. The steps are powers of ten.")
+    lateness, axis = figures.lateness, TimeAxis(figures.history, figures.dates)
+    buckets = axis.buckets(MOST_BUCKETS)
+    found = [Late(len(it), rank(it, 0.5), it[-1]) if it else None for it in lateness.in_buckets(buckets)]
+    some = [it for it in found if it]
+    y = SpanAxis(min((it.median for it in some), default=0), lateness.greatest if some else 0)
+    places = [axis.scale.at(edge) for edge in buckets.edges]
+    paths = []
+    for kind in ("greatest", "median"):
+        dashes = [f"M{low} {y.at(getattr(it, kind))}h{max(LEAST_DASH, round(high - low, 1))}"
+                  for low, high, it in zip(places, places[1:], found) if it]
+        paths.append(f'<path class="dash {kind}" d="{"".join(dashes)}"/>')
+    caption = (f"{counted(len(some), 'median')} and as many greatest values, of"
+               f" {counted(len(lateness.rising), 'gift')}: one of each {span(round(buckets.width))} in which something was"
+               " given. Equal steps are equal ratios.")
     legend = (("median", "median"), ("greatest", "greatest"))
-    return Plot("Lateness over time", legend, svg.drawing("lateness", "lateness over time", parts), caption)
+    parts = [svg.y_axis(y.ticks(), "lateness"), svg.marks(paths), axis.drawn()]
+    drawing = svg.drawing("lateness", "lateness over time", parts)
+    readings = [Reading(place, f"{axis.told(edge, buckets.width)}\n{_told(it)}")
+                for place, edge, it in zip(places, buckets.edges, found)]
+    return Plot("lateness", "Lateness over time", legend, drawing, caption, readings)
 
 
-def _level_ticks(scale: Scale, top: int) -> List[Tick]:
-    """Zero, and the powers of ten up to a span, or every third if there are many: 1 µs, 1 ms, 1 s."""
-    powers = range(1, 21) if top < 10**10 else range(3, 21, 3)
-    return [Tick(scale.at(svg.level(it)), mark(it)) for it in (0, *(10**power for power in powers)) if it <= top]
+def _told(late: Late | None) -> str:
+    if late is None:
+        return "nothing was given"
+    return f"median {span(late.median)}\ngreatest {span(late.greatest)}\nof {counted(late.gifts, 'gift')}"
 
 
 class Bin(NamedTuple):
@@ -64,18 +76,18 @@ def spread_plot(figures: Figures) -> Plot:
     """How many elements were how late."""
     rising = figures.lateness.rising
     bins = bins_of(rising)
-    y = Scale(0, max([1, *(it.elements for it in bins)]), BOTTOM, TOP)
-    width = (RIGHT - LEFT) / max(1, len(bins))
-    marks = [svg.bar(LEFT + place * width + 1, width - 2, y.at(it.elements), BOTTOM, "given",
-                     f"{span(it.low)} to {span(it.high)}: {number(it.elements)}") for place, it in enumerate(bins)]
-    ticks = [Tick(round(LEFT + place * width, 1), mark(it.low)) for place, it in enumerate(bins) if it.low in ROUND]
-    if len(ticks) > 1 and ticks[1].place - ticks[0].place < svg.LABEL_WIDTH:
-        del ticks[1]  # of 0 ns and 1 ns there is room for one
-    title = "lateness: the moment at which an element was given, less its expiry"
-    axes = [svg.y_axis(svg.count_ticks(y), "elements given"), svg.x_axis(ticks, title)]
+    y = svg.count_scale(it.elements for it in bins)
+    width = SHARES / max(1, len(bins))
+    told = [f"{span(it.low)} to {span(it.high)} late: {counted(it.elements, 'element')}" for it in bins]
+    bars = [svg.bar(place * width, width * 0.94, y.at(it.elements), "given", says)
+            for place, (it, says) in enumerate(zip(bins, told))]
+    at_bottom = [Tick(round(place * width, 1), mark(it.low)) for place, it in enumerate(bins) if it.low in ROUND]
+    title = "lateness: moment given, less expiry"
     caption = f"{counted(len(bins), 'range')}, about four to a power of ten, of {counted(len(rising), 'gift')}."
     if rising:
         median, high, greatest = map(span, (figures.lateness.median, figures.lateness.high, rising[-1]))
         caption += f" The median is {median}, the 99th percentile {high}, the greatest {greatest}."
-    drawing = svg.drawing("spread", "how many elements were how late", [*axes, *marks])
-    return Plot("How late elements were given", (("given", "elements given"),), drawing, caption)
+    parts = [svg.y_axis(svg.count_ticks(y), "elements given"), *bars, svg.x_axis(at_bottom, title)]
+    drawing = svg.drawing("spread", "how many elements were how late", parts)
+    readings = [Reading(round(place * width, 1), says) for place, says in enumerate(told)]
+    return Plot("spread", "How late elements were given", (("given", "elements given"),), drawing, caption, readings)

@@ -1,67 +1,57 @@
-
 "use strict";
-// Looks up the life of a job. What comes from the history is put into the page as text alone.
+// What all scripts of the page use. What comes from the history is put into the page as text alone.
 
 const told = JSON.parse(document.getElementById("lives").textContent);
-const field = document.getElementById("origin");
-const answer = document.getElementById("answer");
-const life = document.getElementById("life");
-const HEADING = ["attempt", "id", "offered at (ns)", "by seat", "expiry (ns)", "left at (ns)", "to seat", "by",
-  "late by"];
-const UNITS = [[1000000000n, "s"], [1000000n, "ms"], [1000n, "µs"], [1n, "ns"]];
+const UNITS = [[86400000000000n, "d", 2n], [3600000000000n, "h", 2n], [60000000000n, "min", 2n],
+  [1000000000n, "s", 1n], [1000000n, "ms", 1n], [1000n, "µs", 1n], [1n, "ns", 0n]];
+const EXACT = { maximumFractionDigits: 0 };
 
-// A span of nanoseconds, which may pass what a number of JavaScript tells exactly.
+// A span of nanoseconds, which may pass what a number of JavaScript tells exactly, as the rest of the page tells it.
 function span(nanoseconds) {
-  const [size, name] = UNITS.find(([size]) => nanoseconds >= size) || UNITS[3];
+  const [size, name] = UNITS.find(([size, , least]) => nanoseconds >= size * least);
   const value = Number(nanoseconds) / Number(size);
   const digits = size === 1n || value >= 100 ? 0 : value >= 10 ? 1 : 2;
-  return value.toFixed(digits) + " " + name;
+  return value.toLocaleString("en-US", { minimumFractionDigits: digits, maximumFractionDigits: digits }) + " " + name;
+}
+
+function counted(number, noun) {
+  return number.toLocaleString("en-US", EXACT) + " " + noun + (number === 1 ? "" : "s");
+}
+
+// A moment as it is shown: as a date, if the page knows when the runs began.
+function moment(nanoseconds) {
+  if (nanoseconds === null || told.dates.length === 0) {
+    return nanoseconds;
+  }
+  const at = BigInt(nanoseconds);
+  const offset = told.dates.findLast(([from], place) => place === 0 || BigInt(from) <= at)[1];
+  const date = at + BigInt(offset);
+  const text = new Date(Number(date / 1000000n)).toISOString().replace("T", " ").replace("Z", "");
+  return text + String(date % 1000000n).padStart(6, "0");
 }
 
 function row(cells, kind) {
   const made = document.createElement("tr");
   for (const cell of cells) {
-    made.appendChild(document.createElement(kind)).textContent = cell === null ? "" : String(cell);
+    const place = made.appendChild(document.createElement(kind));
+    if (cell instanceof Node) {
+      place.appendChild(cell);
+    } else {
+      place.textContent = cell === null ? "" : String(cell);
+    }
   }
   return made;
 }
 
-function cells([id, attempt, expiry, offered, by, left, to, act]) {
-  if (left === null) {
-    return [attempt, id, offered === null ? "before" : offered, by, expiry, "", "", "still there", ""];
-  }
-  const name = told.acts[act];
-  const late = name === "remove" || name === "clear" ? "" : span(BigInt(left) - BigInt(expiry));
-  return [attempt, id, offered === null ? "before" : offered, by, expiry, left, to, name, late];
+function link(origin) {
+  const made = document.createElement("a");
+  made.href = "#job=" + origin;
+  made.textContent = origin;
+  return made;
 }
 
-function show(origin) {
-  field.value = origin;
-  const job = Object.hasOwn(told.jobs, origin) ? told.jobs[origin] : null;
-  life.hidden = job === null;
-  if (job === null) {
-    answer.textContent = origin === "" ? "" : "No job of origin " + origin + " is on this page.";
-    return;
-  }
-  const [payload, first, attempts] = job;
-  answer.textContent = "Job " + origin + ", payload " + payload + ", first expiry " + first + ", "
-    + attempts.length + (attempts.length === 1 ? " element" : " elements");
-  life.tHead.replaceChildren(row(HEADING, "th"));
-  life.tBodies[0].replaceChildren(...attempts.map((attempt) => row(cells(attempt), "td")));
+function code(words) {
+  const made = document.createElement("code");
+  made.textContent = words;
+  return made;
 }
-
-// The job that the address names, so that a link can show it.
-function showNamed() {
-  const named = /^#job=([0-9]+)$/.exec(location.hash);
-  if (named !== null) {
-    show(named[1]);
-    document.getElementById("job").scrollIntoView();
-  }
-}
-
-document.getElementById("ask").addEventListener("submit", (event) => {
-  event.preventDefault();
-  show(field.value.trim().replaceAll(",", ""));
-});
-addEventListener("hashchange", showNamed);
-showNamed();

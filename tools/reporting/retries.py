@@ -50,14 +50,15 @@ def _returns(history: History) -> Iterator[Tuple[int, int]]:
 
 
 def _count_returns(history: History, policy: Policy, retries: Retries) -> None:
-    elements, asked, moments = history.elements, history.events.asked, history.events.moments
+    elements, moments = history.elements, history.events.moments
     came = bytearray(len(elements))  # 1 at the roots of jobs that came back at once
     for row, event in _returns(history):
         retries.returns += 1
         expiry, attempt, root = elements.expiries[row], elements.attempts[row], elements.roots[row]
-        if policy.paces and expiry != policy.expiry(asked[event], elements.firsts[row], attempt):
+        asked = history.events.asked(event)
+        if policy.paces and expiry != policy.expiry(asked, elements.firsts[row], attempt):
             retries.misfits += 1
-        wait = max(0, expiry - asked[event])
+        wait = max(0, expiry - asked)
         if wait > AT_ONCE:
             continue
         retries.at_once += 1

@@ -1,21 +1,30 @@
-"""Drawings as SVG: scales, axes with their ticks, and the marks of plots. Text goes through `escape` alone."""
+"""Drawings as SVG: scales, axes with their ticks, and the marks of plots. Text goes through `escape` alone.
+
+A drawing is as wide as the page lets it be. Heights are pixels. Places from the left are shares of the width, out of
+SHARES: as the units of `marks`, which are stretched, and as percentages elsewhere, so that words keep their size. The
+labels of the upright axis stand at the left of the drawing, where page.css leaves room for them. Labels for which a
+narrow page has no room are hidden there by their class.
+"""
 from __future__ import annotations
 
 import itertools
-import math
 from html import escape
 from typing import Iterable, List, NamedTuple, Sequence, Tuple
 
 from reporting.buckets import Point
-from reporting.units import number, unit_of
+from reporting.units import compact, unit_of
 
-WIDTH, HEIGHT = 1040, 270
-LEFT, RIGHT, TOP, BOTTOM = 76, 1024, 14, 222
-LABEL_WIDTH = 50  # of a tick's words, about
+HEIGHT, TOP, BOTTOM = 270, 28, 222
+LEFT = 72  # the room for labels at the left, as in page.css
+SHARES = 1000
+
+# From which width of the page on a label is shown, by its class, and how wide a drawing is there at least.
+ROOMS: Tuple[Tuple[str, int], ...] = (("", 270), ("from-720", 520), ("from-1040", 840))
+DIGIT_WIDTH, GAP = 7.7, 12  # of a label's words, in pixels
 
 
 class Scale(NamedTuple):
-    """Puts values from `low` to `high` on pixels from `start` to `stop`."""
+    """Puts values from `low` to `high` on places from `start` to `stop`."""
 
     low: float
     high: float
@@ -28,10 +37,11 @@ class Scale(NamedTuple):
 
 
 class Tick(NamedTuple):
-    """A mark on an axis: its pixel and its label."""
+    """A mark on an axis: its place, its label, and the class of the pages that show it."""
 
     place: float
     label: str
+    kind: str = ""
 
 
 def steps_of(high: int, most: int = 6) -> List[int]:
@@ -41,8 +51,13 @@ def steps_of(high: int, most: int = 6) -> List[int]:
     return list(range(0, high + 1, step))
 
 
+def count_scale(values: Iterable[int]) -> Scale:
+    """The upright scale of counts, from 0 on."""
+    return Scale(0, max(1, max(values, default=1)), BOTTOM, TOP)
+
+
 def count_ticks(scale: Scale) -> List[Tick]:
-    return [Tick(scale.at(value), number(value)) for value in steps_of(int(scale.high), 5)]
+    return [Tick(scale.at(value), compact(value)) for value in steps_of(int(scale.high), 5)]
 
 
 def time_ticks(scale: Scale) -> Tuple[List[Tick], str]:
@@ -55,24 +70,59 @@ def time_ticks(scale: Scale) -> Tuple[List[Tick], str]:
     return [Tick(scale.at(scale.low + it * tenth), f"{it * tenth / size:g}") for it in shown], unit
 
 
-def text(x: float, y: float, words: str, kind: str) -> str:
-    return f'<text x="{x}" y="{y}" class="{kind}">{escape(words)}</text>'
+def _width(words: str) -> float:
+    return DIGIT_WIDTH * len(words) + GAP
 
 
-def x_axis(ticks: Iterable[Tick], title: str, bottom: float = BOTTOM) -> str:
-    parts = [f'<path class="axis" d="M{LEFT} {bottom}H{RIGHT}"/>']
-    for place, label in ticks:
-        parts += [f'<path class="axis" d="M{place} {bottom}v5"/>', text(place, bottom + 18, label, "x")]
-    return "".join([*parts, text((LEFT + RIGHT) / 2, bottom + 38, title, "x title")])
+def fitting(ticks: Sequence[Tick]) -> List[Tick]:
+    """The ticks whose labels do not touch, each with the class of the pages that have room for it: of all ticks every
+    second, fourth and so on, and more of them where there is more room."""
+    chosen: List[Tick] = []
+    distances = sorted(after.place - before.place for before, after in zip(ticks, ticks[1:]))
+    widest = max((_width(tick.label) for tick in ticks), default=0.0)
+    for kind, room in ROOMS:
+        usual = distances[len(distances) // 2] * room / SHARES if distances else 0.0
+        stride = next(it for it in (2**power for power in range(64)) if it >= len(ticks) or it * usual >= widest)
+        for tick in ticks[::stride]:
+            needed = _width(tick.label) / 2 * SHARES / room
+            if all(abs(tick.place - it.place) >= needed + _width(it.label) / 2 * SHARES / room for it in chosen):
+                chosen.append(tick._replace(kind=kind))
+    return sorted(chosen)
+
+
+def room_for(words: str, width: float) -> str | None:
+    """The class of the pages on which words have room in a part of a drawing that is so many shares wide, if any."""
+    return next((kind for kind, room in ROOMS if width * room / SHARES >= _width(words) - GAP / 2), None)
+
+
+def share(place: float) -> str:
+    """A place as a percentage."""
+    return f"{round(place * 100 / SHARES, 2):g}%"
+
+
+def text(x: float | str, y: float, words: str, kind: str) -> str:
+    return f'<text x="{x}" y="{y}" class="{kind.strip()}">{escape(words)}</text>'
+
+
+def line(kind: str, start: Tuple[float | str, float], end: Tuple[float | str, float]) -> str:
+    return f'<line class="{kind.strip()}" x1="{start[0]}" y1="{start[1]}" x2="{end[0]}" y2="{end[1]}"/>'
+
+
+def x_axis(ticks: Sequence[Tick], title: str, bottom: float = BOTTOM) -> str:
+    """The axis at the bottom."""
+    parts = [line("axis", ("0", bottom), ("100%", bottom))]
+    for place, label, kind in fitting(ticks):
+        at = share(place)
+        parts += [line(f"axis {kind}", (at, bottom), (at, bottom + 5)), text(at, bottom + 18, label, f"x {kind}")]
+    return "".join([*parts, text("50%", bottom + 38, title, "x title")])
 
 
 def y_axis(ticks: Iterable[Tick], title: str) -> str:
-    parts = []
-    for place, label in ticks:
-        parts += [f'<path class="grid" d="M{LEFT} {place}H{RIGHT}"/>', text(LEFT - 8, place + 4, label, "y")]
-    middle = (TOP + BOTTOM) / 2
-    turned = f'<text transform="translate(14 {middle}) rotate(-90)" class="x title">{escape(title)}</text>'
-    return "".join([*parts, turned])
+    """The labels at the left, each with a line through the drawing, and above them what they count."""
+    parts = [text(-LEFT, 12, title, "title")]
+    for place, label, _ in ticks:
+        parts += [line("grid", ("0", place), ("100%", place)), text(-8, place + 4, label, "y")]
+    return "".join(parts)
 
 
 def stairs(points: Sequence[Point], x: Scale, y: Scale) -> str:
@@ -88,18 +138,19 @@ def area_below(path: str, x: Scale, y: Scale, start: int) -> str:
     return f"{path}L{x.stop} {y.start}H{x.at(start)}Z"
 
 
-def bar(x: float, width: float, y: float, bottom: float, kind: str, told: str) -> str:
-    height = round(bottom - y, 1)
-    mark = f'<rect class="{kind}" x="{round(x, 1)}" y="{y}" width="{round(width, 1)}" height="{height}">'
+def bar(place: float, width: float, y: float, kind: str, told: str) -> str:
+    """A bar from the bottom up to `y`, so many shares wide."""
+    mark = f'<rect class="{kind}" x="{share(place)}" y="{y}" width="{share(width)}" height="{round(BOTTOM - y, 1)}">'
     return f"{mark}<title>{escape(told)}</title></rect>"
 
 
+def marks(parts: Iterable[str], height: float = HEIGHT) -> str:
+    """Paths whose places are shares."""
+    return (f'<svg class="marks" viewBox="0 0 {SHARES} {height}" preserveAspectRatio="none" width="100%"'
+            f' height="{height}">{"".join(parts)}</svg>')
+
+
 def drawing(name: str, about: str, parts: Iterable[str], height: float = HEIGHT) -> str:
-    """An SVG element, which tells a screen reader what it shows."""
-    head = f'<svg id="plot-{name}" viewBox="0 0 {WIDTH} {height}" role="img" aria-label="{escape(about)}">'
-    return "".join([head, *parts, "</svg>"])
-
-
-def level(nanoseconds: float) -> float:
-    """The place of a span on an axis whose steps are powers of ten, with 0 at its foot."""
-    return math.log10(1 + nanoseconds)
+    """A drawing, which tells a screen reader what it shows."""
+    return (f'<div class="drawing" id="plot-{name}"><svg height="{height}" role="img" aria-label="{escape(about)}">'
+            f'{"".join(parts)}</svg></div>')

@@ -11,6 +11,8 @@ UNITS: Tuple[Tuple[int, str, int], ...] = (
     (60 * SECOND, "min", 2), (3600 * SECOND, "h", 2), (86_400 * SECOND, "d", 2),
 )
 
+SIZES: Tuple[Tuple[int, str], ...] = tuple((size, name) for size, name, _ in UNITS)
+
 
 def unit_of(nanoseconds: int) -> Tuple[int, str]:
     """The unit in which a span is shown: its nanoseconds and its name."""
@@ -27,13 +29,19 @@ def span(nanoseconds: int) -> str:
 
 
 def mark(nanoseconds: int) -> str:
-    """A power of ten as a label of an axis, so not in minutes, hours or days."""
-    size, name = unit_of(min(nanoseconds, SECOND))
-    return f"{nanoseconds // size:,} {name}"
+    """A round span as a label of an axis: in the largest unit of which it is a multiple."""
+    size, name = next((size, name) for size, name, _ in reversed(UNITS) if size == 1 or not nanoseconds % size)
+    return f"{nanoseconds // size:,} {name}" if nanoseconds else "0 ns"
 
 
 def number(value: int) -> str:
     return f"{value:,}"
+
+
+def compact(value: int) -> str:
+    """A round number as a label of an axis."""
+    power = max((it for it in (3, 2) if value >= 1000**it * 10), default=0)
+    return f"{value // 1000**power:,} {' MG'[power - 1]}" if power else number(value)
 
 
 def counted(value: int, one: str, many: str = "") -> str:

@@ -13,6 +13,8 @@ from typing import Any, Dict, List
 
 PATIENCE = 60.0  # seconds for each answer
 
+KEYS = {"Enter": 13, "Tab": 9, "Escape": 27, "End": 35, "Home": 36, "ArrowLeft": 37, "ArrowRight": 39}
+
 # What a page may complain by: an error that no script caught, a line on the console, a log's entry, a dialog.
 COMPLAINTS = ("Runtime.exceptionThrown", "Runtime.consoleAPICalled", "Log.entryAdded", "Page.javascriptDialogOpening")
 
@@ -67,13 +69,35 @@ class Browser:
     def type(self, words: str) -> None:
         """Types words where the page's cursor is, and then the enter key."""
         self._ask("Input.insertText", text=words)
-        enter = {"key": "Enter", "code": "Enter", "windowsVirtualKeyCode": 13, "text": "\r"}
+        self.press("Enter")
+
+    def press(self, key: str) -> None:
+        """Presses a key that KEYS names."""
+        told: Dict[str, Any] = {"key": key, "code": key, "windowsVirtualKeyCode": KEYS[key]}
+        if key == "Enter":
+            told["text"] = "\r"
         for kind in ("keyDown", "keyUp"):
-            self._ask("Input.dispatchKeyEvent", type=kind, **enter)
+            self._ask("Input.dispatchKeyEvent", type=kind, **told)
+
+    def point(self, x: float, y: float) -> None:
+        """Moves the pointer to a place in the window."""
+        self._ask("Input.dispatchMouseEvent", type="mouseMoved", x=x, y=y)
+
+    def click(self, x: float, y: float) -> None:
+        """Presses and releases the pointer at a place in the window."""
+        for kind in ("mousePressed", "mouseReleased"):
+            self._ask("Input.dispatchMouseEvent", type=kind, x=x, y=y, button="left", clickCount=1)
+
+    def resize(self, width: int, height: int) -> None:
+        self._ask("Emulation.setDeviceMetricsOverride", width=width, height=height, deviceScaleFactor=1, mobile=False)
+
+    def prefer(self, scheme: str) -> None:
+        """Makes the browser prefer the color scheme `light` or `dark`, as its user would."""
+        self._ask("Emulation.setEmulatedMedia", features=[{"name": "prefers-color-scheme", "value": scheme}])
 
     def picture(self, width: int, height: int) -> bytes:
         """The top of the page as a PNG."""
-        self._ask("Emulation.setDeviceMetricsOverride", width=width, height=height, deviceScaleFactor=1, mobile=False)
+        self.resize(width, height)
         return base64.b64decode(self._ask("Page.captureScreenshot", format="png")["data"])
 
     def end(self) -> None:
@@ -101,7 +125,8 @@ class Browser:
             if message.get("id") == number:
                 if "error" in message:
                     raise AssertionError(f"{method}: {message['error']}")
-                return message["result"]
+                result: Dict[str, Any] = message["result"]
+                return result
             self._take(message)
 
     def _take(self, message: Dict[str, Any]) -> None:
@@ -120,5 +145,6 @@ class Browser:
             if not some:
                 raise AssertionError("the browser does not answer")
             self._rest += some
-        message, _, self._rest = self._rest.partition(b"\0")
-        return json.loads(message)
+        text, _, self._rest = self._rest.partition(b"\0")
+        message: Dict[str, Any] = json.loads(text)
+        return message

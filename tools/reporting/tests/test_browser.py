@@ -6,12 +6,15 @@ import subprocess
 import sys
 import tempfile
 import unittest
+from typing import Tuple
 
 from reporting import tests
 from reporting.tests.browser import Browser
-from reporting.tests.support import RUN, run
+from reporting.tests.support import RUN, offer, run, text_of
 from reporting.tests.test_page import HOSTILE, hostile_text
 
+FOUND = "[...document.querySelectorAll('#found li')].map((it) => it.textContent)"
+SORTED = "[...document.querySelectorAll('#jobs tbody tr')].map((row) => row.cells[0].textContent).join(' ')"
 LIFE = "[...document.querySelectorAll('#life tbody tr')].map((row) => [...row.cells].map((cell) => cell.textContent))"
 ANSWER = "document.getElementById('answer').textContent"
 
@@ -42,10 +45,24 @@ class BrowserTest(unittest.TestCase):
         self.assertEqual(run(history, "--html", page).returncode, 0)
         self.browser.open(page + (f"#job={job}" if job else ""))
 
-    def look_up(self, words: str) -> None:
-        """Types an origin into the box."""
-        self.browser.value("document.getElementById('origin').value = ''; document.getElementById('origin').focus()")
+    def look_up(self, words: str, field: str = "origin") -> None:
+        """Types an origin or a payload into its box."""
+        self.browser.value(f"document.getElementById('{field}').value = ''; document.getElementById('{field}').focus()")
         self.browser.type(words)
+
+    def place(self, element: str) -> Tuple[float, float, float, float]:
+        """Left, top, width and height of what a selector names, once it is in sight."""
+        left, top, width, height = self.browser.value(f"""(() => {{
+            const it = document.querySelector('{element}');
+            it.scrollIntoView({{ block: "center" }});
+            const {{ left, top, width, height }} = it.getBoundingClientRect();
+            return [left, top, width, height];
+        }})()""")
+        return left, top, width, height
+
+    def click(self, element: str) -> None:
+        left, top, width, height = self.place(element)
+        self.browser.click(left + width / 2, top + height / 2)
 
     def test_a_job_is_found_by_its_origin(self) -> None:
         self.show(RUN)
@@ -64,6 +81,99 @@ class BrowserTest(unittest.TestCase):
             self.assertTrue(self.browser.value("document.getElementById('life').hidden"))
         self.assertEqual(self.browser.complaints, [])
 
+    def test_jobs_are_found_by_their_payload(self) -> None:
+        payloads = ["mail-1", "mail-12", "mail-1", "bill", "mail-*"]
+        self.show(text_of(*[offer(id, 0, payload) for id, payload in enumerate(payloads)]))
+        for words, origins in (("mail-1", "02"), ("mail-1*", "012"), ("mail-*", "0124"), ("*", "01234")):
+            self.look_up(words, "payload")
+            self.assertEqual(self.browser.value(ANSWER), f"{len(origins)} jobs of payload {words}")
+            self.assertEqual(self.browser.value(FOUND), [f"{it}: {payloads[int(it)]}" for it in origins])
+        self.click("#found li:nth-child(2) a")
+        self.assertIn("Job 1, payload mail-12,", self.browser.value(ANSWER))
+        self.look_up("bill", "payload")
+        self.assertIn("Job 3, payload bill,", self.browser.value(ANSWER))
+        self.assertTrue(self.browser.value("document.getElementById('found').hidden"))
+        self.look_up("<b>", "payload")
+        self.assertEqual(self.browser.value(ANSWER), "No job of payload <b> is on this page.")
+        self.assertEqual(self.browser.complaints, [])
+
+    def test_the_table_of_jobs_is_sorted(self) -> None:
+        """Fifteen jobs, of which twelve are shown at first. Job k was given k nanoseconds late, and job 3 twice."""
+        lines = [offer(id, 0, f"p{id}") for id in range(15)]
+        lines += [f"1 {id} {id} take {id}" for id in range(15)]
+        self.show(text_of(*lines, "1 14 14 offer 15 14 3 0 2 p3", "1 14 14 poll 15"))
+        self.assertEqual(self.browser.value("document.querySelectorAll('#jobs tbody tr').length"), 12)
+        self.assertEqual(self.browser.value(SORTED).split()[:3], ["3", "0", "1"])
+        self.click("#jobs th:nth-child(5) button")
+        self.click("#more-jobs")
+        descending = [str(id) for id in range(14, -1, -1)]
+        self.assertEqual(self.browser.value(SORTED).split(), descending)
+        self.assertEqual(self.browser.value("document.querySelector('th[aria-sort]').textContent"), "latest by")
+        self.browser.value("document.querySelector('#jobs th:nth-child(5) button').focus()")
+        self.browser.press("Enter")
+        self.assertEqual(self.browser.value(SORTED).split(), descending[::-1])
+        self.click("#jobs th:nth-child(4) button")
+        self.assertEqual(self.browser.value(SORTED).split()[0], "3")
+        self.assertEqual(self.browser.value("document.getElementById('jobs-shown').textContent"),
+                         "15 jobs of the 15 on this page.")
+        self.click("#jobs th:nth-child(2) button")
+        self.assertEqual(self.browser.value(SORTED).split()[:3], ["9", "8", "7"])
+        self.assertEqual(self.browser.complaints, [])
+
+    def test_a_sorted_row_is_told_as_before(self) -> None:
+        """The script makes the rows that the page had."""
+        self.show(RUN)
+        row = "[...document.querySelector('#jobs tbody tr').cells].map((cell) => cell.innerHTML)"
+        before = self.browser.value(row)
+        self.click("#jobs th:nth-child(3) button")
+        self.assertEqual(self.browser.value(row), before)
+
+    def test_the_value_under_the_pointer(self) -> None:
+        self.show(RUN)
+        reading = "document.querySelector('#plot-depth .reading')"
+        self.assertTrue(self.browser.value(f"{reading}.hidden"))
+        left, top, width, height = self.place("#plot-depth .axis")
+        for moment, says in ((150, "50 ns\n1 in the queue\n0 to 1 of these expired"),
+                             (165, "65 ns\n2 in the queue\n1 of these expired")):
+            # One of 211 nanoseconds; the scale ends where the last one begins.
+            self.browser.point(left + width * (moment + 0.3 - 100) / 210, top - 90)
+            self.assertEqual(self.browser.value(f"[{reading}.hidden, {reading}.textContent]"), [False, says])
+        self.browser.point(left - 40, top - 90)
+        self.assertTrue(self.browser.value(f"{reading}.hidden"))
+        for plot in ("rates", "lateness", "spread", "attempts", "seats"):
+            left, top, width, height = self.place(f"#plot-{plot} .axis")
+            self.browser.point(left + 2, top - 60)
+            first = self.browser.value(f"document.querySelector('#plot-{plot} .reading').textContent")
+            told = self.browser.value(f"told.readings.{plot}[0][1]")
+            self.assertEqual(first, told)
+        self.assertEqual(self.browser.complaints, [])
+
+    def test_the_value_at_the_keyboard(self) -> None:
+        self.show(RUN)
+        reading = "document.querySelector('#plot-depth .reading')"
+        told = [says for _, says in self.browser.value("told.readings.depth")]
+        self.browser.value("document.querySelector('h1').tabIndex = -1; document.querySelector('h1').focus()")
+        self.browser.press("Tab")
+        self.assertEqual(self.browser.value("document.activeElement.id"), "plot-depth")
+        place = 0
+        for key, leap in (("", 0), ("ArrowRight", 1), ("ArrowRight", 1), ("ArrowLeft", -1), ("End", 999), ("Home", -999),
+                          ("ArrowLeft", -1)):
+            if key:
+                self.browser.press(key)
+            place = min(max(0, place + leap), len(told) - 1)
+            self.assertEqual(self.browser.value(f"{reading}.textContent"), told[place])
+            self.assertFalse(self.browser.value(f"{reading}.hidden"))
+            spoken = self.browser.value("document.activeElement.getAttribute('aria-valuetext')")
+            self.assertEqual(spoken, told[place].replace("\n", ", "))
+        self.browser.press("Escape")
+        self.assertTrue(self.browser.value(f"{reading}.hidden"))
+        for plot in ("rates", "lateness", "spread", "attempts", "seats"):
+            self.browser.press("Tab")
+            self.assertEqual(self.browser.value("document.activeElement.id"), f"plot-{plot}")
+            self.browser.press("End")
+            self.assertFalse(self.browser.value(f"document.querySelector('#plot-{plot} .reading').hidden"))
+        self.assertEqual(self.browser.complaints, [])
+
     def test_a_link_shows_a_job(self) -> None:
         self.show(RUN, "0")
         self.assertIn("payload a", self.browser.value(ANSWER))
@@ -77,7 +187,7 @@ class BrowserTest(unittest.TestCase):
     def test_greatest_moments_are_told_in_full(self) -> None:
         greatest = 2**64 - 1
         self.show(f"history 1\n0 0 0 offer 0 1 0 1 a\n0 {greatest} {greatest} poll 0\nend 2\n", "0")
-        self.assertEqual(self.browser.value(LIFE)[0][5:], [str(greatest), "0", "poll", "18446744074 s"])
+        self.assertEqual(self.browser.value(LIFE)[0][5:], [str(greatest), "0", "poll", "213,504 d"])
         self.assertEqual(self.browser.complaints, [])
 
     def test_payloads_stay_text(self) -> None:

@@ -1,4 +1,7 @@
-"""A report on a large history, with its page: 1,000,000 events within 20 seconds of processor time and 1 GB."""
+"""Reports on large histories, with their pages: 1,000,000 events within 20 seconds of processor time and 200 MB.
+
+`begin` starts the processes that make the histories and report on them, so that other tests can run meanwhile.
+"""
 from __future__ import annotations
 
 import os
@@ -7,30 +10,68 @@ import sys
 import tempfile
 import time
 import unittest
+from concurrent.futures import Future, ThreadPoolExecutor
+from typing import Dict, List, NamedTuple
 
 from reporting import tests
 
-MOST_SECONDS, MOST_BYTES = 20.0, 10**9
+MOST_SECONDS, MOST_BYTES = 20.0, 200 * 10**6
+
+# Histories by name, with the words for make_history.py: of a busy server, and of which 97 events in 100 are offers.
+LARGE: Dict[str, List[str]] = {"busy": [], "offers": ["--offers"]}
+
+
+class Measured(NamedTuple):
+    """A report: its exit status, the seconds that passed and those of a processor, its memory, and its page's size."""
+
+    status: int
+    passed: float
+    seconds: float
+    memory: int  # bytes
+    page: int
+
+
+def measured(room: str, name: str) -> Measured:
+    """Makes a history, and then a report on it."""
+    path, page = f"{room}/{name}.txt", f"{room}/{name}.html"
+    with open(path, "w", encoding="ascii") as file:
+        words = [sys.executable, tests.MAKE_HISTORY, str(tests.EVENTS), *LARGE[name]]
+        subprocess.run(words, stdout=file, check=True, timeout=300)
+    start = time.monotonic()
+    report = subprocess.Popen([sys.executable, tests.REPORT, path, "--html", page], stdout=subprocess.DEVNULL)
+    _, status, used = os.wait4(report.pid, 0)
+    report.returncode = status
+    memory = used.ru_maxrss * 1024  # Linux counts it in kibibytes
+    return Measured(status, time.monotonic() - start, used.ru_utime + used.ru_stime, memory, os.path.getsize(page))
+
+
+_room = tempfile.TemporaryDirectory(prefix="rb-report-")
+_threads = ThreadPoolExecutor(len(LARGE))
+_reports: Dict[str, Future[Measured]] = {}
+
+
+def begin() -> None:
+    """Begins all reports, each in a thread of its own."""
+    _reports.update({name: _threads.submit(measured, _room.name, name) for name in LARGE})
+
+
+def tearDownModule() -> None:
+    _threads.shutdown()
+    _room.cleanup()
 
 
 class LargeTest(unittest.TestCase):
     def test_time_and_memory(self) -> None:
         if not tests.EVENTS:
             self.skipTest("left out by --quick")
-        with tempfile.TemporaryDirectory(prefix="rb-report-") as room:
-            path, page = f"{room}/large.txt", f"{room}/page.html"
-            with open(path, "w", encoding="ascii") as file:
-                words = [sys.executable, tests.MAKE_HISTORY, str(tests.EVENTS)]
-                subprocess.run(words, stdout=file, check=True, timeout=300)
-            start = time.monotonic()
-            report = subprocess.Popen([sys.executable, tests.REPORT, path, "--html", page], stdout=subprocess.DEVNULL)
-            _, status, used = os.wait4(report.pid, 0)
-            report.returncode = status
-            seconds, passed = used.ru_utime + used.ru_stime, time.monotonic() - start
-            megabytes = used.ru_maxrss // 1024  # Linux counts it in kibibytes
-            print(f"{tests.EVENTS:,} events: {passed:.1f} s, {seconds:.1f} s of a processor, {megabytes} MiB, "
-                  f"a page of {os.path.getsize(page) / 1e6:.1f} MB", flush=True)
-            self.assertEqual(status, 0)
-            self.assertLess(seconds, MOST_SECONDS)
-            self.assertLess(used.ru_maxrss * 1024, MOST_BYTES)
-            self.assertLess(os.path.getsize(page), 5 * 10**6)
+        if not _reports:
+            begin()
+        for name, report in _reports.items():
+            told = report.result()
+            print(f"{name}, {tests.EVENTS:,} events: {told.passed:.1f} s, {told.seconds:.1f} s of a processor, "
+                  f"{told.memory / 1e6:.0f} MB, a page of {told.page / 1e6:.1f} MB", flush=True)
+            with self.subTest(history=name):
+                self.assertEqual(told.status, 0)
+                self.assertLess(told.seconds, MOST_SECONDS)
+                self.assertLess(told.memory, MOST_BYTES)
+                self.assertLess(told.page, 5 * 10**6)

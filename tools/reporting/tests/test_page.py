@@ -5,7 +5,7 @@ import json
 import re
 import unittest
 from html.parser import HTMLParser
-from typing import Dict, List, Optional, Tuple
+from typing import Any, Dict, List, Optional, Tuple
 from unittest import mock
 
 from reporting.figures import figures_of
@@ -46,9 +46,10 @@ class Outline(HTMLParser):
         return sum(name == tag for name, _ in self.tags)
 
 
-def lives_in(text: str) -> Dict[str, list]:
+def lives_in(text: str) -> Dict[str, List[Any]]:
     found = re.search(r'<script type="application/json" id="lives">(.*?)</script>', text, re.S)
-    return json.loads(found[1])["jobs"] if found else {}
+    lives: Dict[str, List[Any]] = json.loads(found[1])["jobs"] if found else {}
+    return lives
 
 
 def hostile_text() -> str:

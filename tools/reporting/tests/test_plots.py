@@ -1,0 +1,172 @@
+"""The axes of the plots, and what they say of each place."""
+from __future__ import annotations
+
+import re
+import unittest
+from typing import List
+
+from reporting import svg
+from reporting.buckets import Buckets
+from reporting.dates import Dates, nanoseconds_of
+from reporting.depth_plot import depth_plot
+from reporting.lateness_plots import lateness_plot
+from reporting.rates import rates_of
+from reporting.rates_plot import rates_plot
+from reporting.seats_plot import seats_plot
+from reporting.span_axis import SpanAxis
+from reporting.svg import ROOMS, SHARES, Scale, Tick
+from reporting.tests.support import RUN, figures, offer, read, text_of
+from reporting.time_axis import TimeAxis
+from reporting.units import compact, mark
+
+SECOND = 10**9
+
+
+def labels(ticks: List[Tick]) -> List[str]:
+    return [tick.label for tick in ticks]
+
+
+def backlog() -> str:
+    """600 jobs are due at once, and one is taken each second: for ten minutes they are later and later."""
+    lines = [offer(id, 0) for id in range(600)]
+    lines += [f"1 {id * SECOND} {id * SECOND} take {id}" for id in range(600)]
+    return text_of(*lines)
+
+
+class SpanAxisTest(unittest.TestCase):
+    def test_a_backlog_of_nine_minutes_has_ticks_where_the_data_lies(self) -> None:
+        told = ["10 min", "5 min", "2 min", "1 min", "30 s", "20 s"]
+        self.assertEqual(labels(SpanAxis(20 * SECOND, 540 * SECOND).ticks()), told)
+
+    def test_ends_lie_around_the_data(self) -> None:
+        for least, greatest, low, high in (
+            (0, 0, 0, 1), (23_000, 38_800_000, 20_000, 50_000_000), (7, 7, 5, 10), (10, 10, 10, 20),
+            (540 * SECOND, 550 * SECOND, 300 * SECOND, 600 * SECOND), (3600 * SECOND, 86_400 * SECOND) * 2,
+        ):
+            axis = SpanAxis(least, greatest)
+            self.assertEqual((axis.low, axis.high), (low, high))
+            ticks = labels(axis.ticks())
+            self.assertEqual((ticks[0], ticks[-1]), (mark(high), mark(low)))
+
+    def test_labels_do_not_touch(self) -> None:
+        for least, greatest in ((0, 0), (0, 2**64 - 1), (1, 50), (20_000, 50_000_000), (SECOND, 10**15)):
+            places = [tick.place for tick in SpanAxis(least, greatest).ticks()]
+            self.assertGreaterEqual(len(places), 2)
+            self.assertTrue(all(below - above >= 17 for above, below in zip(places, places[1:])), places)
+
+    def test_the_greatest_moment(self) -> None:
+        self.assertGreaterEqual(SpanAxis(0, 2**64 - 1).high, 2**64 - 1)
+
+    def test_round_spans_as_labels(self) -> None:
+        told = {0: "0 ns", 1: "1 ns", 500: "500 ns", 1000: "1 µs", SECOND: "1 s", 90 * SECOND: "90 s",
+                120 * SECOND: "2 min", 3600 * SECOND: "1 h", 86_400 * SECOND: "1 d", 10**12: "1,000 s"}
+        self.assertEqual({it: mark(it) for it in told}, told)
+
+    def test_the_backlog_in_the_plot(self) -> None:
+        plot = lateness_plot(figures(backlog()))
+        told = re.findall(r'class="y">([^<]*)<', plot.drawing)
+        self.assertEqual(told[0], "10 min")
+        self.assertIn("Equal steps are equal ratios.", plot.caption)
+        self.assertNotIn("power", plot.caption)
+        # The last of 180 buckets begins at 595.7 s, and has the gifts at 596 to 599 s.
+        self.assertEqual(plot.readings[-1].says, "9.93 min\nmedian 9.95 min\ngreatest 9.98 min\nof 4 gifts")
+
+
+class FittingTest(unittest.TestCase):
+    def pairs(self, ticks: List[Tick]) -> None:
+        """No two labels that a page shows touch."""
+        for place, (_, room) in enumerate(ROOMS):
+            kinds = [kind for kind, _ in ROOMS[:place + 1]]
+            shown = [tick for tick in svg.fitting(ticks) if tick.kind in kinds]
+            for before, after in zip(shown, shown[1:]):
+                apart = (after.place - before.place) * room / SHARES
+                self.assertGreater(apart, 7 * (len(before.label) + len(after.label)) / 2, (room, before, after))
+
+    def test_labels_do_not_touch_on_a_page_of_any_width(self) -> None:
+        for length, label in ((11, "0.5"), (40, "976–1000"), (3, "1"), (20, "100 ms"), (1, "0"), (0, "")):
+            self.pairs([Tick(round(place * SHARES / max(1, length - 1), 1), label) for place in range(length)])
+        self.pairs([Tick(place, "08:00:00") for place in (0, 3, 3.1, 250, 260, 500, 750, 751, 1000)])
+
+    def test_a_wide_page_shows_what_a_narrow_one_does_and_more(self) -> None:
+        ticks = [Tick(place * 50, f"{place}0:00") for place in range(21)]
+        counts = [sum(tick.kind in [kind for kind, _ in ROOMS[:place + 1]] for tick in svg.fitting(ticks))
+                  for place in range(len(ROOMS))]
+        self.assertEqual(counts, sorted(set(counts)))
+        self.assertEqual(svg.fitting(ticks)[0], ticks[0])
+
+    def test_room_for_words(self) -> None:
+        told = [svg.room_for("82,561", width) for width in (500, 105, 70, 20)]
+        self.assertEqual(told, ["", "from-720", "from-1040", None])
+
+    def test_large_counts(self) -> None:
+        told = [compact(it) for it in (0, 999, 1_000_000, 10_000_000, 20_000_000_000)]
+        self.assertEqual(told, ["0", "999", "1,000,000", "10 M", "20 G"])
+
+
+class TimeAxisTest(unittest.TestCase):
+    def axis(self, seconds: float, began: str = "2026-11-26T08:00:00Z") -> TimeAxis:
+        end = round(seconds * SECOND)
+        history = read(text_of("1 0 0 size 0", f"1 {end} {end} size 0"))
+        return TimeAxis(history, Dates.of(history, [nanoseconds_of(began)]))
+
+    def shown(self, axis: TimeAxis) -> List[str]:
+        return re.findall(r'class="x(?: from-\d+)?">([^<]*)<', axis.drawn())
+
+    def test_dates_at_the_axis(self) -> None:
+        self.assertEqual(self.shown(self.axis(600))[:3], ["08:00", "08:01", "08:02"])
+        self.assertEqual(self.shown(self.axis(40))[-1], "08:00:40")
+        self.assertEqual(self.shown(self.axis(0.5))[:2], ["00.00", "00.05"])
+        days = self.shown(self.axis(3 * 86_400, "2026-11-29T20:00Z"))
+        self.assertIn("12-01", days)
+        self.assertIn("12:00", days)
+        self.assertIn("UTC, from 2026-11-29 20:00:00 on", self.axis(9, "2026-11-29T20:00Z").drawn())
+
+    def test_a_moment_is_told_as_exactly_as_its_bucket(self) -> None:
+        history = read(text_of("1 50 50 size 0", f"1 {50 + 2 * SECOND} {50 + 2 * SECOND} size 0"))
+        axis = TimeAxis(history, None)
+        self.assertEqual(axis.told(50 + 130_000_000, 11_000_000), "0.13 s")
+        self.assertEqual(axis.told(50 + SECOND // 8, 5_000_000), "0.125 s")
+        self.assertEqual(self.axis(2).told(SECOND // 8, 11_000_000), "2026-11-26 08:00:00.125 UTC")
+
+    def test_a_run_that_took_no_time(self) -> None:
+        self.assertEqual(self.shown(self.axis(0)), ["00.000000000"])
+
+
+class ReadingsTest(unittest.TestCase):
+    def test_rates(self) -> None:
+        history = read(RUN)
+        # The events at 100 to 120, 160 to 170, 200, and 310, of which element 4 is a return.
+        rates = rates_of(history, Buckets([100, 160, 200, 311]))
+        self.assertEqual(rates, ([1, 0, 0], [2, 1, 1], [0, 1, 0]))
+
+    def test_all_that_happened_is_in_the_rates(self) -> None:
+        plot = rates_plot(figures(RUN))
+        self.assertIn("In all 1 offer, 4 gifts and 1 return.", plot.caption)
+        self.assertEqual(plot.title, "Offers, gifts and returns a nanosecond")
+        self.assertEqual(rates_plot(figures(backlog())).title, "Offers, gifts and returns a second")
+
+    def test_rates_are_counts_by_time(self) -> None:
+        plot = rates_plot(figures(backlog()))
+        # 599 s in 180 stretches: the first has 600 offers and 4 gifts, the others 3 or 4 gifts each.
+        self.assertEqual(plot.readings[0].says, "0.00 min\n180 offers, 1.2 gifts and 0 returns a second")
+
+    def test_depth(self) -> None:
+        told = {it.says.partition("\n")[0]: it.says.partition("\n")[2] for it in depth_plot(figures(RUN)).readings}
+        self.assertEqual(told["0 ns"], "2 to 3 in the queue\n1 to 2 of these expired")
+        self.assertEqual(told["20 ns"], "1 to 3 in the queue\n0 to 2 of these expired")
+        self.assertEqual(told["21 ns"], "1 in the queue\n0 of these expired")
+        self.assertEqual(told["50 ns"], "1 in the queue\n0 to 1 of these expired")
+        self.assertEqual(told["210 ns"], "0 to 1 in the queue\n0 to 1 of these expired")
+
+    def test_seats(self) -> None:
+        plot = seats_plot(figures(text_of(f"{2**64 - 1} 0 0 size 0", "7 9 9 size 0")))
+        self.assertEqual(plot.readings[0].says, "0 ns\nseat 7: 0 calls\nseat …1615: 1 call")
+
+    def test_readings_rise(self) -> None:
+        for draw in (depth_plot, rates_plot, lateness_plot, seats_plot):
+            places = [it.place for it in draw(figures(RUN)).readings]
+            self.assertEqual(places, sorted(places))
+            self.assertEqual(places[0], 0)
+
+    def test_scale_of_one_value(self) -> None:
+        self.assertEqual(Scale(5, 5, 0, SHARES).at(5), 0)

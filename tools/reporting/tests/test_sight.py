@@ -1,0 +1,136 @@
+"""The page as it is seen: at the widths of a telephone and of screens, light and dark."""
+from __future__ import annotations
+
+import math
+import subprocess
+import sys
+import tempfile
+import unittest
+from typing import List, Tuple
+
+from reporting import tests
+from reporting.tests.browser import Browser
+from reporting.tests.support import run
+from reporting.tests.test_plots import backlog
+from reporting.tests.test_series import RUNS
+
+WIDTHS = (420, 800, 1200)
+
+# Pairs of words in a drawing that touch, and words that leave their part of the page.
+TOUCHING = """[...document.querySelectorAll(".drawing > svg")].flatMap((drawing) => {
+    const room = drawing.closest("section").getBoundingClientRect();
+    const words = [...drawing.querySelectorAll("text")].filter((it) => getComputedStyle(it).display !== "none")
+        .map((it) => [it.textContent, it.getBoundingClientRect()]);
+    const outside = words.filter(([, it]) => it.left < room.left || it.right > room.right).map(([text]) => [text]);
+    return [...outside, ...words.flatMap(([text, one], place) => words.slice(place + 1)
+        .filter(([, other]) => one.left < other.right && other.left < one.right
+            && one.top < other.bottom && other.top < one.bottom)
+        .map(([other]) => [text, other]))];
+})"""
+
+# The least height of words in a drawing that are shown, and how many there are.
+WORDS = """(() => {
+    const words = [...document.querySelectorAll(".drawing text")].filter((it) =>
+        getComputedStyle(it).display !== "none");
+    return [Math.min(...words.map((it) => it.getBoundingClientRect().height)), words.length];
+})()"""
+
+# The color of words and of marks, by name, and of what lies behind them.
+COLORS = """(() => {
+    const color = (selector, name) => getComputedStyle(document.querySelector(selector))[name];
+    const behind = color("section.plot", "backgroundColor");
+    const words = { ink: color("h2", "color"), faint: color(".note", "color"), link: color("td a", "color"),
+        label: color("svg text.x", "fill"), field: color("input", "color"), reading: color(".reading", "color") };
+    const marks = { standing: color(".line.standing", "stroke"), expired: color(".line.expired", "stroke"),
+        gifts: color(".line.gifts", "stroke"), returns: color(".line.returns", "stroke"),
+        median: color(".dash.median", "stroke"), given: color("rect.given", "fill"),
+        cursor: color(".cursor", "stroke") };
+    return [behind, words, marks];
+})()"""
+
+
+def luminance(color: str) -> float:
+    """The relative luminance of a color such as rgb(27, 33, 40), as WCAG 2 defines it."""
+    parts = [int(it) / 255 for it in color[color.index("(") + 1:-1].split(",")[:3]]
+    red, green, blue = [it / 12.92 if it <= 0.04045 else math.pow((it + 0.055) / 1.055, 2.4) for it in parts]
+    return 0.2126 * red + 0.7152 * green + 0.0722 * blue
+
+
+def contrast(one: str, other: str) -> float:
+    low, high = sorted((luminance(one), luminance(other)))
+    return (high + 0.05) / (low + 0.05)
+
+
+class SightTest(unittest.TestCase):
+    browser: Browser
+    room: str
+    pages: List[Tuple[str, str]]
+
+    @classmethod
+    def setUpClass(cls) -> None:
+        if not tests.BROWSER:
+            raise unittest.SkipTest("there is no chromium, and none was named")
+        room = tempfile.TemporaryDirectory(prefix="rb-report-")
+        cls.addClassCleanup(room.cleanup)
+        cls.room = room.name
+        cls.browser = Browser(tests.BROWSER, cls.room)
+        cls.addClassCleanup(cls.browser.end)
+        words = [sys.executable, tests.MAKE_HISTORY, "30000"]
+        made = subprocess.run(words, capture_output=True, encoding="ascii", check=True).stdout
+        dates = [word for second in (0, 3600, 7200) for word in ("--began", f"@{1_795_680_000 + second}")]
+        cls.pages = [cls.page("made", [made]), cls.page("backlog", [backlog()], "--began", "2026-11-26T08:00:00Z"),
+                     cls.page("series", RUNS, *dates, "--attempts", "3")]
+
+    @classmethod
+    def page(cls, name: str, texts: List[str], *options: str) -> Tuple[str, str]:
+        """A page, and its name."""
+        paths = [f"{cls.room}/{name}-{place}.txt" for place in range(len(texts))]
+        for path, text in zip(paths, texts):
+            with open(path, "w", encoding="ascii") as file:
+                file.write(text)
+        page = f"{cls.room}/{name}.html"
+        ran = run(*paths, "--html", page, *options)
+        assert ran.returncode == 0, ran.stderr
+        return name, page
+
+    def test_labels_at_every_width(self) -> None:
+        for name, page in self.pages:
+            self.browser.resize(WIDTHS[0], 800)
+            self.browser.open(page)
+            for width in WIDTHS:
+                with self.subTest(page=name, width=width):
+                    self.browser.resize(width, 800)
+                    self.assertEqual(self.browser.value(TOUCHING), [])
+                    height, words = self.browser.value(WORDS)
+                    self.assertGreaterEqual(height, 10)
+                    self.assertGreater(words, 40)
+                    self.assertLessEqual(self.browser.value("document.documentElement.scrollWidth"), width)
+        self.assertEqual(self.browser.complaints, [])
+
+    def test_colors_light_and_dark(self) -> None:
+        self.browser.open(self.pages[0][1])
+        for scheme, is_dark in (("light", False), ("dark", True)):
+            self.browser.prefer(scheme)
+            behind, words, marks = self.browser.value(COLORS)
+            self.assertEqual(luminance(behind) < 0.1, is_dark)
+            # What WCAG 2 asks for at its level AA.
+            for colors, least in ((words, 4.5), (marks, 3.0)):
+                for name, color in colors.items():
+                    with self.subTest(scheme=scheme, name=name):
+                        self.assertGreaterEqual(contrast(color, behind), least)
+        self.assertEqual(self.browser.complaints, [])
+
+    def test_a_reading_stays_on_the_page(self) -> None:
+        self.browser.open(self.pages[0][1])
+        for width in WIDTHS:
+            self.browser.resize(width, 800)
+            self.browser.value("document.querySelector('h1').tabIndex = -1; document.querySelector('h1').focus()")
+            self.browser.press("Tab")
+            for key in ("Home", "End"):
+                self.browser.press(key)
+                left, right = self.browser.value("""(() => {
+                    const { left, right } = document.querySelector("#plot-depth .reading").getBoundingClientRect();
+                    return [left, right];
+                })()""")
+                self.assertGreaterEqual(left, 0)
+                self.assertLessEqual(right, width)

@@ -1,0 +1,77 @@
+"""The axis of time that most plots have: from a history's first event to its last, over all its runs."""
+from __future__ import annotations
+
+import math
+from typing import Iterator, List, Optional
+
+from reporting import svg
+from reporting.buckets import Buckets
+from reporting.dates import Dates, date_text
+from reporting.history import History
+from reporting.svg import BOTTOM, SHARES, TOP, Scale, Tick
+from reporting.units import SECOND, SIZES
+
+MINUTE, HOUR, DAY = 60 * SECOND, 3600 * SECOND, 86_400 * SECOND
+MOST_TICKS = 10
+
+# Steps from one date to the next. All divide the day, or are days.
+DATE_STEPS = (
+    *(factor * 10**power for power in range(9) for factor in (1, 2, 5)),
+    *(it * SECOND for it in (1, 2, 5, 10, 15, 30)), *(it * MINUTE for it in (1, 2, 5, 10, 15, 30)),
+    *(it * HOUR for it in (1, 2, 3, 6, 12)),
+    *(factor * 10**power * DAY for power in range(6) for factor in (1, 2, 5)),
+)
+
+
+class TimeAxis:
+    """Places moments, and tells them: as dates if they are known, otherwise as time since the first event."""
+
+    def __init__(self, history: History, dates: Optional[Dates]) -> None:
+        self.scale = Scale(history.start, history.end, 0, SHARES)
+        self._history, self._dates = history, dates
+        self._ticks, self._unit = svg.time_ticks(self.scale)
+        self._size = next(size for size, unit in SIZES if unit == self._unit)
+
+    def buckets(self, most: int) -> Buckets:
+        return Buckets.over(self._history.start, self._history.end, most)
+
+    def drawn(self, bottom: float = BOTTOM) -> str:
+        """The axis, and a line where each further run begins."""
+        if self._dates is None:
+            return svg.x_axis(self._ticks, f"time since the first event ({self._unit})", bottom) + self._runs(bottom)
+        title = f"UTC, from {self._dates.text(self._history.start, 0)} on"
+        return svg.x_axis(self._date_ticks(self._dates), title, bottom) + self._runs(bottom)
+
+    def _runs(self, bottom: float) -> str:
+        places = [svg.share(self.scale.at(run.opened_at)) for run in self._history.runs[1:]]
+        return "".join(svg.line("run", (at, TOP), (at, bottom)) for at in places)
+
+    def told(self, moment: int, width: float) -> str:
+        """A moment, as exactly as a stretch of time of this width needs it."""
+        if self._dates is None:
+            digits = max(0, math.ceil(math.log10(self._size / max(1.0, width))))
+            return f"{(moment - self._history.start) / self._size:,.{digits}f} {self._unit}"
+        return self._dates.text(moment, 0 if width >= SECOND else 3 if width >= 1_000_000 else 9) + " UTC"
+
+    def _date_ticks(self, dates: Dates) -> List[Tick]:
+        step = next(it for it in DATE_STEPS if it * MOST_TICKS >= self._history.end - self._history.start)
+        return [Tick(self.scale.at(moment), _label(dates.date(moment), step)) for moment in self._round(dates, step)]
+
+    def _round(self, dates: Dates, step: int) -> Iterator[int]:
+        """The moments with round dates, part by part."""
+        start, end = self._history.start, self._history.end
+        for place, (opened_at, offset) in enumerate(dates.parts):
+            low = max(start, opened_at) if place else start
+            high = dates.parts[place + 1].moment - 1 if place + 1 < len(dates.parts) else end
+            first = -(-(low + offset) // step) * step - offset
+            yield from range(first, min(high, end) + 1, step)
+
+
+def _label(date: int, step: int) -> str:
+    """A date with what changes from one step to the next."""
+    whole = date_text(date, 9)
+    if step >= DAY or not date % DAY:
+        return whole[:10] if step >= 100 * DAY else whole[5:10]
+    if step >= MINUTE:
+        return whole[11:16]
+    return whole[11:19] if step >= SECOND else whole[17:20 + len(str(SECOND // step - 1))]
