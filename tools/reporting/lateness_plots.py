@@ -40,8 +40,8 @@ def lateness_plot(figures: Figures) -> Plot:
                   for low, high, it in zip(places, places[1:], found) if it]
         paths.append(f'<path class="dash {kind}" d="{"".join(dashes)}"/>')
     caption = (f"{counted(len(some), 'median')} and as many greatest values, of"
-               f" {counted(len(lateness.rising), 'gift')}: one of each {span(round(buckets.width))} in which something was"
-               " given. Equal steps are equal ratios.")
+               f" {counted(len(lateness.rising), 'gift')}: one of each {span(round(buckets.width))} in which"
+               " something was given. Equal steps are equal ratios.")
     legend = (("median", "median"), ("greatest", "greatest"))
     parts = [svg.y_axis(y.ticks(), "lateness"), svg.marks(paths), axis.drawn()]
     drawing = svg.drawing("lateness", "lateness over time", parts)

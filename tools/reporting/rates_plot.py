@@ -52,7 +52,7 @@ def _readings(axis: TimeAxis, buckets: Buckets, series: Sequence[Sequence[float]
     readings = []
     for edge, *rates in zip(buckets.edges, *series):
         offers, gifts, returns = map(_told, rates)
-        told = f"{offers} offers, {gifts} gifts and {returns} returns a {name}"
+        told = f"{offers} offers\n{gifts} gifts\n{returns} returns a {name}"
         readings.append(Reading(axis.scale.at(edge), f"{axis.told(edge, buckets.width)}\n{told}"))
     return readings
 

@@ -13,7 +13,8 @@ from typing import Any, Dict, List
 
 PATIENCE = 60.0  # seconds for each answer
 
-KEYS = {"Enter": 13, "Tab": 9, "Escape": 27, "End": 35, "Home": 36, "ArrowLeft": 37, "ArrowRight": 39}
+KEYS = {"Enter": 13, "Tab": 9, "Escape": 27, "PageUp": 33, "PageDown": 34, "End": 35, "Home": 36, "ArrowLeft": 37,
+        "ArrowRight": 39}
 
 # What a page may complain by: an error that no script caught, a line on the console, a log's entry, a dialog.
 COMPLAINTS = ("Runtime.exceptionThrown", "Runtime.consoleAPICalled", "Log.entryAdded", "Page.javascriptDialogOpening")

@@ -3,9 +3,10 @@
 
 Seats offer jobs, take, poll, drain and remove them, look, and fail some, which are offered again after a delay. The
 seats with small numbers call more often than others. For a tenth of the run they offer more than they take, so that
-jobs wait. With --offers 97 events in 100 are offers, and drains fetch what they brought. Time advances by some
-microseconds from event to event; one call in four was asked a little before the one that took effect first. Everything
-follows from the seed, so that a run can be made again.
+jobs wait. Time advances by some microseconds from event to event; one call in four was asked a little before the one
+that took effect first. Everything follows from the seed, so that a run can be made again.
+
+With --offers 97 events in 100 are offers instead, and drains fetch what they brought.
 
 The text is one that a single queue could have had: `rb_broker replay --chains --delay 50000000 --attempts 3` accepts
 it. Status: 0; 2 if a word is wrong.
@@ -16,7 +17,7 @@ import argparse
 import heapq
 import random
 import sys
-from typing import Dict, List, NamedTuple, TextIO, Tuple
+from typing import Dict, Iterator, List, NamedTuple, TextIO, Tuple
 
 RETRY_DELAY, ATTEMPTS = 50_000_000, 3
 MOST_HELD = 64  # of a seat
@@ -34,8 +35,8 @@ class Element(NamedTuple):
 class Maker:
     """A queue with its seats, which writes a line for each call."""
 
-    def __init__(self, out: TextIO, version: int, seed: int, seats: int, offers: bool) -> None:
-        self.out, self.version, self.seats, self.offers = out, version, seats, offers
+    def __init__(self, out: TextIO, version: int, seed: int, seats: int) -> None:
+        self.out, self.version, self.seats = out, version, seats
         self.random = random.Random(seed)
         self.moment = self.asked = self.next_id = 0
         self.heap: List[Tuple[int, int]] = []
@@ -60,9 +61,6 @@ class Maker:
     def call(self, seat: int) -> None:
         """One event of this seat."""
         held, chance = self.held[seat], self.random.random()
-        if self.offers:
-            self.offer_mostly(seat, chance)
-            return
         if held and chance < 0.5:
             job = held.pop(self.random.randrange(len(held)))
             if job.attempt < ATTEMPTS and self.random.random() < 0.1:
@@ -74,14 +72,6 @@ class Maker:
             self.fetch(seat, chance)
         else:
             self.look(seat)
-
-    def offer_mostly(self, seat: int, chance: float) -> None:
-        """An offer, or a drain by a seat whose jobs are all done."""
-        if chance < 0.97:
-            self.offer(seat, self.moment + self.delay())
-        else:
-            self.held[seat].clear()
-            self.fetch(seat, chance)
 
     def delay(self) -> int:
         """Most jobs are due at once, some in a while, few in a minute."""
@@ -147,6 +137,24 @@ class Maker:
         self.out.write(f"{seat} {self.asked} {self.moment} {act}\n")
 
 
+def mostly_offers(events: int) -> Iterator[str]:
+    """The text of a history, in the third version, in which each drain fetches all that expired since the one before.
+    Elements expire a microsecond after their offer, and drains come some microseconds later."""
+    yield "history 3\nopen 0 0 0\n"
+    id = fetched = 0
+    for event in range(events):
+        moment = 1000 * event
+        if event % 100 in (33, 66, 99):
+            ids = " ".join(map(str, range(fetched, id)))
+            yield f"{event % 8} {moment} {moment} drain 64 {ids}\n"
+            fetched = id
+        else:
+            expiry = moment + 1000
+            yield f"{event % 8} {moment} {moment} offer {id} {expiry} {id} {expiry} 1 letter-{id}\n"
+            id += 1
+    yield f"end {events}\n"
+
+
 def main() -> int:
     about, _, rest = (__doc__ or "").partition("\n\n")
     form = argparse.RawDescriptionHelpFormatter
@@ -155,9 +163,12 @@ def main() -> int:
     asked.add_argument("--version", type=int, choices=(1, 2, 3), default=3, help="of the text (default: 3)")
     asked.add_argument("--seats", type=int, default=8, help="how many seats call (default: 8)")
     asked.add_argument("--seed", type=int, default=1, help="what the choices follow from (default: 1)")
-    asked.add_argument("--offers", action="store_true", help="97 events in 100 are offers")
+    asked.add_argument("--offers", action="store_true", help="97 events in 100 are offers, and 3 are drains")
     options = asked.parse_args()
-    Maker(sys.stdout, options.version, options.seed, options.seats, options.offers).text(options.events)
+    if options.offers:
+        sys.stdout.writelines(mostly_offers(options.events))
+    else:
+        Maker(sys.stdout, options.version, options.seed, options.seats).text(options.events)
     return 0
 
 

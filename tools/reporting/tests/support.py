@@ -1,6 +1,7 @@
 """What several tests need: histories from lines, and the tool as a command."""
 from __future__ import annotations
 
+import functools
 import importlib.util
 import io
 import subprocess
@@ -8,7 +9,7 @@ import sys
 import tempfile
 import unittest
 from importlib.machinery import SourceFileLoader
-from typing import List, Sequence
+from typing import Any, List, Sequence, Tuple
 from unittest import mock
 
 from reporting.figures import Figures, figures_of
@@ -71,25 +72,40 @@ class FilesTest(unittest.TestCase):
 
     def lines(self, *words: str) -> List[str]:
         """What tools/report prints if all is well."""
-        ran = run(*words)
-        self.assertEqual((ran.returncode, ran.stderr), (0, ""))
-        return ran.stdout.splitlines()
+        status, out, errors = call(*words)
+        self.assertEqual((status, errors), (0, ""))
+        return out.splitlines()
+
+    def refused(self, status: int, *words: str) -> str:
+        """What tools/report says if it prints nothing and ends with this status."""
+        told = call(*words)
+        self.assertEqual(told[:2], (status, ""))
+        return told[2]
 
 
-def refused_words(*words: str) -> str:
-    """What tools/report says of words that it refuses with status 2, without the start of a process."""
+@functools.lru_cache(None)
+def _command() -> Any:
     loader = SourceFileLoader("report_command", REPORT)
     spec = importlib.util.spec_from_loader(loader.name, loader)
     assert spec is not None
     command = importlib.util.module_from_spec(spec)
     loader.exec_module(command)
-    with mock.patch("sys.argv", [REPORT, *words]), mock.patch("sys.stderr", io.StringIO()) as said:
+    return command
+
+
+def call(*words: str) -> Tuple[int, str, str]:
+    """Runs tools/report in this process: its status, and what it prints on standard output and standard error."""
+    out, errors = io.BytesIO(), io.BytesIO()
+    printed, complained = io.TextIOWrapper(out, "utf-8"), io.TextIOWrapper(errors, "utf-8")
+    with mock.patch("sys.argv", [REPORT, *words]), mock.patch("sys.stdout", printed), \
+            mock.patch("sys.stderr", complained):
         try:
-            command.words()
+            status = _command().main()
         except SystemExit as end:
-            assert end.code == 2
-            return said.getvalue()
-    raise AssertionError(f"{words} are not refused")
+            status = end.code
+    printed.flush()
+    complained.flush()
+    return status, out.getvalue().decode(), errors.getvalue().decode()
 
 
 def run(*words: str, given: str = "") -> subprocess.CompletedProcess[str]:

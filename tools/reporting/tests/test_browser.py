@@ -10,7 +10,7 @@ from typing import Tuple
 
 from reporting import tests
 from reporting.tests.browser import Browser
-from reporting.tests.support import RUN, offer, run, text_of
+from reporting.tests.support import RUN, call, offer, text_of
 from reporting.tests.test_page import HOSTILE, hostile_text
 
 FOUND = "[...document.querySelectorAll('#found li')].map((it) => it.textContent)"
@@ -42,7 +42,7 @@ class BrowserTest(unittest.TestCase):
         history, page = f"{self.room}/run.txt", f"{self.room}/{self._testMethodName}.html"
         with open(history, "w", encoding="utf-8") as file:
             file.write(text)
-        self.assertEqual(run(history, "--html", page).returncode, 0)
+        self.assertEqual(call(history, "--html", page)[0], 0)
         self.browser.open(page + (f"#job={job}" if job else ""))
 
     def look_up(self, words: str, field: str = "origin") -> None:
@@ -156,8 +156,8 @@ class BrowserTest(unittest.TestCase):
         self.browser.press("Tab")
         self.assertEqual(self.browser.value("document.activeElement.id"), "plot-depth")
         place = 0
-        for key, leap in (("", 0), ("ArrowRight", 1), ("ArrowRight", 1), ("ArrowLeft", -1), ("End", 999), ("Home", -999),
-                          ("ArrowLeft", -1)):
+        for key, leap in (("", 0), ("ArrowRight", 1), ("ArrowRight", 1), ("ArrowLeft", -1), ("PageUp", 20),
+                          ("PageUp", 20), ("PageDown", -20), ("End", 999), ("Home", -999), ("ArrowLeft", -1)):
             if key:
                 self.browser.press(key)
             place = min(max(0, place + leap), len(told) - 1)

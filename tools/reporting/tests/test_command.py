@@ -18,7 +18,7 @@ class CommandTest(FilesTest):
         super().setUp()
         self.history = self.file("run.txt", RUN)
 
-    def refused(self, *words: str) -> Tuple[int, str]:
+    def ended(self, *words: str) -> Tuple[int, str]:
         """The status of a run that prints nothing, and its last line on standard error, which is not a traceback."""
         ran = run(*words)
         self.assertEqual(ran.stdout, "")
@@ -71,26 +71,26 @@ class CommandTest(FilesTest):
         damaged = self.file("damaged.txt", RUN.replace("size 1", "size 2"))
         page = f"{self.room}/page.html"
         says = f"report: {damaged}: line 8: the queue holds 1, not 2"
-        self.assertEqual(self.refused(damaged, "--html", page), (1, says))
+        self.assertEqual(self.ended(damaged, "--html", page), (1, says))
         self.assertFalse(os.path.exists(page))
 
     def test_a_job_that_is_not_there(self) -> None:
-        self.assertEqual(self.refused(self.history, "--job", "7"), (1, f"report: {self.history}: no job of origin 7"))
+        self.assertEqual(self.ended(self.history, "--job", "7"), (1, f"report: {self.history}: no job of origin 7"))
 
     def test_files_that_can_not_be_used(self) -> None:
         none = f"{self.room}/none.txt"
-        self.assertEqual(self.refused(none), (2, f"report: {none}: No such file or directory"))
-        self.assertEqual(self.refused(self.room), (2, f"report: {self.room}: Is a directory"))
+        self.assertEqual(self.ended(none), (2, f"report: {none}: No such file or directory"))
+        self.assertEqual(self.ended(self.room), (2, f"report: {self.room}: Is a directory"))
         page = f"{self.room}/none/page.html"
-        self.assertEqual(self.refused(self.history, "--html", page), (2, f"report: {page}: No such file or directory"))
+        self.assertEqual(self.ended(self.history, "--html", page), (2, f"report: {page}: No such file or directory"))
 
     def test_refused_words(self) -> None:
         for words in ((), (self.history, "--job", "-1"), (self.history, "--job", "1_0"), (self.history, "--job", "٣"),
                       (self.history, "--job", str(2**64)), (self.history, "--ht", "x"), (self.history, "more")):
-            self.assertEqual(self.refused(*words)[0], 2, words)
+            self.assertTrue(self.refused(2, *words), words)
 
     def test_the_page_is_not_the_history(self) -> None:
-        self.assertEqual(self.refused(self.history, "--html", self.history)[0], 2)
+        self.assertEqual(self.ended(self.history, "--html", self.history)[0], 2)
         with open(self.history, encoding="utf-8") as file:
             self.assertEqual(file.read(), RUN)
 

@@ -148,7 +148,7 @@ class ReadingsTest(unittest.TestCase):
     def test_rates_are_counts_by_time(self) -> None:
         plot = rates_plot(figures(backlog()))
         # 599 s in 180 stretches: the first has 600 offers and 4 gifts, the others 3 or 4 gifts each.
-        self.assertEqual(plot.readings[0].says, "0.00 min\n180 offers, 1.2 gifts and 0 returns a second")
+        self.assertEqual(plot.readings[0].says, "0.00 min\n180 offers\n1.2 gifts\n0 returns a second")
 
     def test_depth(self) -> None:
         told = {it.says.partition("\n")[0]: it.says.partition("\n")[2] for it in depth_plot(figures(RUN)).readings}

@@ -44,9 +44,9 @@ class ProgramTest(unittest.TestCase):
 
     def test_a_made_history_is_counted_alike(self) -> None:
         path = f"{self.room}/made.txt"
-        for version in ("1", "3"):
+        for options in (["--version", "1"], ["--version", "3"], ["--offers"]):
             with open(path, "w", encoding="ascii") as file:
-                words = [sys.executable, tests.MAKE_HISTORY, "6000", "--version", version]
+                words = [sys.executable, tests.MAKE_HISTORY, "6000", *options]
                 subprocess.run(words, stdout=file, check=True, timeout=60)
             chains = ["--chains", "--delay", "50000000", "--attempts", "3"]
             verdict = subprocess.run([str(tests.PROGRAM), "replay", path, *chains], capture_output=True, timeout=120)

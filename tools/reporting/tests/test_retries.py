@@ -8,7 +8,7 @@ from typing import List
 from reporting.figures import Figures, figures_of
 from reporting.policy import Policy
 from reporting.reader import read_history
-from reporting.tests.support import FilesTest, offer, refused_words, run, text_of
+from reporting.tests.support import FilesTest, offer, text_of
 
 MILLISECOND = 1_000_000
 
@@ -125,9 +125,9 @@ class AskedTest(FilesTest):
         for option, word in (("--attempts", "0"), ("--attempts", "1001"), ("--delay", "-1"), ("--delay", str(2**64)),
                              ("--rate", "1s"), ("--payload", ""), ("--payload", "a b"), ("--payload", "é"),
                              ("--payload", "a" * 65)):
-            self.assertIn(f"argument {option}: {word!r} is no ", refused_words("run.txt", option, word))
+            self.assertIn(f"argument {option}: {word!r} is no ", self.refused(2, "run.txt", option, word))
         for words in (("--delay", "1", "--rate", "1"), ("--payload", "a", "--job", "1")):
-            self.assertIn("not allowed with", refused_words("run.txt", *words))
+            self.assertIn("not allowed with", self.refused(2, "run.txt", *words))
 
 
 class PayloadTest(FilesTest):
@@ -162,6 +162,5 @@ class PayloadTest(FilesTest):
         self.assertEqual(told, [["1", "take", "9"], ["0", "remove", "9"]])
 
     def test_no_job(self) -> None:
-        ran = run(self.path, "--payload", "mail")
-        self.assertEqual((ran.returncode, ran.stdout), (1, ""))
-        self.assertEqual(ran.stderr, f"report: {self.path}: no job of payload mail\n")
+        says = f"report: {self.path}: no job of payload mail\n"
+        self.assertEqual(self.refused(1, self.path, "--payload", "mail"), says)

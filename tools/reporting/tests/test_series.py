@@ -7,7 +7,7 @@ from reporting.dates import Dates, date_text, nanoseconds_of
 from reporting.faults import Damaged
 from reporting.progress import Progress
 from reporting.series import read_series
-from reporting.tests.support import FilesTest, offer, refused_words, run, text_of
+from reporting.tests.support import FilesTest, offer, text_of
 
 # Three runs in which job 0 has an attempt each, the last of which is given at the very end.
 RUNS = ["""history 3
@@ -97,13 +97,12 @@ class SeriesTest(RunsTest):
 
     def test_a_run_that_is_missing(self) -> None:
         one, _, three = self.paths
-        ran = run(one, three)
-        self.assertEqual((ran.returncode, ran.stdout), (1, ""))
-        self.assertIn(f"{three}: line 2: it does not continue {one}", ran.stderr)
+        self.assertIn(f"{three}: line 2: it does not continue {one}", self.refused(1, one, three))
 
     def test_a_damaged_run_is_named(self) -> None:
         damaged = self.file("run-2.txt", RUNS[1].replace("take 1\n", "take 7\n"))
-        self.assertEqual(run(*self.paths).stderr, f"report: {damaged}: line 6: element 7 is not in the queue\n")
+        says = f"report: {damaged}: line 6: element 7 is not in the queue\n"
+        self.assertEqual(self.refused(1, *self.paths), says)
 
     def test_versions_may_change(self) -> None:
         first = self.file("first.txt", "history 1\n1 0 0 offer 0 90 0 1 a\n1 5 5 offer 1 99 1 1 b\nend 2\n")
@@ -170,16 +169,16 @@ class DatesTest(RunsTest):
                      "2026-11-26T08:00:00.1234567890Z", "٢٠٢٦-11-26T08:00Z"):
             with self.subTest(text=text):
                 self.assertRaises(ValueError, nanoseconds_of, text)
-        self.assertIn("'now' is no TIME: no date and time", refused_words("run.txt", "--began", "now"))
+        self.assertIn("'now' is no TIME: no date and time", self.refused(2, "run.txt", "--began", "now"))
 
     def test_dates_of_the_greatest_moment(self) -> None:
         self.assertEqual(date_text(nanoseconds_of("2026-11-26T08:00Z") + 2**64 - 1, 9), "2611-06-17 07:34:33.709551615")
 
     def test_too_few_or_many_times(self) -> None:
         says = "--began is given once, or once for each history"
-        self.assertIn(says, refused_words(*self.paths, "--began", "@1", "--began", "@2"))
-        self.assertIn(says, refused_words(self.paths[0], "--began", "@1", "--began", "@2"))
+        self.assertIn(says, self.refused(2, *self.paths, "--began", "@1", "--began", "@2"))
+        self.assertIn(says, self.refused(2, self.paths[0], "--began", "@1", "--began", "@2"))
 
     def test_the_page_does_not_replace_any_of_the_runs(self) -> None:
-        self.assertIn("--html names a history itself", refused_words(*self.paths, "--html", self.paths[2]))
+        self.assertIn("--html names a history itself", self.refused(2, *self.paths, "--html", self.paths[2]))
         self.assertEqual(os.path.getsize(self.paths[2]), len(RUNS[2]))

@@ -10,7 +10,7 @@ from typing import List, Tuple
 
 from reporting import tests
 from reporting.tests.browser import Browser
-from reporting.tests.support import run
+from reporting.tests.support import call
 from reporting.tests.test_plots import backlog
 from reporting.tests.test_series import RUNS
 
@@ -89,8 +89,8 @@ class SightTest(unittest.TestCase):
             with open(path, "w", encoding="ascii") as file:
                 file.write(text)
         page = f"{cls.room}/{name}.html"
-        ran = run(*paths, "--html", page, *options)
-        assert ran.returncode == 0, ran.stderr
+        status, _, errors = call(*paths, "--html", page, *options)
+        assert status == 0, errors
         return name, page
 
     def test_labels_at_every_width(self) -> None:
