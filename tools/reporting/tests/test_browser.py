@@ -5,8 +5,9 @@ from __future__ import annotations
 import subprocess
 import sys
 import tempfile
+import time
 import unittest
-from typing import Tuple
+from typing import Any, Tuple
 
 from reporting import tests
 from reporting.tests.browser import Browser
@@ -16,6 +17,7 @@ from reporting.tests.test_page import HOSTILE, hostile_text
 FOUND = "[...document.querySelectorAll('#found li')].map((it) => it.textContent)"
 SORTED = "[...document.querySelectorAll('#jobs tbody tr')].map((row) => row.cells[0].textContent).join(' ')"
 LIFE = "[...document.querySelectorAll('#life tbody tr')].map((row) => [...row.cells].map((cell) => cell.textContent))"
+PATIENCE = 10.0  # seconds
 ANSWER = "document.getElementById('answer').textContent"
 
 
@@ -64,6 +66,13 @@ class BrowserTest(unittest.TestCase):
         left, top, width, height = self.place(element)
         self.browser.click(left + width / 2, top + height / 2)
 
+    def shows(self, expression: str, expected: Any) -> None:
+        """Waits until the page has answered what was pressed or pointed at, if it must."""
+        end = time.monotonic() + PATIENCE
+        while (told := self.browser.value(expression)) != expected and time.monotonic() < end:
+            time.sleep(0.05)
+        self.assertEqual(told, expected)
+
     def test_a_job_is_found_by_its_origin(self) -> None:
         self.show(RUN)
         self.assertTrue(self.browser.value("document.getElementById('life').hidden"))
@@ -89,9 +98,9 @@ class BrowserTest(unittest.TestCase):
             self.assertEqual(self.browser.value(ANSWER), f"{len(origins)} jobs of payload {words}")
             self.assertEqual(self.browser.value(FOUND), [f"{it}: {payloads[int(it)]}" for it in origins])
         self.click("#found li:nth-child(2) a")
-        self.assertIn("Job 1, payload mail-12,", self.browser.value(ANSWER))
+        self.shows(ANSWER, "Job 1, payload mail-12, first expiry 0, 1 element")
         self.look_up("bill", "payload")
-        self.assertIn("Job 3, payload bill,", self.browser.value(ANSWER))
+        self.shows(ANSWER, "Job 3, payload bill, first expiry 0, 1 element")
         self.assertTrue(self.browser.value("document.getElementById('found').hidden"))
         self.look_up("<b>", "payload")
         self.assertEqual(self.browser.value(ANSWER), "No job of payload <b> is on this page.")
@@ -107,17 +116,17 @@ class BrowserTest(unittest.TestCase):
         self.click("#jobs th:nth-child(5) button")
         self.click("#more-jobs")
         descending = [str(id) for id in range(14, -1, -1)]
-        self.assertEqual(self.browser.value(SORTED).split(), descending)
+        self.shows(SORTED, " ".join(descending))
         self.assertEqual(self.browser.value("document.querySelector('th[aria-sort]').textContent"), "latest by")
         self.browser.value("document.querySelector('#jobs th:nth-child(5) button').focus()")
         self.browser.press("Enter")
-        self.assertEqual(self.browser.value(SORTED).split(), descending[::-1])
+        self.shows(SORTED, " ".join(descending[::-1]))
         self.click("#jobs th:nth-child(4) button")
-        self.assertEqual(self.browser.value(SORTED).split()[0], "3")
+        self.shows(f"({SORTED}).split(' ')[0]", "3")
         self.assertEqual(self.browser.value("document.getElementById('jobs-shown').textContent"),
                          "15 jobs of the 15 on this page.")
         self.click("#jobs th:nth-child(2) button")
-        self.assertEqual(self.browser.value(SORTED).split()[:3], ["9", "8", "7"])
+        self.shows(f"({SORTED}).split(' ').slice(0, 3)", ["9", "8", "7"])
         self.assertEqual(self.browser.complaints, [])
 
     def test_a_sorted_row_is_told_as_before(self) -> None:
@@ -126,6 +135,7 @@ class BrowserTest(unittest.TestCase):
         row = "[...document.querySelector('#jobs tbody tr').cells].map((cell) => cell.innerHTML)"
         before = self.browser.value(row)
         self.click("#jobs th:nth-child(3) button")
+        self.shows("document.querySelector('th[aria-sort]').textContent", "elements")
         self.assertEqual(self.browser.value(row), before)
 
     def test_the_value_under_the_pointer(self) -> None:
@@ -137,15 +147,14 @@ class BrowserTest(unittest.TestCase):
                              (165, "65 ns\n2 in the queue\n1 of these expired")):
             # One of 211 nanoseconds; the scale ends where the last one begins.
             self.browser.point(left + width * (moment + 0.3 - 100) / 210, top - 90)
-            self.assertEqual(self.browser.value(f"[{reading}.hidden, {reading}.textContent]"), [False, says])
+            self.shows(f"[{reading}.hidden, {reading}.textContent]", [False, says])
         self.browser.point(left - 40, top - 90)
-        self.assertTrue(self.browser.value(f"{reading}.hidden"))
+        self.shows(f"{reading}.hidden", True)
         for plot in ("rates", "lateness", "spread", "attempts", "seats"):
             left, top, width, height = self.place(f"#plot-{plot} .axis")
             self.browser.point(left + 2, top - 60)
-            first = self.browser.value(f"document.querySelector('#plot-{plot} .reading').textContent")
             told = self.browser.value(f"told.readings.{plot}[0][1]")
-            self.assertEqual(first, told)
+            self.shows(f"document.querySelector('#plot-{plot} .reading').textContent", told)
         self.assertEqual(self.browser.complaints, [])
 
     def test_the_value_at_the_keyboard(self) -> None:
@@ -154,24 +163,24 @@ class BrowserTest(unittest.TestCase):
         told = [says for _, says in self.browser.value("told.readings.depth")]
         self.browser.value("document.querySelector('h1').tabIndex = -1; document.querySelector('h1').focus()")
         self.browser.press("Tab")
-        self.assertEqual(self.browser.value("document.activeElement.id"), "plot-depth")
+        self.shows("document.activeElement.id", "plot-depth")
         place = 0
         for key, leap in (("", 0), ("ArrowRight", 1), ("ArrowRight", 1), ("ArrowLeft", -1), ("PageUp", 20),
                           ("PageUp", 20), ("PageDown", -20), ("End", 999), ("Home", -999), ("ArrowLeft", -1)):
             if key:
                 self.browser.press(key)
             place = min(max(0, place + leap), len(told) - 1)
-            self.assertEqual(self.browser.value(f"{reading}.textContent"), told[place])
-            self.assertFalse(self.browser.value(f"{reading}.hidden"))
+            self.shows(f"[{reading}.hidden, {reading}.textContent]", [False, told[place]])
             spoken = self.browser.value("document.activeElement.getAttribute('aria-valuetext')")
             self.assertEqual(spoken, told[place].replace("\n", ", "))
         self.browser.press("Escape")
-        self.assertTrue(self.browser.value(f"{reading}.hidden"))
+        self.shows(f"{reading}.hidden", True)
         for plot in ("rates", "lateness", "spread", "attempts", "seats"):
             self.browser.press("Tab")
-            self.assertEqual(self.browser.value("document.activeElement.id"), f"plot-{plot}")
+            self.shows("document.activeElement.id", f"plot-{plot}")
             self.browser.press("End")
-            self.assertFalse(self.browser.value(f"document.querySelector('#plot-{plot} .reading').hidden"))
+            last = self.browser.value(f"told.readings.{plot}.filter(([, says]) => says !== '').at(-1)[1]")
+            self.shows(f"document.querySelector('#plot-{plot} .reading').textContent", last)
         self.assertEqual(self.browser.complaints, [])
 
     def test_a_link_shows_a_job(self) -> None:
