@@ -1,12 +1,13 @@
 """Dates in UTC for moments, from the dates at which runs began.
 
 A moment counts the time that runs served, so the time between two runs is missing from it. If each run's date is
-known, it is made up for at each opening; from the first run's date alone, later dates are too early by that time.
+known, it is made up for at each opening; from the first run's date alone, later dates are too early by that time. A run
+opens at the moment of the last event before, which then has two dates.
 """
 from __future__ import annotations
 
 import re
-from bisect import bisect_right
+from bisect import bisect_left
 from datetime import datetime, timedelta, timezone
 from typing import NamedTuple, Sequence
 
@@ -65,10 +66,11 @@ class Dates(NamedTuple):
         return cls([Part(run.opened_at, date - run.opened_at) for run, date in zip(history.runs, began)],
                    len(began) < len(history.runs))
 
-    def date(self, moment: int) -> int:
-        """The nanoseconds since 1970 of a moment. Before the first part its offset counts too."""
-        place = bisect_right([part.moment for part in self.parts], moment)
-        return moment + self.parts[max(0, place - 1)].offset
+    def date(self, moment: int, run: int = 0) -> int:
+        """The nanoseconds since 1970 of a moment of this run, from 1. Without a run, a moment at which one run ended
+        and the next one began is of the first of them."""
+        place = run or bisect_left([part.moment for part in self.parts], moment)
+        return moment + self.parts[min(max(1, place), len(self.parts)) - 1].offset
 
-    def text(self, moment: int, digits: int = 3) -> str:
-        return date_text(self.date(moment), digits)
+    def text(self, moment: int, digits: int = 3, run: int = 0) -> str:
+        return date_text(self.date(moment, run), digits)

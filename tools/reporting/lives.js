@@ -16,13 +16,19 @@ function isGift(act) {
   return name !== "remove" && name !== "clear";
 }
 
-function cells([id, attempt, expiry, offered, by, left, to, act]) {
-  const came = [attempt, id, offered === null ? "before" : moment(offered), by, moment(expiry)];
+// A seat, with its run if there are several.
+function seat(number, run) {
+  return run === undefined ? number : number + " of run " + run;
+}
+
+function cells([id, attempt, expiry, offered, by, left, to, act, offeredIn, leftIn]) {
+  const came = [attempt, id, ...(offered === null ? ["before", ""] : [moment(offered, offeredIn), seat(by, offeredIn)]),
+    moment(expiry)];
   if (left === null) {
     return [...came, "", "", "still there", ""];
   }
   const late = isGift(act) ? span(BigInt(left) - BigInt(expiry)) : "";
-  return [...came, moment(left), to, told.acts[act], late];
+  return [...came, moment(left, leftIn), seat(to, leftIn), told.acts[act], late];
 }
 
 function show(origin) {

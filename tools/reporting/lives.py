@@ -20,7 +20,7 @@ MOST_LATEST = 100
 # JavaScript's own numbers are exact up to here. Greater ones go as text.
 MOST_EXACT = 2**53 - 1
 
-Number = Union[int, str]  # or what stands for one
+Number = Union[int, str]
 
 
 class Chosen(NamedTuple):
@@ -63,21 +63,19 @@ def _exact(number: int) -> Number:
     return number if number <= MOST_EXACT else str(number)
 
 
-def _seat(history: History, event: int) -> Number:
-    """The seat of an event, with its run if there are several."""
-    seat = history.events.seats[event]
-    return f"{seat} of run {history.run_of(event)}" if len(history.runs) > 1 else _exact(seat)
-
-
 def _attempt(history: History, row: int) -> List[Union[Number, None]]:
-    """Id, attempt, expiry, when and by which seat it was offered, when and to which it left, and by which act."""
+    """Id, attempt, expiry, when and by which seat it was offered, when and to which it left, and by which act. If there
+    are several runs, also in which it was offered and left."""
     elements, events = history.elements, history.events
     told: List[Union[Number, None]] = [_exact(elements.ids[row]), elements.attempts[row]]
     told.append(_exact(elements.expiries[row]))
     for event in (elements.offered_in[row], elements.left_in[row]):
-        told += [None, None] if event == NONE else [_exact(events.moments[event]), _seat(history, event)]
+        told += [None, None] if event == NONE else [_exact(events.moments[event]), _exact(events.seats[event])]
     left = elements.left_in[row]
-    return [*told, None if left == NONE else events.acts[left]]
+    told.append(None if left == NONE else events.acts[left])
+    if len(history.runs) > 1:
+        told += [None if event == NONE else history.run_of(event) for event in (elements.offered_in[row], left)]
+    return told
 
 
 def _json(told: object) -> str:

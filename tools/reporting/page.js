@@ -18,14 +18,16 @@ function counted(number, noun) {
   return number.toLocaleString("en-US", EXACT) + " " + noun + (number === 1 ? "" : "s");
 }
 
-// A moment as it is shown: as a date, if the page knows when the runs began.
-function moment(nanoseconds) {
-  if (nanoseconds === null || told.dates.length === 0) {
+// A moment as it is shown: as a date, if the page knows when the runs began. If no run is named, from 1, a moment at
+// which one run ended and the next one began is of the first of them.
+function moment(nanoseconds, run) {
+  if (told.dates.length === 0) {
     return nanoseconds;
   }
   const at = BigInt(nanoseconds);
-  const offset = told.dates.findLast(([from], place) => place === 0 || BigInt(from) <= at)[1];
-  const date = at + BigInt(offset);
+  const part = run === undefined ? told.dates.findLast(([from], place) => place === 0 || BigInt(from) < at)
+    : told.dates[Math.min(run, told.dates.length) - 1];
+  const date = at + BigInt(part[1]);
   const text = new Date(Number(date / 1000000n)).toISOString().replace("T", " ").replace("Z", "");
   return text + String(date % 1000000n).padStart(6, "0");
 }

@@ -37,7 +37,7 @@ def _header(figures: Figures) -> str:
     lines = [f"{counted(len(history.events), 'event')} of {counted(figures.seats.total, 'seat')}{runs}, {lasted} from"
              f" moment {history.start} to {history.end} (in nanoseconds)"]
     if dates:
-        lines.append(f"from {dates.text(history.start)} to {dates.text(history.end)} UTC")
+        lines.append(f"from {dates.text(history.start)} to {dates.text(history.end, run=len(history.runs))} UTC")
     if dates and dates.leaves_out:
         lines.append(LEAVES_OUT)
     return f"<header><h1>{escape(figures.name)}</h1>{''.join(f'<p>{escape(it)}</p>' for it in lines)}</header>\n"
@@ -83,7 +83,7 @@ def _runs(figures: Figures) -> str:
         return ""
     dates, rows = figures.dates, []
     for place, (run, end, given) in enumerate(figures.runs, 1):
-        began = dates.text(run.opened_at) if dates else str(run.opened_at)
+        began = dates.text(run.opened_at, run=place) if dates else str(run.opened_at)
         rows.append((str(place), escape(run.name), began, span(end - run.opened_at), *map(number, (
             run.events, run.kept, run.offered, given, run.left))))
     heading = ("run", "history", "began (UTC)" if dates else "began at (ns)", "lasted", "events", "at the start",
@@ -148,9 +148,10 @@ def _last_attempts(figures: Figures) -> str:
 def _lookup(figures: Figures, shown: int, jobs: int) -> str:
     has = f"This page has the life of each of its {counted(jobs, 'job')}."
     if shown < jobs:
+        histories = figures.name if len(figures.history.runs) == 1 else "HISTORY .."
         has = (f"This page has the lives of {number(shown)} of {counted(jobs, 'job')}: those that look wrong, those"
                " that were given latest or offered most often, and then the earliest. The others are told by"
-               f" tools/report {figures.name} --job ORIGIN and --payload TEXT.")
+               f" tools/report {histories} --job ORIGIN and --payload TEXT.")
     return _section("The life of a job", (
         f'<p class="note">{escape(has)}</p>\n<div class="asks">'
         '<form id="ask"><label for="origin">Origin</label>\n'

@@ -23,6 +23,7 @@ class Readings {
     drawing.setAttribute("aria-label", this.picture.getAttribute("aria-label"));
     drawing.setAttribute("aria-valuemin", "1");
     drawing.setAttribute("aria-valuemax", String(readings.length));
+    this.say(0);
     drawing.addEventListener("pointermove", (event) => this.point(event));
     drawing.addEventListener("pointerdown", (event) => this.point(event));
     drawing.addEventListener("pointerleave", () => this.hide());
@@ -73,9 +74,14 @@ class Readings {
     this.cursor.removeAttribute("visibility");
     this.box.textContent = says;
     this.box.hidden = false;
-    this.drawing.setAttribute("aria-valuenow", String(place + 1));
-    this.drawing.setAttribute("aria-valuetext", says.replaceAll("\n", ", "));
+    this.say(place);
     this.put(share);
+  }
+
+  // Tells a screen reader the value.
+  say(place) {
+    this.drawing.setAttribute("aria-valuenow", String(place + 1));
+    this.drawing.setAttribute("aria-valuetext", (this.readings[place]?.[1] ?? "").replaceAll("\n", ", "));
   }
 
   // Puts the box beside the cursor, at the side that has more room.

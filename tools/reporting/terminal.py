@@ -41,7 +41,7 @@ def _head(figures: Figures) -> List[str]:
         f"{figures.depth.standing[-1]:,} left at the end",
     ]
     if dates:
-        lines.append(f"from {dates.text(history.start)} to {dates.text(history.end)} UTC")
+        lines.append(f"from {dates.text(history.start)} to {dates.text(history.end, run=runs)} UTC")
     if dates and dates.leaves_out:
         lines.append(LEAVES_OUT)
     return lines
@@ -53,7 +53,7 @@ def _runs(figures: Figures) -> List[str]:
         return []
     dates, lines = figures.dates, []
     for place, (run, end, given) in enumerate(figures.runs, 1):
-        began = dates.text(run.opened_at) if dates else str(run.opened_at)
+        began = dates.text(run.opened_at, run=place) if dates else str(run.opened_at)
         lines.append((str(place), run.name, began, span(end - run.opened_at), number(run.events), number(run.kept),
                       number(run.offered), number(given), number(run.left)))
     heading = ("run", "history", "began (UTC)" if dates else "began at (ns)", "lasted", "events", "at the start",
@@ -169,15 +169,15 @@ class Life:
         heading = ("attempt", "id", "offered at", "by seat", "expiry", "left at", "to seat", "by", "late by")
         return [head, *table(heading, [self._attempt(row) for row in rows], left=0)]
 
-    def _moment(self, moment: int) -> str:
-        return self._dates.text(moment, 9) if self._dates else str(moment)
+    def _moment(self, moment: int, run: int = 0) -> str:
+        return self._dates.text(moment, 9, run) if self._dates else str(moment)
 
     def _event(self, event: int) -> List[str]:
         """When an event took effect, and at which seat, of which run if there are several."""
-        events = self._history.events
+        events, run = self._history.events, self._history.run_of(event)
         several = len(self._history.runs) > 1
-        seat = f"{events.seats[event]} of run {self._history.run_of(event)}" if several else str(events.seats[event])
-        return [self._moment(events.moments[event]), seat]
+        seat = f"{events.seats[event]} of run {run}" if several else str(events.seats[event])
+        return [self._moment(events.moments[event], run), seat]
 
     def _attempt(self, row: int) -> List[str]:
         elements, events = self._history.elements, self._history.events

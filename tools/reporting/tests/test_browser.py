@@ -13,6 +13,7 @@ from reporting import tests
 from reporting.tests.browser import Browser
 from reporting.tests.support import RUN, call, offer, text_of
 from reporting.tests.test_page import HOSTILE, hostile_text
+from reporting.tests.test_series import RUNS
 
 FOUND = "[...document.querySelectorAll('#found li')].map((it) => it.textContent)"
 SORTED = "[...document.querySelectorAll('#jobs tbody tr')].map((row) => row.cells[0].textContent).join(' ')"
@@ -191,6 +192,27 @@ class BrowserTest(unittest.TestCase):
             document.querySelector('a[href="#job=3"]').click();
         }})""")
         self.assertIn("payload c", shown)
+        self.assertEqual(self.browser.complaints, [])
+
+    def test_a_life_over_several_runs_with_dates(self) -> None:
+        paths = [f"{self.room}/series-{place}.txt" for place in range(len(RUNS))]
+        for path, text in zip(paths, RUNS):
+            with open(path, "w", encoding="ascii") as file:
+                file.write(text)
+        page, began = f"{self.room}/series.html", ("2026-11-26T08:00Z", "2026-11-26T09:00Z", "2026-11-27T08:00Z")
+        self.assertEqual(call(*paths, "--html", page, *(it for date in began for it in ("--began", date)))[0], 0)
+        self.browser.open(f"{page}#job=0")
+        self.assertIn("first expiry 2026-11-26 08:00:00.000000000, 3 elements", self.browser.value(ANSWER))
+        self.assertEqual(self.browser.value(LIFE), [
+            ["1", "0", "2026-11-26 08:00:00.000000000", "1 of run 1", "2026-11-26 08:00:00.000000000",
+             "2026-11-26 08:00:00.000000005", "2 of run 1", "take", "5 ns"],
+            ["2", "1", "2026-11-26 08:00:00.000000009", "2 of run 1", "2026-11-26 09:00:00.000000989",
+             "2026-11-26 09:00:00.000000990", "1 of run 2", "take", "1 ns"],
+            ["3", "3", "2026-11-26 09:00:00.000001000", "1 of run 2", "2026-11-27 08:00:00.000001000",
+             "2026-11-27 08:00:00.000001010", "3 of run 3", "poll", "10 ns"],
+        ])
+        runs = self.browser.value("document.querySelectorAll('#plot-depth .run').length")
+        self.assertEqual(runs, 2)
         self.assertEqual(self.browser.complaints, [])
 
     def test_greatest_moments_are_told_in_full(self) -> None:

@@ -5,9 +5,11 @@ import json
 import subprocess
 import sys
 import tempfile
+import time
 import unittest
 
 from reporting import tests
+from reporting.dates import nanoseconds_of
 from reporting.tests.support import run
 
 
@@ -41,6 +43,21 @@ class ProgramTest(unittest.TestCase):
         self.assertIn("0 elements at the start, 2 offered, 1 given, 1 left at the end", run(first).stdout)
         following = self.script("next.txt", "--from", first)
         self.assertIn("1 element at the start, 0 offered, 1 given, 0 left at the end", run(following).stdout)
+        both = run(following, first)
+        self.assertIn("0 elements at the start, 2 offered, 2 given, 0 left at the end", both.stdout)
+        life = [line.split() for line in run(first, following, "--job", "0").stdout.splitlines()[2:]]
+        self.assertEqual([words[:2] + words[-9:-7] for words in life], [["1", "0", "0", "0"], ["2", "1", "1000", "1000"]])
+
+    def test_a_file_tells_when_its_run_began(self) -> None:
+        before = time.time_ns()
+        history = self.script("held.txt")
+        told = subprocess.run(["stat", "-c", "%w", history], capture_output=True, encoding="ascii").stdout.strip()
+        if told in ("", "-"):
+            self.skipTest("this file system does not tell when a file was made")
+        # The system's own clock for files is behind by some milliseconds.
+        self.assertLessEqual(before - 100_000_000, nanoseconds_of(told))
+        self.assertLessEqual(nanoseconds_of(told), time.time_ns())
+        self.assertIn(f"from {told[:10]} ", run(history, "--began", told).stdout)
 
     def test_a_made_history_is_counted_alike(self) -> None:
         path = f"{self.room}/made.txt"

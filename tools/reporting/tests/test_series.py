@@ -146,13 +146,21 @@ class DatesTest(RunsTest):
         self.assertNotIn(says, lines)
         self.assertIn("from 2026-11-26 08:00:00.000 to 2026-11-27 08:00:00.000 UTC", lines)
         life = self.lines(*self.paths, "--job", "0", "--began", first, "--began", second, "--began", third)
-        # The second attempt was taken 990 ns after the second run began, at the moment 20.
+        # The second attempt was taken 990 ns after the second run began, at the moment 20. The third one was offered in
+        # the last event of that run, at the moment with which the third run opens.
         self.assertIn("2026-11-26 09:00:00.000000990", life[3])
+        self.assertIn("2026-11-26 09:00:00.000001000  1 of run 2", life[4])
 
     def test_dates_begin_with_the_run_and_not_with_its_first_event(self) -> None:
         history = read_series(self.paths[1:], Progress())
         dates = Dates.of(history, [nanoseconds_of("@100")])
         self.assertEqual([dates.date(moment) for moment in (20, 1020)], [100 * 10**9, 100 * 10**9 + 1000])
+
+    def test_a_moment_at_which_two_runs_meet(self) -> None:
+        history = read_series(self.paths, Progress())
+        dates = Dates.of(history, [1000, 5000, 9000])
+        self.assertEqual([dates.date(20, run) for run in (0, 1, 2)], [1020, 1020, 5000])
+        self.assertEqual([dates.date(moment) for moment in (0, 21, 1020, 1021)], [1000, 5001, 6000, 9001])
 
     def test_dates_that_can_be_told(self) -> None:
         told = {
