@@ -2,6 +2,7 @@
 from __future__ import annotations
 
 import asyncio
+import math
 import random
 import time
 from dataclasses import dataclass
@@ -28,6 +29,11 @@ class Plan:
         """When a client makes its offer of this number. The clients take turns."""
         return self.begin + int((offer * self.clients + client) * SECOND / self.rate)
 
+    @property
+    def offers(self) -> int:
+        """How many offers are due before the end."""
+        return math.ceil((self.end - self.begin) * self.rate / SECOND)
+
 
 class Client:
     """One client of a run, with a session of its own. It settles each job before it asks for the next."""
@@ -48,7 +54,8 @@ class Client:
 
     async def _work(self) -> None:
         """Offers what is due, and asks for jobs until the next offer is due. It asks once even if that offer is late
-        already, so that the queue does not only grow."""
+        already, so that the queue does not only grow. Its first request does not wait, so that a late reply to it
+        shows that the server had no worker."""
         offers = 0
         while time.monotonic_ns() < self.plan.end:
             due = self.plan.due(self.number, offers)
@@ -56,7 +63,8 @@ class Client:
                 await self._offer(offers)
                 offers += 1
                 due = self.plan.due(self.number, offers)
-            await self._take(max(min(due, self.plan.end) - time.monotonic_ns(), 0))
+            rest = max(min(due, self.plan.end) - time.monotonic_ns(), 0)
+            await self._take(0 if self.session.waited is None else rest)
 
     async def _offer(self, number: int) -> None:
         before = time.monotonic_ns()

@@ -29,6 +29,7 @@ class Counts:
     dead: int = 0
     errors: collections.Counter[str] = field(default_factory=collections.Counter)
     clock: ServerClock = field(default_factory=ServerClock)
+    waits: list[int] = field(default_factory=list)  # of clients that had to wait for a worker, in nanoseconds
     _times: list[int] = field(default_factory=list)
 
     def add_offer(self, moment: int, before: int, after: int) -> None:

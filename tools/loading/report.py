@@ -1,6 +1,7 @@
 """What is printed about a run."""
 from __future__ import annotations
 
+from loading.client import SECOND, Plan
 from loading.counts import Counts
 
 COLUMNS = ("second", "offered", "taken", "failed", "median us", "99th us", "greatest us")
@@ -17,6 +18,20 @@ def line_of(second: int, counts: Counts) -> str:
     late = counts.lateness()
     times = (late.median, late.percentile, late.greatest) if late else ("-", "-", "-")
     return row((second, counts.offered, counts.taken, counts.failed, *times))
+
+
+def shortcomings(counts: Counts, plan: Plan) -> list[str]:
+    """Why a run was not the one that was asked for: a line for each reason."""
+    lines = []
+    if counts.waits:
+        lines.append(
+            f"note: {len(counts.waits)} of {plan.clients} clients waited for a worker, up to "
+            f"{max(counts.waits) / SECOND:.1f} s: the server needs a worker for each client")
+    missing = plan.offers - counts.offered
+    if missing > max(plan.clients, plan.offers / 100):  # each client may owe its last offer
+        lines.append(
+            f"note: {counts.offered} of {plan.offers} offers were made: the rate that was asked for is not reached")
+    return lines
 
 
 def summary(counts: Counts, seconds: float) -> list[str]:

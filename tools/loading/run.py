@@ -6,15 +6,17 @@ import time
 
 from loading.client import SECOND, Client, Plan
 from loading.counts import Counts
+from loading.record import Record
 from loading.report import COLUMNS, line_of, row
 from loading.session import Session
 
 GRACE = 5  # seconds that the clients have to leave after the end
+SOON = SECOND // 2  # a first reply that comes later had to wait for a worker
 
 
-async def connected(port: int, clients: int) -> list[Session]:
-    """A session for each client."""
-    return [await Session.open(port) for _ in range(clients)]
+async def connected(port: int, clients: int, record: Record) -> list[Session]:
+    """A session for each client, named by its number."""
+    return [await Session.open(port, str(number), record) for number in range(clients)]
 
 
 async def run_clients(plan: Plan, sessions: list[Session], counts: Counts) -> None:
@@ -22,8 +24,10 @@ async def run_clients(plan: Plan, sessions: list[Session], counts: Counts) -> No
     clients = [Client(number, session, plan, counts) for number, session in enumerate(sessions)]
     runs = [asyncio.ensure_future(it.run()) for it in clients]
     lines = asyncio.ensure_future(tell(plan, counts))
-    rest = (plan.end - time.monotonic_ns()) / SECOND
-    _, late = await asyncio.wait(runs, timeout=rest + GRACE)
+    _, late = await asyncio.wait(runs, timeout=(plan.end - time.monotonic_ns()) / SECOND)
+    counts.waits = waits([session for session, it in zip(sessions, runs) if it in late or session.waited], plan)
+    if late:
+        _, late = await asyncio.wait(late, timeout=GRACE)
     for run in late:
         counts.errors["no reply at the end"] += 1
         run.cancel()
@@ -32,6 +36,12 @@ async def run_clients(plan: Plan, sessions: list[Session], counts: Counts) -> No
     for outcome in await asyncio.gather(lines, *runs, return_exceptions=True):
         if isinstance(outcome, Exception):
             raise outcome
+
+
+def waits(sessions: list[Session], plan: Plan) -> list[int]:
+    """How long each session waited for a worker that did not get one soon: until its first reply, or until now."""
+    unserved = [time.monotonic_ns() - plan.begin for it in sessions if it.waited is None]
+    return unserved + [it.waited for it in sessions if it.waited is not None and it.waited > SOON]
 
 
 async def tell(plan: Plan, counts: Counts) -> None:

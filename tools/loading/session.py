@@ -2,6 +2,10 @@
 from __future__ import annotations
 
 import asyncio
+import time
+from typing import Optional
+
+from loading.record import Record
 
 HOST = "127.0.0.1"
 CONNECTING = 5  # seconds in which a connection has to be made
@@ -14,14 +18,17 @@ class Fault(Exception):
 class Session:
     """A connection to the server, over which one request at a time is sent and answered."""
 
-    def __init__(self, reader: asyncio.StreamReader, writer: asyncio.StreamWriter):
+    def __init__(self, name: str, record: Record, reader: asyncio.StreamReader, writer: asyncio.StreamWriter):
+        self.name, self._record = name, record
         self._reader, self._writer = reader, writer
+        self.waited: Optional[int] = None  # nanoseconds until the first reply, once that has come
 
     @classmethod
-    async def open(cls, port: int) -> Session:
-        """Connects."""
+    async def open(cls, port: int, name: str, record: Record) -> Session:
+        """Connects. The record gets each request under the session's name."""
         try:
-            return cls(*await asyncio.wait_for(asyncio.open_connection(HOST, port), CONNECTING))
+            streams = await asyncio.wait_for(asyncio.open_connection(HOST, port), CONNECTING)
+            return cls(name, record, *streams)
         except ConnectionRefusedError:
             raise Fault(f"nobody listens at {HOST}:{port}") from None
         except (OSError, asyncio.TimeoutError):
@@ -29,6 +36,17 @@ class Session:
 
     async def ask(self, request: str) -> list[str]:
         """Sends a request, and gives the words of its reply."""
+        reply: Optional[str] = None
+        sent = time.monotonic_ns()
+        try:
+            reply = await self._reply(request)
+            if self.waited is None:
+                self.waited = time.monotonic_ns() - sent
+            return reply.split(" ")
+        finally:
+            self._record.add(self.name, sent, request, reply)
+
+    async def _reply(self, request: str) -> str:
         self._writer.write(f"{request}\n".encode())
         try:
             line = await self._reader.readline()
@@ -38,7 +56,7 @@ class Session:
             raise Fault(fault.strerror or "the connection failed") from None
         if not line.endswith(b"\n"):
             raise Fault("the server closed the connection")
-        return line[:-1].decode("ascii", "replace").split(" ")
+        return line[:-1].decode("ascii", "replace")
 
     def close(self) -> None:
         """Hangs up."""

@@ -48,7 +48,7 @@ def counts_in(lines: list[str]) -> dict[str, int]:
 
 def rows_in(lines: list[str]) -> list[list[str]]:
     """The cells of the lines of each second."""
-    return [line.split() for line in lines[1:-6]]
+    return [line.split() for line in lines[1:-6] if not line.startswith("note: ")]
 
 
 class ServedTest(unittest.TestCase):

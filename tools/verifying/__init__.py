@@ -1,0 +1,1 @@
+"""The parts of tools/verify: what a history says, what clients recorded, and whether the two agree."""

@@ -1,0 +1,219 @@
+"""A history as verify looks at it: its events by seat, and by the ids of the elements that they name."""
+from __future__ import annotations
+
+from array import array
+from typing import BinaryIO, Dict, Iterator, List, Match, NamedTuple
+
+from reporting.grammar import END, GRAMMARS, HEADERS, LONGEST_LINE, MOST_EVENTS, OPEN
+from verifying.faults import Damaged
+
+# Takes the place of an event if there is none.
+NONE = -1
+
+# In the words of an act, what is not told.
+ANY = "…"
+
+TOO_SHORT = "the text ends before the history does"
+
+FURTHEST_ID = 1 << 22  # above the opening's next id; no run gives as many
+
+
+class Element(NamedTuple):
+    """What a history says about an element, in the words of its text."""
+
+    id: str
+    expiry: str
+    origin: str
+    first: str  # empty in the text of an earlier version
+    attempt: str
+    payload: str
+
+
+class EventsById:
+    """An event for an id. Most ids follow the opening's next id, and take four bytes each."""
+
+    def __init__(self, base: int) -> None:
+        self._base = base
+        self._row = array("i")
+        self._below: Dict[int, int] = {}
+
+    def __getitem__(self, id: int) -> int:
+        place = id - self._base
+        if place < 0:
+            return self._below.get(id, NONE)
+        return self._row[place] if place < len(self._row) else NONE
+
+    def __setitem__(self, id: int, event: int) -> None:
+        place = id - self._base
+        if place < 0:
+            self._below[id] = event
+            return
+        if place >= len(self._row):
+            self._row.extend([NONE] * (place + 1 - len(self._row)))
+        self._row[place] = event
+
+
+class History:
+    """The events of a run, each by its index, from 0. Whether they are legal is the affair of `rb_broker replay`."""
+
+    def __init__(self, version: int, next_id: int) -> None:
+        self.version = version
+        self.text = bytearray()  # of the events
+        self.starts = array("Q", [0])  # where each event's line begins, and where the next one would
+        self.seat_names: List[int] = []
+        self.seats = array("H")  # by an index into the names
+        self.rows: List[array[int]] = []  # the events of each seat
+        self.places = array("I")  # of each event in its seat's row
+        self.offers = EventsById(next_id)
+        self.exits = EventsById(next_id)  # which events took an element out, by its id
+        self.returns = EventsById(next_id)  # which events offered a job again, by the id of its attempt before
+        self.kept: Dict[int, Element] = {}  # the elements of the opening
+
+    def __len__(self) -> int:
+        return len(self.seats)
+
+    def act(self, event: int) -> str:
+        """The words of what an event did."""
+        return self._words(event, 3)[3]
+
+    def fits(self, event: int, expected: str) -> bool:
+        """Whether an event did what these words say, of which ANY stands for each word that is not told."""
+        act = self.act(event)
+        if act == expected:
+            return True
+        words, wanted = act.split(" "), expected.split(" ")
+        return ANY in wanted and len(words) == len(wanted) and all(
+            it in (word, ANY) for word, it in zip(words, wanted))
+
+    def asked(self, event: int) -> int:
+        """The moment that was handed in."""
+        return int(self._words(event, 2)[1])
+
+    def seat(self, event: int) -> int:
+        """The number of an event's seat."""
+        return self.seat_names[self.seats[event]]
+
+    def told(self, event: int) -> str:
+        """How messages name an event."""
+        return f"event {event} ({self.act(event)}, seat {self.seat(event)})"
+
+    def element(self, id: int) -> Element | None:
+        """The element of an id, if it was offered or there from the start."""
+        event = self.offers[id]
+        return self.kept.get(id) if event == NONE else element_of(self.act(event).split(" ")[1:])
+
+    def _words(self, event: int, cuts: int) -> List[str]:
+        return self.text[self.starts[event]:self.starts[event + 1] - 1].decode("ascii").split(" ", cuts)
+
+
+def element_of(words: List[str]) -> Element:
+    """The element of an offer's words, or of a `keep` line's."""
+    first = words[3] if len(words) == 6 else ""
+    return Element(words[0], words[1], words[2], first, words[-2], words[-1])
+
+
+def read_history(file: BinaryIO) -> History:
+    """The history in a file, in any version."""
+    lines = iter(lambda: file.readline(LONGEST_LINE), b"")
+    version = HEADERS.get(next(lines, b""))
+    if version is None:
+        raise Damaged(1, "no `history 1`, `history 2` or `history 3`")
+    reader = _Reader(version)
+    number = 1 if version == 1 else reader.read_opening(lines)
+    reader.read_events(lines, number + 1)
+    return reader.history
+
+
+class _Reader:
+    """Reads the lines behind the header."""
+
+    def __init__(self, version: int) -> None:
+        self.history = History(version, 0)
+        self._next_id = 0
+        self._latest: Dict[int, int] = {}  # the id of the latest attempt of each job that was offered again
+        self._seat_indexes: Dict[bytes, int] = {}
+
+    def read_opening(self, lines: Iterator[bytes]) -> int:
+        """Reads the opening. Returns the number of its last line."""
+        numbers = OPEN.fullmatch(next(lines, b""))
+        if numbers is None:
+            raise Damaged(2, "no `open` line")
+        self._next_id, _, count = map(int, numbers.groups())
+        self.history = History(self.history.version, self._next_id)
+        keep = GRAMMARS[self.history.version].keep
+        for number in range(3, 3 + count):
+            line = next(lines, b"")
+            if keep.fullmatch(line) is None:
+                raise Damaged(number, "no `keep` line")
+            element = element_of(line[:-1].decode("ascii").split(" ")[1:])
+            self.history.kept[int(element.id)] = element
+            self._latest[int(element.origin)] = int(element.id)
+        return 2 + count
+
+    def read_events(self, lines: Iterator[bytes], first: int) -> None:
+        """Reads the events, the first of which is in this line, and the last line."""
+        history, pattern, number = self.history, GRAMMARS[self.history.version].event, first - 1
+        for number, line in enumerate(lines, first):
+            match = pattern.fullmatch(line)
+            if match is None:
+                self._read_end(line, lines, number)
+                return
+            if len(history) == MOST_EVENTS:
+                raise Damaged(number, f"an event behind {MOST_EVENTS:,} others")
+            self._add(match, line, number)
+        raise Damaged(number + 1, TOO_SHORT)
+
+    def _read_end(self, line: bytes, lines: Iterator[bytes], number: int) -> None:
+        if not line.endswith(b"\n"):
+            raise Damaged(number, TOO_SHORT)
+        count = END.fullmatch(line)
+        if count is None:
+            raise Damaged(number, "neither an event nor the last line")
+        if int(count[1]) != len(self.history):
+            raise Damaged(number, f"it tells {int(count[1])}, and the number of events is {len(self.history)}")
+        if next(lines, b""):
+            raise Damaged(number + 1, "it stands behind the last line")
+
+    def _add(self, match: Match[bytes], line: bytes, number: int) -> None:
+        history, event = self.history, len(self.history)
+        index = self._seat_indexes.get(match[1])
+        if index is None:
+            index = self._new_seat(match[1], number)
+        history.seats.append(index)
+        history.places.append(len(history.rows[index]))
+        history.rows[index].append(event)
+        history.text += line
+        history.starts.append(len(history.text))
+        act = match.lastgroup
+        if act == "offer":
+            self._offer(event, int(match[4]), int(match[6]), number)
+        elif act in ("take", "poll", "pollfor"):
+            if match[act] != b"none":
+                history.exits[self._id(match[act], number)] = event
+        elif act == "drain":
+            for id in match["drain"].split():
+                history.exits[self._id(id, number)] = event
+        elif act == "remove" and match["remove"] == b"yes":
+            history.exits[self._id(match["removed"], number)] = event
+
+    def _new_seat(self, name: bytes, number: int) -> int:
+        index = self._seat_indexes[name] = len(self.history.rows)
+        if index == 1 << 16:
+            raise Damaged(number, "a seat more than 65,536")
+        self.history.seat_names.append(int(name))
+        self.history.rows.append(array("I"))
+        return index
+
+    def _offer(self, event: int, id: int, origin: int, number: int) -> None:
+        if not self._next_id <= id < self._next_id + FURTHEST_ID:
+            raise Damaged(number, f"the id {id}, where the first one is {self._next_id}")
+        self.history.offers[id] = event
+        if id != origin:
+            self.history.returns[self._latest.get(origin, origin)] = event
+            self._latest[origin] = id
+
+    def _id(self, word: bytes, number: int) -> int:
+        id = int(word)
+        if id >= self._next_id + FURTHEST_ID:
+            raise Damaged(number, f"the id {id}, where the first one is {self._next_id}")
+        return id

@@ -1,0 +1,186 @@
+"""A simulated run: a queue, clients at several seats, and what each of them would have recorded.
+
+Each call takes effect at one moment, between the moments at which its request was sent and its reply had come. So the
+history keeps the order of real time by the way in which it is made.
+"""
+from __future__ import annotations
+
+import heapq
+import json
+import random
+from typing import Any, Dict, List, Optional, Tuple
+
+Line = Dict[str, Any]
+
+DELAY, ATTEMPTS = 400, 3
+BEHIND = 5_000_000  # how far the clients' clock is ahead of the server's
+
+
+class Element:
+    """An element of the queue."""
+
+    def __init__(self, id: int, expiry: int, before: Optional[Element], payload: str) -> None:
+        self.id, self.expiry, self.payload = id, expiry, payload
+        self.origin: int = before.origin if before else id
+        self.first: int = before.first if before else expiry
+        self.attempt: int = before.attempt + 1 if before else 1
+
+    @property
+    def item(self) -> str:
+        return f"{self.id} {self.expiry} {self.attempt} {self.payload}"
+
+
+class Client:
+    """A session at a seat. Its last line waits for the time at which its reply came."""
+
+    def __init__(self, name: str, seat: int) -> None:
+        self.name, self.seat = name, seat
+        self.held: List[Element] = []
+        self.lines: List[Line] = []
+        self.last = 0  # the moment of its last request
+
+    def note(self, at: int, request: str, *reply: str) -> None:
+        """Notes a request that took effect at this moment. The reply before came between it and the one before."""
+        middle = (self.last + at) // 2
+        if self.lines:
+            self.lines[-1]["received"] = random.randint(self.last, middle) + BEHIND
+        sent = random.randint(max(middle, self.last), at) + BEHIND
+        line = {"session": self.name, "sent": sent, "received": at + BEHIND, "request": request, "reply": list(reply)}
+        self.lines.append(line)
+        self.last = at
+
+
+class Simulation:
+    """A run of so many events. `lines` are those of all clients, by name."""
+
+    def __init__(self, seed: int, events: int, seats: int, longest: int) -> None:
+        """A session makes at most `longest` requests."""
+        random.seed(seed)
+        self.events: List[str] = []
+        self.lines: List[Line] = []
+        self._queue: List[Tuple[int, int]] = []
+        self._elements: Dict[int, Element] = {}
+        self._next_id = self._at = self._sessions = 0
+        self._longest = longest
+        self._clients = [self._client(seat + 1) for seat in range(seats)]
+        while len(self.events) < events:
+            self._at += random.randint(2, 40)
+            number = random.randrange(seats)
+            if len(self._clients[number].lines) >= self._longest * random.random():
+                self._leave(self._clients[number])
+                self._clients[number] = self._client(number + 1)
+            self._act(self._clients[number])
+        for client in self._clients:
+            self._at += 20
+            self._leave(client)
+
+    @property
+    def history(self) -> str:
+        return "\n".join(["history 3", "open 0 0 0", *self.events, f"end {len(self.events)}", ""])
+
+    @property
+    def record(self) -> str:
+        return "".join(f"{json.dumps(it)}\n" for it in self.lines)
+
+    def _client(self, seat: int) -> Client:
+        self._sessions += 1
+        return Client(f"s{self._sessions}", seat)
+
+    def _leave(self, client: Client) -> None:
+        client.note(self._at, "QUIT", "BYE")
+        self.lines += client.lines
+        for element in client.held:
+            if element.attempt < ATTEMPTS:
+                self._offer(client, self._at + DELAY, element.payload, element)
+
+    def _event(self, client: Client, act: str) -> None:
+        self.events.append(f"{client.seat} {self._at} {self._at} {act}")
+
+    def _offer(self, client: Client, expiry: int, payload: str, before: Optional[Element]) -> Element:
+        element = Element(self._next_id, expiry, before, payload)
+        self._next_id += 1
+        self._elements[element.id] = element
+        heapq.heappush(self._queue, (expiry, element.id))
+        self._event(client, f"offer {element.id} {expiry} {element.origin} {element.first} {element.attempt} {payload}")
+        return element
+
+    def _taken(self, client: Client) -> Optional[Element]:
+        """The element that the client fetches, if one has expired."""
+        if not self._queue or self._queue[0][0] > self._at:
+            return None
+        element = self._elements.pop(heapq.heappop(self._queue)[1])
+        client.held.append(element)
+        return element
+
+    def _act(self, client: Client) -> None:
+        """A request of some kind, with its reply and its event."""
+        kinds = ["give", "give", "fetch", "fetch", "fetch", "settle", "settle", "look", "refuse"]
+        if len(client.held) > 20:
+            kinds = ["settle"]
+        getattr(self, f"_{random.choice(kinds)}")(client)
+
+    def _give(self, client: Client) -> None:
+        delay, payload = random.choice([0, 10, 300, 2000]), f"p{self._next_id}"
+        is_moment = random.random() < 0.2
+        request = f"OFFERAT {self._at + delay} {payload}" if is_moment else f"OFFER {delay} {payload}"
+        element = self._offer(client, self._at + delay, payload, None)
+        client.note(self._at, request, f"OFFERED {element.id} {element.expiry}")
+
+    def _fetch(self, client: Client) -> None:
+        keyword = random.choice(["POLL", "POLLFOR", "POLLFOR", "DRAIN"])
+        if keyword == "DRAIN":
+            held = len(client.held)
+            given = list(filter(None, [self._taken(client) for _ in range(random.randint(0, 3))]))
+            if len(given) < 3 and self._queue and self._queue[0][0] <= self._at:
+                most = len(given)  # or more would have been given
+            else:
+                most = min(random.choice([3, 1000]) if len(given) < 3 else 3, 64 - held)
+            self._event(client, " ".join(map(str, ["drain", most, *(it.id for it in given)])))
+            request = f"DRAIN {most if most < 64 - held else 1000}"
+            client.note(self._at, request, f"DRAINED {len(given)}", *(f"ITEM {it.item}" for it in given))
+            return
+        element = self._taken(client)
+        wait = [str(self._at), "0"] if keyword == "POLLFOR" else []
+        id = "none" if element is None else str(element.id)
+        self._event(client, " ".join([keyword.lower(), *wait, id]))
+        request = "POLLFOR 0" if wait else keyword
+        client.note(self._at, request, "NONE" if element is None else f"ITEM {element.item}")
+
+    def _settle(self, client: Client) -> None:
+        if not client.held:
+            return
+        element = client.held.pop(random.randrange(len(client.held)))
+        if random.random() < 0.6:
+            client.note(self._at, f"DONE {element.id}", f"DONE {element.id}")
+        elif element.attempt == ATTEMPTS:
+            client.note(self._at, f"FAIL {element.id}", f"DEAD {element.id}")
+        else:
+            again = self._offer(client, self._at + DELAY, element.payload, element)
+            client.note(self._at, f"FAIL {element.id}", f"AGAIN {again.id} {again.expiry}")
+
+    def _look(self, client: Client) -> None:
+        kind = random.choice(["SIZE", "PEEK", "REMOVE", "REMOVE"])
+        if kind == "SIZE":
+            self._event(client, f"size {len(self._queue)}")
+            client.note(self._at, "SIZE", f"SIZE {len(self._queue)}")
+        elif kind == "PEEK":
+            head = self._elements[self._queue[0][1]] if self._queue else None
+            self._event(client, f"peek {head.id}" if head else "peek none")
+            client.note(self._at, "PEEK", f"HEAD {head.item}" if head else "NONE")
+        else:
+            self._remove(client, random.randrange(self._next_id + 2))
+
+    def _remove(self, client: Client, id: int) -> None:
+        is_there = id in self._elements
+        if is_there:
+            self._queue.remove((self._elements.pop(id).expiry, id))
+            heapq.heapify(self._queue)
+        self._event(client, f"remove {id} {'yes' if is_there else 'no'}")
+        client.note(self._at, f"REMOVE {id}", f"REMOVED {'yes' if is_there else 'no'}")
+
+    def _refuse(self, client: Client) -> None:
+        request, reply = random.choice([
+            ("AT 5", "ERR 1 syntax"), ("DONE 99999999", "ERR 5 not-held"), ("TAKE", "STOPPED"),
+            ("nonsense \u00e9", "ERR 1 syntax"),
+        ])
+        client.note(self._at, request, reply)

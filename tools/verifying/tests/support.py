@@ -1,0 +1,102 @@
+"""What several tests need: runs as files, and the tool as a command."""
+from __future__ import annotations
+
+import io
+import json
+import re
+import subprocess
+import sys
+import tempfile
+import unittest
+from typing import Any, Dict, List, Tuple
+
+from verifying.history import read_history
+from verifying.judge import judge
+from verifying.record import read_record
+from verifying.report import report
+from verifying.tests import VERIFY
+
+Line = Dict[str, Any]
+
+# Two seats, three sessions: `a` and then `c` at seat 1, `b` at seat 2. The moments of the server are those of the
+# clients' clock, less 1,000. `a` leaves with a job that comes back, `b` dies with a TAKE that is carried out.
+EVENTS = [
+    "1 10 10 offer 0 10 0 10 1 x",
+    "2 20 20 size 1",
+    "2 30 30 take 0",
+    "1 40 40 poll none",
+    "1 50 50 offer 1 60 1 60 1 y",
+    "2 60 60 offer 2 65 0 10 2 x",
+    "1 70 70 pollfor 62 100 1",
+    "1 75 75 peek 2",
+    "1 80 80 offer 3 90 1 60 2 y",
+    "2 85 85 take 2",
+    "2 95 95 offer 4 100 0 10 3 x",
+    "1 100 100 drain 5 3 4",
+    "1 105 105 size 0",
+]
+
+
+def line(session: str, sent: int, received: int, request: str, *reply: str) -> Line:
+    times = {"sent": 1000 + sent, "received": 1000 + received}
+    return {"session": session, **times, "request": request, "reply": list(reply)}
+
+
+def lines() -> List[Line]:
+    """The record of the three sessions."""
+    return [
+        line("a", 5, 12, "OFFER 0 x", "OFFERED 0 10"),
+        line("a", 35, 42, "POLL", "NONE"),
+        line("a", 45, 52, "OFFER 10 y", "OFFERED 1 60"),
+        line("a", 61, 72, "POLLFOR 100", "ITEM 1 60 1 y"),
+        line("a", 73, 76, "PEEK", "HEAD 2 65 2 x"),
+        line("a", 77, 79, "QUIT", "BYE"),
+        line("b", 15, 22, "SIZE", "SIZE 1"),
+        line("b", 25, 32, "TAKE", "ITEM 0 10 1 x"),
+        line("b", 55, 62, "FAIL 0", "AGAIN 2 65"),
+        {**line("b", 70, 70, "TAKE"), "received": None},
+        line("c", 96, 101, "DRAIN 5", "DRAINED 2", "ITEM 3 90 2 y", "ITEM 4 100 3 x"),
+        line("c", 102, 106, "SIZE", "SIZE 0"),
+        line("c", 107, 108, "DONE 4", "DONE 4"),
+        line("c", 109, 110, "DONE 3", "DONE 3"),
+    ]
+
+
+def text_of(events: List[str]) -> str:
+    return "\n".join(["history 3", "open 0 0 0", *events, f"end {len(events)}", ""])
+
+
+def record_of(record: List[Line]) -> str:
+    return "".join(f"{json.dumps(it)}\n" for it in record)
+
+
+class RunTest(unittest.TestCase):
+    """A test with a folder of its own."""
+
+    def setUp(self) -> None:
+        room = tempfile.TemporaryDirectory(prefix="rb-verify-")
+        self.addCleanup(room.cleanup)
+        self.room = room.name
+
+    def file(self, name: str, text: str) -> str:
+        path = f"{self.room}/{name}"
+        with open(path, "w", encoding="utf-8") as file:
+            file.write(text)
+        return path
+
+    def verify(self, *words: str) -> subprocess.CompletedProcess[str]:
+        command = [sys.executable, "-B", VERIFY, *words]
+        return subprocess.run(command, capture_output=True, encoding="utf-8", timeout=300, check=False)
+
+    def judged(self, history: str, record: str, is_whole: bool = True) -> Tuple[Dict[str, int], List[str]]:
+        """The number of faults of each kind that has any, and the lines of the faults."""
+        exchanges = (("record.jsonl", it) for it in read_record(io.BytesIO(record.encode())))
+        verdict = judge(read_history(io.BytesIO(history.encode())), exchanges, 10, is_whole)
+        lines = report(verdict, is_whole)
+        told = re.findall(r"^(\w+): +([\d,]+) faults?:", "\n".join(lines), re.M)
+        counts = {kind: int(count.replace(",", "")) for kind, count in told}
+        self.assertEqual(counts.keys() - {"unrecorded"}, {
+            "strange", "changed", "missing", "twice", "gap", "order", "seat", "return", "time"})
+        self.assertRegex(lines[-1], rf"^{sum(counts.values()):,} faults?$")
+        faults = [it for it in lines if re.search(r": (%s): " % "|".join(counts), it)]
+        return {kind: count for kind, count in counts.items() if count}, faults

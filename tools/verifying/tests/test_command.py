@@ -1,0 +1,108 @@
+"""tools/verify as a command: its exit statuses, and what it says about bad input."""
+from __future__ import annotations
+
+import json
+import os
+import subprocess
+import sys
+
+from verifying.tests import VERIFY
+from verifying.tests.support import EVENTS, Line, RunTest, line, lines, record_of, text_of
+
+
+class CommandTest(RunTest):
+    def setUp(self) -> None:
+        super().setUp()
+        self.history = self.file("run.txt", text_of(EVENTS))
+        self.record = self.file("record.jsonl", record_of(lines()))
+
+    def expect_refused(self, says: str, *words: str) -> None:
+        ran = self.verify(*words)
+        self.assertEqual((ran.returncode, ran.stdout, ran.stderr), (2, "", f"verify: {says}\n"))
+
+    def test_a_run_without_events(self) -> None:
+        ran = self.verify(self.file("empty.txt", "history 1\nend 0\n"), self.file("none.jsonl", ""), "--all")
+        self.assertEqual((ran.returncode, ran.stderr), (0, ""))
+        self.assertEqual(ran.stdout.splitlines()[0], "0 events at 0 seats; 0 requests of 0 sessions")
+
+    def test_damaged_histories(self) -> None:
+        for text, says in [
+            ("", "line 1: no `history 1`, `history 2` or `history 3`"),
+            ("history 3\nopen 0 0\n", "line 2: no `open` line"),
+            ("history 3\nopen 3 0 1\nkeep 0 0 0\n", "line 3: no `keep` line"),
+            (text_of(EVENTS).replace("size 1", "size"), "line 4: neither an event nor the last line"),
+            (text_of(EVENTS).replace("end 13", "end 12"), "line 16: it tells 12, and the number of events is 13"),
+            (text_of(EVENTS) + "more", "line 17: it stands behind the last line"),
+            (text_of(EVENTS)[:-8], "line 15: the text ends before the history does"),
+            (text_of(EVENTS)[:-7], "line 16: the text ends before the history does"),
+            (text_of(EVENTS).replace("offer 3 ", "offer 99999999 "),
+             "line 11: the id 99999999, where the first one is 0"),
+        ]:
+            with self.subTest(says=says):
+                path = self.file("damaged.txt", text)
+                self.expect_refused(f"{path}: {says}", path, self.record)
+
+    def test_damaged_records(self) -> None:
+        good = line("a", 5, 12, "SIZE", "SIZE 1")
+        for bad, says in [
+            ("nonsense", "no JSON object"), ("[1]", "no JSON object"), ("{}", "no 'session'"),
+            ("\xff", "no JSON object"),
+            ({**good, "session": None}, "'session' is neither text nor a number"),
+            ({**good, "sent": "5"}, "'sent' or 'received' is no time in nanoseconds"),
+            ({**good, "sent": 5.0}, "'sent' or 'received' is no time in nanoseconds"),
+            ({**good, "sent": -1}, "'sent' or 'received' is no time in nanoseconds"),
+            ({**good, "received": 2**70}, "'sent' or 'received' is no time in nanoseconds"),
+            ({**good, "request": 5}, "'request' is no text, or 'reply' no list of texts"),
+            ({**good, "reply": "SIZE 1"}, "'request' is no text, or 'reply' no list of texts"),
+            ({**good, "reply": [1]}, "'request' is no text, or 'reply' no list of texts"),
+            ({**good, "reply": []}, "'received' is null exactly if 'reply' is empty, and here it is not so"),
+            ({**good, "received": None}, "'received' is null exactly if 'reply' is empty, and here it is not so"),
+            ({**good, "received": 1004}, "the reply came before the request was sent"),
+            ({**good, "sent": 1004}, "it was sent before that of line 1, of the same session"),
+            ({**good, "received": 1011}, "its reply came before that of line 1, of the same session"),
+        ]:
+            with self.subTest(bad=bad):
+                second = bad if isinstance(bad, str) else json.dumps(bad)
+                path = self.file("damaged.jsonl", json.dumps(good) + "\n" + second + "\n")
+                self.expect_refused(f"{path}: line 2: {says}", self.history, path)
+        unanswered: Line = {**good, "received": None, "reply": []}
+        path = self.file("damaged.jsonl", record_of([good, unanswered, good]))
+        says = "it has a reply, and that of line 2, of the same session, has none"
+        self.expect_refused(f"{path}: line 3: {says}", self.history, path)
+        path = self.file("damaged.jsonl", json.dumps(good))
+        self.expect_refused(f"{path}: line 1: the line has no end", self.history, path)
+
+    def test_files_that_can_not_be_read(self) -> None:
+        none = f"{self.room}/none"
+        self.expect_refused(f"{none}: No such file or directory", none, self.record)
+        self.expect_refused(f"{none}: No such file or directory", self.history, none)
+        self.expect_refused(f"{self.room}: Is a directory", self.history, self.room)
+
+    def test_refused_words(self) -> None:
+        files = (self.history, self.record)
+        for words in ((), (self.history,), (*files, "--most", "-1"), (*files, "--mo", "1"), (*files, "--most", "x")):
+            ran = self.verify(*words)
+            self.assertEqual((ran.returncode, ran.stdout), (2, ""), words)
+            self.assertNotIn("Traceback", ran.stderr)
+
+    def test_no_more_faults_than_asked_for(self) -> None:
+        changed = record_of(lines()).replace("OFFERED 0 10", "OFFERED 0 11").replace("SIZE 1", "SIZE 7")
+        ran = self.verify(self.history, self.file("changed.jsonl", changed), "--most", "1")
+        self.assertEqual(ran.returncode, 1)
+        self.assertEqual(ran.stdout.count(": changed: "), 1)
+        self.assertIn("and 1 fault more of the kind changed\n", ran.stdout)
+        self.assertIn("changed:    2 faults: ", ran.stdout)
+
+    def test_a_history_and_a_record_that_come_through_pipes(self) -> None:
+        command = f'"$0" -B "$1" <(cat "$2") <(cat "$3") --all'
+        ran = subprocess.run(["bash", "-c", command, sys.executable, VERIFY, self.history, self.record],
+                             capture_output=True, encoding="utf-8", check=False)
+        self.assertEqual((ran.returncode, ran.stderr, ran.stdout.splitlines()[-1]), (0, "", "0 faults"))
+
+    def test_a_reader_that_has_seen_enough(self) -> None:
+        reading, writing = os.pipe()
+        os.close(reading)
+        ran = subprocess.run([sys.executable, "-B", VERIFY, self.history, self.record], stdout=writing,
+                             stderr=subprocess.PIPE, encoding="utf-8", check=False)
+        os.close(writing)
+        self.assertEqual((ran.returncode, ran.stderr), (2, "verify: cannot write output\n"))

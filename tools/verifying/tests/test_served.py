@@ -1,0 +1,80 @@
+"""Runs of the program: clients that do anything, and clients of tools/load, over each timer."""
+from __future__ import annotations
+
+import io
+import os
+import subprocess
+import sys
+import threading
+from typing import List
+
+from serving.server import Server
+from verifying import tests
+from verifying.tests.recording_client import RecordingClient
+from verifying.tests.support import RunTest
+
+TIMERS = ("list", "heap", "pairing", "wheel")
+WORKERS, SESSIONS, ROUNDS = 6, 60, 60
+
+
+class ServedTest(RunTest):
+    def serve(self, timer: str, *options: object) -> Server:
+        """A server with this timer, which writes run.txt."""
+        words = ["--timer", timer, "--history", f"{self.room}/run.txt", *map(str, options)]
+        server = Server(words, tests.PROGRAM)
+        self.addCleanup(server.process.communicate)
+        self.addCleanup(server.process.kill)
+        return server
+
+    def expect_no_fault(self, server: Server, *records: str) -> List[str]:
+        """Expects that the run has ended well and has no fault. Returns what was printed."""
+        self.assertEqual(server.end()[0], 0)
+        ran = self.verify(f"{self.room}/run.txt", *records, "--all")
+        self.assertEqual((ran.returncode, ran.stderr), (0, ""), ran.stdout)
+        return ran.stdout.splitlines()
+
+    def test_clients_that_do_anything(self) -> None:
+        for timer in TIMERS:
+            with self.subTest(timer=timer):
+                server = self.serve(timer, "--workers", WORKERS, "--sessions", SESSIONS, "--calls", 100_000,
+                                    "--turns", 2, "--delay", 100_000, "--attempts", 4)
+                records = [io.StringIO() for _ in range(WORKERS)]
+                threads = [threading.Thread(target=self._visit, args=(server.port, number, it, timer))
+                           for number, it in enumerate(records)]
+                for thread in threads:
+                    thread.start()
+                for thread in threads:
+                    thread.join()
+                paths = [self.file(f"{number}.jsonl", it.getvalue()) for number, it in enumerate(records)]
+                lines = self.expect_no_fault(server, *paths)
+                self.assertRegex(lines[0], rf"^[\d,]+ events at {WORKERS} seats; [\d,]+ requests of {SESSIONS} sessions$")
+
+    def _visit(self, port: int, number: int, record: io.StringIO, timer: str) -> None:
+        for visit in range(SESSIONS // WORKERS):
+            RecordingClient(f"{number}-{visit}", port, record, timer).run(ROUNDS)
+
+    def test_clients_of_the_load(self) -> None:
+        for timer in TIMERS:
+            with self.subTest(timer=timer):
+                server = self.serve(timer, "--workers", 8, "--sessions", 8, "--calls", 100_000, "--delay", 1_000_000)
+                records = [f"{self.room}/{number}.jsonl" for number in range(2)]
+                words = ["--port", str(server.port), "--clients", "4", "--rate", "400", "--fail", "0.3", "--seconds", "1"]
+                loads = [subprocess.Popen([sys.executable, "-B", tests.LOAD, *words, "--record", it],
+                                          stdout=subprocess.DEVNULL) for it in records]
+                self.assertEqual([it.wait() for it in loads], [0, 0])
+                lines = self.expect_no_fault(server, *records)
+                self.assertRegex(lines[0], r"^[\d,]+ events at 8 seats; [\d,]+ requests of 8 sessions$")
+
+    def test_a_server_that_is_not_the_records(self) -> None:
+        """Two runs alike, each with the other's record."""
+        paths = []
+        for number in range(2):
+            server = self.serve("heap", "--workers", 2, "--sessions", 2)
+            paths.append((f"{self.room}/{number}.txt", f"{self.room}/{number}.jsonl"))
+            words = ["--port", str(server.port), "--clients", "2", "--rate", "100", "--seconds", "0.5"]
+            subprocess.run([sys.executable, "-B", tests.LOAD, *words, "--record", paths[number][1]],
+                           stdout=subprocess.DEVNULL, check=True)
+            self.assertEqual(server.end()[0], 0)
+            os.rename(f"{self.room}/run.txt", paths[number][0])
+        self.assertEqual(self.verify(paths[0][0], paths[0][1], "--all").returncode, 0)
+        self.assertEqual(self.verify(paths[0][0], paths[1][1], "--all").returncode, 1)

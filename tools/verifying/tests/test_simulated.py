@@ -1,0 +1,135 @@
+"""Simulated runs, as they are and changed at random places. Each change must be found, by its name."""
+from __future__ import annotations
+
+import random
+import subprocess
+from typing import Dict, List, Set, Tuple
+
+from verifying import tests
+from verifying.tests.simulated import ATTEMPTS, DELAY, Line, Simulation
+from verifying.tests.support import RunTest
+
+SEEDS = range(20)
+NAMED = ("OFFERED", "ITEM", "AGAIN")  # replies that name an element of their own
+
+
+def keyword(line: Line) -> str:
+    return str(line["reply"][0].split(" ")[0]) if line["reply"] else ""
+
+
+class SimulatedTest(RunTest):
+    def simulated(self, seed: int) -> Simulation:
+        return Simulation(seed, events=300, seats=4, longest=40)
+
+    def named_lines(self, run: Simulation) -> List[int]:
+        return [number for number, it in enumerate(run.lines) if keyword(it) in NAMED]
+
+    def found(self, run: Simulation) -> Tuple[Dict[str, int], List[str]]:
+        """The faults of a run that was changed, by kind and in words."""
+        return self.judged(run.history, run.record)
+
+    def test_runs_as_they_are(self) -> None:
+        for seed in SEEDS:
+            run = self.simulated(seed)
+            self.assertEqual(self.judged(run.history, run.record), ({}, []), seed)
+
+    def test_the_program_finds_them_legal(self) -> None:
+        for seed in SEEDS[:3]:
+            words = ["replay", self.file("run.txt", self.simulated(seed).history), "--chains"]
+            command = [tests.PROGRAM, *words, "--delay", str(DELAY), "--attempts", str(ATTEMPTS)]
+            ran = subprocess.run(command, capture_output=True, encoding="utf-8", check=False)
+            self.assertEqual(ran.returncode, 0, ran.stdout)
+
+    def test_a_reply_changed(self) -> None:
+        for seed in SEEDS:
+            run = self.simulated(seed)
+            number = random.choice(self.named_lines(run))
+            words = run.lines[number]["reply"][0].split(" ")
+            words[2] = str(int(words[2]) + 1)  # its expiry
+            run.lines[number]["reply"] = [" ".join(words)]
+            counts, faults = self.found(run)
+            self.assertEqual((counts, len(faults)), ({"changed": 1}, 1), faults)
+            self.assertIn(f":{number + 1}: session {run.lines[number]['session']}: changed: ", faults[0])
+
+    def test_a_reply_that_is_there_twice(self) -> None:
+        for seed in SEEDS:
+            run = self.simulated(seed)
+            number = random.choice([it for it in self.named_lines(run) if keyword(run.lines[it]) != "AGAIN"])
+            run.lines.insert(number, run.lines[number])
+            counts, faults = self.found(run)
+            self.assertEqual(counts["twice"], 1, faults)
+            self.assertTrue(any(f":{number + 2}: " in it and ": twice: " in it for it in faults), faults)
+
+    def test_a_call_that_the_history_leaves_out(self) -> None:
+        """The one left out is told. Around it a call that names no element may have lost its place."""
+        for seed in SEEDS:
+            run = self.simulated(seed)
+            number = random.choice([it for it in self.named_lines(run) if keyword(run.lines[it]) == "ITEM"])
+            id = run.lines[number]["reply"][0].split(" ")[1]
+            polls = [it for it in run.events if it.split(" ")[3] in ("poll", "pollfor") and it.split(" ")[-1] == id]
+            run.events.remove(polls[0])
+            counts, faults = self.found(run)
+            self.assertTrue(any(f":{number + 1}: " in it for it in faults), (seed, number, faults))
+            self.assertTrue(counts.keys() <= {"missing", "changed"}, faults)
+
+    def test_a_call_that_a_record_leaves_out(self) -> None:
+        for seed in SEEDS:
+            run = self.simulated(seed)
+            number = random.choice([it for it in self.named_lines(run) if keyword(run.lines[it]) == "OFFERED"])
+            words = run.lines.pop(number)["reply"][0].split(" ")
+            counts, faults = self.found(run)
+            self.assertEqual((counts.pop("unrecorded"), counts.pop("gap", 1), counts), (1, 1, {}), faults)
+            self.assertTrue(any(f"(offer {words[1]} {words[2]} " in it for it in faults), faults)
+
+    def test_two_calls_of_a_session_exchanged(self) -> None:
+        for seed in SEEDS:
+            run = self.simulated(seed)
+            pairs = [(a, b) for a, b in zip(self.named_lines(run), self.named_lines(run)[1:]) if b == a + 1
+                     and run.lines[a]["session"] == run.lines[b]["session"] and keyword(run.lines[a]) == "OFFERED"]
+            one, other = (run.lines[it] for it in random.choice(pairs))
+            for key in ("request", "reply"):
+                one[key], other[key] = other[key], one[key]
+            counts, faults = self.found(run)
+            self.assertEqual((counts.pop("order"), counts.keys() - {"time"}), (1, set()), faults)
+
+    def test_a_call_at_another_seat(self) -> None:
+        for seed in SEEDS:
+            run = self.simulated(seed)
+            numbers = self.named_lines(run)
+            sessions = [run.lines[it]["session"] for it in numbers]
+            number = random.choice([it for it in numbers if keyword(run.lines[it]) == "OFFERED"
+                                    and sessions.count(run.lines[it]["session"]) > 2])
+            words = run.lines[number]["reply"][0].split(" ")
+            event = next(it for it, act in enumerate(run.events) if f" offer {words[1]} " in act)
+            seat, _, rest = run.events[event].partition(" ")
+            run.events[event] = f"{int(seat) % 4 + 1} {rest}"
+            counts, faults = self.found(run)
+            self.assertEqual(counts["seat"], 1, faults)
+            self.assertTrue(any(f":{number + 1}: " in it and ": seat: " in it for it in faults), faults)
+
+    def test_a_reply_that_came_before_another_call_was_sent_stands_behind_it(self) -> None:
+        for seed in SEEDS:
+            run = self.simulated(seed)
+            sessions = sorted({it["session"] for it in run.lines})
+            early = run.lines[random.choice(self.named_lines(run))]
+            late = [it for it in run.lines if it["sent"] > early["received"] and it["session"] != early["session"]
+                    and keyword(it) in NAMED]
+            if not late:
+                continue
+            line = random.choice(late)
+            shift = line["received"] - early["sent"] + 1
+            for it in run.lines:
+                if it["session"] == line["session"]:
+                    it["sent"], it["received"] = it["sent"] - shift, it["received"] - shift
+            counts, faults = self.found(run)
+            self.assertEqual(counts.keys(), {"time"}, faults)
+
+    def test_all_kinds_of_replies_are_there(self) -> None:
+        """The simulated runs have every reply but those that only a full run or want of memory brings."""
+        seen: Set[str] = set()
+        for seed in SEEDS:
+            seen |= {keyword(it) for it in self.simulated(seed).lines}
+        self.assertEqual(seen, {
+            "OFFERED", "ITEM", "NONE", "HEAD", "DRAINED", "REMOVED", "SIZE", "AGAIN", "DONE", "DEAD", "STOPPED", "BYE",
+            "ERR",
+        })
