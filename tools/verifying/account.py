@@ -63,17 +63,18 @@ class Account:
     def _item(self, asked: Words, words: Words, reply: List[str]) -> Expected:
         id = int(words[1])
         wait = f" {ANY} {asked[1]}" if asked[0] == "POLLFOR" else ""
-        expected = Expected(f"{asked[0].lower()}{wait} {id}", self._history.exits[id], self._flaw(words))
-        self._fetch(id)
+        expected = Expected(f"{asked[0].lower()}{wait} {id}", self._history.exits[id], self._fetched(id, words))
         return _answered(len(asked) == (2 if wait else 1) and asked[0] in ("TAKE", "POLL", "POLLFOR"), expected)
 
-    def _fetch(self, id: int) -> None:
-        self.held[id] = self._history.element(id)
+    def _fetched(self, id: int, words: Words) -> str:
+        """The flaw of a line that gives an element, which is held from then on."""
+        element = self.held[id] = self._history.element(id)
+        return self._flaw(words, element)
 
-    def _flaw(self, words: Words) -> str:
+    @staticmethod
+    def _flaw(words: Words, element: Optional[Element]) -> str:
         """What a line that shows an element says about it, and the history does not."""
         keyword, id, expiry, attempt, payload = words
-        element = self._history.element(int(id))
         if element is None:
             return f"element {id} was not offered"
         if (expiry, attempt, payload) == (element.expiry, element.attempt, element.payload):
@@ -86,17 +87,17 @@ class Account:
         return _answered(asked in (["POLL"], ["PEEK"]), Expected(f"{asked[0].lower()} none"))
 
     def _head(self, asked: Words, words: Words, reply: List[str]) -> Expected:
-        return _answered(asked == ["PEEK"], Expected(f"peek {int(words[1])}", NONE, self._flaw(words)))
+        id = int(words[1])
+        flaw = self._flaw(words, self._history.element(id))
+        return _answered(asked == ["PEEK"], Expected(f"peek {id}", NONE, flaw))
 
     def _drained(self, asked: Words, words: Words, reply: List[str]) -> Expected:
         most = min(int(asked[1]), MOST_HELD - len(self.held))
         items = [line.split(" ") for line in reply[1:]]
         ids = [int(it[1]) for it in items]
         event = self._history.exits[ids[0]] if ids else NONE
-        flaws = "; ".join(filter(None, map(self._flaw, items)))
+        flaws = "; ".join(filter(None, map(self._fetched, ids, items)))
         expected = Expected(" ".join(map(str, ["drain", most, *ids])), event, flaws)
-        for id in ids:
-            self._fetch(id)
         is_right = int(words[1]) == len(ids) and all(it[0] == "ITEM" for it in items)
         return _answered(is_right and asked[0] == "DRAIN", expected)
 

@@ -15,6 +15,7 @@ from verifying.faults import Damaged
 
 LONGEST_LINE = 1 << 20
 GREATEST_TIME = (1 << 63) - 1
+TEXT = {str}
 
 
 class Exchange(NamedTuple):
@@ -33,46 +34,43 @@ def read_record(file: BinaryIO) -> Iterator[Exchange]:
     latest: Dict[str, Exchange] = {}
     for number, line in enumerate(iter(lambda: file.readline(LONGEST_LINE), b""), 1):
         exchange = _exchange(line, number)
-        _test_order(latest.get(exchange.session), exchange)
+        before = latest.get(exchange.session)
+        if before is not None:
+            _test_order(before, exchange)
         latest[exchange.session] = exchange
         yield exchange
 
 
 def _exchange(line: bytes, number: int) -> Exchange:
     try:
-        told = json.loads(line)
-        found = Exchange(number, str(told["session"]), told["sent"], told["received"], told["request"], told["reply"])
+        told = json.loads(line.decode())  # which is quicker than to let it find out the encoding
+        session, sent, received = told["session"], told["sent"], told["received"]
+        request, reply = told["request"], told["reply"]
     except (ValueError, TypeError, RecursionError):
         raise Damaged(number, "no JSON object") from None
     except KeyError as missing:
         raise Damaged(number, f"no {missing.args[0]!r}") from None
-    if not line.endswith(b"\n"):
+    if line[-1:] != b"\n":
         raise Damaged(number, "the line has no end")
-    if not isinstance(told["session"], (str, int)):
+    if not isinstance(session, (str, int)):
         raise Damaged(number, "'session' is neither text nor a number")
-    if not _is_time(found.sent) or not (found.received is None or _is_time(found.received)):
+    if not _is_time(sent) or not (received is None or _is_time(received)):
         raise Damaged(number, "'sent' or 'received' is no time in nanoseconds")
-    if type(found.request) is not str or not _are_lines(found.reply):
+    if type(request) is not str or type(reply) is not list or set(map(type, reply)) - TEXT:
         raise Damaged(number, "'request' is no text, or 'reply' no list of texts")
-    if (found.received is None) != (not found.reply):
+    if (received is None) != (not reply):
         raise Damaged(number, "'received' is null exactly if 'reply' is empty, and here it is not so")
-    return found
+    if received is not None and received < sent:
+        raise Damaged(number, "the reply came before the request was sent")
+    return Exchange(number, str(session), sent, received, request, reply)
 
 
 def _is_time(it: Any) -> bool:
     return type(it) is int and 0 <= it <= GREATEST_TIME
 
 
-def _are_lines(reply: Any) -> bool:
-    return type(reply) is list and all(type(it) is str for it in reply)
-
-
-def _test_order(before: Optional[Exchange], exchange: Exchange) -> None:
+def _test_order(before: Exchange, exchange: Exchange) -> None:
     """Tests an exchange against the one before it in the same session."""
-    if exchange.received is not None and exchange.received < exchange.sent:
-        raise Damaged(exchange.line, "the reply came before the request was sent")
-    if before is None:
-        return
     if exchange.sent < before.sent:
         raise Damaged(exchange.line, f"it was sent before that of line {before.line}, of the same session")
     if exchange.received is None:

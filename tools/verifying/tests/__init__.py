@@ -12,4 +12,4 @@ VERIFY = f"{TOP}/tools/verify"
 LOAD = f"{TOP}/tools/load"
 
 PROGRAM = f"{TOP}/crates/rb_broker/out/rb_broker"
-EVENTS = 1_000_000  # of the large run
+EVENTS = 200_000  # of the large run

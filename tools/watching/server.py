@@ -1,0 +1,94 @@
+"""What the system tells about the process of a server: its limits, and when it began."""
+from __future__ import annotations
+
+import os
+import time
+from dataclasses import dataclass
+from typing import List, Optional
+
+SECOND = 1_000_000_000
+
+# What an option is if it is not given, by docs/OPERATING.md.
+DEFAULTS = {"--workers": 4, "--sessions": 1, "--calls": 10_000}
+
+
+@dataclass(frozen=True)
+class Opening:
+    """How a run begins: the id of its first offer, and its first moment."""
+
+    next_id: int
+    moment: int
+
+
+@dataclass(frozen=True)
+class Server:
+    """The process of a server. What could not be found out is None."""
+
+    pid: int
+    began: int  # by this machine's monotonic clock, in nanoseconds
+    workers: Optional[int]
+    sessions: Optional[int]
+    calls: Optional[int]
+    opening: Optional[Opening]
+
+    def moment(self, now: int) -> Optional[int]:
+        """The server's moment at this reading of the monotonic clock, to some hundredths of a second."""
+        return None if self.opening is None else self.opening.moment + now - self.began
+
+
+def server_of(pid: int) -> Optional[Server]:
+    """The server whose process this is, if this user may look at it."""
+    try:
+        with open(f"/proc/{pid}/cmdline", encoding="utf-8", errors="surrogateescape") as file:
+            words = file.read().split("\0")[:-1]
+        with open(f"/proc/{pid}/stat", encoding="utf-8", errors="replace") as file:
+            started = int(file.read().rpartition(")")[2].split()[19])  # in ticks since the machine began
+    except (OSError, ValueError, IndexError):
+        return None
+    age = time.clock_gettime_ns(time.CLOCK_BOOTTIME) - started * SECOND // os.sysconf("SC_CLK_TCK")
+    workers, sessions, calls = (_number(words, it) for it in ("--workers", "--sessions", "--calls"))
+    path = option(words, "--from")
+    opening = Opening(0, 0) if path is None else _opening(pid, path, age)
+    return Server(pid, time.monotonic_ns() - age, workers, sessions, calls, opening)
+
+
+def option(words: List[str], name: str) -> Optional[str]:
+    """The value of an option."""
+    for word, following in zip(words, [*words[1:], ""]):
+        if word == name:
+            return following
+        if word.startswith(f"{name}="):
+            return word[len(name) + 1:]
+    return None
+
+
+def _number(words: List[str], name: str) -> Optional[int]:
+    value = option(words, name)
+    if value is None:
+        return DEFAULTS[name] if "serve" in words else None
+    return int(value) if value.isascii() and value.isdigit() else None
+
+
+def _opening(pid: int, path: str, age: int) -> Optional[Opening]:
+    """How the run that continues the history of this file began. None if the file was written since."""
+    try:
+        path = os.path.join(os.readlink(f"/proc/{pid}/cwd"), path)
+        with open(path, "rb") as file:
+            if time.time_ns() - os.fstat(file.fileno()).st_mtime_ns < age:
+                return None
+            return opening_after(file.read())
+    except (OSError, ValueError, IndexError):
+        return None
+
+
+def opening_after(text: bytes) -> Opening:
+    """How the run begins that continues this history."""
+    words = text[:200].split(b"\n", 2)
+    first = words[1].split(b" ") if words[0] != b"history 1" else [b"open", b"0", b"0"]
+    next_id, moment = int(first[1]), int(first[2])
+    place = text.rfind(b" offer ")
+    if place >= 0:
+        next_id = int(text[place + len(b" offer "):].split(b" ", 1)[0]) + 1
+    end = text.rfind(b"\nend ")
+    last = text[text.rfind(b"\n", 0, end) + 1:end].split(b" ", 3)
+    return Opening(next_id, int(last[2]) if last[0].isdigit() else moment)
