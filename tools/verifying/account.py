@@ -54,11 +54,12 @@ class Account:
         first = f" {expiry}" if self._history.version == 3 else ""
         act = f"offer {id} {expiry} {id}{first} 1 {payload}"
         event = self._history.offers[int(id)]
-        if keyword == "OFFERAT" and number != expiry:
-            return Expected(act, event, f"{reply[0]} answers {' '.join(asked)}")
-        if keyword == "OFFER" and event != NONE and self._history.asked(event) + int(number) != int(expiry):
+        if keyword == "OFFERAT":
+            return Expected(act, event, "" if number == expiry else f"{reply[0]} answers {' '.join(asked)}")
+        moment = int(expiry) - int(number)
+        if event != NONE and self._history.asked(event) != moment:
             return Expected(act, event, f"it was offered at {self._history.asked(event)}, {number} before its expiry")
-        return _answered(keyword in ("OFFER", "OFFERAT"), Expected(act, event))
+        return _answered(keyword == "OFFER", Expected(act, event))
 
     def _item(self, asked: Words, words: Words, reply: List[str]) -> Expected:
         id = int(words[1])
