@@ -8,13 +8,16 @@ few workers, too few calls or no turns; some are not brokers; on one port nothin
 from __future__ import annotations
 
 import argparse
+import collections
 import json
 import os
 import re
 import socket
 import subprocess
 import sys
+import tempfile
 import threading
+import time
 import unittest
 
 TOP = os.path.dirname(os.path.dirname(os.path.dirname(os.path.realpath(__file__))))
@@ -23,6 +26,7 @@ sys.path.insert(0, f"{TOP}/tools")
 from loading.clock import ServerClock  # noqa: E402
 from loading.counts import Counts, Lateness  # noqa: E402
 from serving.server import PROGRAM, Server  # noqa: E402
+from verifying.record import read_record  # noqa: E402
 
 PATIENCE = 60  # seconds after which a run of the tool has failed
 
@@ -112,6 +116,63 @@ class ServedTest(unittest.TestCase):
         self.assertEqual((status, errors), (0, ""), lines)
         self.expect_audit(server, counts_in(lines), 3)
 
+    def test_clients_without_a_worker_are_told(self):
+        words = ("--clients", 3, "--rate", 60, "--seconds", 1)
+        for strict, wanted in (((), 0), (("--strict",), 1)):
+            server = self.serve("--workers", 1, "--sessions", 3)
+            status, lines, errors = load("--port", server.port, *words, *strict)
+            self.assertEqual((status, errors), (wanted, ""), lines)
+            says = r"note: 2 of 3 clients waited for a worker, up to 1\.\d s: the server needs a worker for each client"
+            self.assertTrue(any(re.fullmatch(says, it) for it in lines), lines)
+
+    def test_a_client_that_gets_a_worker_late_is_told(self):
+        """Another client has the only worker for the first second."""
+        server = self.serve("--workers", 1, "--sessions", 2)
+        other = socket.create_connection(("127.0.0.1", server.port))
+        words = ["--port", str(server.port), "--clients", "1", "--rate", "20", "--seconds", "3", "--strict"]
+        command = [sys.executable, "-B", f"{TOP}/tools/load", *words]
+        with subprocess.Popen(command, stdout=subprocess.PIPE, encoding="utf-8") as run:
+            first = [run.stdout.readline() for _ in range(2)]
+            other.close()
+            lines = run.stdout.read().splitlines()
+        self.assertEqual((run.returncode, first[1].split()[:2]), (1, ["1", "0"]))
+        self.assertTrue(any(it.startswith("note: 1 of 1 clients waited for a worker, up to ") for it in lines), lines)
+
+    def test_a_rate_that_is_not_reached_is_told(self):
+        for strict, wanted in (((), 0), (("--strict",), 1)):
+            server = self.serve("--workers", 1, "--sessions", 1, "--calls", 100_000)
+            words = ("--port", server.port, "--clients", 1, "--rate", 1e6, "--seconds", 0.3)
+            status, lines, errors = load(*words, *strict)
+            self.assertEqual((status, errors), (wanted, ""), lines)
+            offered = counts_in(lines)["offered"]
+            says = f"note: {offered} of 300000 offers were made: the rate that was asked for is not reached"
+            self.assertEqual([it for it in lines if it.startswith("note: ")], [says])
+
+    def test_a_load_as_it_was_asked_for_has_no_note(self):
+        for rate in (20, 0.5):
+            server = self.serve("--workers", 2, "--sessions", 2)
+            status, lines, _ = load("--port", server.port, "--clients", 2, "--rate", rate, "--seconds", 1.5, "--strict")
+            self.assertEqual((status, [it for it in lines if it.startswith("note: ")]), (0, []))
+
+    def test_a_record_has_every_request(self):
+        server = self.serve("--workers", 2, "--sessions", 2)
+        with tempfile.TemporaryDirectory(prefix="rb-load-") as room:
+            words = ("--clients", 2, "--rate", 50, "--fail", 0.3, "--seconds", 1, "--record", f"{room}/load.jsonl")
+            before = time.monotonic_ns()
+            status, lines, _ = load("--port", server.port, *words)
+            after = time.monotonic_ns()
+            with open(f"{room}/load.jsonl", "rb") as file:
+                exchanges = list(read_record(file))
+        self.assertEqual(status, 0, lines)
+        counts = counts_in(lines)
+        self.expect_audit(server, counts, 2)
+        replies = collections.Counter(it.reply[0].split(" ")[0] for it in exchanges)
+        told = (replies["OFFERED"], replies["ITEM"], replies["DONE"], replies["AGAIN"], replies["DEAD"], replies["BYE"])
+        self.assertEqual(told, (*(counts[it] for it in ("offered", "taken", "done", "again", "dead")), 2))
+        self.assertEqual(replies["OFFERED"] + replies["ITEM"] + replies["NONE"] + replies["AGAIN"], counts["calls"])
+        self.assertEqual({it.session for it in exchanges}, {"0", "1"})
+        self.assertTrue(all(before < it.sent < (it.received or 0) < after for it in exchanges))
+
     def test_a_server_where_nothing_waits(self):
         server = self.serve("--workers", 1, "--sessions", 1, "--turns", 0)
         status, lines, _ = load("--port", server.port, "--clients", 1, "--rate", 20, "--seconds", 1, "--delay", 1000)
@@ -171,6 +232,21 @@ class StrangeServerTest(unittest.TestCase):
                 status, lines, errors = load("--port", self.listen(answer), "--clients", 1, "--seconds", 0.2)
                 self.assertEqual((status, errors), (1, ""))
                 self.assertEqual(lines[-1], told)
+
+    def test_a_record_of_a_request_without_a_reply(self):
+        with tempfile.TemporaryDirectory(prefix="rb-load-") as room:
+            words = ("--clients", 1, "--seconds", 0.2, "--record", f"{room}/load.jsonl")
+            load("--port", self.listen(None), *words)
+            with open(f"{room}/load.jsonl", encoding="ascii") as file:
+                told = [json.loads(line) for line in file]
+        told = [(it["request"], it["received"], it["reply"]) for it in told]
+        self.assertEqual(told, [("OFFER 0 load-0-0", None, [])])
+
+    def test_a_record_that_can_not_be_written(self):
+        with tempfile.TemporaryDirectory(prefix="rb-load-") as room:
+            status, lines, errors = load("--port", self.listen(None), "--record", f"{room}/none/load.jsonl")
+        self.assertEqual((status, lines), (1, []))
+        self.assertRegex(errors, r"^load: .*No such file or directory.*\n$")
 
     def test_words_that_are_refused(self):
         for words in [
