@@ -53,7 +53,7 @@ class Look:
     time: float  # of the machine's calendar clock, in seconds
     port: int
     server: Optional[Program]
-    up: Optional[float]  # seconds since the server's process began
+    up: Optional[float]  # seconds since the server began to serve
     workers: Optional[int]
     clients: List[Client]
     silent_from: float  # seconds from which on silence is counted

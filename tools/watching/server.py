@@ -25,7 +25,7 @@ class Server:
     """The process of a server. What could not be found out is None."""
 
     pid: int
-    began: int  # by this machine's monotonic clock, in nanoseconds
+    began: Optional[int]  # when it began to serve, by this machine's monotonic clock, in nanoseconds
     workers: Optional[int]
     sessions: Optional[int]
     calls: Optional[int]
@@ -33,7 +33,9 @@ class Server:
 
     def moment(self, now: int) -> Optional[int]:
         """The server's moment at this reading of the monotonic clock, to some hundredths of a second."""
-        return None if self.opening is None else self.opening.moment + now - self.began
+        if self.opening is None or self.began is None:
+            return None
+        return self.opening.moment + now - self.began
 
 
 def server_of(pid: int) -> Optional[Server]:
@@ -41,15 +43,23 @@ def server_of(pid: int) -> Optional[Server]:
     try:
         with open(f"/proc/{pid}/cmdline", encoding="utf-8", errors="surrogateescape") as file:
             words = file.read().split("\0")[:-1]
-        with open(f"/proc/{pid}/stat", encoding="utf-8", errors="replace") as file:
-            started = int(file.read().rpartition(")")[2].split()[19])  # in ticks since the machine began
+        threads = [_started(pid, int(it)) for it in os.listdir(f"/proc/{pid}/task") if int(it) != pid]
+        now, began = time.clock_gettime_ns(time.CLOCK_BOOTTIME), _started(pid, pid)
     except (OSError, ValueError, IndexError):
         return None
-    age = time.clock_gettime_ns(time.CLOCK_BOOTTIME) - started * SECOND // os.sysconf("SC_CLK_TCK")
     workers, sessions, calls = (_number(words, it) for it in ("--workers", "--sessions", "--calls"))
     path = option(words, "--from")
-    opening = Opening(0, 0) if path is None else _opening(pid, path, age)
-    return Server(pid, time.monotonic_ns() - age, workers, sessions, calls, opening)
+    opening = Opening(0, 0) if path is None else _opening(pid, path, now - began)
+    # The clock begins once the opening is read, which may take seconds, and right before the workers do.
+    serves = time.monotonic_ns() - (now - min(threads)) if threads else None
+    return Server(pid, serves, workers, sessions, calls, opening)
+
+
+def _started(pid: int, thread: int) -> int:
+    """When a thread began, in nanoseconds since the machine did."""
+    with open(f"/proc/{pid}/task/{thread}/stat", encoding="utf-8", errors="replace") as file:
+        ticks = int(file.read().rpartition(")")[2].split()[19])
+    return ticks * SECOND // os.sysconf("SC_CLK_TCK")
 
 
 def option(words: List[str], name: str) -> Optional[str]:

@@ -66,7 +66,7 @@ class Watcher:
         return self._found(sockets, clients, queue)
 
     def _find_server(self, sockets: Sockets) -> None:
-        if sockets.server and (self._server is None or self._server.pid != sockets.server.pid):
+        if sockets.server and (self._server is None or self._server.began is None):
             self._server = server_of(sockets.server.pid)
 
     def _client(self, connection: Connection) -> Client:
@@ -128,7 +128,7 @@ class Watcher:
             calls = Supply(self._calls, server.calls if server else None, self._call_pace.a_second)
         return Look(
             time=time.time(), port=self._port, server=sockets.server,
-            up=(time.monotonic_ns() - server.began) / SECOND if server else None,
+            up=(time.monotonic_ns() - server.began) / SECOND if server and server.began is not None else None,
             workers=server.workers if server else None, clients=clients, silent_from=self._silent_from,
             has_session=visitor is not None, is_full=visitor is not None and visitor.is_full,
             elements=queue.elements if queue else None, head=self._head(queue), calls=calls,

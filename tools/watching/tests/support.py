@@ -61,7 +61,7 @@ class WatchTest(unittest.TestCase):
         try:
             for _ in range(10_000):
                 client.sendall(b"x\n" * 10_000)
-        except TimeoutError:
+        except socket.timeout:
             return client
         raise AssertionError("the server reads on, though its replies are not read")
 

@@ -35,6 +35,7 @@ class ServerTest(unittest.TestCase):
         server = server_of(os.getpid())
         assert server is not None
         self.assertEqual((server.workers, server.sessions, server.calls), (None, None, None))
+        self.assertEqual(server.moment(5) is None, server.began is None)
 
 
 class PaceTest(unittest.TestCase):

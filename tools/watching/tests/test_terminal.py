@@ -77,6 +77,18 @@ class EndingTest(WatchTest):
         with open(self.file("rb.prom"), encoding="ascii") as file:
             self.assertIn(f'rb_broker_up{{port="{server.port}"}} 0\n', file.read())
 
+    def test_a_server_that_is_killed(self) -> None:
+        server = self.serve("--workers", 3, "--sessions", 1)
+        process = self.watch(server.port, "--every", 0.2, "--prometheus", self.file("rb.prom"))
+        assert process.stdout is not None
+        process.stdout.readline()
+        server.process.kill()
+        _, said = process.communicate(timeout=PATIENCE)
+        self.assertEqual(process.returncode, 0)
+        self.assertRegex(said, r"^watch: the server has ended; \d+ looks?, which cost \d+ calls and 1 session\n$")
+        with open(self.file("rb.prom"), encoding="ascii") as file:
+            self.assertIn(f'rb_broker_up{{port="{server.port}"}} 0\n', file.read())
+
     def test_sigterm(self) -> None:
         server = self.serve("--workers", 2, "--sessions", 1)
         process = self.watch(server.port, "--every", 60)

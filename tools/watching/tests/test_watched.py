@@ -5,7 +5,9 @@ import json
 import os
 import time
 
+from watching.server import server_of
 from watching.tests.support import WatchTest, state_of
+from watching.visitor import Visitor
 
 FAR = 3_600_000_000_000
 
@@ -92,17 +94,34 @@ class WatchedTest(WatchTest):
                 self.stop(process)
 
     def test_the_moment_of_a_run_that_continues_another(self) -> None:
-        last = 5_000_000_000_000
+        """However long the history is, the moments begin once it is read. No id of this run was seen."""
+        last, elements = 5_000_000_000_000, 20_000
+        late = last - 3_000_000_000
         with open(self.file("before.txt"), "w", encoding="ascii") as file:
-            file.write(f"history 3\nopen 9 {last} 1\nkeep 4 {last - 3_000_000_000} 4 7 1 old\nend 0\n")
+            file.write(f"history 3\nopen {elements} {last} {elements}\n")
+            file.writelines(f"keep {it} {late + it} {it} {late + it} 1 old\n" for it in range(elements))
+            file.write("end 0\n")
         os.utime(self.file("before.txt"), (1, 1))
         server = self.serve("--workers", 3, "--sessions", 20, "--from", self.file("before.txt"))
         began = time.monotonic()
         process = self.watch(server.port, "--json", "--every", 0.2)
         look = self.looks(process, lambda look: look["head"] is not None)[-1]
-        self.assertTrue(2.9 <= look["head"]["late_seconds"] <= 3.5 + time.monotonic() - began, look)
-        self.assertEqual(look["calls"]["used"], look["watch"]["calls"])  # no id of this run was seen
+        self.assertTrue(3 <= look["head"]["late_seconds"] <= 3.1 + time.monotonic() - began, look)
+        self.assertEqual((look["elements"], look["calls"]["used"]), (elements, look["watch"]["calls"]))
         self.stop(process)
+
+    def test_the_moment_is_that_of_the_server(self) -> None:
+        """What the process tells and what an offer tells differ by less than a tenth of a second."""
+        server = self.serve("--workers", 3, "--sessions", 20)
+        process = server_of(server.process.pid)
+        assert process is not None
+        visitor, differences = Visitor(server.port, probes=True), []
+        for _ in range(5):
+            queue = visitor.look()
+            if queue is not None and queue.moment is not None and queue.at is not None:
+                differences.append(abs((process.moment(queue.at) or 0) - queue.moment))
+        visitor.leave()
+        self.assertLess(min(differences), 100_000_000)
 
     def test_what_looking_costs(self) -> None:
         """The server's audit has the calls that the tool says it made, and no others."""
