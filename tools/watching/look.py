@@ -35,6 +35,7 @@ class Supply:
     """Something of which a run has so many: how much of it is used, and how fast."""
 
     used: int
+    is_least: bool  # whether more may be used than was seen
     limit: Optional[int]
     pace: Optional[float]  # used a second
 

@@ -52,8 +52,8 @@ def _head_lines(look: Look) -> List[Line]:
         (RED if bad else "", f"ill        {_ill(look)}"),
         ("", f"silent     {_silent(look)}"),
         (YELLOW if _is_late(look) else "", f"queue      {queue_of(look)}"),
-        ("", f"calls      {supply_of(look.calls, 'about') if look.calls else 'not known'}"),
-        ("", f"sessions   {supply_of(look.sessions, 'seen')}"),
+        ("", f"calls      {supply_of(look.calls) if look.calls else 'not known'}"),
+        ("", f"sessions   {supply_of(look.sessions)}"),
         (DIM, f"looking    {cost_of(look)}"),
         ("", ""),
     ]

@@ -38,13 +38,14 @@ def queue_of(look: Look) -> str:
     return ", ".join([counted(look.elements, "element"), *([head_of(look.head)] if look.head else [])])
 
 
-def supply_of(supply: Supply, how: str) -> str:
-    """How much of something is used, and how long the rest lasts. `how` says how the number is meant."""
+def supply_of(supply: Supply) -> str:
+    """How much of something is used, and how long the rest lasts."""
+    how = "at least" if supply.is_least else "about"
     parts = [f"{how} {supply.used:,}" + ("" if supply.limit is None else f" of {supply.limit:,}")]
     if supply.pace is not None:
         parts.append(f"{supply.pace:,.1f} a second")
     if supply.lasts is not None:
-        parts.append(f"none left in {seconds(supply.lasts)}")
+        parts.append(f"none left in {seconds(supply.lasts)}" + (" or sooner" if supply.is_least else ""))
     return ", ".join(parts)
 
 

@@ -39,7 +39,7 @@ def _head(look: Look) -> Optional[Dict[str, Any]]:
 def _supply(supply: Optional[Supply]) -> Optional[Dict[str, Any]]:
     if supply is None:
         return None
-    return {"used": supply.used, "limit": supply.limit, "a_second": _rounded(supply.pace),
+    return {"used": supply.used, "is_least": supply.is_least, "limit": supply.limit, "a_second": _rounded(supply.pace),
             "lasts_seconds": _rounded(supply.lasts)}
 
 

@@ -14,7 +14,7 @@ from watching.stopping import Stopping
 from watching.text import cost_of, plain_line
 from watching.values import json_line
 from watching.visitor import Visitor
-from watching.watcher import Watcher
+from watching.watcher import Limits, Watcher
 
 
 class Watch:
@@ -48,7 +48,7 @@ class Watch:
         """Watches one server, until it or the user ends it. The session is left in good order, whatever happens."""
         options = self._options
         visitor = None if options.no_session else Visitor(options.port, options.probe)
-        watcher = Watcher(options.port, visitor, options.silent)
+        watcher = Watcher(options.port, visitor, options.silent, Limits(options.calls, options.sessions))
         begin, looks = time.monotonic(), 0
         try:
             while self._stopping.signal is None:

@@ -4,6 +4,7 @@ from __future__ import annotations
 import os
 import time
 from collections import deque
+from dataclasses import dataclass
 from typing import Deque, List, Optional, Set, Tuple
 
 from watching.faults import Ended
@@ -15,6 +16,14 @@ from watching.visitor import Queue, Visitor
 WINDOW = 60 * SECOND  # over which a pace is measured
 BRIEF = 1_000  # milliseconds; a client from which something came since is active
 CLOSE = 50  # milliseconds between a request and its reply that do not tell which came first
+
+
+@dataclass(frozen=True)
+class Limits:
+    """How many calls and sessions the run has, if that was said and is not to be read off the server's process."""
+
+    calls: Optional[int]
+    sessions: Optional[int]
 
 
 class Pace:
@@ -39,8 +48,8 @@ class Pace:
 class Watcher:
     """Watches the server at a port, for as long as it is one and the same."""
 
-    def __init__(self, port: int, visitor: Optional[Visitor], silent_from: float) -> None:
-        self._port, self._visitor, self._silent_from = port, visitor, silent_from
+    def __init__(self, port: int, visitor: Optional[Visitor], silent_from: float, limits: Limits) -> None:
+        self._port, self._visitor, self._silent_from, self._limits = port, visitor, silent_from, limits
         self._looks = 0
         self._seen: Set[str] = set()  # the connections that were served at the last look
         self._sessions, self._session_pace = 0, Pace()
@@ -125,13 +134,15 @@ class Watcher:
         server, visitor = self._server, self._visitor
         calls = None
         if queue is not None:
-            calls = Supply(self._calls, server.calls if server else None, self._call_pace.a_second)
+            calls = Supply(self._calls, queue.next_id is None, self._limits.calls or (server.calls if server else None),
+                           self._call_pace.a_second)
         return Look(
             time=time.time(), port=self._port, server=sockets.server,
             up=(time.monotonic_ns() - server.began) / SECOND if server and server.began is not None else None,
             workers=server.workers if server else None, clients=clients, silent_from=self._silent_from,
             has_session=visitor is not None, is_full=visitor is not None and visitor.is_full,
             elements=queue.elements if queue else None, head=self._head(queue), calls=calls,
-            sessions=Supply(self._sessions, server.sessions if server else None, self._session_pace.a_second),
+            sessions=Supply(self._sessions, True, self._limits.sessions or (server.sessions if server else None),
+                            self._session_pace.a_second),
             looks=self._looks, own_calls=visitor.calls if visitor else 0,
             own_sessions=visitor.sessions if visitor else 0)

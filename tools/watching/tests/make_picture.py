@@ -2,8 +2,8 @@
 """Makes the picture of tools/watch that docs/OPERATING.md shows: tools/watching/tests/make_picture.py PICTURE
 
 A server gets clients of every kind: one that works, one in a TAKE, one that has hung up in a TAKE, one that does not
-read, and two that say nothing. After twelve seconds the last screen that the tool drew in a pseudo terminal of 100 columns
-is written as an SVG with its text and colours. tools/check_watch does not make it. Status: 0; 1 if it can't be made.
+read, and two that say nothing. After twelve seconds the last screen that the tool drew in a pseudo terminal of 100
+columns is written as an SVG, with its text and colours. Status: 0; 1 if it can't be made.
 """
 from __future__ import annotations
 

@@ -31,7 +31,8 @@ LOOK = Look(
     clients=[client(41000, ACTIVE, 0.1, pid=9), client(41001, SILENT, 725, pid=11), client(41002, SILENT, 3),
              client(41003, WAITING, 2), client(41004, NOT_READING, 30, 163_298, 12), client(41005, IN_CALL, 5)],
     silent_from=10, has_session=True, is_full=False, elements=1204, head=Head(Item(17, 5_000, 2, "letter-17"), 3.25),
-    calls=Supply(400_000, 1_000_000, 12.5), sessions=Supply(57, 10_000, 0.5), looks=8, own_calls=16, own_sessions=1)
+    calls=Supply(400_000, False, 1_000_000, 12.5), sessions=Supply(57, True, 10_000, 0.5),
+    looks=8, own_calls=16, own_sessions=1)
 
 
 def shown(look: Look, columns: int, lines: int, **environment: str) -> str:
@@ -59,7 +60,7 @@ class ScreenTest(unittest.TestCase):
             "silent     1 for 10.0 s or longer, the longest for 12.1 min",
             "queue      1,204 elements, the first (id 17, attempt 2, letter-17) is 3.25 s late",
             "calls      about 400,000 of 1,000,000, 12.5 a second, none left in 13.3 h",
-            "sessions   seen 57 of 10,000, 0.5 a second, none left in 5.52 h",
+            "sessions   at least 57 of 10,000, 0.5 a second, none left in 5.52 h or sooner",
             "looking    8 looks, which cost 16 calls and 1 session",
             "",
             "  client  program                 what it does          last heard  not read by it  by the server",
@@ -91,11 +92,11 @@ class ScreenTest(unittest.TestCase):
 
     def test_what_is_not_known(self) -> None:
         look = dataclasses.replace(LOOK, server=None, up=None, workers=None, elements=None, head=None, calls=None,
-                                   clients=[], sessions=Supply(1, None, None))
+                                   clients=[], sessions=Supply(1, True, None, None))
         lines = plain(shown(look, 120, 40))
         self.assertEqual([lines[0][:13], *lines[2:3], *lines[5:8], lines[-1]], [
             "port 7011    ", "clients    0 served, 0 waiting for a worker",
-            "queue      not answered yet, since no worker is free", "calls      not known", "sessions   seen 1",
+            "queue      not answered yet, since no worker is free", "calls      not known", "sessions   at least 1",
             "  no client",
         ])
         look = dataclasses.replace(look, is_full=True)
@@ -126,8 +127,9 @@ class LineTest(unittest.TestCase):
             "waiting": 1, "not_reading": 1, "hung_up": 0, "silent": 1, "silent_from_seconds": 10,
             "longest_silence_seconds": 725, "is_full": False, "elements": 1204,
             "head": {"id": 17, "expiry": 5000, "attempt": 2, "payload": "letter-17", "late_seconds": 3.25},
-            "calls": {"used": 400_000, "limit": 1_000_000, "a_second": 12.5, "lasts_seconds": 48_000.0},
-            "sessions": {"used": 57, "limit": 10_000, "a_second": 0.5, "lasts_seconds": 19_886.0},
+            "calls": {"used": 400_000, "is_least": False, "limit": 1_000_000, "a_second": 12.5,
+                      "lasts_seconds": 48_000.0},
+            "sessions": {"used": 57, "is_least": True, "limit": 10_000, "a_second": 0.5, "lasts_seconds": 19_886.0},
             "watch": {"looks": 8, "calls": 16, "sessions": 1},
         })
         self.assertEqual(clients[4], {
@@ -156,7 +158,7 @@ class PrometheusTest(WatchTest):
             "rb_broker_clients_not_reading": 1, "rb_broker_clients_hung_up": 0, "rb_broker_clients_silent": 1,
             "rb_broker_longest_silence_seconds": 725, "rb_broker_workers": 4, "rb_broker_elements": 1204,
             "rb_broker_head_late_seconds": 3.25, "rb_broker_calls_total": 400_000, "rb_broker_calls_limit": 1_000_000,
-            "rb_broker_calls_last_seconds": 48_000, "rb_broker_run_full": 0, "rb_broker_sessions_seen_total": 57,
+            "rb_broker_calls_last_seconds": 48_000, "rb_broker_run_full": 0, "rb_broker_sessions_total": 57,
             "rb_broker_sessions_limit": 10_000, "rb_broker_sessions_last_seconds": 19_886,
             "rb_broker_watch_calls_total": 16, "rb_broker_watch_sessions_total": 1, "rb_broker_watch_looks_total": 8,
             "rb_broker_watch_time_seconds": 1_700_000_000.25,

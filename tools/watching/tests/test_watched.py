@@ -156,13 +156,22 @@ class WatchedTest(WatchTest):
         client = self.ask(server, *["OFFER 0 a", "TAKE"] * 50, f"OFFER {FAR} b")
         process = self.watch(server.port, "--json", "--every", 0.2, "--probe")
         look = self.looks(process, lambda look: look["calls"] is not None)[-1]
-        self.assertEqual((look["calls"]["used"], look["calls"]["limit"]), (101 + 4, 1000))
+        told = (look["calls"]["used"], look["calls"]["is_least"], look["calls"]["limit"])
+        self.assertEqual(told, (101 + 4, False, 1000))
         for _ in range(100):
             client.sendall(b"OFFER 0 a\nTAKE\n")
             client.recv(1000)
             time.sleep(0.005)
         look = self.looks(process, lambda look: look["calls"] is not None and look["calls"]["used"] > 250)[-1]
         self.assertTrue(0 < look["calls"]["lasts_seconds"] < 60, look)
+        self.stop(process)
+
+    def test_limits_that_are_said(self) -> None:
+        server = self.serve("--workers", 2, "--sessions", 20)
+        process = self.watch(server.port, "--json", "--every", 0.2, "--calls", 77, "--sessions", 88)
+        look = self.looks(process, lambda look: look["calls"] is not None)[-1]
+        self.assertEqual((look["calls"]["limit"], look["sessions"]["limit"]), (77, 88))
+        self.assertTrue(look["calls"]["is_least"])
         self.stop(process)
 
     def test_a_full_run(self) -> None:
