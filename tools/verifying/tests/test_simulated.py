@@ -33,6 +33,14 @@ class SimulatedTest(RunTest):
             run = self.simulated(seed)
             self.assertEqual(self.judged(run.history, run.record), ({}, []), seed)
 
+    def test_records_of_some_of_the_clients(self) -> None:
+        for seed in SEEDS:
+            run = self.simulated(seed)
+            sessions = sorted({it["session"] for it in run.lines})
+            some = set(random.sample(sessions, len(sessions) // 2))
+            run.lines = [it for it in run.lines if it["session"] in some]
+            self.assertEqual(self.judged(run.history, run.record, is_whole=False), ({}, []), seed)
+
     def test_the_program_finds_them_legal(self) -> None:
         for seed in SEEDS[:3]:
             words = ["replay", self.file("run.txt", self.simulated(seed).history), "--chains"]
