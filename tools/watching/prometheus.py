@@ -2,6 +2,7 @@
 from __future__ import annotations
 
 import os
+import time
 from dataclasses import dataclass
 from typing import List, Optional, Union
 
@@ -27,7 +28,7 @@ class Metric:
 def metrics_of(look: Look) -> List[Metric]:
     silent, calls, sessions = look.silent, look.calls, look.sessions
     return [
-        Metric("up", "gauge", "Whether a server listens at the port.", 1),
+        _up(1),
         Metric("clients_served", "gauge", "Clients that have a worker.", look.served),
         Metric("clients_waiting", "gauge", "Clients that wait for a worker.", len(look.of(WAITING))),
         Metric("clients_not_reading", "gauge", "Clients that do not read their replies.", len(look.of(NOT_READING))),
@@ -52,9 +53,16 @@ def metrics_of(look: Look) -> List[Metric]:
         Metric("watch_calls_total", "counter", "Calls that watching has made.", look.own_calls),
         Metric("watch_sessions_total", "counter", "Sessions that watching has used.", look.own_sessions),
         Metric("watch_looks_total", "counter", "Looks at the server.", look.looks),
-        Metric("watch_time_seconds", "gauge", "When the server was looked at last, since the epoch.",
-               round(look.time, 3)),
+        _time(look.time),
     ]
+
+
+def _time(at: float) -> Metric:
+    return Metric("watch_time_seconds", "gauge", "Time of the last look, since the epoch.", round(at, 3))
+
+
+def _up(value: int) -> Metric:
+    return Metric("up", "gauge", "Whether a server listens at the port.", value)
 
 
 def _late(look: Look) -> Number:
@@ -67,8 +75,8 @@ def _late(look: Look) -> Number:
 def write(path: str, port: int, look: Optional[Look]) -> None:
     """Writes the file whole, and then puts it in the place of the one before, so that no reader sees a part of it.
     Without a look nobody listens at the port."""
-    gone = [Metric("up", "gauge", "Whether a server listens at the port.", 0)]
-    lines = [line for it in (metrics_of(look) if look else gone) if it.value is not None for line in it.lines(port)]
+    metrics = metrics_of(look) if look else [_up(0), _time(time.time())]
+    lines = [line for it in metrics if it.value is not None for line in it.lines(port)]
     new = f"{path}.new"  # a name that the collector passes over
     with open(new, "w", encoding="ascii") as file:
         file.write("\n".join(lines) + "\n")

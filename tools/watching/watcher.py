@@ -13,7 +13,7 @@ from watching.server import SECOND, Server, server_of
 from watching.sockets import Connection, Sockets, look_at
 from watching.visitor import Queue, Visitor
 
-WINDOW = 60 * SECOND  # over which a pace is measured
+WINDOW, SHORTEST = 60 * SECOND, 5 * SECOND  # over which a pace is measured
 BRIEF = 1_000  # milliseconds; a client from which something came since is active
 CLOSE = 50  # milliseconds between a request and its reply that do not tell which came first
 
@@ -40,9 +40,9 @@ class Pace:
 
     @property
     def a_second(self) -> Optional[float]:
-        """None until there are two values."""
+        """None in the first seconds, in which one session more or less would mean too much."""
         (since, first), (until, last) = self._marks[0], self._marks[-1]
-        return (last - first) * SECOND / (until - since) if until > since else None
+        return (last - first) * SECOND / (until - since) if until - since >= SHORTEST else None
 
 
 class Watcher:
@@ -60,6 +60,7 @@ class Watcher:
 
     def look(self) -> Look:
         """Looks once. Raises `Ended` if nobody listens."""
+        queue = self._visitor.look() if self._visitor else None  # first, so that its session is among those listed
         sockets = look_at(self._port)
         if not sockets.is_listening:
             raise Ended
@@ -68,7 +69,6 @@ class Watcher:
         own = os.getpid()
         clients = [self._client(it) for it in sockets.connections if it.program is None or it.program.pid != own]
         self._count_sessions(sockets)
-        queue = self._visitor.look() if self._visitor else None
         self._learn(queue)
         if self._visitor:
             self._visitor.rest(any(it.state == WAITING for it in clients))

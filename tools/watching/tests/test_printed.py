@@ -174,7 +174,9 @@ class PrometheusTest(WatchTest):
         self.assertEqual(self.written(empty)["rb_broker_head_late_seconds"], 0)
 
     def test_when_nobody_listens(self) -> None:
-        self.assertEqual(self.written(None), {"rb_broker_up": 0})
+        before, told = time.time(), self.written(None)
+        self.assertTrue(before - 1 <= told.pop("rb_broker_watch_time_seconds") <= time.time() + 1)
+        self.assertEqual(told, {"rb_broker_up": 0})
 
     def test_the_alerts_of_the_page(self) -> None:
         """Each metric that an alert of docs/OPERATING.md names is one that is written."""

@@ -43,6 +43,8 @@ class PaceTest(unittest.TestCase):
         pace = Pace()
         pace.add(0, 100)
         self.assertIsNone(pace.a_second)
+        pace.add(10**9, 101)
+        self.assertIsNone(pace.a_second)
         pace.add(10 * 10**9, 150)
         self.assertEqual(pace.a_second, 5.0)
         pace.add(WINDOW + 10 * 10**9, 150 + 60)

@@ -162,7 +162,8 @@ class WatchedTest(WatchTest):
             client.sendall(b"OFFER 0 a\nTAKE\n")
             client.recv(1000)
             time.sleep(0.005)
-        look = self.looks(process, lambda look: look["calls"] is not None and look["calls"]["used"] > 250)[-1]
+        look = self.looks(process, lambda look: look["calls"] is not None and bool(look["calls"]["lasts_seconds"]))[-1]
+        self.assertTrue(200 < look["calls"]["used"] - 105 < 500, look)
         self.assertTrue(0 < look["calls"]["lasts_seconds"] < 60, look)
         self.stop(process)
 
@@ -192,6 +193,14 @@ class WatchedTest(WatchTest):
         late = self.ask(server, "SIZE")
         look = self.looks(process, lambda look: bool(look["sessions"]["used"] == 3))[-1]
         self.assertEqual(state_of(look, late), "active")
+        self.stop(process)
+
+    def test_the_own_session_is_no_pace(self) -> None:
+        server = self.serve("--workers", 2, "--sessions", 50)
+        process = self.watch(server.port, "--json", "--every", 0.5)
+        looks = self.looks(process, lambda look: look["sessions"]["a_second"] is not None)
+        self.assertEqual([it["sessions"]["used"] for it in looks], [1] * len(looks))
+        self.assertEqual(looks[-1]["sessions"]["a_second"], 0)
         self.stop(process)
 
     def test_a_server_that_ends_though_it_is_watched(self) -> None:
