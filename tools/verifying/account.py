@@ -64,7 +64,8 @@ class Account:
     def _item(self, asked: Words, words: Words, reply: List[str]) -> Expected:
         id = int(words[1])
         wait = f" {ANY} {asked[1]}" if asked[0] == "POLLFOR" else ""
-        expected = Expected(f"{asked[0].lower()}{wait} {id}", self._history.exits[id], self._fetched(id, words))
+        act = f"{asked[0].lower()}{wait} {words[1]}"
+        expected = Expected(act, self._history.exits[id], self._fetched(id, words))
         return _answered(len(asked) == (2 if wait else 1) and asked[0] in ("TAKE", "POLL", "POLLFOR"), expected)
 
     def _fetched(self, id: int, words: Words) -> str:
@@ -78,19 +79,18 @@ class Account:
         keyword, id, expiry, attempt, payload = words
         if element is None:
             return f"element {id} was not offered"
-        if (expiry, attempt, payload) == (element.expiry, element.attempt, element.payload):
+        if (id, expiry, attempt, payload) == (element.id, element.expiry, element.attempt, element.payload):
             return ""
         return f"it says {' '.join(words[1:])}, and was {id} {element.expiry} {element.attempt} {element.payload}"
 
     def _none(self, asked: Words, words: Words, reply: List[str]) -> Expected:
         if asked[0] == "POLLFOR":
-            return Expected(f"pollfor {ANY} {asked[1]} none")
-        return _answered(asked in (["POLL"], ["PEEK"]), Expected(f"{asked[0].lower()} none"))
+            return _answered(words == ["NONE"], Expected(f"pollfor {ANY} {asked[1]} none"))
+        return _answered(words == ["NONE"] and asked in (["POLL"], ["PEEK"]), Expected(f"{asked[0].lower()} none"))
 
     def _head(self, asked: Words, words: Words, reply: List[str]) -> Expected:
-        id = int(words[1])
-        flaw = self._flaw(words, self._history.element(id))
-        return _answered(asked == ["PEEK"], Expected(f"peek {id}", NONE, flaw))
+        flaw = self._flaw(words, self._history.element(int(words[1])))
+        return _answered(asked == ["PEEK"], Expected(f"peek {words[1]}", NONE, flaw))
 
     def _drained(self, asked: Words, words: Words, reply: List[str]) -> Expected:
         most = min(int(asked[1]), MOST_HELD - len(self.held))
@@ -99,25 +99,26 @@ class Account:
         event = self._history.exits[ids[0]] if ids else NONE
         flaws = "; ".join(filter(None, map(self._fetched, ids, items)))
         expected = Expected(" ".join(map(str, ["drain", most, *ids])), event, flaws)
-        is_right = int(words[1]) == len(ids) and all(it[0] == "ITEM" for it in items)
+        is_right = words[1:] == [str(len(ids))] and all(it[0] == "ITEM" for it in items)
         return _answered(is_right and asked[0] == "DRAIN", expected)
 
     def _removed(self, asked: Words, words: Words, reply: List[str]) -> Expected:
-        id = int(asked[1])
-        event = self._history.exits[id] if words[1] == "yes" else NONE
-        return _answered(asked[0] == "REMOVE", Expected(f"remove {id} {words[1]}", event))
+        _, found = words
+        event = self._history.exits[int(asked[1])] if found == "yes" else NONE
+        return _answered(asked[0] == "REMOVE" and found in ("yes", "no"), Expected(f"remove {asked[1]} {found}", event))
 
     def _cleared(self, asked: Words, words: Words, reply: List[str]) -> Expected:
-        return _answered(asked == ["CLEAR"], Expected("clear"))
+        return _answered(words == ["CLEARED"] and asked == ["CLEAR"], Expected("clear"))
 
     def _size(self, asked: Words, words: Words, reply: List[str]) -> Expected:
-        return _answered(asked == ["SIZE"], Expected(f"size {int(words[1])}"))
+        _, count = words
+        return _answered(asked == ["SIZE"] and count.isdigit(), Expected(f"size {count}"))
 
     def _again(self, asked: Words, words: Words, reply: List[str]) -> Expected:
         job = self._settled(asked, "FAIL")
         _, id, expiry = words
-        if job is None:
-            return Expected(f"offer {id} {expiry} {ANY} {ANY} {ANY} {ANY}", self._history.offers[int(id)])
+        if job is None:  # it was not offered, which was told when it was fetched
+            raise Strange
         first = f" {job.first}" if self._history.version == 3 else ""
         act = f"offer {id} {expiry} {job.origin}{first} {int(job.attempt) + 1} {job.payload}"
         return Expected(act, self._history.offers[int(id)])

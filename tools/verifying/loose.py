@@ -11,7 +11,7 @@ SLACK = 1_000_000  # nanoseconds by which a moment may lie outside of what is kn
 LOOKS = 10_000  # calls by which the clocks are compared
 
 
-class LooseSessions:
+class FreeEvents:
     """The events that are still nobody's, by their words, and by when they were."""
 
     def __init__(self, placing: Placing) -> None:
@@ -25,8 +25,8 @@ class LooseSessions:
 
     def place(self, session: Session) -> None:
         """Gives a session the first row of events that are what its replies say, at one seat and at its time."""
-        placing, first = self._placing, placing_key(self._placing, session)
-        for event in self._events.get(first, ()):
+        first = self._placing.calls.expectation(session.calls[0])
+        for event in self._events.get(first.act, ()):
             if self._is_place(session.calls, event):
                 self._take(session, event)
                 return
@@ -88,11 +88,6 @@ class LooseSessions:
             placing.faults.add("missing", placing.where(call), what)
 
 
-def placing_key(placing: Placing, session: Session) -> str:
-    """The words of a session's first call, as its event would have them."""
-    return placing.calls.expectation(session.calls[0]).act
-
-
 def _loosely(act: str) -> str:
     """The words of an act without what no reply tells."""
     words = act.split(" ")
@@ -104,6 +99,6 @@ def _loosely(act: str) -> str:
 def place_loose(placing: Placing, sessions: List[Session]) -> None:
     """Places these sessions, in the order in which they began."""
     if sessions:
-        rows = LooseSessions(placing)
+        free = FreeEvents(placing)
         for session in sorted(sessions, key=lambda it: placing.calls.sent[it.calls[0]]):
-            rows.place(session)
+            free.place(session)

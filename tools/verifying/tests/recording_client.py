@@ -50,10 +50,11 @@ class RecordingClient:
         choose = self._random.choice
         some = choose(self._held) if self._held else "7"
         return str(choose([
-            f"OFFER {choose([0, 0, 1000, 3_000_000])} p{self.name}", f"OFFER 0 p{self.name}\r", f"OFFERAT 5 q{self.name}",
+            f"OFFER {choose([0, 0, 1000, 3_000_000])} p{self.name}", f"OFFER 0 p{self.name}\r",
+            f"OFFERAT 5 q{self.name}",
             "POLL", "TAKE", f"POLLFOR {choose([0, 200_000])}", f"DRAIN {choose([0, 2, 100])}", "PEEK", "SIZE",
-            f"DONE {some}", f"DONE {some}", f"FAIL {some}", f"FAIL {some}", f"REMOVE {self._last}", "AT 5", "OFFER 05 x",
-            "nonsense \xe9", "CLEAR" if self._random.random() < 0.02 else "SIZE",
+            f"DONE {some}", f"DONE {some}", f"FAIL {some}", f"FAIL {some}", f"REMOVE {self._last}", "AT 5",
+            "OFFER 05 x", "nonsense \xe9", "CLEAR" if self._random.random() < 0.02 else "SIZE",
         ]))
 
     def _learn(self, request: str, reply: List[str]) -> None:

@@ -54,6 +54,7 @@ class HandMadeTest(RunTest):
             (3, "ITEM 1 60 1 z", "event 6 (pollfor 62 100 1, seat 1): it says 1 60 1 z, and was 1 60 1 y"),
             (3, "ITEM 1 60 2 y", "event 6 (pollfor 62 100 1, seat 1): it says 1 60 2 y, and was 1 60 1 y"),
             (4, "HEAD 2 64 2 x", "event 7 (peek 2, seat 1): it says 2 64 2 x, and was 2 65 2 x"),
+            (3, "ITEM 01 60 1 y", "its reply says pollfor … 100 01, and event 6 (pollfor 62 100 1, seat 1)"),
             (4, "NONE", "its reply says peek none, and event 7 (peek 2, seat 1)"),
             (8, "AGAIN 2 66", "its reply says offer 2 66 0 10 2 x, and event 5 (offer 2 65 0 10 2 x, seat 2)"),
         ]:
@@ -147,12 +148,14 @@ class HandMadeTest(RunTest):
         for number, reply in [
             (0, "SIZE 0"), (1, "HEAD 1 60 1 y"), (6, "NONE"), (6, "SIZE"), (6, "SIZE x"), (12, "DONE 3"),
             (13, "ERR 5 not-held"), (6, "ERR 10 new"), (5, "BYE now"), (6, "ERR 5 not-held"), (7, "ERR 9 held"),
+            (1, "NONE x"), (6, "SIZE 1 2"), (6, "SIZE -1"), (10, "DRAINED 2"), (6, ""), (2, "OFFERED 1"),
         ]:
             with self.subTest(reply=reply):
                 record = lines()
                 record[number]["reply"] = [reply]
                 counts, faults = self.judged(text_of(EVENTS), record_of(record))
-                self.assertEqual(counts["strange"], 1 if number != 7 else 2, faults)
+                wanted = 1 + {7: 1, 10: 2}.get(number, 0)  # with the ends of jobs that were then not fetched
+                self.assertEqual(counts["strange"], wanted, faults)
 
     def test_two_sessions_that_mix_at_one_seat(self) -> None:
         events = ["1 10 10 offer 0 10 0 10 1 x", "1 20 20 offer 1 20 1 20 1 y", "1 30 30 offer 2 30 2 30 1 z"]

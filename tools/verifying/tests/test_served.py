@@ -47,7 +47,8 @@ class ServedTest(RunTest):
                     thread.join()
                 paths = [self.file(f"{number}.jsonl", it.getvalue()) for number, it in enumerate(records)]
                 lines = self.expect_no_fault(server, *paths)
-                self.assertRegex(lines[0], rf"^[\d,]+ events at {WORKERS} seats; [\d,]+ requests of {SESSIONS} sessions$")
+                says = rf"^[\d,]+ events at {WORKERS} seats; [\d,]+ requests of {SESSIONS} sessions$"
+                self.assertRegex(lines[0], says)
 
     def _visit(self, port: int, number: int, record: io.StringIO, timer: str) -> None:
         for visit in range(SESSIONS // WORKERS):
@@ -58,9 +59,9 @@ class ServedTest(RunTest):
             with self.subTest(timer=timer):
                 server = self.serve(timer, "--workers", 8, "--sessions", 8, "--calls", 100_000, "--delay", 1_000_000)
                 records = [f"{self.room}/{number}.jsonl" for number in range(2)]
-                words = ["--port", str(server.port), "--clients", "4", "--rate", "400", "--fail", "0.3", "--seconds", "1"]
-                loads = [subprocess.Popen([sys.executable, "-B", tests.LOAD, *words, "--record", it],
-                                          stdout=subprocess.DEVNULL) for it in records]
+                words = ["--clients", "4", "--rate", "400", "--fail", "0.3", "--seconds", "1"]
+                command = [sys.executable, "-B", tests.LOAD, "--port", str(server.port), *words, "--record"]
+                loads = [subprocess.Popen([*command, it], stdout=subprocess.DEVNULL) for it in records]
                 self.assertEqual([it.wait() for it in loads], [0, 0])
                 lines = self.expect_no_fault(server, *records)
                 self.assertRegex(lines[0], r"^[\d,]+ events at 8 seats; [\d,]+ requests of 8 sessions$")
