@@ -18,11 +18,11 @@ from .pauses import Pauses
 from .producer import Producer
 from .replies import Again, Dead, Item, Offered, Verdict
 from .requests import Request
-from .worker import Handler, Report, Worker
+from .worker import Handler, OnDead, Report, Worker
 
 __all__ = [
     "Again", "Broker", "BrokerError", "Dead", "Disconnected", "Full", "GREATEST_NUMBER", "Handler", "HeldTooMany",
     "InDoubt", "Item", "LONGEST_PAYLOAD", "LineRefused", "MOST_HELD", "NotHeld", "NotOffered", "NumberRefused",
-    "Offered", "OutOfMemory", "Pauses", "PayloadRefused", "Producer", "RangeRefused", "Refused", "Report", "Request",
-    "SECOND", "Stopped", "SyntaxRefused", "UnknownReply", "Verdict", "Worker", "requests",
+    "Offered", "OnDead", "OutOfMemory", "Pauses", "PayloadRefused", "Producer", "RangeRefused", "Refused", "Report",
+    "Request", "SECOND", "Stopped", "SyntaxRefused", "UnknownReply", "Verdict", "Worker", "requests",
 ]

@@ -1,20 +1,23 @@
 """Offers jobs to a server that may be replaced by another."""
 from __future__ import annotations
 
+import copy
+import threading
 import time
 from types import TracebackType
 from typing import Optional, Type
 
 from . import requests
+from .age import Age
 from .broker import Broker
-from .errors import Full, InDoubt, NotOffered, OutOfMemory
+from .errors import BrokerError, Full, InDoubt, NotOffered, OutOfMemory
 from .pauses import Pauses
 from .replies import Offered
 from .requests import Request
 
 
 class Producer:
-    """Offers jobs, and connects again when its connection is lost. One thread at a time may use it.
+    """Offers jobs, and connects again when its connection is lost. Threads may share it: their offers take turns.
 
     An offer is tried again, for up to `patience` seconds, when the job was surely not accepted: no server was there,
     or it refused the offer because its run is full or it has no memory. Other refusals are raised at once.
@@ -24,17 +27,25 @@ class Producer:
     caller repeats the offer. With `may_double=True` the producer repeats it: each job is offered at least once, and
     perhaps twice, which its handler must bear.
 
-    From its first offer on, a producer keeps one of the server's workers busy. `close` frees it until the next
-    offer, which begins another session.
+    An offer begins a session if there is none, which keeps one of the server's workers busy. It is left `session`
+    seconds later, between two offers or while there are none: a daemon thread, which sleeps meanwhile, sends `QUIT`.
+    So a producer that is idle keeps nothing of the server busy, and does not hold up one that is to be replaced.
+    `close` leaves at once. The next offer begins another session.
     """
 
     def __init__(self, port: int, host: str = "127.0.0.1", *, may_double: bool = False, patience: float = 30.0,
-                 pauses: Optional[Pauses] = None) -> None:
-        """Connects to nothing yet. A reply is waited for up to `patience` seconds too."""
+                 session: Optional[float] = 30.0, pauses: Optional[Pauses] = None) -> None:
+        """Connects to nothing yet. A reply is waited for up to `patience` seconds too. With None for `session` each
+        is kept as long as it can be had, and there is no thread."""
         self._port, self._host = port, host
         self._may_double, self._patience = may_double, patience
+        self._session = Age.checked(session)
         self._pauses = pauses or Pauses(longest=2.0)
+        # What follows is changed under the lock alone: the thread that leaves an old session changes it too.
+        self._lock = threading.Lock()
         self._broker: Optional[Broker] = None
+        self._age = Age(None)
+        self._timer: Optional[threading.Timer] = None
 
     def __enter__(self) -> Producer:
         return self
@@ -52,29 +63,39 @@ class Producer:
         return self._offer(requests.offer_at(expiry, payload))
 
     def close(self) -> None:
-        """Ends the session, if there is one. Each offer that was answered stands."""
-        if self._broker is not None:
-            self._broker.close()
-            self._broker = None
+        """Ends the session, if there is one, once an offer of another thread is answered. Each offer that was answered
+        stands."""
+        with self._lock:
+            self._hang_up()
 
     def _offer(self, request: Request[Offered]) -> Offered:
         deadline = time.monotonic() + self._patience
         doubt: Optional[InDoubt] = None
-        self._pauses.reset()
+        pauses = copy.copy(self._pauses)  # each thread has its own
+        pauses.reset()
         while True:
             try:
-                return self._try(request)
+                return self._try_in_turn(request, deadline)
             except (InDoubt, NotOffered, Full, OutOfMemory) as fault:
                 if isinstance(fault, InDoubt):
                     doubt = doubt or fault
-                pause = self._pauses.next()
+                pause = pauses.next()
                 if (doubt and not self._may_double) or time.monotonic() + pause > deadline:
                     # Once a try is in doubt, no later one can take that back.
                     raise doubt or fault
             time.sleep(pause)
 
+    def _try_in_turn(self, request: Request[Offered], deadline: float) -> Offered:
+        """Makes the offer once, after those of other threads."""
+        if not self._lock.acquire(timeout=max(deadline - time.monotonic(), 0)):
+            raise NotOffered(f"{request}: offers of other threads took too long")
+        try:
+            return self._try(request)
+        finally:
+            self._lock.release()
+
     def _try(self, request: Request[Offered]) -> Offered:
-        """Makes the offer once."""
+        """Makes the offer once, under the lock."""
         try:
             broker = self._served()
         except OSError as fault:
@@ -82,16 +103,18 @@ class Producer:
         try:
             return broker.ask(request)
         except Full:
-            self.close()  # nothing more comes of this run, and the server can end only when its clients have left
+            self._hang_up()  # nothing more comes of this run, and the server can end only when its clients have left
             raise
         except OSError as fault:
-            self.close()
+            self._hang_up()
             raise InDoubt(f"{request}: {fault}") from fault
 
     def _served(self) -> Broker:
         """A session that the server serves already, so that an offer is in doubt only while it is answered."""
+        if self._broker is not None and self._age.is_over():
+            self._leave(self._broker)
         if self._broker is not None and (self._broker.unanswered > 0 or self._broker.is_lost()):
-            self.close()
+            self._hang_up()
         if self._broker is None:
             broker = Broker(self._port, self._host, self._patience)
             try:
@@ -99,5 +122,41 @@ class Producer:
             except BaseException:
                 broker.close()
                 raise
-            self._broker = broker
+            self._broker, self._age = broker, Age(self._session)
+            self._leave_later(broker)
         return self._broker
+
+    def _leave_later(self, broker: Broker) -> None:
+        """Has a thread leave the session when it is as old as it may be."""
+        if self._session is None:
+            return
+        self._timer = threading.Timer(self._session, self._leave_alone, [broker])
+        self._timer.daemon = True
+        try:
+            self._timer.start()
+        except RuntimeError:
+            self._timer = None  # no thread can be had, as at the end of the interpreter: the next offer leaves
+
+    def _leave_alone(self, broker: Broker) -> None:
+        """Leaves this session, unless it has ended."""
+        with self._lock:
+            if self._broker is broker:
+                self._leave(broker)
+
+    def _leave(self, broker: Broker) -> None:
+        """Leaves the session with `QUIT`."""
+        try:
+            if broker.unanswered == 0:
+                broker.quit()
+        except (OSError, BrokerError):
+            pass  # it is lost, or of no use: each offer has had its answer all the same
+        self._hang_up()
+
+    def _hang_up(self) -> None:
+        """Ends the session, if there is one."""
+        if self._timer is not None:
+            self._timer.cancel()
+            self._timer = None
+        if self._broker is not None:
+            self._broker.close()
+            self._broker = None

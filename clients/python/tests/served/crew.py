@@ -1,6 +1,6 @@
 """Several workers in threads, and a note of what they handled."""
 import threading
-from typing import Callable, List
+from typing import Any, Callable, List
 
 from rb_broker_client import Item, Pauses, Report, Worker
 
@@ -12,13 +12,14 @@ class Failure(Exception):
 
 
 class Crew:
-    """Workers of one port. `is_done` says whether an attempt of a job is done, or fails."""
+    """Workers of one port, with these options. `is_done` says whether an attempt of a job is done, or fails."""
 
-    def __init__(self, port: int, count: int, is_done: Callable[[Item], bool]) -> None:
+    def __init__(self, port: int, count: int, is_done: Callable[[Item], bool], **options: Any) -> None:
         self._is_done = is_done
         self._lock = threading.Lock()
         self.handled: List[Item] = []
-        self.workers = [Worker(self._handle, port, pauses=Pauses(first=0.05, longest=0.2)) for _ in range(count)]
+        options = {"pauses": Pauses(first=0.05, longest=0.2), **options}
+        self.workers = [Worker(self._handle, port, **options) for _ in range(count)]
         self._threads = [threading.Thread(target=it.run, daemon=True) for it in self.workers]
         for thread in self._threads:
             thread.start()

@@ -83,9 +83,9 @@ class ServedTest(unittest.TestCase):
         self.addCleanup(server.kill)
         return server
 
-    def gather(self, server, count, is_done):
+    def gather(self, server, count, is_done, **options):
         """This many workers of the server's port."""
-        crew = Crew(server.port, count, is_done)
+        crew = Crew(server.port, count, is_done, **options)
         self.addCleanup(crew.stop)
         return crew
 

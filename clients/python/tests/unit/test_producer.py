@@ -1,21 +1,28 @@
 """A producer whose servers go away, are full, or have no memory."""
+import threading
+import time
 import unittest
+import unittest.mock
 
-from scripted import GREETING, HANGS_UP, NOTHING, PATIENCE, ScriptedTest, free_port
+from scripted import GOODBYE, GREETING, HANGS_UP, NOTHING, PATIENCE, ScriptedTest, free_port
 from rb_broker_client import Full, InDoubt, NotOffered, Offered, OutOfMemory, Pauses, PayloadRefused, Producer
 
 OFFER = "OFFER 5 a"
 
 
-class ProducerTest(ScriptedTest):
-    def produce(self, *sessions, patience=PATIENCE, may_double=False):
+class ProducerCase(ScriptedTest):
+    """A producer of one scripted server."""
+
+    def produce(self, *sessions, patience=PATIENCE, **options):
         """A producer, and the server of these sessions, each of which begins with the greeting."""
         server = self.play(*([GREETING, *steps] for steps in sessions))
         pauses = Pauses(first=0.01, longest=0.02)
-        producer = Producer(server.port, patience=patience, may_double=may_double, pauses=pauses)
+        producer = Producer(server.port, patience=patience, pauses=pauses, **options)
         self.addCleanup(producer.close)
         return producer, server
 
+
+class ProducerTest(ProducerCase):
     def test_offers_go_through_one_session(self):
         producer, _ = self.produce([(OFFER, "OFFERED 0 5"), ("OFFERAT 9 b", "OFFERED 1 9")])
         self.assertEqual(producer.offer(5, "a"), Offered(0, 5))
@@ -80,6 +87,94 @@ class ProducerTest(ScriptedTest):
         producer, _ = self.produce([(f"OFFER 5 {long}", "ERR 4 payload"), (OFFER, "OFFERED 0 5")])
         self.assertRaises(PayloadRefused, producer.offer, 5, long)
         self.assertEqual(producer.offer(5, "a"), Offered(0, 5))
+
+
+class AgeTest(ProducerCase):
+    """A session that is as old as it may be is left, and the next offer begins another."""
+
+    def test_an_idle_producer_leaves_by_itself(self):
+        producer, server = self.produce([(OFFER, "OFFERED 0 5"), GOODBYE], [(OFFER, "OFFERED 1 5")], session=0.1)
+        self.assertEqual(producer.offer(5, "a"), Offered(0, 5))
+        self.assertTrue(server.ended.acquire(timeout=PATIENCE))
+        self.assertEqual(producer.offer(5, "a"), Offered(1, 5))
+
+    def test_an_offer_that_goes_on_is_answered_first(self):
+        late = lambda: time.sleep(0.3) or "OFFERED 0 5"
+        producer, server = self.produce([(OFFER, late), GOODBYE], session=0.1)
+        self.assertEqual(producer.offer(5, "a"), Offered(0, 5))
+        self.assertTrue(server.ended.acquire(timeout=PATIENCE))
+
+    def test_where_no_thread_can_be_had_the_next_offer_leaves(self):
+        producer, server = self.produce([(OFFER, "OFFERED 0 5"), GOODBYE], [(OFFER, "OFFERED 1 5")], session=0.1)
+        with unittest.mock.patch("threading.Timer.start", side_effect=RuntimeError("can't start new thread")):
+            self.assertEqual(producer.offer(5, "a"), Offered(0, 5))
+            self.assertFalse(server.ended.acquire(timeout=0.3))
+            self.assertEqual(producer.offer(5, "a"), Offered(1, 5))
+
+    def test_none_keeps_it_without_a_thread(self):
+        before = threading.active_count()
+        producer, server = self.produce([(OFFER, "OFFERED 0 5"), (OFFER, "OFFERED 1 5")], session=None)
+        self.assertEqual(producer.offer(5, "a"), Offered(0, 5))
+        self.assertEqual(threading.active_count(), before + 1)  # the scripted server's
+        self.assertFalse(server.ended.acquire(timeout=0.3))
+        self.assertEqual(producer.offer(5, "a"), Offered(1, 5))
+
+    def test_a_closed_producer_leaves_no_thread(self):
+        before = threading.active_count()
+        producer, server = self.produce([(OFFER, "OFFERED 0 5")])
+        producer.offer(5, "a")
+        self.assertEqual(threading.active_count(), before + 2)  # the scripted server's, and the one that would leave
+        producer.close()
+        server.end()
+        deadline = time.monotonic() + PATIENCE
+        while threading.active_count() > before and time.monotonic() < deadline:
+            time.sleep(0.01)
+        self.assertEqual(threading.active_count(), before)
+
+    def test_a_server_that_does_not_say_goodbye(self):
+        steps = [(OFFER, "OFFERED 0 5"), ("QUIT", HANGS_UP)]
+        producer, server = self.produce(steps, [(OFFER, "OFFERED 1 5")], session=0.1)
+        producer.offer(5, "a")
+        self.assertTrue(server.ended.acquire(timeout=PATIENCE))
+        self.assertEqual(producer.offer(5, "a"), Offered(1, 5))
+
+    def test_ages_that_make_no_sense(self):
+        for age in (0, -1.0, float("nan")):
+            self.assertRaises(ValueError, Producer, 7011, session=age)
+
+
+class ThreadsTest(ProducerCase):
+    """Threads that share a producer."""
+
+    def test_their_offers_take_turns(self):
+        count = 40
+        producer, _ = self.produce([(OFFER, f"OFFERED {id} 5") for id in range(count)])
+        told, threads = [], []
+        for _ in range(4):
+            work = lambda: [told.append(producer.offer(5, "a").id) for _ in range(count // 4)]
+            threads.append(threading.Thread(target=work, daemon=True))
+        for it in threads:
+            it.start()
+        for it in threads:
+            it.join(PATIENCE)
+        self.assertEqual(sorted(told), list(range(count)))
+
+    def test_one_that_waits_for_another_too_long_has_not_offered(self):
+        is_asked, is_over, told = threading.Event(), threading.Event(), []
+
+        def answer():
+            is_asked.set()
+            return is_over.wait(PATIENCE) and "OFFERED 0 5"
+
+        producer, _ = self.produce([(OFFER, answer)])
+        first = threading.Thread(target=lambda: told.append(producer.offer(5, "a")), daemon=True)
+        first.start()
+        self.assertTrue(is_asked.wait(PATIENCE))
+        with unittest.mock.patch.object(producer, "_patience", 0.2):
+            self.assertRaises(NotOffered, producer.offer, 5, "b")
+        is_over.set()
+        first.join(PATIENCE)
+        self.assertEqual(told, [Offered(0, 5)])
 
 
 if __name__ == "__main__":

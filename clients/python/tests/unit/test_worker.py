@@ -4,6 +4,7 @@ import signal
 import threading
 import time
 import unittest
+import unittest.mock
 
 from scripted import GOODBYE, GREETING, HANGS_UP, PATIENCE, SAYS_NOTHING, ScriptedTest, free_port
 from rb_broker_client import Item, Pauses, Report, UnknownReply, Worker
@@ -23,10 +24,10 @@ def tearDownModule():
 class WorkerCase(ScriptedTest):
     """A worker of one scripted server. The payload `b` fails."""
 
-    def work(self, *sessions, handler=None, is_greeted=True):
+    def work(self, *sessions, handler=None, is_greeted=True, **options):
         """Makes a worker for these sessions, each of which begins with the greeting."""
         server = self.play(*([GREETING, *steps] if is_greeted else steps for steps in sessions))
-        return self.make(handler or self.handle, server.port)
+        return self.make(handler or self.handle, server.port, **options)
 
     def make(self, handler, port, pauses=None, **options):
         """Makes a worker, which is stopped in the end whatever comes."""
@@ -42,6 +43,10 @@ class WorkerCase(ScriptedTest):
         self.handled.append(job)
         if job.payload == "b":
             raise ValueError("the payload is b")
+
+    def handle_slowly(self, job):
+        time.sleep(0.2)
+        self.handle(job)
 
     def stops(self, reply):
         """A reply before which the worker is asked to stop."""
@@ -127,6 +132,79 @@ class LossTest(WorkerCase):
         self.assertEqual(worker.run(), Report())
 
 
+class AgeTest(WorkerCase):
+    """A session that is older than it may be is left, and the next begins."""
+
+    def test_between_two_jobs(self):
+        sessions = [GIVES_A, ("DONE 0", "DONE 0"), GOODBYE], [GIVES_B, ("FAIL 1", "AGAIN 2 5"), GOODBYE], self.last()
+        worker = self.work(*sessions, handler=self.handle_slowly, session=0.1)
+        self.assertEqual(worker.run(), Report(done=1, again=1))
+
+    def test_while_no_job_comes(self):
+        sessions = [(POLL, "NONE"), (POLL, lambda: time.sleep(0.2) or "NONE"), GOODBYE], self.last()
+        self.assertEqual(self.work(*sessions, session=0.1).run(), Report())
+
+    def test_while_each_wait_is_given_up(self):
+        sessions = [(POLL, lambda: time.sleep(0.2) or "STOPPED"), GOODBYE], self.last()
+        self.assertEqual(self.work(*sessions, session=0.1).run(), Report())
+
+    def test_the_next_begins_without_a_pause(self):
+        old = [GREETING, (POLL, lambda: time.sleep(0.2) or "NONE"), GOODBYE]
+        server = self.play(old, [GREETING, *self.last()])
+        worker = self.make(self.handle, server.port, Pauses(first=2 * PATIENCE, longest=2 * PATIENCE), session=0.1)
+        self.assertEqual(worker.run(), Report())
+
+    def test_without_being_told_it_is_thirty_seconds(self):
+        sessions = [GIVES_A, ("DONE 0", "DONE 0"), GIVES_A, ("DONE 0", "DONE 0"), GOODBYE], self.last()
+        seconds = iter([29.5, 0.5])
+        with unittest.mock.patch("rb_broker_client.age.time") as clock:
+            clock.monotonic.return_value = 1_000.0
+            worker = self.work(*sessions, handler=lambda _: pass_on(clock, next(seconds)))
+            self.assertEqual(worker.run(), Report(done=2))
+
+    def test_none_keeps_it(self):
+        sessions = [[GIVES_A, ("DONE 0", "DONE 0"), *self.last()]]
+        with unittest.mock.patch("rb_broker_client.age.time") as clock:
+            clock.monotonic.return_value = 1_000.0
+            worker = self.work(*sessions, handler=lambda _: pass_on(clock, 1e9), session=None)
+            self.assertEqual(worker.run(), Report(done=1))
+
+    def test_ages_that_make_no_sense(self):
+        for age in (0, -1.0, float("nan")):
+            self.assertRaises(ValueError, Worker, self.handle, 7011, session=age)
+
+
+class DeadTest(WorkerCase):
+    """What is told of jobs that failed in their last attempt."""
+
+    def test_it_is_called_with_each_such_job_and_no_other(self):
+        steps = [GIVES_A, ("DONE 0", "DONE 0"), GIVES_B, ("FAIL 1", "AGAIN 2 1000"),
+                 (POLL, "ITEM 2 1000 3 b"), ("FAIL 2", "DEAD 2")]
+        dead = []
+        self.assertEqual(self.work([*steps, *self.last()], on_dead=dead.append).run(), Report(1, 1, 1))
+        self.assertEqual(dead, [Item(2, 1000, 3, "b")])
+
+    def test_a_fault_of_its_own_is_logged_and_the_worker_goes_on(self):
+        def refuse(job):
+            raise OSError("the disk is full")
+
+        steps = [GIVES_B, ("FAIL 1", "DEAD 1"), GIVES_A, ("DONE 0", "DONE 0")]
+        worker = self.work([*steps, *self.last()], on_dead=refuse)
+        logging.disable(logging.NOTSET)
+        with self.assertLogs("rb_broker_client", logging.ERROR) as said:
+            self.assertEqual(worker.run(), Report(done=1, dead=1))
+        logging.disable(logging.CRITICAL)
+        told = ["job b failed in its last attempt, 1", "on_dead failed for job b"]
+        self.assertEqual([it.getMessage() for it in said.records], told)
+        self.assertIn("the disk is full", str(said.records[1].exc_info[1]))
+
+    def test_a_last_failure_whose_answer_is_not_heard_is_not_told(self):
+        dead = []
+        sessions = [GIVES_B, ("FAIL 1", HANGS_UP)], self.last()
+        self.assertEqual(self.work(*sessions, on_dead=dead.append).run(), Report(unheard=1))
+        self.assertEqual(dead, [])
+
+
 class PauseTest(WorkerCase):
     def test_pauses_grow_until_a_wait_is_answered(self):
         noted = []
@@ -179,6 +257,11 @@ class StopTest(WorkerCase):
         self.addCleanup(signal.signal, signal.SIGALRM, before)
         signal.setitimer(signal.ITIMER_REAL, 0.2)
         self.assertEqual(worker.run(), Report())
+
+
+def pass_on(clock, seconds):
+    """The clock goes on by these seconds."""
+    clock.monotonic.return_value += seconds
 
 
 if __name__ == "__main__":
