@@ -17,8 +17,9 @@ from .limits import GREATEST_NUMBER, LONGEST_PAYLOAD, MOST_HELD, SECOND
 from .pauses import Pauses
 from .producer import Producer
 from .replies import Again, Dead, Item, Offered, Verdict
+from .report import Report
 from .requests import Request
-from .worker import Handler, OnDead, Report, Worker
+from .worker import Handler, OnDead, Worker
 
 __all__ = [
     "Again", "Broker", "BrokerError", "Dead", "Disconnected", "Full", "GREATEST_NUMBER", "Handler", "HeldTooMany",

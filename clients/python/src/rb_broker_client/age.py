@@ -10,11 +10,12 @@ class Age:
 
     def __init__(self, limit: Optional[float]) -> None:
         """The session begins now. `limit` is in seconds; with None it may become as old as it can."""
-        self._end = None if limit is None else time.monotonic() + limit
+        self.end = None if limit is None else time.monotonic() + limit
+        """When it is as old as it may be, by the monotonic clock."""
 
     def is_over(self) -> bool:
         """Whether the session is as old as it may be."""
-        return self._end is not None and time.monotonic() >= self._end
+        return self.end is not None and time.monotonic() >= self.end
 
     @staticmethod
     def checked(limit: Optional[float]) -> Optional[float]:

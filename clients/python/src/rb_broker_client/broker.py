@@ -1,14 +1,15 @@
 """A session with a server."""
 from __future__ import annotations
 
-from collections import deque
 from types import TracebackType
-from typing import Any, Deque, Iterable, Iterator, List, Optional, Type, Union
+from typing import Any, Iterable, List, Optional, Type, Union
 
 from . import requests
 from .connection import Connection
+from .dialogue import Dialogue, Incomplete
 from .errors import Refused, Stopped, SyntaxRefused, UnknownReply
-from .replies import Item, Offered, Verdict, Words, words_of
+from .record import Record, RecordTarget
+from .replies import Item, Offered, Verdict
 from .requests import Answer, Request
 
 
@@ -23,12 +24,15 @@ class Broker:
     back to other sessions until their attempts are used up.
     """
 
-    def __init__(self, port: int, host: str = "127.0.0.1", patience: Optional[float] = None) -> None:
+    def __init__(self, port: int, host: str = "127.0.0.1", patience: Optional[float] = None, *,
+                 record: Union[RecordTarget, Record, None] = None) -> None:
         """Connects. A reply that does not come within `patience` seconds raises `TimeoutError`; it is still due
-        then, and `receive` waits for it again."""
-        self._connection = Connection(port, host, patience)
-        self._unanswered: Deque[Request[Any]] = deque()
-        self._begun: List[Words] = []
+        then, and `receive` waits for it again. To `record`, a path or an open text file, a line is added for each
+        request and its reply."""
+        recorded = Record.of(record)
+        self._record = None if recorded is None else recorded.begin()
+        self._dialogue = Dialogue(None if self._record is None else self._record.note)
+        self._connection = Connection(port, host, patience, self._dialogue.feed)
 
     def __enter__(self) -> Broker:
         return self
@@ -105,8 +109,7 @@ class Broker:
 
     def ask(self, request: Request[Answer]) -> Answer:
         """Sends a request and gives its answer."""
-        if self._unanswered:
-            raise RuntimeError(f"{len(self._unanswered)} replies have to be received first")
+        self._demand_none_due()
         self.send(request)
         answer: Answer = self.receive()
         return answer
@@ -114,36 +117,42 @@ class Broker:
     def ask_all(self, questions: Iterable[Request[Answer]]) -> List[Union[Answer, Refused, Stopped]]:
         """Sends any number of requests in one piece, and returns the answer to each. For a request that was refused, or
         whose wait was given up, the answer is that exception."""
-        if self._unanswered:
-            raise RuntimeError(f"{len(self._unanswered)} replies have to be received first")
+        self._demand_none_due()
         self.send(*questions)
-        return [self._receive_either() for _ in range(len(self._unanswered))]
+        return [self._receive_either() for _ in range(self.unanswered)]
 
     def send(self, *questions: Request[Any]) -> None:
         """Sends requests in one piece, and waits for no reply. If this raises an `OSError`, some may have been
         served."""
-        self._unanswered.extend(questions)
-        self._connection.send(b"".join(it.line + b"\n" for it in questions))
+        self._connection.send(self._dialogue.ask(*questions))
 
     def receive(self) -> Any:
         """The answer to the first request that has none yet. A refusal is raised."""
-        if not self._unanswered:
-            raise RuntimeError("no reply is due")
+        while True:
+            try:
+                return self._dialogue.answer()
+            except Incomplete:
+                self._connection.receive()
+            except UnknownReply:
+                self.close()  # which line answers which request is no longer known
+                raise
+
+    def receive_come(self) -> List[Any]:
+        """Waits for nothing: the answers whose replies have come, each refusal in its place."""
         try:
-            answer = self._unanswered[0].read(self._lines().__next__)
+            answers = self._dialogue.complete_answers()
+            if not answers:
+                self._connection.receive_now()
+                answers = self._dialogue.complete_answers()
+            return answers
         except UnknownReply:
-            self.close()  # which line answers which request is no longer known
+            self.close()
             raise
-        except (Refused, Stopped):
-            self._forget_first()
-            raise
-        self._forget_first()
-        return answer
 
     @property
     def unanswered(self) -> int:
         """How many requests were sent whose replies have not been received."""
-        return len(self._unanswered)
+        return self._dialogue.unanswered
 
     def is_lost(self) -> bool:
         """Whether the server is known to have ended the session. If not, it may have ended it all the same."""
@@ -156,8 +165,9 @@ class Broker:
     def close(self) -> None:
         """Hangs up. After that the session is of no more use."""
         self._connection.close()
-        self._unanswered.clear()
-        self._begun.clear()
+        self._dialogue.end()
+        if self._record is not None:
+            self._record.close()
 
     def _receive_either(self) -> Any:
         """The answer to the first request that has none yet, or its refusal."""
@@ -166,14 +176,6 @@ class Broker:
         except (Refused, Stopped) as instead:
             return instead
 
-    def _lines(self) -> Iterator[Words]:
-        """The lines of the first reply that is due. Those come first that were received before a wait was broken
-        off, so that `receive` can begin the reply again."""
-        yield from self._begun
-        while True:
-            self._begun.append(words_of(self._connection.receive_line()))
-            yield self._begun[-1]
-
-    def _forget_first(self) -> None:
-        self._unanswered.popleft()
-        self._begun.clear()
+    def _demand_none_due(self) -> None:
+        if self.unanswered:
+            raise RuntimeError(f"{self.unanswered} replies have to be received first")

@@ -1,12 +1,11 @@
-"""A TCP connection that sends bytes and receives lines."""
+"""A TCP connection."""
 from __future__ import annotations
 
 import selectors
 import socket
-from typing import Optional
+from typing import Callable, Optional
 
-from .errors import Disconnected, UnknownReply
-from .limits import LONGEST_REPLY
+from .errors import Disconnected
 
 _PIECE = 65_536
 
@@ -17,8 +16,8 @@ class Connection:
     An exception in the middle of a wait, such as that of a signal handler, loses no byte that was received.
     """
 
-    def __init__(self, port: int, host: str, patience: Optional[float]) -> None:
-        """Connects."""
+    def __init__(self, port: int, host: str, patience: Optional[float], keep: Callable[[bytes], None]) -> None:
+        """Connects. `keep` is called with each piece that is received."""
         self._socket = socket.create_connection((host, port), timeout=patience)
         if self._socket.getsockname() == self._socket.getpeername():
             # Nobody listens, and the system gave this side the very port that it looks for: it found itself. To stay
@@ -30,7 +29,7 @@ class Connection:
         self._selector = selectors.DefaultSelector()
         self._selector.register(self._socket, selectors.EVENT_READ)
         self._patience = patience
-        self._received = bytearray()
+        self._keep = keep
 
     def fileno(self) -> int:
         """The descriptor, for a selector that waits until something is received."""
@@ -49,23 +48,25 @@ class Connection:
             except BlockingIOError:
                 self._wait_to_send()
 
-    def receive_line(self) -> bytes:
-        """The next line, without its line feed."""
-        while True:
-            end = self._received.find(b"\n", 0, LONGEST_REPLY)
-            if end >= 0:
-                line = bytes(self._received[:end])
-                del self._received[:end + 1]
-                return line
-            if len(self._received) >= LONGEST_REPLY:
-                raise UnknownReply(f"a line that begins {bytes(self._received[:LONGEST_REPLY])!r}")
-            self._wait()
-            self._receive()
+    def receive(self) -> None:
+        """Waits until something has come, and keeps it."""
+        self._wait()
+        self.receive_now()
+
+    def receive_now(self) -> None:
+        """Keeps what has come, if anything has."""
+        try:
+            piece = self._socket.recv(_PIECE)
+        except BlockingIOError:
+            return
+        if not piece:
+            raise Disconnected("the server closed the connection")
+        self._keep(piece)
 
     def is_lost(self) -> bool:
         """Whether the connection is known to have ended. If not, it may have ended all the same."""
         try:
-            self._receive()
+            self.receive_now()
         except OSError:
             return True
         return False
@@ -75,16 +76,6 @@ class Connection:
         self._selector.close()
         self._socket.close()
 
-    def _receive(self) -> None:
-        """Keeps what has come, if anything has."""
-        try:
-            piece = self._socket.recv(_PIECE)
-        except BlockingIOError:
-            return
-        if not piece:
-            raise Disconnected("the server closed the connection")
-        self._received += piece
-
     def _wait_to_send(self) -> None:
         """Waits until more can be sent, and keeps what comes before."""
         self._selector.modify(self._socket, selectors.EVENT_READ | selectors.EVENT_WRITE)
@@ -92,7 +83,7 @@ class Connection:
             self._wait()
         finally:
             self._selector.modify(self._socket, selectors.EVENT_READ)
-        self._receive()
+        self.receive_now()
 
     def _wait(self) -> None:
         if not self._selector.select(self._patience):

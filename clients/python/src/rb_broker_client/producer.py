@@ -131,7 +131,7 @@ class Producer:
         if self._session is None:
             return
         self._timer = threading.Timer(self._session, self._leave_alone, [broker])
-        self._timer.daemon = True
+        self._timer.name, self._timer.daemon = "rb_broker_client-leaves", True
         try:
             self._timer.start()
         except RuntimeError:

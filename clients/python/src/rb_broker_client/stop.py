@@ -3,9 +3,8 @@ from __future__ import annotations
 
 import selectors
 import socket
-from typing import Optional
-
-from .broker import Broker
+from types import TracebackType
+from typing import Optional, Type
 
 
 class Stop:
@@ -29,17 +28,47 @@ class Stop:
         except OSError:
             pass  # it is full of such bytes, or closed as nothing waits any more
 
-    def wait(self, seconds: Optional[float] = None, beside: Optional[Broker] = None) -> bool:
-        """Waits until a stop is requested, the seconds are over, or something comes from the broker. Gives whether
-        a stop is requested."""
-        with selectors.DefaultSelector() as selector:
-            selector.register(self._reader, selectors.EVENT_READ)
-            if beside is not None:
-                selector.register(beside, selectors.EVENT_READ)
-            selector.select(seconds)
+    def wait(self, seconds: Optional[float] = None, *beside: Optional[int]) -> bool:
+        """Waits until a stop is requested, the seconds are over, or one of these descriptors can be read. Gives
+        whether a stop is requested."""
+        with Waiting(self, *beside) as waiting:
+            waiting.wait(seconds)
         return self.is_requested
+
+    def fileno(self) -> int:
+        """A descriptor that can be read once a stop is requested."""
+        return self._reader.fileno()
 
     def close(self) -> None:
         """Nothing waits any more."""
         self._reader.close()
         self._writer.close()
+
+
+class Waiting:
+    """Waits for several descriptors, and until a stop is requested."""
+
+    def __init__(self, stop: Stop, *descriptors: Optional[int]) -> None:
+        """Those that are None are left out."""
+        self._stop = stop
+        self._selector = selectors.DefaultSelector()
+        for it in descriptors:
+            if it is not None:
+                self._selector.register(it, selectors.EVENT_READ)
+        self._heeds_stop = True
+        self._selector.register(stop, selectors.EVENT_READ)
+
+    def __enter__(self) -> Waiting:
+        return self
+
+    def __exit__(self, kind: Optional[Type[BaseException]], fault: Optional[BaseException],
+                 trace: Optional[TracebackType]) -> None:
+        self._selector.close()
+
+    def wait(self, seconds: Optional[float], heeds_stop: bool = True) -> bool:
+        """Waits until the seconds are over or a descriptor can be read, or a stop is requested, if that is heeded.
+        Gives whether something happened."""
+        if self._heeds_stop and not heeds_stop:
+            self._selector.unregister(self._stop)
+            self._heeds_stop = False
+        return bool(self._selector.select(seconds))

@@ -2,18 +2,23 @@
 from __future__ import annotations
 
 import logging
-import math
-from dataclasses import dataclass
-from typing import Callable, Optional
+import time
+from collections import deque
+from functools import partial
+from typing import Callable, Deque, Optional, Tuple, Union
 
 from . import requests
 from .age import Age
 from .broker import Broker
-from .errors import Full, HeldTooMany, OutOfMemory, Stopped, SyntaxRefused
-from .limits import SECOND
+from .errors import SyntaxRefused
+from .limits import MOST_HELD, SECOND
 from .pauses import Pauses
-from .replies import Again, Item
-from .stop import Stop
+from .record import Record, RecordTarget
+from .replies import Item
+from .report import Report
+from .stop import Stop, Waiting
+from .tasks import Tasks, TasksHere, TasksInThreads
+from .work import Terms, Work
 
 log = logging.getLogger(__name__)
 
@@ -24,83 +29,89 @@ OnDead = Callable[[Item], object]
 """Is told of a job that failed in its last attempt, and that the server no longer has."""
 
 
-@dataclass
-class Report:
-    """What became of the jobs that a worker took."""
-
-    done: int = 0
-    """The handler returned, and the server was told."""
-    again: int = 0
-    """The handler raised an exception, and the job was offered again."""
-    dead: int = 0
-    """The handler raised an exception in the last attempt."""
-    lost: int = 0
-    """The handler raised an exception in a full run, which takes no job back. Nobody will try it again."""
-    unheard: int = 0
-    """What the server made of it is not known. Unless it was told in time that the job is done, it comes back."""
-
-
 class Worker:
-    """Takes jobs, one after the other, and runs the handler on each.
+    """Takes jobs and runs the handler on each, up to `concurrency` of them at the same time.
 
-    It has one session at a time. Between two jobs it leaves one that is older than `session` seconds and begins the
-    next, so that a server which is to be replaced can end, and other clients have their turn. When a session is lost
-    it connects again, after pauses that grow while no server answers. So a job may be handled more than once, even if
-    its handler returned: when the session is lost before the server has read that the job is done, it comes back as
-    its next attempt.
+    It has one session at a time. One that is older than `session` seconds is left once the jobs in hand have ended,
+    and the next begins, so that a server which is to be replaced can end, and other clients have their turn. When a
+    session is lost it connects again, after pauses that grow while no server answers. So a job may be handled more
+    than once, even if its handler returned: when the session is lost before the server has read that the job is done,
+    it comes back as its next attempt.
 
-    To do several jobs at the same time run several workers, in threads or processes. Each keeps one of the server's
-    workers busy.
+    It never fetches more jobs than it can start at once. Each worker keeps one of the server's workers busy.
     """
 
-    def __init__(self, handler: Handler, port: int, host: str = "127.0.0.1", *, wait: int = SECOND,
-                 patience: float = 10.0, session: Optional[float] = 30.0, on_dead: Optional[OnDead] = None,
-                 pauses: Optional[Pauses] = None) -> None:
+    def __init__(self, handler: Handler, port: int, host: str = "127.0.0.1", *, concurrency: int = 1,
+                 wait: int = SECOND, patience: float = 10.0, session: Optional[float] = 30.0,
+                 on_dead: Optional[OnDead] = None, pauses: Optional[Pauses] = None,
+                 record: Union[RecordTarget, Record, None] = None) -> None:
         """Connects to nothing yet.
 
-        `wait` is how many nanoseconds the worker waits for a job at a time, and so how long a stop takes at most
-        while it is idle. It makes a call each time. A reply that is `patience` seconds late is taken for a lost
-        session. `session` is the age in seconds beyond which a session is left between two jobs; None keeps each as
-        long as it can be had.
+        With a `concurrency` of 1 the handler runs in the thread of `run`, and else in up to 64 threads of its own: it
+        must bear to be called by several at a time. `wait` is how many nanoseconds the worker waits for a job at a
+        time, and so how long a stop takes at most while it is idle. It makes a call each time. While jobs run a wait
+        is a fifth of that, since a server reads nothing behind a wait: the end of a job is told so much later at most.
+        A reply that is `patience` seconds late is taken for a lost session. `session` is the age in seconds beyond
+        which a session is left; None keeps each as long as it can be had.
 
         `on_dead` is called with each job whose failure the server answered with `DEAD`, and is the place to keep it.
         It isn't called for a job whose last attempt ended with its session, of which no reply tells. An `Exception`
-        that it raises is logged.
+        that it raises is logged. `record` is a path or an open text file to which a line is added for each request.
         """
-        self._handler, self._port, self._host = handler, port, host
-        self._wait, self._patience = wait, patience
-        self._session, self._on_dead = Age.checked(session), on_dead
+        if not 1 <= concurrency <= MOST_HELD:
+            raise ValueError(f"from 1 to {MOST_HELD} jobs can run at the same time")
+        self._handler, self._on_dead = handler, on_dead
+        self._port, self._host, self._record = port, host, Record.of(record)
+        self._terms = Terms(concurrency, wait, f"{host}:{port}")
+        self._patience, self._session = patience, Age.checked(session)
         self._pauses = pauses or Pauses()
         self._stop = Stop()
+        self._tasks: Tasks = TasksHere()
+        self._ends: Deque[Tuple[Work, Item, bool]] = deque()  # jobs whose handlers have ended
+        self._is_away = False  # whether the last session was lost, or none could be had
         self.report = Report()
 
     def stop(self, *_: object) -> None:
-        """Lets `run` end once the job in hand is settled. Other threads and signal handlers may call it, and it can
+        """Lets `run` end once the jobs in hand are settled. Other threads and signal handlers may call it, and it can
         be a signal's handler itself: `signal.signal(signal.SIGTERM, worker.stop)`."""
         self._stop.request()
 
     def run(self) -> Report:
         """Works until `stop`, once for each worker. At the end no job is held, and the session has ended."""
+        if self._terms.concurrency > 1:
+            self._tasks = TasksInThreads(self._terms.concurrency)
         try:
             while not self._stop.is_requested:
-                try:
-                    if self._run_session():
-                        continue
-                except OSError as fault:
-                    log.warning("the session at %s:%d was lost: %s", self._host, self._port, fault)
-                self._pause()
+                self._await_tasks(self._terms.concurrency - 1)
+                if not self._stop.is_requested and not self._run_session():
+                    self._stop.wait(self._pauses.next())
+            self._await_tasks(0)
         finally:
+            self._tasks.close()
             self._stop.close()
         return self.report
 
     def _run_session(self) -> bool:
         """One session, to its end or until nothing more comes of it. Gives whether the next may begin at once."""
-        with Broker(self._port, self._host, self._patience + self._wait / SECOND) as broker:
-            if not self._is_served(broker):
+        try:
+            broker = Broker(self._port, self._host, self._patience, record=self._record)
+        except OSError as fault:
+            self._away("no server at %s: %s", fault)
+            return False
+        with broker:
+            try:
+                if not self._is_served(broker):
+                    return False
+                work = Work(self._terms, self.report, self._pauses, Age(self._session))
+                try:
+                    self._work_off(broker, work)
+                finally:
+                    work.lost()
+                broker.quit()
+            except OSError as fault:
+                self._away("the session at %s was lost: %s", fault)
                 return False
-            is_old = self._work_off(broker, Age(self._session))
-            broker.quit()
-            return is_old
+        return not work.is_used_up
 
     def _is_served(self, broker: Broker) -> bool:
         """Waits until the session is served, or a stop is requested. Gives whether it is served.
@@ -109,84 +120,94 @@ class Worker:
         left meanwhile, it would cost a job one attempt.
         """
         broker.send(requests.greeting())
-        if self._stop.wait(beside=broker):
+        if self._stop.wait(None, broker.fileno()):
             return False
         try:
             broker.receive()
         except SyntaxRefused:
             pass
+        if self._is_away:
+            log.info("served again at %s", self._terms.place)
+            self._is_away = False
         return True
 
-    def _work_off(self, broker: Broker, age: Age) -> bool:
-        """Takes and runs jobs until a stop is requested or the session is to be left. Gives whether it is left for its
-        age, and not since nothing more comes of it."""
-        while not self._stop.is_requested and not age.is_over():
-            try:
-                job = broker.poll_for(self._wait)
-            except (Stopped, OutOfMemory):
-                self._pause(self._wait / SECOND)
-                continue
-            except (Full, HeldTooMany) as refused:
-                # Nothing more can be had here. A full server can end only when its clients have left.
-                log.warning("left the session at %s:%d: %s", self._host, self._port, refused)
-                return False
-            self._pauses.reset()
-            if job is not None and not self._settle(broker, job):
-                return False
-        return True
+    def _work_off(self, broker: Broker, work: Work) -> None:
+        """Takes and runs jobs until a stop is requested or the session is to be left."""
+        late = 0.0
+        with Waiting(self._stop, broker.fileno(), self._tasks.fileno()) as waiting:
+            while True:
+                was_due = broker.unanswered > 0
+                self._ask(broker, work)
+                if work.is_over(self._stop.is_requested):
+                    return
+                if not was_due and broker.unanswered:
+                    late = time.monotonic() + self._patience + self._terms.wait / SECOND
+                self._wait(waiting, broker, work, late)
+                answers = broker.receive_come()
+                if answers:
+                    late = time.monotonic() + self._patience + self._terms.wait / SECOND
+                for answer in answers:
+                    work.answered(answer)
+                self._start(work)
 
-    def _settle(self, broker: Broker, job: Item) -> bool:
-        """Runs the handler and tells the server what came of it. Gives whether the session can go on."""
-        is_done = self._handle(job)
-        try:
-            if not is_done:
-                return self._fail(broker, job)
-            broker.done(job.id)
-        except OSError:
-            self.report.unheard += 1
-            raise
-        self.report.done += 1
-        return True
+    def _ask(self, broker: Broker, work: Work) -> None:
+        """Sends what is to be sent now."""
+        self._tasks.settle()
+        while self._ends:
+            of, job, is_done = self._ends.popleft()
+            of.ended(job, is_done)
+        running = self._tasks.running
+        questions = work.ask(self._terms.concurrency - running, running, self._stop.is_requested)
+        if questions:
+            broker.send(*questions)
 
-    def _handle(self, job: Item) -> bool:
-        """Runs the handler. Gives whether the job is done."""
+    def _wait(self, waiting: Waiting, broker: Broker, work: Work, late: float) -> None:
+        """Waits until something came, a task ended, or something else is to be sent."""
+        pause = work.pause()
+        if broker.unanswered:
+            # A stop takes nothing back that was asked.
+            rest = max(late - time.monotonic(), 0)
+            if not waiting.wait(rest if pause is None else min(rest, pause), heeds_stop=False) and rest == 0:
+                raise TimeoutError(f"the server did not answer within {self._patience} seconds")
+        else:
+            waiting.wait(pause, heeds_stop=not self._stop.is_requested)
+
+    def _start(self, work: Work) -> None:
+        """Runs what was given, and tells of what is dead."""
+        for job in work.given:
+            self._tasks.start(partial(self._handle, work, job))
+        work.given.clear()
+        for job in work.dead:
+            self._tasks.start(partial(self._bury, job))
+        work.dead.clear()
+
+    def _handle(self, work: Work, job: Item) -> None:
+        """Runs the handler, and notes whether the job is done."""
+        is_done = True
         try:
             self._handler(job)
         except Exception:
             log.warning("attempt %d of job %s failed", job.attempt, job.payload, exc_info=True)
-            return False
-        return True
-
-    def _fail(self, broker: Broker, job: Item) -> bool:
-        """Fails a job, as often as that is refused for want of memory. Gives whether the session can go on."""
-        while True:
-            try:
-                verdict = broker.fail(job.id)
-            except OutOfMemory:
-                if self._pause():
-                    self.report.unheard += 1  # the end of the session fails it
-                    return False
-            except Full:
-                self.report.lost += 1
-                log.error("job %s is lost: it failed in a full run", job.payload)
-                return False
-            else:
-                if isinstance(verdict, Again):
-                    self.report.again += 1
-                else:
-                    self._bury(job)
-                return True
+            is_done = False
+        self._ends.append((work, job, is_done))
 
     def _bury(self, job: Item) -> None:
         """The server dropped a job after its last attempt."""
-        self.report.dead += 1
-        log.error("job %s failed in its last attempt, %d", job.payload, job.attempt)
         if self._on_dead is not None:
             try:
                 self._on_dead(job)
             except Exception:
                 log.error("on_dead failed for job %s", job.payload, exc_info=True)
 
-    def _pause(self, longest: float = math.inf) -> bool:
-        """Waits before the next try. Gives whether a stop is requested."""
-        return self._stop.wait(min(self._pauses.next(), longest))
+    def _await_tasks(self, most: int) -> None:
+        """Waits until no more tasks run than these. They may be those of a session that was lost."""
+        self._tasks.settle()
+        while self._tasks.running > most:
+            with Waiting(self._stop, self._tasks.fileno()) as waiting:
+                waiting.wait(None, heeds_stop=False)
+            self._tasks.settle()
+
+    def _away(self, text: str, fault: OSError) -> None:
+        """There is no session, for this reason. It is told once, until the next is served."""
+        log.log(logging.DEBUG if self._is_away else logging.WARNING, text, self._terms.place, fault)
+        self._is_away = True

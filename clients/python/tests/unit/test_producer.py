@@ -8,6 +8,11 @@ from scripted import GOODBYE, GREETING, HANGS_UP, NOTHING, PATIENCE, ScriptedTes
 from rb_broker_client import Full, InDoubt, NotOffered, Offered, OutOfMemory, Pauses, PayloadRefused, Producer
 
 OFFER = "OFFER 5 a"
+LEAVES = "rb_broker_client-leaves"  # the thread that leaves an old session
+
+
+def thread_names():
+    return [it.name for it in threading.enumerate()]
 
 
 class ProducerCase(ScriptedTest):
@@ -112,24 +117,21 @@ class AgeTest(ProducerCase):
             self.assertEqual(producer.offer(5, "a"), Offered(1, 5))
 
     def test_none_keeps_it_without_a_thread(self):
-        before = threading.active_count()
         producer, server = self.produce([(OFFER, "OFFERED 0 5"), (OFFER, "OFFERED 1 5")], session=None)
         self.assertEqual(producer.offer(5, "a"), Offered(0, 5))
-        self.assertEqual(threading.active_count(), before + 1)  # the scripted server's
+        self.assertNotIn(LEAVES, thread_names())
         self.assertFalse(server.ended.acquire(timeout=0.3))
         self.assertEqual(producer.offer(5, "a"), Offered(1, 5))
 
     def test_a_closed_producer_leaves_no_thread(self):
-        before = threading.active_count()
-        producer, server = self.produce([(OFFER, "OFFERED 0 5")])
+        producer, _ = self.produce([(OFFER, "OFFERED 0 5")])
         producer.offer(5, "a")
-        self.assertEqual(threading.active_count(), before + 2)  # the scripted server's, and the one that would leave
+        self.assertEqual(thread_names().count(LEAVES), 1)
         producer.close()
-        server.end()
         deadline = time.monotonic() + PATIENCE
-        while threading.active_count() > before and time.monotonic() < deadline:
+        while LEAVES in thread_names() and time.monotonic() < deadline:
             time.sleep(0.01)
-        self.assertEqual(threading.active_count(), before)
+        self.assertNotIn(LEAVES, thread_names())
 
     def test_a_server_that_does_not_say_goodbye(self):
         steps = [(OFFER, "OFFERED 0 5"), ("QUIT", HANGS_UP)]
