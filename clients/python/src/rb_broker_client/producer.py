@@ -1,19 +1,20 @@
 """Offers jobs to a server that may be replaced by another."""
 from __future__ import annotations
 
-import copy
 import threading
 import time
 from types import TracebackType
-from typing import Optional, Type
+from typing import Optional, Type, Union
 
 from . import requests
 from .age import Age
 from .broker import Broker
 from .errors import BrokerError, Full, InDoubt, NotOffered, OutOfMemory
 from .pauses import Pauses
+from .record import Record, RecordTarget
 from .replies import Offered
 from .requests import Request
+from .tries import Tries
 
 
 class Producer:
@@ -34,10 +35,12 @@ class Producer:
     """
 
     def __init__(self, port: int, host: str = "127.0.0.1", *, may_double: bool = False, patience: float = 30.0,
-                 session: Optional[float] = 30.0, pauses: Optional[Pauses] = None) -> None:
+                 session: Optional[float] = 30.0, pauses: Optional[Pauses] = None,
+                 record: Union[RecordTarget, Record, None] = None) -> None:
         """Connects to nothing yet. A reply is waited for up to `patience` seconds too. With None for `session` each
-        is kept as long as it can be had, and there is no thread."""
-        self._port, self._host = port, host
+        is kept as long as it can be had, and there is no thread. `record` is a path or an open text file to which a
+        line is added for each request."""
+        self._port, self._host, self._record = port, host, Record.of(record)
         self._may_double, self._patience = may_double, patience
         self._session = Age.checked(session)
         self._pauses = pauses or Pauses(longest=2.0)
@@ -69,25 +72,17 @@ class Producer:
             self._hang_up()
 
     def _offer(self, request: Request[Offered]) -> Offered:
-        deadline = time.monotonic() + self._patience
-        doubt: Optional[InDoubt] = None
-        pauses = copy.copy(self._pauses)  # each thread has its own
-        pauses.reset()
+        tries = Tries(self._patience, self._may_double, self._pauses)
         while True:
             try:
-                return self._try_in_turn(request, deadline)
+                return self._try_in_turn(request, tries.seconds_left())
             except (InDoubt, NotOffered, Full, OutOfMemory) as fault:
-                if isinstance(fault, InDoubt):
-                    doubt = doubt or fault
-                pause = pauses.next()
-                if (doubt and not self._may_double) or time.monotonic() + pause > deadline:
-                    # Once a try is in doubt, no later one can take that back.
-                    raise doubt or fault
+                pause = tries.pause_after(fault)
             time.sleep(pause)
 
-    def _try_in_turn(self, request: Request[Offered], deadline: float) -> Offered:
-        """Makes the offer once, after those of other threads."""
-        if not self._lock.acquire(timeout=max(deadline - time.monotonic(), 0)):
+    def _try_in_turn(self, request: Request[Offered], seconds: float) -> Offered:
+        """Makes the offer once, after those of other threads, if its turn comes within these seconds."""
+        if not self._lock.acquire(timeout=seconds):
             raise NotOffered(f"{request}: offers of other threads took too long")
         try:
             return self._try(request)
@@ -116,7 +111,7 @@ class Producer:
         if self._broker is not None and (self._broker.unanswered > 0 or self._broker.is_lost()):
             self._hang_up()
         if self._broker is None:
-            broker = Broker(self._port, self._host, self._patience)
+            broker = Broker(self._port, self._host, self._patience, record=self._record)
             try:
                 broker.await_service()
             except BaseException:

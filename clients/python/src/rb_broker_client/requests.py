@@ -33,12 +33,12 @@ def at(moment: int) -> Request[int]:
 
 def offer(delay: int, payload: str) -> Request[Offered]:
     """Adds an element that expires `delay` from now."""
-    return _request(f"OFFER {delay} {payload}", replies.read_offered)
+    return _request(f"OFFER {delay} {_text(payload)}", replies.read_offered)
 
 
 def offer_at(expiry: int, payload: str) -> Request[Offered]:
     """Adds an element that expires at `expiry`, which may have passed."""
-    return _request(f"OFFERAT {expiry} {payload}", replies.read_offered)
+    return _request(f"OFFERAT {expiry} {_text(payload)}", replies.read_offered)
 
 
 def poll() -> Request[Optional[Item]]:
@@ -100,6 +100,13 @@ def greeting() -> Request[int]:
     """A request by which nothing changes, and which is no call: the `AT` that a server refuses. Its reply tells that
     the session is served."""
     return at(0)
+
+
+def _text(payload: str) -> str:
+    # What is no text could be written as one all the same: None would be offered as `None`.
+    if not isinstance(payload, str):
+        raise TypeError(f"a payload is a str, not {type(payload).__name__}")
+    return payload
 
 
 def _request(line: str, read: Callable[[NextLine], Answer]) -> Request[Answer]:

@@ -68,7 +68,9 @@ class Waiting:
     def wait(self, seconds: Optional[float], heeds_stop: bool = True) -> bool:
         """Waits until the seconds are over or a descriptor can be read, or a stop is requested, if that is heeded.
         Gives whether something happened."""
-        if self._heeds_stop and not heeds_stop:
-            self._selector.unregister(self._stop)
-            self._heeds_stop = False
+        if heeds_stop and not self._heeds_stop:
+            self._selector.register(self._stop, selectors.EVENT_READ)
+        elif self._heeds_stop and not heeds_stop:
+            self._selector.unregister(self._stop)  # once it is requested it could be read at any time
+        self._heeds_stop = heeds_stop
         return bool(self._selector.select(seconds))

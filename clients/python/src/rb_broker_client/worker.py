@@ -133,52 +133,57 @@ class Worker:
 
     def _work_off(self, broker: Broker, work: Work) -> None:
         """Takes and runs jobs until a stop is requested or the session is to be left."""
-        late = 0.0
+        late = 0.0  # when the reply that is due is too late
         with Waiting(self._stop, broker.fileno(), self._tasks.fileno()) as waiting:
             while True:
-                was_due = broker.unanswered > 0
-                self._ask(broker, work)
-                if work.is_over(self._stop.is_requested):
+                is_stopping, was_due = self._stop.is_requested, broker.unanswered > 0
+                self._ask(broker, work, is_stopping)
+                if work.is_over(is_stopping):
                     return
-                if not was_due and broker.unanswered:
-                    late = time.monotonic() + self._patience + self._terms.wait / SECOND
-                self._wait(waiting, broker, work, late)
+                if not was_due:
+                    late = self._late()
+                self._wait(waiting, broker, work.pause(), late, is_stopping)
                 answers = broker.receive_come()
                 if answers:
-                    late = time.monotonic() + self._patience + self._terms.wait / SECOND
+                    late = self._late()
                 for answer in answers:
                     work.answered(answer)
                 self._start(work)
 
-    def _ask(self, broker: Broker, work: Work) -> None:
+    def _ask(self, broker: Broker, work: Work, is_stopping: bool) -> None:
         """Sends what is to be sent now."""
         self._tasks.settle()
         while self._ends:
             of, job, is_done = self._ends.popleft()
             of.ended(job, is_done)
         running = self._tasks.running
-        questions = work.ask(self._terms.concurrency - running, running, self._stop.is_requested)
+        questions = work.ask(self._terms.concurrency - running, running, is_stopping)
         if questions:
             broker.send(*questions)
 
-    def _wait(self, waiting: Waiting, broker: Broker, work: Work, late: float) -> None:
-        """Waits until something came, a task ended, or something else is to be sent."""
-        pause = work.pause()
-        if broker.unanswered:
-            # A stop takes nothing back that was asked.
-            rest = max(late - time.monotonic(), 0)
-            if not waiting.wait(rest if pause is None else min(rest, pause), heeds_stop=False) and rest == 0:
-                raise TimeoutError(f"the server did not answer within {self._patience} seconds")
-        else:
-            waiting.wait(pause, heeds_stop=not self._stop.is_requested)
+    def _late(self) -> float:
+        """When a reply is too late whose request is read now, even one to a wait."""
+        return time.monotonic() + self._patience + self._terms.wait / SECOND
+
+    def _wait(self, waiting: Waiting, broker: Broker, pause: Optional[float], late: float, is_stopping: bool) -> None:
+        """Waits until something came, a task ended, or something else is to be sent: after the pause, if there is
+        one."""
+        if broker.unanswered == 0:
+            waiting.wait(pause, heeds_stop=not is_stopping)
+            return
+        # What was asked can't be taken back, so a stop changes nothing.
+        rest = max(late - time.monotonic(), 0)
+        if not waiting.wait(rest if pause is None else min(rest, pause), heeds_stop=False) and rest == 0:
+            raise TimeoutError(f"the server did not answer within {self._patience} seconds")
 
     def _start(self, work: Work) -> None:
         """Runs what was given, and tells of what is dead."""
         for job in work.given:
             self._tasks.start(partial(self._handle, work, job))
         work.given.clear()
-        for job in work.dead:
-            self._tasks.start(partial(self._bury, job))
+        if self._on_dead is not None:
+            for job in work.dead:
+                self._tasks.start(partial(self._bury, self._on_dead, job))
         work.dead.clear()
 
     def _handle(self, work: Work, job: Item) -> None:
@@ -191,13 +196,12 @@ class Worker:
             is_done = False
         self._ends.append((work, job, is_done))
 
-    def _bury(self, job: Item) -> None:
+    def _bury(self, on_dead: OnDead, job: Item) -> None:
         """The server dropped a job after its last attempt."""
-        if self._on_dead is not None:
-            try:
-                self._on_dead(job)
-            except Exception:
-                log.error("on_dead failed for job %s", job.payload, exc_info=True)
+        try:
+            on_dead(job)
+        except Exception:
+            log.error("on_dead failed for job %s", job.payload, exc_info=True)
 
     def _await_tasks(self, most: int) -> None:
         """Waits until no more tasks run than these. They may be those of a session that was lost."""

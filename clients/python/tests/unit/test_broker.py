@@ -10,8 +10,10 @@ from rb_broker_client import Broker, Disconnected, Full, Item, Offered, Stopped,
 
 
 class BrokerTest(ScriptedTest):
+    kind = Broker  # the tests of AsyncBroker are these too
+
     def connect(self, *steps, patience=PATIENCE):
-        broker = Broker(self.play(steps).port, patience=patience)
+        broker = self.kind(self.play(steps).port, patience=patience)
         self.addCleanup(broker.close)
         return broker
 
@@ -102,6 +104,7 @@ class ManyTest(unittest.TestCase):
     """Requests in one piece of which a server keeps no more than it answers."""
 
     COUNT = 80_000
+    kind = Broker
 
     def test_a_piece_of_any_size_waits_for_nobody(self):
         listener = socket.create_server(("127.0.0.1", 0))
@@ -110,7 +113,7 @@ class ManyTest(unittest.TestCase):
             listener.setsockopt(socket.SOL_SOCKET, size, 32_768)
         thread = threading.Thread(target=answer_each_line, args=(listener,), daemon=True)
         thread.start()
-        with Broker(listener.getsockname()[1], patience=PATIENCE) as broker:
+        with self.kind(listener.getsockname()[1], patience=PATIENCE) as broker:
             answers = broker.ask_all([requests.offer(0, "a" * 64)] * self.COUNT)
         self.assertEqual(answers, [Offered(2**64 - 1, 2**64 - 1)] * self.COUNT)
         thread.join(PATIENCE)

@@ -7,7 +7,7 @@ import unittest.mock
 
 from scripted import GOODBYE, GREETING, HANGS_UP, NOTHING, PATIENCE, SAYS_NOTHING
 from test_worker import POLL, WorkerCase, setUpModule, tearDownModule
-from rb_broker_client import Item, Pauses, Report, Worker
+from rb_broker_client import Item, Pauses, Report
 
 BRIEF = "POLLFOR 200000000"  # a wait while jobs run
 SOON = 0.1  # seconds within which the end of a handler is told
@@ -152,6 +152,12 @@ class EndTest(ConcurrencyCase):
         self.assertEqual(self.run_worker(steps), Report(unheard=1))
         self.assertEqual(self.jobs.running, 0)
 
+    def test_numbers_that_make_no_sense(self):
+        for number in (0, -1, 65):
+            self.assertRaises(ValueError, self.kind, self.jobs, 7011, concurrency=number)
+
+
+class ThreadsTest(ConcurrencyCase):
     def test_a_handler_that_ends_the_program_ends_the_worker(self):
         def leave(job):
             self.jobs(job)
@@ -184,10 +190,6 @@ class EndTest(ConcurrencyCase):
         while name in [it.name for it in threading.enumerate()] and time.monotonic() < deadline:
             time.sleep(0.01)
         self.assertNotIn(name, [it.name for it in threading.enumerate()])
-
-    def test_numbers_that_make_no_sense(self):
-        for number in (0, -1, 65):
-            self.assertRaises(ValueError, Worker, self.jobs, 7011, concurrency=number)
 
 
 if __name__ == "__main__":

@@ -18,11 +18,13 @@ def thread_names():
 class ProducerCase(ScriptedTest):
     """A producer of one scripted server."""
 
+    kind = Producer  # the tests of AsyncProducer are these too
+
     def produce(self, *sessions, patience=PATIENCE, **options):
         """A producer, and the server of these sessions, each of which begins with the greeting."""
         server = self.play(*([GREETING, *steps] for steps in sessions))
         pauses = Pauses(first=0.01, longest=0.02)
-        producer = Producer(server.port, patience=patience, pauses=pauses, **options)
+        producer = self.kind(server.port, patience=patience, pauses=pauses, **options)
         self.addCleanup(producer.close)
         return producer, server
 
@@ -65,12 +67,12 @@ class ProducerTest(ProducerCase):
         self.assertRaises(InDoubt, producer.offer, 5, "a")
 
     def test_no_server(self):
-        with Producer(free_port(), patience=0.2) as producer:
+        with self.kind(free_port(), patience=0.2) as producer:
             self.assertRaises(NotOffered, producer.offer, 5, "a")
 
     def test_a_server_that_hangs_up_before_it_serves(self):
         server = self.play([("AT 0", HANGS_UP)], [GREETING, (OFFER, "OFFERED 0 5")])
-        with Producer(server.port, pauses=Pauses(first=0.01)) as producer:
+        with self.kind(server.port, pauses=Pauses(first=0.01)) as producer:
             self.assertEqual(producer.offer(5, "a"), Offered(0, 5))
 
     def test_a_full_run_is_left_for_the_next(self):
@@ -84,7 +86,7 @@ class ProducerTest(ProducerCase):
     def test_patience_has_an_end(self):
         for reply, refusal in (("ERR 6 full", Full), ("ERR 7 memory", OutOfMemory)):
             server = self.play([GREETING, (OFFER, reply)])
-            with Producer(server.port, patience=0.4, pauses=Pauses(first=1.0)) as producer:
+            with self.kind(server.port, patience=0.4, pauses=Pauses(first=1.0)) as producer:
                 self.assertRaises(refusal, producer.offer, 5, "a")
 
     def test_other_refusals_are_the_callers(self):
@@ -109,6 +111,21 @@ class AgeTest(ProducerCase):
         self.assertEqual(producer.offer(5, "a"), Offered(0, 5))
         self.assertTrue(server.ended.acquire(timeout=PATIENCE))
 
+    def test_a_server_that_does_not_say_goodbye(self):
+        steps = [(OFFER, "OFFERED 0 5"), ("QUIT", HANGS_UP)]
+        producer, server = self.produce(steps, [(OFFER, "OFFERED 1 5")], session=0.1)
+        producer.offer(5, "a")
+        self.assertTrue(server.ended.acquire(timeout=PATIENCE))
+        self.assertEqual(producer.offer(5, "a"), Offered(1, 5))
+
+    def test_ages_that_make_no_sense(self):
+        for age in (0, -1.0, float("nan")):
+            self.assertRaises(ValueError, self.kind, 7011, session=age)
+
+
+class LeavingThreadTest(ProducerCase):
+    """The thread that leaves an old session while there is no offer."""
+
     def test_where_no_thread_can_be_had_the_next_offer_leaves(self):
         producer, server = self.produce([(OFFER, "OFFERED 0 5"), GOODBYE], [(OFFER, "OFFERED 1 5")], session=0.1)
         with unittest.mock.patch("threading.Timer.start", side_effect=RuntimeError("can't start new thread")):
@@ -132,17 +149,6 @@ class AgeTest(ProducerCase):
         while LEAVES in thread_names() and time.monotonic() < deadline:
             time.sleep(0.01)
         self.assertNotIn(LEAVES, thread_names())
-
-    def test_a_server_that_does_not_say_goodbye(self):
-        steps = [(OFFER, "OFFERED 0 5"), ("QUIT", HANGS_UP)]
-        producer, server = self.produce(steps, [(OFFER, "OFFERED 1 5")], session=0.1)
-        producer.offer(5, "a")
-        self.assertTrue(server.ended.acquire(timeout=PATIENCE))
-        self.assertEqual(producer.offer(5, "a"), Offered(1, 5))
-
-    def test_ages_that_make_no_sense(self):
-        for age in (0, -1.0, float("nan")):
-            self.assertRaises(ValueError, Producer, 7011, session=age)
 
 
 class ThreadsTest(ProducerCase):
@@ -172,7 +178,7 @@ class ThreadsTest(ProducerCase):
         first = threading.Thread(target=lambda: told.append(producer.offer(5, "a")), daemon=True)
         first.start()
         self.assertTrue(is_asked.wait(PATIENCE))
-        with unittest.mock.patch.object(producer, "_patience", 0.2):
+        with unittest.mock.patch.object(getattr(producer, "thing", producer), "_patience", 0.2):
             self.assertRaises(NotOffered, producer.offer, 5, "b")
         is_over.set()
         first.join(PATIENCE)

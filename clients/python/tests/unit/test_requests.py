@@ -29,6 +29,12 @@ class LineTest(unittest.TestCase):
             for offer in (requests.offer, requests.offer_at):
                 self.assertRaises(ValueError, offer, 0, payload)
 
+    def test_a_payload_is_text(self):
+        for payload in (None, 17, b"a", ["a"], 1.5):
+            for offer in (requests.offer, requests.offer_at):
+                with self.assertRaisesRegex(TypeError, f"^a payload is a str, not {type(payload).__name__}$"):
+                    offer(0, payload)
+
     def test_other_payloads_are_the_servers_to_judge(self):
         self.assertEqual(requests.offer(0, "é").line, b"OFFER 0 \xc3\xa9")
         self.assertEqual(requests.offer(-1, "two words").line, b"OFFER -1 two words")

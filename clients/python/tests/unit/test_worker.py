@@ -1,4 +1,5 @@
 """A worker whose servers stop waits, refuse, go away and come back; and the ways to stop it."""
+import errno
 import logging
 import signal
 import threading
@@ -7,7 +8,7 @@ import unittest
 import unittest.mock
 
 from scripted import GOODBYE, GREETING, HANGS_UP, PATIENCE, SAYS_NOTHING, ScriptedTest, free_port
-from rb_broker_client import Item, Pauses, Report, UnknownReply, Worker
+from rb_broker_client import SECOND, Item, Pauses, Report, UnknownReply, Worker
 
 POLL = "POLLFOR 1000000000"
 GIVES_A, GIVES_B = (POLL, "ITEM 0 0 1 a"), (POLL, "ITEM 1 0 1 b")
@@ -24,6 +25,8 @@ def tearDownModule():
 class WorkerCase(ScriptedTest):
     """A worker of one scripted server. The payload `b` fails."""
 
+    kind = Worker  # the tests of AsyncWorker are these too
+
     def work(self, *sessions, handler=None, is_greeted=True, **options):
         """Makes a worker for these sessions, each of which begins with the greeting."""
         server = self.play(*([GREETING, *steps] if is_greeted else steps for steps in sessions))
@@ -32,7 +35,7 @@ class WorkerCase(ScriptedTest):
     def make(self, handler, port, pauses=None, **options):
         """Makes a worker, which is stopped in the end whatever comes."""
         self.handled = []
-        self.worker = Worker(handler, port, pauses=pauses or Pauses(first=0.01, longest=0.02), **options)
+        self.worker = self.kind(handler, port, pauses=pauses or Pauses(first=0.01, longest=0.02), **options)
         watch = threading.Timer(PATIENCE, self.worker.stop)
         watch.daemon = True
         watch.start()
@@ -67,15 +70,17 @@ class JobTest(WorkerCase):
         self.assertEqual(self.work([*steps, *self.last()]).run(), Report(done=1, again=1, dead=1))
         self.assertEqual(self.handled, [Item(0, 0, 1, "a"), Item(1, 0, 1, "b"), Item(2, 1000, 3, "b")])
 
+    def test_a_server_of_another_kind(self):
+        self.assertRaises(UnknownReply, self.work([(POLL, "HELLO")]).run)
+
+
+class BreakTest(WorkerCase):
     def test_a_handler_that_is_broken_off_ends_the_session_with_its_job(self):
         def interrupt(job):
             raise KeyboardInterrupt
 
         worker = self.work([GIVES_A], handler=interrupt)
         self.assertRaises(KeyboardInterrupt, worker.run)
-
-    def test_a_server_of_another_kind(self):
-        self.assertRaises(UnknownReply, self.work([(POLL, "HELLO")]).run)
 
 
 class RefusalTest(WorkerCase):
@@ -171,7 +176,7 @@ class AgeTest(WorkerCase):
 
     def test_ages_that_make_no_sense(self):
         for age in (0, -1.0, float("nan")):
-            self.assertRaises(ValueError, Worker, self.handle, 7011, session=age)
+            self.assertRaises(ValueError, self.kind, self.handle, 7011, session=age)
 
 
 class DeadTest(WorkerCase):
@@ -203,6 +208,39 @@ class DeadTest(WorkerCase):
         sessions = [GIVES_B, ("FAIL 1", HANGS_UP)], self.last()
         self.assertEqual(self.work(*sessions, on_dead=dead.append).run(), Report(unheard=1))
         self.assertEqual(dead, [])
+
+
+class LogTest(WorkerCase):
+    """What is logged of servers that are away. Each line is one record."""
+
+    def setUp(self):
+        logging.disable(logging.NOTSET)
+        self.addCleanup(logging.disable, logging.CRITICAL)
+
+    def logged(self, worker):
+        """The levels and texts that the worker logs until it is stopped."""
+        with self.assertLogs("rb_broker_client", logging.INFO) as said:
+            worker.run()
+        return [(it.levelname, it.getMessage()) for it in said.records]
+
+    def test_a_refused_connection_is_no_lost_session_and_is_told_once(self):
+        port = free_port()
+        worker = self.make(self.handle, port)
+        threading.Timer(0.3, worker.stop).start()
+        ((level, text),) = self.logged(worker)
+        self.assertEqual(level, "WARNING")
+        self.assertRegex(text, rf"^no server at 127.0.0.1:{port}: \[Errno {errno.ECONNREFUSED}\] ")
+
+    def test_a_session_that_was_lost_and_the_next(self):
+        worker = self.work([(POLL, HANGS_UP)], self.last())
+        (lost, text), again = self.logged(worker)
+        place = text.split(" ")[3]
+        self.assertRegex(text, "^the session at 127.0.0.1:[0-9]+ was lost: ")
+        self.assertEqual((lost, again), ("WARNING", ("INFO", f"served again at {place}")))
+
+    def test_the_first_session_is_not_served_again(self):
+        sessions = [GIVES_B, ("FAIL 1", "AGAIN 2 5"), (POLL, lambda: time.sleep(0.2) or "NONE"), GOODBYE], self.last()
+        self.assertEqual(self.logged(self.work(*sessions, session=0.1)), [("WARNING", "attempt 1 of job b failed")])
 
 
 class PauseTest(WorkerCase):
@@ -241,6 +279,19 @@ class StopTest(WorkerCase):
     def test_in_the_handler(self):
         worker = self.work([GIVES_A, ("DONE 0", "DONE 0"), GOODBYE], handler=lambda _: self.worker.stop())
         self.assertEqual(worker.run(), Report(done=1))
+
+    def test_by_another_thread_in_a_pause_within_a_session(self):
+        minute = 60 * SECOND
+        for steps in ([("POLLFOR 60000000000", "STOPPED")],
+                      [("POLLFOR 60000000000", "ITEM 0 0 1 b"), ("FAIL 0", "ERR 7 memory")]):
+            server = self.play([GREETING, *steps, GOODBYE])
+            worker = self.make(self.handle, server.port, Pauses(first=60.0, longest=60.0), wait=minute)
+            stopping = threading.Timer(0.3, worker.stop)
+            stopping.daemon = True
+            stopping.start()
+            began = time.monotonic()
+            worker.run()
+            self.assertLess(time.monotonic() - began, PATIENCE / 2)
 
     def test_by_another_thread_in_a_pause(self):
         worker = self.make(self.handle, free_port(), Pauses(first=60.0, longest=60.0))

@@ -1,0 +1,137 @@
+"""The package as a command, over scripted servers."""
+import contextlib
+import io
+import json
+import os
+import sys
+import tempfile
+import unittest
+
+from scripted import GOODBYE, GREETING, HANGS_UP, ScriptedTest, free_port
+from rb_broker_client.command import main
+from rb_broker_client.delays import read_delay
+
+handled = []
+
+
+def handle(job):
+    """A handler that the tests name. It fails for the payload `b`."""
+    handled.append(job)
+    if job.payload == "b":
+        raise ValueError("the payload is b")
+
+
+async def handle_async(job):
+    handle(job)
+
+
+not_a_function = 5
+
+
+def run(*words):
+    """Runs the command in this process. Its status, and what it wrote to standard output and standard error."""
+    said, errors = io.StringIO(), io.StringIO()
+    with contextlib.redirect_stdout(said), contextlib.redirect_stderr(errors):
+        try:
+            status = main([str(it) for it in words])
+        except SystemExit as ended:
+            status = ended.code
+    return status, said.getvalue(), errors.getvalue()
+
+
+class CommandTest(ScriptedTest):
+    def test_what_is_asked_and_told(self):
+        cases = [
+            (("offer", "5s", "a"), ("OFFER 5000000000 a", "OFFERED 17 5000000123"), "OFFERED 17 5000000123\n", False),
+            (("offer", "0", "a"), ("OFFER 0 a", "OFFERED 0 5"), "OFFERED 0 5\n", False),
+            (("size",), ("SIZE", "SIZE 3"), "SIZE 3\n", True),
+            (("peek",), ("PEEK", "HEAD 0 150 2 a"), "HEAD 0 150 2 a\n", True),
+            (("peek",), ("PEEK", "NONE"), "NONE\n", True),
+        ]
+        for words, step, told, says_goodbye in cases:
+            with self.subTest(words=words):
+                server = self.play([GREETING, step, *([GOODBYE] if says_goodbye else [])])
+                self.assertEqual(run(*words, "--port", server.port), (0, told, ""))
+
+    def test_refusals(self):
+        long = "a" * 65
+        server = self.play([GREETING, (f"OFFER 0 {long}", "ERR 4 payload")])
+        told = f"rb_broker_client: the server at 127.0.0.1:{server.port} refused it: ERR 4 payload\n"
+        self.assertEqual(run("offer", 0, long, "--port", server.port), (1, "", told))
+        server = self.play([GREETING, ("SIZE", "ERR 6 full")])
+        told = f"rb_broker_client: the server at 127.0.0.1:{server.port} refused it: ERR 6 full\n"
+        self.assertEqual(run("size", "--port", server.port), (1, "", told))
+
+    def test_no_server(self):
+        port = free_port()
+        place = f"127.0.0.1:{port}"
+        for words, text in ((("size",), f"no answer from {place}: "), (("peek",), f"no answer from {place}: "),
+                            (("offer", 0, "a", "--patience", 0.1), f"not offered at {place}: OFFER 0 a: ")):
+            status, said, errors = run(*words, "--port", port)
+            self.assertEqual((status, said), (1, ""))
+            self.assertRegex(errors, f"^rb_broker_client: {text}.*Connection refused\n$")
+
+    def test_a_server_that_does_not_answer(self):
+        server = self.play([GREETING, ("OFFER 0 a", HANGS_UP)])
+        status, said, errors = run("offer", 0, "a", "--port", server.port, "--patience", 0.1)
+        self.assertEqual((status, said), (1, ""))
+        text = f"it may have been offered at 127.0.0.1:{server.port} or not: OFFER 0 a: "
+        self.assertRegex(errors, f"^rb_broker_client: {text}.*\n$")
+
+    def test_words_that_are_wrong(self):
+        here = f"{__name__}:handle"
+        for words in (
+            (), ("size",), ("size", "--port", 0), ("size", "--port", 65_536), ("size", "--port", "x"), ("sizes",),
+            ("size", "--port", 1, "more"), ("size", "--port", 1, "--patience", 0), ("offer", "--port", 1),
+            ("offer", "5x", "a", "--port", 1), ("offer", "-5", "a", "--port", 1), ("offer", 0, "a\nCLEAR", "--port", 1),
+            ("worker", "--port", 1), ("worker", here), ("worker", __name__, "--port", 1),
+            ("worker", "no_such_module:handle", "--port", 1), ("worker", f"{__name__}:no_such", "--port", 1),
+            ("worker", f"{__name__}:not_a_function", "--port", 1), ("worker", ":handle", "--port", 1),
+            ("worker", here, "--port", 1, "--concurrency", 0), ("worker", here, "--port", 1, "--concurrency", 65),
+            ("worker", here, "--port", 1, "--session", "-1"), ("worker", here, "--port", 1, "--on-dead", "x"),
+            ("worker", here, "--port", 1, "--on-dead", f"{__name__}:handle_async"),
+        ):
+            with self.subTest(words=words):
+                status, said, errors = run(*words)
+                self.assertEqual((status, said), (2, ""))
+                self.assertRegex(errors, r"\Arb_broker_client: [^\n]+\n\Z")
+
+    def test_a_record_that_can_not_be_written(self):
+        told = "rb_broker_client: /no/such/folder can't be written: No such file or directory\n"
+        for words in (("size",), ("offer", 0, "a"), ("worker", f"{__name__}:handle")):
+            self.assertEqual(run(*words, "--port", 1, "--record", "/no/such/folder"), (1, "", told))
+
+    def test_a_record(self):
+        server = self.play([GREETING, ("SIZE", "SIZE 3"), GOODBYE])
+        with tempfile.TemporaryDirectory() as room:
+            path = os.path.join(room, "record")
+            self.assertEqual(run("size", "--port", server.port, "--record", path)[0], 0)
+            with open(path, encoding="ascii") as file:
+                lines = [json.loads(it) for it in file]
+        self.assertEqual([(it["request"], it["reply"]) for it in lines],
+                         [("AT 0", ["ERR 1 syntax"]), ("SIZE", ["SIZE 3"]), ("QUIT", ["BYE"])])
+
+    def test_help(self):
+        for words in (("--help",), ("worker", "--help"), ("offer", "--help")):
+            status, said, errors = run(*words)
+            self.assertEqual((status, errors), (0, ""))
+            self.assertIn("usage: python3 -m rb_broker_client", said)
+
+
+class DelayTest(unittest.TestCase):
+    def test_units(self):
+        for text, delay in {
+            "0": 0, "250": 250, "250ns": 250, "3us": 3_000, "5ms": 5_000_000, "5s": 5_000_000_000,
+            "2m": 120_000_000_000, "1h": 3_600_000_000_000, "1d": 86_400_000_000_000, "1.5h": 5_400_000_000_000,
+            "0.000000001s": 1, "18446744073709551615": 2**64 - 1, "007s": 7_000_000_000,
+        }.items():
+            self.assertEqual(read_delay(text), delay, text)
+
+    def test_what_is_no_delay(self):
+        for text in ("", "s", "-1s", "+1s", "1 s", "1S", "1.s", ".5s", "1e3", "1h30m", "1_000", "0.5", "1.5ns",
+                     "18446744073709551616", "213504d", "\u0665s"):
+            self.assertRaises(ValueError, read_delay, text)
+
+
+if __name__ == "__main__":
+    unittest.main()
