@@ -142,7 +142,7 @@ class AsyncBroker:
                 self.close()  # which line answers which request is no longer known
                 raise
 
-    def receive_come(self) -> List[Any]:
+    def receive_ready(self) -> List[Any]:
         """Waits for nothing: the answers whose replies have come, each refusal in its place."""
         try:
             answers = self._dialogue.complete_answers()
@@ -166,9 +166,9 @@ class AsyncBroker:
             return True
         return False
 
-    def call_on_news(self, call: Callable[[], None]) -> None:
+    def call_when_ready(self, call: Callable[[], None]) -> None:
         """Has this called whenever something has come or the connection was lost."""
-        self._connection.on_news = call
+        self._connection.on_ready = call
 
     def close(self) -> None:
         """Hangs up. After that the session is of no more use."""

@@ -7,23 +7,23 @@ from typing import Callable, Optional, cast
 from .errors import Disconnected
 
 
-class News:
-    """Tells one task that something has happened."""
+class Wakeup:
+    """Wakes the one task that waits for something to happen."""
 
     def __init__(self) -> None:
         self._event: Optional[asyncio.Event] = None  # made in the loop that waits for it
-        self._has_come = False
+        self._has_happened = False
 
-    def come(self) -> None:
+    def wake(self) -> None:
         """Something has happened."""
-        self._has_come = True
+        self._has_happened = True
         if self._event is not None:
             self._event.set()
 
     async def wait(self, seconds: Optional[float]) -> bool:
-        """Waits until something happens, up to these seconds. What happened since the last wait counts. Gives whether
-        something did."""
-        if not self._has_come:
+        """Waits until something happens, up to these seconds. What has happened since the last wait counts too. Gives
+        whether something did."""
+        if not self._has_happened:
             self._event = asyncio.Event()
             loop = asyncio.get_running_loop()
             over = None if seconds is None else loop.call_later(seconds, self._event.set)
@@ -33,8 +33,8 @@ class News:
                 self._event = None
                 if over is not None:
                     over.cancel()
-        has_come, self._has_come = self._has_come, False
-        return has_come
+        happened, self._has_happened = self._has_happened, False
+        return happened
 
 
 class AsyncConnection(asyncio.Protocol):
@@ -48,8 +48,8 @@ class AsyncConnection(asyncio.Protocol):
         self._transport: Optional[asyncio.Transport] = None
         self._lost: Optional[Exception] = None
         self._may_send = True
-        self._news = News()
-        self.on_news: Callable[[], None] = lambda: None
+        self._wakeup = Wakeup()
+        self.on_ready: Callable[[], None] = lambda: None
         """Called whenever something has come or the connection was lost."""
 
     @classmethod
@@ -78,7 +78,7 @@ class AsyncConnection(asyncio.Protocol):
     async def receive(self) -> None:
         """Waits until something has come, or more can be sent."""
         self.demand_connected()
-        if not await self._news.wait(self._patience):
+        if not await self._wakeup.wait(self._patience):
             raise TimeoutError(f"the server did not answer within {self._patience} seconds")
 
     def demand_connected(self) -> None:
@@ -116,5 +116,6 @@ class AsyncConnection(asyncio.Protocol):
         self._tell()
 
     def _tell(self) -> None:
-        self._news.come()
-        self.on_news()
+        """Something has changed."""
+        self._wakeup.wake()
+        self.on_ready()

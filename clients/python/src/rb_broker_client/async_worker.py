@@ -9,7 +9,7 @@ from typing import Any, Awaitable, Callable, Coroutine, List, Optional, Set, Uni
 from . import requests
 from .age import Age
 from .async_broker import AsyncBroker
-from .async_connection import News
+from .async_connection import Wakeup
 from .limits import MOST_HELD, SECOND
 from .pauses import Pauses
 from .record import Record, RecordTarget
@@ -51,7 +51,7 @@ class AsyncWorker:
         self._pauses = pauses or Pauses()
         self._tasks: Set[asyncio.Task[None]] = set()
         self._faults: List[BaseException] = []  # what ends the worker
-        self._news = News()
+        self._wakeup = Wakeup()
         self._loop: Optional[asyncio.AbstractEventLoop] = None
         self._is_stopping = False
         self._is_away = False  # whether the last session was lost, or none could be had
@@ -62,7 +62,7 @@ class AsyncWorker:
         self._is_stopping = True
         if self._loop is not None:
             try:
-                self._loop.call_soon_threadsafe(self._news.come)
+                self._loop.call_soon_threadsafe(self._wakeup.wake)
             except RuntimeError:
                 pass  # the loop is closed, and nothing runs any more
 
@@ -91,7 +91,7 @@ class AsyncWorker:
             self._away("no server at %s: %s", fault)
             return False
         async with broker:
-            broker.call_on_news(self._news.come)
+            broker.call_when_ready(self._wakeup.wake)
             try:
                 if not await self._is_served(broker):
                     return False
@@ -113,8 +113,8 @@ class AsyncWorker:
         while broker.unanswered:
             if self._is_stopping:
                 return False
-            if not broker.receive_come():
-                await self._news.wait(None)
+            if not broker.receive_ready():
+                await self._wakeup.wait(None)
         if self._is_away:
             log.info("served again at %s", self._terms.place)
             self._is_away = False
@@ -135,7 +135,7 @@ class AsyncWorker:
             if not was_due:
                 late = self._late()
             await self._wait(broker, work.pause(), late)
-            answers = broker.receive_come()
+            answers = broker.receive_ready()
             if answers:
                 late = self._late()
             for answer in answers:
@@ -150,10 +150,10 @@ class AsyncWorker:
         """Waits until something came, a task ended, a stop is requested, or something else is to be sent: after the
         pause, if there is one."""
         if broker.unanswered == 0:
-            await self._news.wait(pause)
+            await self._wakeup.wait(pause)
             return
         rest = max(late - time.monotonic(), 0)
-        if not await self._news.wait(rest if pause is None else min(rest, pause)) and rest == 0:
+        if not await self._wakeup.wait(rest if pause is None else min(rest, pause)) and rest == 0:
             raise TimeoutError(f"the server did not answer within {self._patience} seconds")
 
     def _start(self, work: Work) -> None:
@@ -177,7 +177,7 @@ class AsyncWorker:
         fault = None if task.cancelled() else task.exception()
         if fault is not None:
             self._faults.append(fault)
-        self._news.come()
+        self._wakeup.wake()
 
     async def _handle(self, work: Work, job: Item) -> None:
         """Runs the handler, and notes whether the job is done."""
@@ -202,14 +202,14 @@ class AsyncWorker:
         """Waits until no more tasks run than these. They may be those of a session that was lost."""
         self._raise_fault()
         while len(self._tasks) > most:
-            await self._news.wait(None)
+            await self._wakeup.wait(None)
             self._raise_fault()
 
     async def _pause(self, seconds: float) -> None:
         """Waits so long, or until a stop is requested."""
         end = time.monotonic() + seconds
         while not self._is_stopping and time.monotonic() < end:
-            await self._news.wait(end - time.monotonic())
+            await self._wakeup.wait(end - time.monotonic())
 
     def _raise_fault(self) -> None:
         if self._faults:

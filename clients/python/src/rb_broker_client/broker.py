@@ -137,7 +137,7 @@ class Broker:
                 self.close()  # which line answers which request is no longer known
                 raise
 
-    def receive_come(self) -> List[Any]:
+    def receive_ready(self) -> List[Any]:
         """Waits for nothing: the answers whose replies have come, each refusal in its place."""
         try:
             answers = self._dialogue.complete_answers()

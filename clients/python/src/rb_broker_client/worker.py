@@ -143,7 +143,7 @@ class Worker:
                 if not was_due:
                     late = self._late()
                 self._wait(waiting, broker, work.pause(), late, is_stopping)
-                answers = broker.receive_come()
+                answers = broker.receive_ready()
                 if answers:
                     late = self._late()
                 for answer in answers:

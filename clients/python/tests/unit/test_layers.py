@@ -52,7 +52,7 @@ class LayersTest(unittest.TestCase):
         for one, other in (("Broker", "AsyncBroker"), ("Producer", "AsyncProducer"), ("Worker", "AsyncWorker")):
             methods = [{it for it in dir(getattr(rb_broker_client, kind)) if not it.startswith("_")}
                        for kind in (one, other)]
-            self.assertEqual(methods[0] - {"fileno"}, methods[1] - {"connect", "call_on_news"})
+            self.assertEqual(methods[0] - {"fileno"}, methods[1] - {"connect", "call_when_ready"})
 
 
 class VersionTest(unittest.TestCase):
