@@ -1,7 +1,7 @@
 """What a worker asks in one session, and what the answers make of its jobs.
 
-No socket, thread or event loop is here: `Worker` and `AsyncWorker` send what a `Work` asks, give it the answers, and run
-the jobs that it was given.
+No socket, thread or event loop is here: `Worker` and `AsyncWorker` send what a `Work` asks, give it the answers, and
+run the jobs that it was given.
 """
 from __future__ import annotations
 

@@ -1,4 +1,4 @@
-"""The clients of asyncio as the tests of the others use them: each coroutine runs in the loop of a thread, to its end."""
+"""The clients of asyncio as the tests of the others use them: a coroutine runs in the loop of a thread, to its end."""
 import asyncio
 import functools
 import inspect
