@@ -1,6 +1,7 @@
 """Offers jobs to a server that may be replaced by another."""
 from __future__ import annotations
 
+import os
 import threading
 import time
 from types import TracebackType
@@ -18,7 +19,8 @@ from .tries import Tries
 
 
 class Producer:
-    """Offers jobs, and connects again when its connection is lost. Threads may share it: their offers take turns.
+    """Offers jobs, and connects again when its connection is lost. Threads may share it: their offers take turns. A
+    process that was forked begins a session of its own.
 
     An offer is tried again, for up to `patience` seconds, when the job was surely not accepted: no server was there,
     or it refused the offer because its run is full or it has no memory. Other refusals are raised at once.
@@ -47,6 +49,7 @@ class Producer:
         # What follows is changed under the lock alone: the thread that leaves an old session changes it too.
         self._lock = threading.Lock()
         self._broker: Optional[Broker] = None
+        self._process = 0  # the one whose session it is
         self._age = Age(None)
         self._timer: Optional[threading.Timer] = None
 
@@ -106,6 +109,8 @@ class Producer:
 
     def _served(self) -> Broker:
         """A session that the server serves already, so that an offer is in doubt only while it is answered."""
+        if self._broker is not None and self._process != os.getpid():
+            self._hang_up()  # this process was forked, and the session is that of the other one
         if self._broker is not None and self._age.is_over():
             self._leave(self._broker)
         if self._broker is not None and (self._broker.unanswered > 0 or self._broker.is_lost()):
@@ -117,7 +122,7 @@ class Producer:
             except BaseException:
                 broker.close()
                 raise
-            self._broker, self._age = broker, Age(self._session)
+            self._broker, self._process, self._age = broker, os.getpid(), Age(self._session)
             self._leave_later(broker)
         return self._broker
 

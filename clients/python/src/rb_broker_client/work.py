@@ -91,9 +91,8 @@ class Work:
         self._asked.popleft()(answer)
 
     def ended(self, job: Item, is_done: bool) -> None:
-        """The handler of a job has ended."""
-        if self._held.get(job.id) is not job:
-            return  # the session was lost meanwhile, and the job with it
+        """The handler of a job has ended. If the session was lost meanwhile this changes nothing, as nothing more is
+        asked."""
         if is_done:
             self._ended.append(requests.done(job.id))
             self._ending.append(lambda answer: self._done(job, answer))

@@ -1,4 +1,5 @@
 """A producer whose servers go away, are full, or have no memory."""
+import os
 import threading
 import time
 import unittest
@@ -149,6 +150,24 @@ class LeavingThreadTest(ProducerCase):
         while LEAVES in thread_names() and time.monotonic() < deadline:
             time.sleep(0.01)
         self.assertNotIn(LEAVES, thread_names())
+
+
+class ForkTest(ProducerCase):
+    def test_a_forked_process_has_a_session_of_its_own(self):
+        first = self.play([GREETING, (OFFER, "OFFERED 0 5"), (OFFER, "OFFERED 1 5")])
+        producer = self.kind(first.port, session=None)
+        self.addCleanup(producer.close)
+        producer.offer(5, "a")
+        other = self.play([GREETING, (OFFER, "OFFERED 7 5")])
+        child = os.fork()
+        if child == 0:
+            try:
+                producer._port = other.port  # each scripted server serves one session at a time
+                os._exit(producer.offer(5, "a").id)
+            finally:
+                os._exit(99)
+        self.assertEqual(os.waitstatus_to_exitcode(os.waitpid(child, 0)[1]), 7)
+        self.assertEqual(producer.offer(5, "a"), Offered(1, 5))
 
 
 class ThreadsTest(ProducerCase):
