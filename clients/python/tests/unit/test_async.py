@@ -8,7 +8,7 @@ import test_broker
 import test_concurrency
 import test_producer
 import test_worker
-from scripted import GOODBYE, GREETING, PATIENCE, SAYS_NOTHING, ScriptedTest, free_port
+from scripted import GOODBYE, GREETING, HANGS_UP, NOTHING, PATIENCE, SAYS_NOTHING, ScriptedTest, free_port
 from test_worker import POLL, setUpModule, tearDownModule
 from rb_broker_client import AsyncBroker, AsyncProducer, AsyncWorker, InDoubt, Item, Offered, Report
 
@@ -126,6 +126,20 @@ class CancelTest(ScriptedTest):
         server = self.play([GREETING, (POLL, "ITEM 0 0 1 a"), ("FAIL 0", "AGAIN 1 5"), GOODBYE])
         worker = AsyncWorker(handle, server.port)
         self.assertEqual(asyncio.run(worker.run()), Report(again=1))
+
+
+class BusyLoopTest(ScriptedTest):
+    def test_a_session_that_ended_while_the_loop_did_something_else(self):
+        server = self.play([GREETING, ("OFFER 5 a", "OFFERED 0 5"), (NOTHING, HANGS_UP)],
+                           [GREETING, ("OFFER 5 a", "OFFERED 1 5")])
+
+        async def run():
+            async with AsyncProducer(server.port, patience=PATIENCE) as producer:
+                first = await producer.offer(5, "a")
+                self.assertTrue(server.ended.acquire(timeout=PATIENCE))
+                return first, await producer.offer(5, "a")
+
+        self.assertEqual(asyncio.run(run()), (Offered(0, 5), Offered(1, 5)))
 
 
 class UseTest(unittest.TestCase):

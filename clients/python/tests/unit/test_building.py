@@ -10,7 +10,7 @@ import venv
 
 TOP = os.path.realpath(os.path.join(os.path.dirname(os.path.realpath(__file__)), *[os.pardir] * 2))
 SOURCE = os.path.join(TOP, "src", "rb_broker_client")
-LONGEST = 120  # seconds
+LONGEST = 300  # seconds; the proofs may need the machine
 
 SAYS = """
 import importlib.metadata, os, rb_broker_client
