@@ -31,19 +31,17 @@ class TasksHere:
 
 
 class TasksInThreads:
-    """Runs tasks at the same time, each in one of up to `most` threads, which are started when they are needed.
+    """Runs tasks at the same time, each in a thread. One that has ended its task is given the next.
 
     The threads are daemons: they finish what they run unless the program ends.
     """
 
-    def __init__(self, most: int) -> None:
-        self._most = most
+    def __init__(self) -> None:
         self._threads: List[threading.Thread] = []
         self._waiting: queue.SimpleQueue[Optional[Task]] = queue.SimpleQueue()
         self._ended: Deque[Optional[BaseException]] = deque()
         self._reader, self._writer = socket.socketpair()
-        self._reader.setblocking(False)
-        self._writer.setblocking(False)
+        self._is_rung = False  # whether a byte is in it: one at most, however many tasks have ended
         self._ringing = threading.Lock()  # nothing is sent on a socket that is closed, and may be another's by then
         self._is_closed = False
         self.running = 0
@@ -51,20 +49,19 @@ class TasksInThreads:
 
     def start(self, task: Task) -> None:
         """Starts the task in a thread that is free, or in a new one."""
-        self.running += 1
-        if self.running > len(self._threads):
-            thread = threading.Thread(target=self._work, name=f"rb_broker_client-{len(self._threads) + 1}", daemon=True)
+        if self.running == len(self._threads):
+            name = f"rb_broker_client-{len(self._threads) + 1}"
+            thread = threading.Thread(target=self._work, name=name, daemon=True)
             thread.start()
             self._threads.append(thread)
+        self.running += 1
         self._waiting.put(task)
 
     def settle(self) -> None:
         """Counts the tasks that have ended since. What one of them raised is raised."""
-        try:
-            while self._reader.recv(4096):
-                pass
-        except BlockingIOError:
-            pass
+        if self._is_rung:
+            self._reader.recv(1)
+            self._is_rung = False  # before the ends are counted: one that comes behind that rings again
         while self._ended:
             fault = self._ended.popleft()
             self.running -= 1
@@ -98,12 +95,11 @@ class TasksInThreads:
             self._ring()
 
     def _ring(self) -> None:
+        """Makes the descriptor readable, unless it is."""
         with self._ringing:
-            if not self._is_closed:
-                try:
-                    self._writer.send(b".")
-                except BlockingIOError:
-                    pass  # it is full of such bytes
+            if not self._is_rung and not self._is_closed:
+                self._writer.send(b".")
+                self._is_rung = True
 
 
 Tasks = Union[TasksHere, TasksInThreads]

@@ -79,7 +79,7 @@ class Worker:
     def run(self) -> Report:
         """Works until `stop`, once for each worker. At the end no job is held, and the session has ended."""
         if self._terms.concurrency > 1:
-            self._tasks = TasksInThreads(self._terms.concurrency)
+            self._tasks = TasksInThreads()
         try:
             while not self._stop.is_requested:
                 self._await_tasks(self._terms.concurrency - 1)
