@@ -13,6 +13,13 @@ GREETING = ("AT 0", "ERR 1 syntax")
 GOODBYE = ("QUIT", "BYE")
 
 
+class OnceMoreCame:
+    """A reply that is sent once the next request has come. The action is called before that."""
+
+    def __init__(self, action, reply):
+        self.action, self.reply = action, reply
+
+
 class ScriptedServer:
     """Serves its sessions one after the other, at a free port, and then listens no more.
 
@@ -54,6 +61,10 @@ class ScriptedServer:
                 if request is not NOTHING and line != f"{request}\n":
                     self.faults.append(f"{line!r} came in the place of {request!r}")
                     return
+                if isinstance(reply, OnceMoreCame):
+                    reply.action()
+                    lines.peek(1)
+                    reply = reply.reply
                 reply = reply() if callable(reply) else reply
                 if reply is HANGS_UP:
                     return

@@ -5,36 +5,17 @@ import time
 import unittest
 import unittest.mock
 
-from scripted import GOODBYE, GREETING, HANGS_UP, NOTHING, PATIENCE, SAYS_NOTHING
-from test_worker import POLL, WorkerCase, setUpModule, tearDownModule
+from scripted import GOODBYE, GREETING, HANGS_UP, NOTHING, PATIENCE, SAYS_NOTHING, OnceMoreCame
+from test_worker import AGE, POLL, WorkerCase, setUpModule, tearDownModule
 from rb_broker_client import Item, Pauses, Report
 
 BRIEF = "POLLFOR 200000000"  # a wait while jobs run
-SOON = 0.1  # seconds within which the end of a handler is told
-
-
-def after(action, reply):
-    """A reply, and what is done before it. Its effects have come to the server by then."""
-    def answer():
-        action()
-        time.sleep(SOON)
-        return reply() if callable(reply) else reply
-    return answer
+LONG_ENOUGH = 0.05  # seconds after which a wait has waited
 
 
 def waited(reply):
     """A reply that a wait has waited for."""
-    return after(lambda: None, reply)
-
-
-def before(action, reply):
-    """A reply, and what is done soon after it."""
-    def answer():
-        timer = threading.Timer(SOON, action)
-        timer.daemon = True
-        timer.start()
-        return reply
-    return answer
+    return lambda: time.sleep(LONG_ENOUGH) or (reply() if callable(reply) else reply)
 
 
 class Jobs:
@@ -42,6 +23,7 @@ class Jobs:
 
     def __init__(self):
         self._may_end = {it: threading.Event() for it in "abcdef"}
+        self._has_begun = {it: threading.Event() for it in "abcdef"}
         self._lock = threading.Lock()
         self.running = self.most = 0
 
@@ -49,18 +31,30 @@ class Jobs:
         with self._lock:
             self.running += 1
             self.most = max(self.most, self.running)
+        self._has_begun[job.payload].set()
         is_told = self._may_end[job.payload].wait(PATIENCE)
         with self._lock:
             self.running -= 1
         if job.payload == "b" or not is_told:
             raise ValueError(job.payload)
 
-    def end(self, *payloads):
-        for it in payloads:
-            self._may_end[it].set()
+    def end(self, payload):
+        self._may_end[payload].set()
 
-    def ends(self, *payloads):
-        return lambda: self.end(*payloads)
+    def ends(self, payload, reply):
+        """A reply to a wait, which is sent once the end of this job was told behind the wait."""
+        return OnceMoreCame(self._may_end[payload].set, reply)
+
+    def ends_beside(self, payload, other, reply):
+        """A reply by which another job begins, whereupon this one ends."""
+        def end():
+            self._has_begun[other].wait(PATIENCE)
+            self._may_end[payload].set()
+
+        def answer():
+            threading.Thread(target=end, daemon=True).start()
+            return reply() if callable(reply) else reply
+        return answer
 
 
 class ConcurrencyCase(WorkerCase):
@@ -75,80 +69,81 @@ class ConcurrencyCase(WorkerCase):
 class OrderTest(ConcurrencyCase):
     def test_jobs_are_answered_in_whatever_order_they_end(self):
         steps = [(POLL, waited("ITEM 0 0 1 a")), (BRIEF, waited("ITEM 1 0 1 c")),
-                 (BRIEF, after(self.jobs.ends("c"), "NONE")), ("DONE 1", "DONE 1"),
-                 (BRIEF, after(self.jobs.ends("a"), "NONE")), ("DONE 0", "DONE 0")]
+                 (BRIEF, self.jobs.ends("c", "NONE")), ("DONE 1", "DONE 1"),
+                 (BRIEF, self.jobs.ends("a", "NONE")), ("DONE 0", "DONE 0")]
         self.assertEqual(self.run_worker([*steps, *self.last()], concurrency=3), Report(done=2))
         self.assertEqual(self.jobs.most, 2)
 
     def test_no_more_are_fetched_than_can_be_started(self):
-        steps = [(POLL, waited("ITEM 0 0 1 a")), (BRIEF, before(self.jobs.ends("a"), "ITEM 1 0 1 c")),
-                 ("DONE 0", "DONE 0"), (BRIEF, before(self.jobs.ends("c"), "ITEM 2 0 1 d")),
-                 ("DONE 1", "DONE 1"), (BRIEF, after(self.jobs.ends("d"), self.stops("NONE"))),
+        steps = [(POLL, waited("ITEM 0 0 1 a")), (BRIEF, self.jobs.ends_beside("a", "c", "ITEM 1 0 1 c")),
+                 ("DONE 0", "DONE 0"), (BRIEF, self.jobs.ends_beside("c", "d", "ITEM 2 0 1 d")),
+                 ("DONE 1", "DONE 1"), (BRIEF, self.jobs.ends("d", self.stops("NONE"))),
                  ("DONE 2", "DONE 2"), GOODBYE]
         self.assertEqual(self.run_worker(steps), Report(done=3))
         self.assertEqual(self.jobs.most, 2)
 
     def test_where_many_are_due_as_many_are_fetched_as_can_be_started(self):
         three = "DRAINED 3\nITEM 1 0 1 c\nITEM 2 0 1 d\nITEM 3 0 1 e"
-        steps = [(POLL, "ITEM 0 0 1 a"), ("DRAIN 3", before(self.jobs.ends("a"), three)), ("DONE 0", "DONE 0"),
-                 (BRIEF, after(self.jobs.ends("c"), "NONE")), ("DONE 1", "DONE 1"),
-                 (BRIEF, after(self.jobs.ends("d"), "NONE")), ("DONE 2", "DONE 2"),
-                 (BRIEF, after(self.jobs.ends("e"), self.stops("NONE"))), ("DONE 3", "DONE 3"), GOODBYE]
+        steps = [(POLL, "ITEM 0 0 1 a"), ("DRAIN 3", self.jobs.ends_beside("a", "e", three)), ("DONE 0", "DONE 0"),
+                 (BRIEF, self.jobs.ends("c", "NONE")), ("DONE 1", "DONE 1"),
+                 (BRIEF, self.jobs.ends("d", "NONE")), ("DONE 2", "DONE 2"),
+                 (BRIEF, self.jobs.ends("e", self.stops("NONE"))), ("DONE 3", "DONE 3"), GOODBYE]
         with unittest.mock.patch("rb_broker_client.work.AT_ONCE", PATIENCE):
             self.assertEqual(self.run_worker(steps, concurrency=4), Report(done=4))
         self.assertEqual(self.jobs.most, 4)
 
     def test_after_a_drain_that_finds_fewer_it_waits(self):
         steps = [(POLL, "ITEM 0 0 1 a"), ("DRAIN 3", "DRAINED 1\nITEM 1 0 1 c"),
-                 (BRIEF, after(self.jobs.ends("a"), "NONE")), ("DONE 0", "DONE 0"),
-                 (BRIEF, after(self.jobs.ends("c"), self.stops("NONE"))), ("DONE 1", "DONE 1"), GOODBYE]
+                 (BRIEF, self.jobs.ends("a", "NONE")), ("DONE 0", "DONE 0"),
+                 (BRIEF, self.jobs.ends("c", self.stops("NONE"))), ("DONE 1", "DONE 1"), GOODBYE]
         with unittest.mock.patch("rb_broker_client.work.AT_ONCE", PATIENCE):
             self.assertEqual(self.run_worker(steps, concurrency=4), Report(done=2))
 
     def test_a_drain_that_is_refused(self):
         steps = [(POLL, "ITEM 0 0 1 a"), ("DRAIN 2", "ERR 7 memory"),
-                 ("DRAIN 2", after(self.jobs.ends("a"), "ERR 6 full")), ("DONE 0", "DONE 0"), GOODBYE]
+                 ("DRAIN 2", self.jobs.ends("a", "ERR 6 full")), ("DONE 0", "DONE 0"), GOODBYE]
         with unittest.mock.patch("rb_broker_client.work.AT_ONCE", PATIENCE):
             self.assertEqual(self.run_worker(steps, self.last(), concurrency=3), Report(done=1))
 
     def test_nothing_is_fetched_behind_a_failure(self):
-        steps = [(POLL, waited("ITEM 0 0 1 b")), (BRIEF, after(self.jobs.ends("b"), "NONE")),
+        steps = [(POLL, waited("ITEM 0 0 1 b")), (BRIEF, self.jobs.ends("b", "NONE")),
                  ("FAIL 0", "ERR 6 full"), GOODBYE]
         self.assertEqual(self.run_worker(steps, self.last()), Report(lost=1))
 
     def test_a_failure_that_finds_no_memory_beside_a_job_that_runs(self):
-        steps = [(POLL, waited("ITEM 0 0 1 b")), (BRIEF, before(self.jobs.ends("b"), "ITEM 1 0 1 a")),
-                 ("FAIL 0", "ERR 7 memory"), ("FAIL 0", before(self.jobs.ends("a"), "ERR 7 memory")),
+        steps = [(POLL, waited("ITEM 0 0 1 b")), (BRIEF, self.jobs.ends_beside("b", "a", "ITEM 1 0 1 a")),
+                 ("FAIL 0", "ERR 7 memory"), ("FAIL 0", self.jobs.ends("a", "ERR 7 memory")),
                  ("DONE 1", "DONE 1"), ("FAIL 0", self.stops("AGAIN 2 5")), GOODBYE]
-        pauses = Pauses(first=4 * SOON, longest=4 * SOON)
+        pauses = Pauses(first=0.1, longest=0.1)
         worker = self.work(steps, handler=self.jobs, concurrency=2, pauses=pauses)
         self.assertEqual(worker.run(), Report(done=1, again=1))
 
 
 class EndTest(ConcurrencyCase):
     def test_a_stop_finishes_what_runs(self):
-        ends = before(self.jobs.ends("a"), "ITEM 1 0 1 c")
+        ends = self.jobs.ends_beside("a", "c", "ITEM 1 0 1 c")
         steps = [(POLL, waited("ITEM 0 0 1 a")), (BRIEF, lambda: self.stops(ends())()),
-                 ("DONE 0", before(self.jobs.ends("c"), "DONE 0")), ("DONE 1", "DONE 1"), GOODBYE]
+                 ("DONE 0", self.jobs.ends_beside("c", "c", "DONE 0")), ("DONE 1", "DONE 1"), GOODBYE]
         self.assertEqual(self.run_worker(steps), Report(done=2))
 
     def test_an_old_session_is_left_once_what_runs_has_ended(self):
-        steps = [(POLL, waited("ITEM 0 0 1 a")), (BRIEF, waited(before(self.jobs.ends("a"), "ITEM 1 0 1 c"))),
-                 ("DONE 0", before(self.jobs.ends("c"), "DONE 0")), ("DONE 1", "DONE 1"), GOODBYE]
-        self.assertEqual(self.run_worker(steps, self.last(), session=1.5 * SOON), Report(done=2))
+        second = self.jobs.ends_beside("a", "c", "ITEM 1 0 1 c")
+        steps = [(POLL, waited("ITEM 0 0 1 a")), (BRIEF, lambda: time.sleep(2 * AGE) or second()),
+                 ("DONE 0", self.jobs.ends_beside("c", "c", "DONE 0")), ("DONE 1", "DONE 1"), GOODBYE]
+        self.assertEqual(self.run_worker(steps, self.last(), session=AGE), Report(done=2))
 
     def test_jobs_of_a_lost_session_keep_their_places(self):
         running = []
-        first = [GREETING, (POLL, waited("ITEM 0 0 1 a")), (BRIEF, before(self.jobs.ends("a"), "ITEM 1 0 1 c")),
+        first = [GREETING, (POLL, waited("ITEM 0 0 1 a")), (BRIEF, self.jobs.ends_beside("a", "c", "ITEM 1 0 1 c")),
                  (NOTHING, HANGS_UP)]
         greeted = ("AT 0", lambda: running.append(self.jobs.running) or "ERR 1 syntax")
-        second = [greeted, (BRIEF, after(self.jobs.ends("c"), self.stops("NONE"))), GOODBYE]
+        second = [greeted, (BRIEF, lambda: self.jobs.end("c") or self.stops("NONE")()), GOODBYE]
         worker = self.work(first, second, handler=self.jobs, concurrency=2, is_greeted=False)
         self.assertEqual(worker.run(), Report(unheard=2))
         self.assertEqual(running, [1])
 
     def test_a_stop_waits_for_the_jobs_of_a_lost_session(self):
-        steps = [(POLL, waited("ITEM 0 0 1 a")), (BRIEF, lambda: self.stops(before(self.jobs.ends("a"), HANGS_UP)())())]
+        steps = [(POLL, waited("ITEM 0 0 1 a")), (BRIEF, lambda: self.stops(self.jobs.ends_beside("a", "a", HANGS_UP)())())]
         self.assertEqual(self.run_worker(steps), Report(unheard=1))
         self.assertEqual(self.jobs.running, 0)
 
@@ -163,7 +158,7 @@ class ThreadsTest(ConcurrencyCase):
             self.jobs(job)
             sys.exit(3)
 
-        steps = [(POLL, waited("ITEM 0 0 1 a")), (BRIEF, after(self.jobs.ends("a"), SAYS_NOTHING))]
+        steps = [(POLL, waited("ITEM 0 0 1 a")), (BRIEF, self.jobs.ends("a", SAYS_NOTHING))]
         worker = self.work(steps, handler=leave, concurrency=2)
         with self.assertRaises(SystemExit) as ended:
             worker.run()
@@ -176,14 +171,14 @@ class ThreadsTest(ConcurrencyCase):
             told.append((job, threading.current_thread() is not threading.main_thread()))
             is_over.wait(PATIENCE)
 
-        steps = [(POLL, waited("ITEM 0 0 3 b")), (BRIEF, after(self.jobs.ends("b"), "NONE")), ("FAIL 0", "DEAD 0"),
-                 (BRIEF, after(is_over.set, self.stops("NONE"))), GOODBYE]
+        steps = [(POLL, waited("ITEM 0 0 3 b")), (BRIEF, self.jobs.ends("b", "NONE")), ("FAIL 0", "DEAD 0"),
+                 (BRIEF, lambda: is_over.set() or self.stops("NONE")()), GOODBYE]
         self.assertEqual(self.run_worker(steps, on_dead=keep), Report(dead=1))
         self.assertEqual(told, [(Item(0, 0, 3, "b"), True)])
 
     def test_no_thread_is_left(self):
         name = "rb_broker_client-1"
-        steps = [(POLL, waited("ITEM 0 0 1 a")), (BRIEF, after(self.jobs.ends("a"), self.stops("NONE"))),
+        steps = [(POLL, waited("ITEM 0 0 1 a")), (BRIEF, self.jobs.ends("a", self.stops("NONE"))),
                  ("DONE 0", "DONE 0"), GOODBYE]
         self.assertEqual(self.run_worker(steps), Report(done=1))
         deadline = time.monotonic() + PATIENCE

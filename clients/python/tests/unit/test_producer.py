@@ -9,6 +9,7 @@ from scripted import GOODBYE, GREETING, HANGS_UP, NOTHING, PATIENCE, ScriptedTes
 from rb_broker_client import Full, InDoubt, NotOffered, Offered, OutOfMemory, Pauses, PayloadRefused, Producer
 
 OFFER = "OFFER 5 a"
+AGE = 0.5  # seconds beyond which a session is left: long enough for an offer before, on a busy machine too
 LEAVES = "rb_broker_client-leaves"  # the thread that leaves an old session
 
 
@@ -101,20 +102,20 @@ class AgeTest(ProducerCase):
     """A session that is as old as it may be is left, and the next offer begins another."""
 
     def test_an_idle_producer_leaves_by_itself(self):
-        producer, server = self.produce([(OFFER, "OFFERED 0 5"), GOODBYE], [(OFFER, "OFFERED 1 5")], session=0.1)
+        producer, server = self.produce([(OFFER, "OFFERED 0 5"), GOODBYE], [(OFFER, "OFFERED 1 5")], session=AGE)
         self.assertEqual(producer.offer(5, "a"), Offered(0, 5))
         self.assertTrue(server.ended.acquire(timeout=PATIENCE))
         self.assertEqual(producer.offer(5, "a"), Offered(1, 5))
 
     def test_an_offer_that_goes_on_is_answered_first(self):
-        late = lambda: time.sleep(0.3) or "OFFERED 0 5"
-        producer, server = self.produce([(OFFER, late), GOODBYE], session=0.1)
+        late = lambda: time.sleep(2 * AGE) or "OFFERED 0 5"
+        producer, server = self.produce([(OFFER, late), GOODBYE], session=AGE)
         self.assertEqual(producer.offer(5, "a"), Offered(0, 5))
         self.assertTrue(server.ended.acquire(timeout=PATIENCE))
 
     def test_a_server_that_does_not_say_goodbye(self):
         steps = [(OFFER, "OFFERED 0 5"), ("QUIT", HANGS_UP)]
-        producer, server = self.produce(steps, [(OFFER, "OFFERED 1 5")], session=0.1)
+        producer, server = self.produce(steps, [(OFFER, "OFFERED 1 5")], session=AGE)
         producer.offer(5, "a")
         self.assertTrue(server.ended.acquire(timeout=PATIENCE))
         self.assertEqual(producer.offer(5, "a"), Offered(1, 5))
@@ -128,17 +129,17 @@ class LeavingThreadTest(ProducerCase):
     """The thread that leaves an old session while there is no offer."""
 
     def test_where_no_thread_can_be_had_the_next_offer_leaves(self):
-        producer, server = self.produce([(OFFER, "OFFERED 0 5"), GOODBYE], [(OFFER, "OFFERED 1 5")], session=0.1)
+        producer, server = self.produce([(OFFER, "OFFERED 0 5"), GOODBYE], [(OFFER, "OFFERED 1 5")], session=AGE)
         with unittest.mock.patch("threading.Timer.start", side_effect=RuntimeError("can't start new thread")):
             self.assertEqual(producer.offer(5, "a"), Offered(0, 5))
-            self.assertFalse(server.ended.acquire(timeout=0.3))
+            self.assertFalse(server.ended.acquire(timeout=2 * AGE))
             self.assertEqual(producer.offer(5, "a"), Offered(1, 5))
 
     def test_none_keeps_it_without_a_thread(self):
         producer, server = self.produce([(OFFER, "OFFERED 0 5"), (OFFER, "OFFERED 1 5")], session=None)
         self.assertEqual(producer.offer(5, "a"), Offered(0, 5))
         self.assertNotIn(LEAVES, thread_names())
-        self.assertFalse(server.ended.acquire(timeout=0.3))
+        self.assertFalse(server.ended.acquire(timeout=2 * AGE))
         self.assertEqual(producer.offer(5, "a"), Offered(1, 5))
 
     def test_a_closed_producer_leaves_no_thread(self):

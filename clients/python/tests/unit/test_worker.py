@@ -11,6 +11,7 @@ from scripted import GOODBYE, GREETING, HANGS_UP, PATIENCE, SAYS_NOTHING, Script
 from rb_broker_client import SECOND, Item, Pauses, Report, UnknownReply, Worker
 
 POLL = "POLLFOR 1000000000"
+AGE = 0.5  # seconds beyond which a session is left: long enough for what is to happen before, on a busy machine too
 GIVES_A, GIVES_B = (POLL, "ITEM 0 0 1 a"), (POLL, "ITEM 1 0 1 b")
 
 
@@ -48,7 +49,7 @@ class WorkerCase(ScriptedTest):
             raise ValueError("the payload is b")
 
     def handle_slowly(self, job):
-        time.sleep(0.2)
+        time.sleep(2 * AGE)
         self.handle(job)
 
     def stops(self, reply):
@@ -142,21 +143,21 @@ class AgeTest(WorkerCase):
 
     def test_between_two_jobs(self):
         sessions = [GIVES_A, ("DONE 0", "DONE 0"), GOODBYE], [GIVES_B, ("FAIL 1", "AGAIN 2 5"), GOODBYE], self.last()
-        worker = self.work(*sessions, handler=self.handle_slowly, session=0.1)
+        worker = self.work(*sessions, handler=self.handle_slowly, session=AGE)
         self.assertEqual(worker.run(), Report(done=1, again=1))
 
     def test_while_no_job_comes(self):
-        sessions = [(POLL, "NONE"), (POLL, lambda: time.sleep(0.2) or "NONE"), GOODBYE], self.last()
-        self.assertEqual(self.work(*sessions, session=0.1).run(), Report())
+        sessions = [(POLL, "NONE"), (POLL, lambda: time.sleep(2 * AGE) or "NONE"), GOODBYE], self.last()
+        self.assertEqual(self.work(*sessions, session=AGE).run(), Report())
 
     def test_while_each_wait_is_given_up(self):
-        sessions = [(POLL, lambda: time.sleep(0.2) or "STOPPED"), GOODBYE], self.last()
-        self.assertEqual(self.work(*sessions, session=0.1).run(), Report())
+        sessions = [(POLL, lambda: time.sleep(2 * AGE) or "STOPPED"), GOODBYE], self.last()
+        self.assertEqual(self.work(*sessions, session=AGE).run(), Report())
 
     def test_the_next_begins_without_a_pause(self):
-        old = [GREETING, (POLL, lambda: time.sleep(0.2) or "NONE"), GOODBYE]
+        old = [GREETING, (POLL, lambda: time.sleep(2 * AGE) or "NONE"), GOODBYE]
         server = self.play(old, [GREETING, *self.last()])
-        worker = self.make(self.handle, server.port, Pauses(first=2 * PATIENCE, longest=2 * PATIENCE), session=0.1)
+        worker = self.make(self.handle, server.port, Pauses(first=2 * PATIENCE, longest=2 * PATIENCE), session=AGE)
         self.assertEqual(worker.run(), Report())
 
     def test_without_being_told_it_is_thirty_seconds(self):
@@ -239,8 +240,8 @@ class LogTest(WorkerCase):
         self.assertEqual((lost, again), ("WARNING", ("INFO", f"served again at {place}")))
 
     def test_the_first_session_is_not_served_again(self):
-        sessions = [GIVES_B, ("FAIL 1", "AGAIN 2 5"), (POLL, lambda: time.sleep(0.2) or "NONE"), GOODBYE], self.last()
-        self.assertEqual(self.logged(self.work(*sessions, session=0.1)), [("WARNING", "attempt 1 of job b failed")])
+        sessions = [GIVES_B, ("FAIL 1", "AGAIN 2 5"), (POLL, lambda: time.sleep(2 * AGE) or "NONE"), GOODBYE], self.last()
+        self.assertEqual(self.logged(self.work(*sessions, session=AGE)), [("WARNING", "attempt 1 of job b failed")])
 
 
 class PauseTest(WorkerCase):
