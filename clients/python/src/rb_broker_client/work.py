@@ -160,7 +160,11 @@ class Work:
     def _not_fetched(self, refused: Exception) -> None:
         """No job was given, for this reason."""
         if isinstance(refused, (Stopped, OutOfMemory)):
-            self._next_fetch = time.monotonic() + min(self._pauses.next(), self._terms.wait / SECOND)
+            # From one fetch to the next: a wait that was given up after a while needs no pause.
+            pause = min(self._pauses.next(), self._terms.wait / SECOND)
+            self._next_fetch = self._fetched + pause
+            if time.monotonic() >= self._next_fetch:
+                self._pauses.reset()
         elif isinstance(refused, (Full, HeldTooMany)):
             # Nothing more can be had here. A full server can end only when its clients have left.
             log.warning("left the session at %s: %s", self._terms.place, refused)
