@@ -47,20 +47,22 @@ pub fn later_draft(
     attempt: &str,
     payload: &str,
 ) -> Result<Draft, Flaw> {
+    let attempt = attempt_of(attempt)?;
+    if !(1..=GREATEST_ATTEMPT).contains(&attempt) {
+        return Err(Flaw::Number);
+    }
     Ok(Draft {
         expiry: number(expiry)? as u64,
         origin: Some(number(origin)? as u64),
         first: Some(number(first)? as u64),
-        attempt: attempt_of(attempt)?,
+        attempt,
         payload: payload_of(payload)?,
     })
 }
 
+// The number of an attempt. Its range is tested by the callers, since a function without clauses promises none.
 fn attempt_of(word: &str) -> Result<u32, Flaw> {
-    match u32::try_from(number(word)?) {
-        Ok(attempt) if (1..=GREATEST_ATTEMPT).contains(&attempt) => Ok(attempt),
-        _ => Err(Flaw::Number),
-    }
+    u32::try_from(number(word)?).map_err(|_| Flaw::Number)
 }
 
 fn payload_of(word: &str) -> Result<Payload, Flaw> {
