@@ -1,4 +1,4 @@
-ghost use Rattle.std.specs.Prelude.{◌≡◌, ◌≤◌, [], IfOk};
+ghost use Rattle.std.specs.Prelude.{◌≡◌, ◌↔◌, ◌<◌, [], IfOk, true};
 ghost use Rattle.rb_ledger.specs.Totals.{nothing};
 
 use crate::{Clock, Gate, TurnGate, WaitFault};
