@@ -16,6 +16,7 @@ DOCUMENTS = "usr/share/doc/rb-broker"
 PAGE = "usr/share/man/man1/rb_broker.1.gz"
 TOOLS = "usr/share/rb_broker/tools"
 PYTHON = "usr/lib/python3/dist-packages"
+CLIENT = "usr/share/rb_broker/clients/python/src/rb_broker_client"
 
 # Where files of packaging/ go, and whether they are commands.
 COPIED = {
@@ -34,7 +35,7 @@ COPIED = {
 BESIDE_PAGES = ("docs/*.png", "docs/*.svg", "examples/*", "clients/python/examples/*.py")
 
 # The tools that become commands, each with the folder of its modules.
-COMMANDS = {"report": "reporting", "load": "loading"}
+COMMANDS = {"report": "reporting", "verify": "verifying", "watch": "watching", "load": "loading"}
 
 
 def write(root: str, place: str, content: bytes, is_command: bool = False) -> None:
@@ -87,6 +88,9 @@ def lay_out_tools(root: str) -> None:
         copy_modules(root, f"{TOP}/tools/{modules}", f"{TOOLS}/{modules}")
         os.symlink(f"../share/rb_broker/tools/{name}", f"{root}/usr/bin/rb_broker_{name}")
     copy_modules(root, f"{TOP}/clients/python/src/rb_broker_client", f"{PYTHON}/rb_broker_client")
+    # Where tools look for the client package, so that they find it whatever python3 is the first on the path.
+    os.makedirs(f"{root}/usr/share/rb_broker/clients/python/src")
+    os.symlink(f"../../../../../../{PYTHON}/rb_broker_client", f"{root}/{CLIENT}")
 
 
 def copy_modules(root: str, folder: str, place: str) -> None:
