@@ -1,4 +1,4 @@
-"""Reports on large histories, with their pages: 1,000,000 events within 20 seconds of processor time and 200 MB.
+"""Reports on large histories, with their pages: 1,000,000 events within 200 MB, and 20 or 30 seconds of processor time.
 
 `begin` starts the processes that make the histories and report on them, so that other tests can run meanwhile.
 """
@@ -15,10 +15,18 @@ from typing import Dict, List, NamedTuple
 
 from reporting import tests
 
-MOST_SECONDS, MOST_BYTES = 20.0, 200 * 10**6
+MOST_BYTES = 200 * 10**6
 
-# Histories by name, with the words for make_history.py: of a busy server, and of which 97 events in 100 are offers.
-LARGE: Dict[str, List[str]] = {"busy": [], "offers": ["--offers"]}
+
+class Kind(NamedTuple):
+    """The words with which make_history.py makes a history, and the most seconds of a processor for its report."""
+
+    words: List[str]
+    seconds: float
+
+
+# Histories by name: of a busy server, and of which 97 events in 100 are offers.
+LARGE: Dict[str, Kind] = {"busy": Kind([], 20.0), "offers": Kind(["--offers"], 30.0)}
 
 
 class Measured(NamedTuple):
@@ -35,7 +43,7 @@ def measured(room: str, name: str) -> Measured:
     """Makes a history, and then a report on it."""
     path, page = f"{room}/{name}.txt", f"{room}/{name}.html"
     with open(path, "w", encoding="ascii") as file:
-        words = [sys.executable, tests.MAKE_HISTORY, str(tests.EVENTS), *LARGE[name]]
+        words = [sys.executable, tests.MAKE_HISTORY, str(tests.EVENTS), *LARGE[name].words]
         subprocess.run(words, stdout=file, check=True, timeout=300)
     start = time.monotonic()
     report = subprocess.Popen([sys.executable, tests.REPORT, path, "--html", page], stdout=subprocess.DEVNULL)
@@ -72,6 +80,6 @@ class LargeTest(unittest.TestCase):
                   f"{told.memory / 1e6:.0f} MB, a page of {told.page / 1e6:.1f} MB", flush=True)
             with self.subTest(history=name):
                 self.assertEqual(told.status, 0)
-                self.assertLess(told.seconds, MOST_SECONDS)
+                self.assertLess(told.seconds, LARGE[name].seconds)
                 self.assertLess(told.memory, MOST_BYTES)
                 self.assertLess(told.page, 5 * 10**6)

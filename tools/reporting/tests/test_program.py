@@ -46,7 +46,8 @@ class ProgramTest(unittest.TestCase):
         both = run(following, first)
         self.assertIn("0 elements at the start, 2 offered, 2 given, 0 left at the end", both.stdout)
         life = [line.split() for line in run(first, following, "--job", "0").stdout.splitlines()[2:]]
-        self.assertEqual([words[:2] + words[-9:-7] for words in life], [["1", "0", "0", "0"], ["2", "1", "1000", "1000"]])
+        told = [words[:2] + words[-9:-7] for words in life]
+        self.assertEqual(told, [["1", "0", "0", "0"], ["2", "1", "1000", "1000"]])
 
     def test_a_file_tells_when_its_run_began(self) -> None:
         before = time.time_ns()
