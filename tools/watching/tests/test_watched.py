@@ -159,12 +159,12 @@ class WatchedTest(WatchTest):
         told = (look["calls"]["used"], look["calls"]["is_least"], look["calls"]["limit"])
         self.assertEqual(told, (101 + 4, False, 1000))
         for _ in range(100):
-            client.sendall(b"OFFER 0 a\nTAKE\n")
+            client.sendall(b"OFFER 0 a\n")
             client.recv(1000)
-            time.sleep(0.005)
         look = self.looks(process, lambda look: look["calls"] is not None and bool(look["calls"]["lasts_seconds"]))[-1]
-        self.assertTrue(200 < look["calls"]["used"] - 105 < 500, look)
-        self.assertTrue(0 < look["calls"]["lasts_seconds"] < 60, look)
+        calls = look["calls"]
+        self.assertEqual(calls["used"], 201 + look["watch"]["calls"])
+        self.assertAlmostEqual(calls["lasts_seconds"], (1000 - calls["used"]) / calls["a_second"], delta=1)
         self.stop(process)
 
     def test_limits_that_are_said(self) -> None:
