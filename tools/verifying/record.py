@@ -3,7 +3,7 @@
     {"session": "3", "sent": 81000, "received": 93000, "request": "OFFER 0 a", "reply": ["OFFERED 0 5000"]}
 
 `sent` and `received` are nanoseconds of the machine's monotonic clock: read before the request was sent, and after its
-last reply line had come. A request without a reply has `null` and `[]`. The requests of a session stand in the order
+last reply line had come. A request without a whole reply has `null`. The requests of a session stand in the order
 in which they were sent; those of several sessions may stand among each other.
 """
 from __future__ import annotations
@@ -62,8 +62,8 @@ def _exchange(line: bytes, number: int) -> Exchange:
         raise Damaged(number, "'sent' or 'received' is no time in nanoseconds")
     if type(request) is not str or type(reply) is not list or set(map(type, reply)) - TEXT:
         raise Damaged(number, "'request' is no text, or 'reply' no list of texts")
-    if (received is None) != (not reply):
-        raise Damaged(number, "'received' is null exactly if 'reply' is empty, and here it is not so")
+    if received is not None and not reply:
+        raise Damaged(number, "'received' is a time, and 'reply' is empty")
     if received is not None and received < sent:
         raise Damaged(number, "the reply came before the request was sent")
     return Exchange(number, str(session), sent, received, request, reply)

@@ -6,8 +6,11 @@ PROGRAM is a command; tools/check_verify sets it.
 from __future__ import annotations
 
 import os
+import sys
 
 TOP = os.path.dirname(os.path.dirname(os.path.dirname(os.path.dirname(os.path.realpath(__file__)))))
+sys.path.append(f"{TOP}/clients/python/src")
+
 VERIFY = f"{TOP}/tools/verify"
 LOAD = f"{TOP}/tools/load"
 

@@ -44,6 +44,13 @@ class HandMadeTest(RunTest):
         counts, _ = self.judged(text_of(EVENTS), record_of(others))
         self.assertEqual(counts, {"unrecorded": 5})
 
+    def test_a_reply_that_came_in_part(self) -> None:
+        """The client was lost within the lines of a drain, whose jobs then came back."""
+        events = ["1 10 10 offer 0 10 0 10 1 x", "1 20 20 drain 5 0", "1 30 30 offer 1 40 0 10 2 x"]
+        drain = {**line("a", 15, 22, "DRAIN 5", "DRAINED 1"), "received": None}
+        record = [line("a", 5, 12, "OFFER 0 x", "OFFERED 0 10"), drain]
+        self.assertEqual(self.judged(text_of(events), record_of(record)), ({}, []))
+
     # The six ways.
 
     def test_a_reply_changed(self) -> None:

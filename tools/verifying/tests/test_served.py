@@ -3,13 +3,16 @@ from __future__ import annotations
 
 import io
 import os
+import socket
 import subprocess
 import sys
 import threading
 from typing import List
 
+from verifying import tests  # which says where the client package is
+
+from rb_broker_client import Item, Producer, Worker
 from serving.server import Server
-from verifying import tests
 from verifying.tests.recording_client import RecordingClient
 from verifying.tests.support import RunTest
 
@@ -65,6 +68,42 @@ class ServedTest(RunTest):
                 self.assertEqual([it.wait() for it in loads], [0, 0])
                 lines = self.expect_no_fault(server, *records)
                 self.assertRegex(lines[0], r"^[\d,]+ events at 8 seats; [\d,]+ requests of 8 sessions$")
+
+    def test_clients_of_the_python_package(self) -> None:
+        """A producer and two workers, a third of whose jobs fail, and that leave their sessions now and then."""
+        server = self.serve("heap", "--workers", 3, "--sessions", 1000, "--calls", 100_000, "--turns", 50,
+                            "--delay", 1_000_000, "--attempts", 9)
+        path, done = f"{self.room}/package.jsonl", threading.Semaphore(0)
+
+        def deliver(job: Item) -> None:
+            if (job.id + job.attempt) % 3 == 0:
+                raise ValueError("not today")
+            done.release()
+
+        workers = [Worker(deliver, server.port, session=0.2, record=path) for _ in range(2)]
+        threads = [threading.Thread(target=it.run) for it in workers]
+        for thread in threads:
+            thread.start()
+        with self.assertLogs("rb_broker_client"), Producer(server.port, session=0.1, record=path) as producer:
+            for number in range(300):
+                producer.offer(0, f"letter-{number}")
+            for _ in range(300):
+                self.assertTrue(done.acquire(timeout=60))
+            for worker, thread in zip(workers, threads):
+                worker.stop()
+                thread.join()
+        self._use_up_sessions(server)
+        lines = self.expect_no_fault(server, path)
+        self.assertRegex(lines[0], r"^[\d,]+ events at \d seats; [\d,]+ requests of [\d,]+ sessions$")
+
+    @staticmethod
+    def _use_up_sessions(server: Server) -> None:
+        """Connects until the server has ended, as docs/OPERATING.md says."""
+        while server.process.poll() is None:
+            try:
+                socket.create_connection(("127.0.0.1", server.port), timeout=1).close()
+            except OSError:
+                pass
 
     def test_a_server_that_is_not_the_records(self) -> None:
         """Two runs alike, each with the other's record."""
