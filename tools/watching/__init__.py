@@ -5,7 +5,7 @@ import os
 import sys
 
 TOP = os.path.dirname(os.path.dirname(os.path.dirname(os.path.realpath(__file__))))
-PACKAGE = f"{TOP}/clients/python/src"
+# Where the client package is in a checkout, and where it is installed beside this tool.
+PACKAGES = (f"{TOP}/clients/python/src", f"{TOP}/../../lib/python3/dist-packages")
 
-if os.path.isdir(PACKAGE):  # elsewhere the package is installed
-    sys.path.append(PACKAGE)
+sys.path += [it for it in PACKAGES if os.path.isdir(f"{it}/rb_broker_client")]
