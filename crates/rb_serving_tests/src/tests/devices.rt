@@ -1,6 +1,6 @@
 // A server's visits that lie in memory, and a clock that always reads 7.
 
-ghost use Rattle.std.specs.Prelude.{◌≡◌, ◌↔◌, ◌<◌, true};
+ghost use Rattle.std.specs.Prelude.{◌≡◌, ◌≤◌, ◌↔◌, ◌<◌, true};
 
 use rb_arguments::RunOptions;
 use rb_blocking::{Clock, Gate};
