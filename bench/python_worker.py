@@ -1,0 +1,156 @@
+#!/usr/bin/env python3
+"""Measures the workers of clients/python with the built program: bench/python_worker.py [--program PATH] [--runs N]
+
+For Worker and AsyncWorker, with 1, 8 and 64 jobs at the same time: how many jobs a second they do when all are due
+before the worker begins, jobs of nothing and jobs that sleep for 50 ms. Then, with 8 at a time, 10 jobs a second of
+50 ms that are offered one by one, at random: how long after its offer a job begins, and how long after the end of its
+handler the server has told that the job is done. Server, worker and producer share the machine; medians of N runs (3 by
+default).
+"""
+import argparse
+import asyncio
+import json
+import os
+import random
+import statistics
+import subprocess
+import sys
+import tempfile
+import threading
+import time
+
+TOP = os.path.dirname(os.path.dirname(os.path.realpath(__file__)))
+sys.path.insert(0, os.path.join(TOP, "clients", "python", "src"))
+
+from rb_broker_client import AsyncWorker, Broker, Producer, Worker, requests  # noqa: E402
+
+LONGEST = 300  # seconds after which a server is ended
+PIECE = 1_000
+NAP = 0.05  # seconds that a job sleeps
+SPARSE = 200  # jobs that are offered one by one
+PAUSE = 0.1  # seconds between two of these, in the mean
+
+
+class Server:
+    """The program as a server of two workers, until the end of a `with`."""
+
+    def __init__(self, program):
+        for _ in range(20):
+            self.port = random.randrange(22_000, 23_000)
+            words = [program, "serve", "--port", str(self.port), "--workers", "2", "--sessions", "100", "--calls",
+                     "1000000"]
+            self._process = subprocess.Popen(words, stdout=subprocess.PIPE, stderr=subprocess.DEVNULL, encoding="ascii")
+            if self._process.stdout.readline().startswith("listening"):
+                break
+        else:
+            sys.exit("python_worker: no server could be started")
+        self._watch = threading.Timer(LONGEST, self._process.kill)
+        self._watch.daemon = True
+        self._watch.start()
+
+    def __enter__(self):
+        return self
+
+    def __exit__(self, *fault):
+        self._watch.cancel()
+        self._process.kill()
+        self._process.wait()
+        self._process.stdout.close()
+
+
+class Run:
+    """A worker of either kind, in a thread of its own."""
+
+    def __init__(self, is_async, port, nap, concurrency, record=None):
+        self.begun, self.ended = {}, {}
+        options = {"concurrency": concurrency, "record": record, "session": None}
+        self._nap = nap
+        self.worker = AsyncWorker(self._sleep_async, port, **options) if is_async else Worker(
+            self._sleep, port, **options)
+        run = (lambda: asyncio.run(self.worker.run())) if is_async else self.worker.run
+        self._thread = threading.Thread(target=run, daemon=True)
+        self._thread.start()
+
+    def await_done(self, count):
+        while self.worker.report.done < count:
+            time.sleep(0.002)
+
+    def stop(self):
+        self.worker.stop()
+        self._thread.join()
+
+    def _sleep(self, job):
+        self.begun[job.payload] = time.monotonic()
+        if self._nap:
+            time.sleep(self._nap)
+        self.ended[job.id] = time.monotonic_ns()
+
+    async def _sleep_async(self, job):
+        self.begun[job.payload] = time.monotonic()
+        if self._nap:
+            await asyncio.sleep(self._nap)
+        self.ended[job.id] = time.monotonic_ns()
+
+
+def rate(program, is_async, nap, concurrency):
+    """Jobs a second, when all are due."""
+    count = int(100 * concurrency) if nap else 20_000
+    with Server(program) as server:
+        with Broker(server.port) as broker:
+            for first in range(0, count, PIECE):
+                broker.ask_all([requests.offer(0, str(it)) for it in range(first, min(first + PIECE, count))])
+            broker.quit()
+        began = time.monotonic()
+        run = Run(is_async, server.port, nap, concurrency)
+        run.await_done(count)
+        took = time.monotonic() - began
+        run.stop()
+    return count / took
+
+
+def delays(program, is_async):
+    """Of jobs that come one by one: the milliseconds until each begins, and those until its end is told."""
+    offered, chance = {}, random.Random(7)
+    with tempfile.TemporaryDirectory() as room, Server(program) as server:
+        run = Run(is_async, server.port, NAP, 8, f"{room}/record")
+        with Producer(server.port) as producer:
+            for number in range(SPARSE):
+                offered[str(number)] = time.monotonic()
+                producer.offer(0, str(number))
+                time.sleep(chance.expovariate(1 / PAUSE))
+        run.await_done(SPARSE)
+        run.stop()
+        with open(f"{room}/record", encoding="ascii") as file:
+            lines = [json.loads(it) for it in file]
+    done = [(int(it["request"].split()[1]), it["received"]) for it in lines if it["request"].startswith("DONE")]
+    begins = [1e3 * (run.begun[it] - offered[it]) for it in offered]
+    return begins, [(received - run.ended[id]) / 1e6 for id, received in done]
+
+
+def percentile(values, percent):
+    return sorted(values)[min(len(values) * percent // 100, len(values) - 1)]
+
+
+def main():
+    asked = argparse.ArgumentParser(description=__doc__, formatter_class=argparse.RawDescriptionHelpFormatter)
+    default = os.path.join(TOP, "crates", "rb_broker", "out", "rb_broker")
+    asked.add_argument("--program", metavar="PATH", default=default, help="the program (default: the built one)")
+    asked.add_argument("--runs", type=int, default=3, metavar="N", help="how often each is measured (default: 3)")
+    options = asked.parse_args()
+    kinds = (("Worker", False), ("AsyncWorker", True))
+    for name, is_async in kinds:
+        for nap in (0, NAP):
+            for concurrency in (1, 8, 64):
+                rates = [rate(options.program, is_async, nap, concurrency) for _ in range(options.runs)]
+                print(f"{name}, {concurrency} at a time, jobs of {1e3 * nap:.0f} ms: "
+                      f"{statistics.median(rates):.0f} a second ({min(rates):.0f} to {max(rates):.0f})", flush=True)
+    for name, is_async in kinds:
+        begins, ends = delays(options.program, is_async)
+        for what, values in (("a job begins", begins), ("its end is told", ends)):
+            print(f"{name}, {1 / PAUSE:.0f} jobs a second of {1e3 * NAP:.0f} ms, milliseconds until {what}: "
+                  f"median {statistics.median(values):.1f}, 99th percentile {percentile(values, 99):.1f}, "
+                  f"greatest {max(values):.1f}", flush=True)
+
+
+if __name__ == "__main__":
+    main()
