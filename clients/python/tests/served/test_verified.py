@@ -1,0 +1,76 @@
+"""A run whose clients keep records, judged from outside by tools/verify."""
+import asyncio
+import os
+import subprocess
+import sys
+import threading
+import unittest
+
+from rb_broker_client import AsyncProducer, AsyncWorker, Producer, Report, Worker
+from server import LONGEST, PATIENCE, TOP, ServedTest
+
+JOBS = 1_000
+POLICY = ("--delay", 1_000_000, "--attempts", 3)
+
+
+def fails(job):
+    """Whether a handler raises: for each fifth job in its first attempt."""
+    return job.attempt == 1 and int(job.payload) % 5 == 0
+
+
+def handle(job):
+    if fails(job):
+        raise ValueError(job.payload)
+
+
+async def handle_async(job):
+    await asyncio.sleep(0.001)
+    handle(job)
+
+
+class VerifiedTest(ServedTest):
+    def test_each_reply_stands_in_the_history_in_the_order_of_real_time(self):
+        history, record = f"{self.room}/history", f"{self.room}/record"
+        server = self.serve("--workers", 5, "--sessions", 300, "--calls", 100_000, *POLICY, "--history", history)
+        options = {"session": 0.5, "record": record}
+        workers = [Worker(handle, server.port, concurrency=4, **options), Worker(handle, server.port, **options),
+                   AsyncWorker(handle_async, server.port, concurrency=16, **options)]
+        runs = [workers[0].run, workers[1].run, lambda: asyncio.run(workers[2].run())]
+        threads = [threading.Thread(target=it, daemon=True) for it in runs]
+        for it in threads:
+            it.start()
+        self.addCleanup(lambda: [it.stop() for it in workers])
+        self.produce(server.port, options)
+        self.wait_until(lambda: sum(it.report.done for it in workers) >= JOBS)
+        for worker, thread in zip(workers, threads):
+            worker.stop()
+            thread.join(PATIENCE)
+        server.use_up()
+        self.assertEqual(server.end()[1][0], "sessions 300 faults 0 lost 0")
+        self.assertEqual([sum(getattr(it.report, name) for it in workers) for name in vars(Report())],
+                         [JOBS, JOBS // 5, 0, 0, 0])
+        self.assert_verified(history, record)
+
+    def produce(self, port, options):
+        """Half of the jobs by a producer, and half by another of asyncio, at the same time."""
+        async def offer():
+            async with AsyncProducer(port, **options) as producer:
+                for number in range(1, JOBS, 2):
+                    await producer.offer(0, str(number))
+
+        other = threading.Thread(target=lambda: asyncio.run(offer()), daemon=True)
+        other.start()
+        with Producer(port, **options) as producer:
+            for number in range(0, JOBS, 2):
+                producer.offer(0, str(number))
+        other.join(PATIENCE)
+
+    def assert_verified(self, history, record):
+        """The record has each call, and tools/verify finds no fault."""
+        words = [sys.executable, os.path.join(TOP, "tools", "verify"), "--all", history, record]
+        ran = subprocess.run(words, stdout=subprocess.PIPE, stderr=subprocess.STDOUT, encoding="utf-8", timeout=LONGEST)
+        self.assertEqual((ran.returncode, ran.stdout.splitlines()[-1]), (0, "0 faults"), ran.stdout)
+
+
+if __name__ == "__main__":
+    unittest.main()
