@@ -89,6 +89,13 @@ class ServedTest(unittest.TestCase):
         self.addCleanup(crew.stop)
         return crew
 
+    def assert_lost_none(self, ended, sessions):
+        """The server ended well after so many sessions, and no job was lost. A client that was stopped between its
+        connection and its first reply may have left a fault."""
+        status, lines = ended
+        self.assertEqual(status, 0)
+        self.assertRegex(lines[0], f"^sessions {sessions} faults [0-9]+ lost 0$")
+
     def assert_chained(self, history, *policy):
         """The history is legal and its retries are right, by the program's own replay. Gives the audit line."""
         words = [PROGRAM, "replay", history, "--chains", *map(str, policy)]

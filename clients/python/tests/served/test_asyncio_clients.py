@@ -126,9 +126,9 @@ class WorkTest(ServedTest):
                            self.histories[0])
         report, ended = asyncio.run(self.work(first))
         self.assertEqual(report, Report(done=JOBS, again=JOBS // 5))
-        for (status, lines), path in zip(ended, self.histories):
-            self.assertEqual((status, lines[0]), (0, "sessions 200 faults 0 lost 0"))
-            self.assertEqual(self.assert_chained(path, *POLICY), lines[1])
+        for end, path in zip(ended, self.histories):
+            self.assert_lost_none(end, 200)
+            self.assertEqual(self.assert_chained(path, *POLICY), end[1][1])
         history = History(*self.histories)
         self.assertEqual(sorted(it.id for it in self.handled), sorted(history.given))
         wanted = {str(it): [1] if it % 5 else [1, 2] for it in range(JOBS)}

@@ -112,9 +112,9 @@ class ConcurrentJobsTest(ServedTest):
         self.wait_until(lambda: len(crew.handled) >= given, 4 * PATIENCE)
         self.assertEqual(crew.stop(), Report(done=JOBS, again=given - JOBS))
         server.use_up()
-        status, lines = server.end()
-        self.assertEqual((status, lines[0]), (0, "sessions 200 faults 0 lost 0"))
-        self.assertEqual(self.assert_chained(path, *POLICY), lines[1])
+        ended = server.end()
+        self.assert_lost_none(ended, 200)
+        self.assertEqual(self.assert_chained(path, *POLICY), ended[1][1])
         history = History(path)
         handled = sorted((it.id, it.expiry, it.attempt, it.payload) for it in crew.handled)
         told = [history.elements[id] for id in sorted(history.given)]

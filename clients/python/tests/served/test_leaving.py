@@ -27,9 +27,9 @@ class LeavingTest(ServedTest):
     def assert_ends_well(self, server):
         """The server ends once its sessions are used up, though no client is told to leave."""
         server.use_up()
-        status, lines = server.end()
-        self.assertEqual((status, lines[0]), (0, "sessions 100 faults 0 lost 0"))
-        self.assertEqual(self.assert_chained(self.histories[-1], *POLICY), lines[1])
+        ended = server.end()
+        self.assert_lost_none(ended, 100)
+        self.assertEqual(self.assert_chained(self.histories[-1], *POLICY), ended[1][1])
 
     def test_a_server_ends_beside_an_idle_worker_and_an_idle_producer(self):
         server = self.serve_run(0)

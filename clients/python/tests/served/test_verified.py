@@ -46,7 +46,7 @@ class VerifiedTest(ServedTest):
             worker.stop()
             thread.join(PATIENCE)
         server.use_up()
-        self.assertEqual(server.end()[1][0], "sessions 300 faults 0 lost 0")
+        self.assert_lost_none(server.end(), 300)
         self.assertEqual([sum(getattr(it.report, name) for it in workers) for name in vars(Report())],
                          [JOBS, JOBS // 5, 0, 0, 0])
         self.assert_verified(history, record)
