@@ -4,6 +4,7 @@
 - `Producer` offers jobs to a server that may be replaced by another.
 - `Worker` takes jobs, runs a handler on each, and tells the server what came of it.
 - `AsyncBroker`, `AsyncProducer` and `AsyncWorker` do the same for asyncio.
+- `FleetProducer` and `FleetWorker` do what the two without `Fleet` do, with several servers as one `Fleet`.
 
 Delays, timeouts, expiries and moments are nanoseconds, as in the protocol: `5 * SECOND`. What the client itself
 waits for (`patience`, `Pauses`) is seconds.
@@ -17,6 +18,9 @@ from .errors import (
     BrokerError, Disconnected, Full, HeldTooMany, InDoubt, LineRefused, NotHeld, NotOffered, NumberRefused,
     OutOfMemory, PayloadRefused, RangeRefused, Refused, Stopped, SyntaxRefused, UnknownReply,
 )
+from .fleet import Fleet, Server
+from .fleet_producer import FleetProducer
+from .fleet_worker import FleetWorker
 from .limits import GREATEST_NUMBER, LONGEST_PAYLOAD, MOST_HELD, SECOND
 from .pauses import Pauses
 from .producer import Producer
@@ -30,8 +34,9 @@ __version__ = "1.1.0"
 
 __all__ = [
     "Again", "AsyncBroker", "AsyncHandler", "AsyncOnDead", "AsyncProducer", "AsyncWorker", "Broker", "BrokerError",
-    "Dead", "Disconnected", "Full", "GREATEST_NUMBER", "Handler", "HeldTooMany", "InDoubt", "Item", "LONGEST_PAYLOAD",
-    "LineRefused", "MOST_HELD", "NotHeld", "NotOffered", "NumberRefused", "Offered", "OnDead", "OutOfMemory", "Pauses",
-    "PayloadRefused", "Producer", "RangeRefused", "RecordTarget", "Refused", "Report", "Request", "SECOND", "Stopped",
-    "SyntaxRefused", "UnknownReply", "Verdict", "Worker", "__version__", "requests",
+    "Dead", "Disconnected", "Fleet", "FleetProducer", "FleetWorker", "Full", "GREATEST_NUMBER", "Handler",
+    "HeldTooMany", "InDoubt", "Item", "LONGEST_PAYLOAD", "LineRefused", "MOST_HELD", "NotHeld", "NotOffered",
+    "NumberRefused", "Offered", "OnDead", "OutOfMemory", "Pauses", "PayloadRefused", "Producer", "RangeRefused",
+    "RecordTarget", "Refused", "Report", "Request", "SECOND", "Server", "Stopped", "SyntaxRefused", "UnknownReply",
+    "Verdict", "Worker", "__version__", "requests",
 ]
