@@ -1,0 +1,253 @@
+package rbbroker.client;
+
+import static java.util.concurrent.TimeUnit.NANOSECONDS;
+
+import java.time.Duration;
+import java.util.concurrent.Delayed;
+import java.util.concurrent.TimeUnit;
+
+/**
+ * An element of a {@link RemoteDelayQueue}: a payload and the delay after which it may be taken.
+ *
+ * <p>A caller makes a job and offers it. From then on the job has the {@link #id} and the {@link #expiry} that the
+ * server gave it. What a queue gives back is another object, since a payload is all that travels: it is
+ * {@linkplain #equals equal} to the one that was offered, not the same. If the queue was told to
+ * {@linkplain Acknowledge#BY_CALL acknowledge by call}, a job that was taken has to be answered, by {@link #done} or
+ * {@link #fail}.
+ *
+ * <p>Jobs can be elements of {@link java.util.concurrent.DelayQueue} too. Any thread may use any job.
+ */
+public final class Job implements Delayed {
+    /** The most that a job which is made may be late. */
+    private static final long LONGEST_AGO = Long.MIN_VALUE / 2;
+
+    private final String payload;
+    /** When it expires by {@link System#nanoTime}, unless a server's queue has it. */
+    private final long deadline;
+    private volatile Place place;
+    private volatile Holding holding;
+
+    /** Where a server's queue has a job, or had it before it was given. */
+    private record Place(ServerClock clock, long id, long expiry, int attempt, boolean hasExpired) {
+        long delay() {
+            long delay = clock.until(expiry);
+            return hasExpired ? Math.min(0, delay) : delay;
+        }
+    }
+
+    /**
+     * Makes a job that may be taken once a delay has passed, counted from now.
+     *
+     * @param delay how long; zero or less means at once
+     * @param unit the unit of the delay
+     * @param payload 1 to 64 characters of printable ASCII, none of which is a space
+     * @throws IllegalArgumentException if the payload is anything else
+     */
+    public Job(long delay, TimeUnit unit, String payload) {
+        this(payload, System.nanoTime() + Math.max(LONGEST_AGO, unit.toNanos(delay)));
+    }
+
+    /**
+     * Makes a job that may be taken once a delay has passed, counted from now.
+     *
+     * @param delay how long; zero or less means at once. One of more than 292 years counts as 292 years
+     * @param payload 1 to 64 characters of printable ASCII, none of which is a space
+     * @throws IllegalArgumentException if the payload is anything else
+     */
+    public Job(Duration delay, String payload) {
+        this(NANOSECONDS.convert(delay), NANOSECONDS, payload);
+    }
+
+    /** Makes a job that expires at this time of {@link System#nanoTime}. */
+    Job(String payload, long deadline) {
+        if (!Limits.isPayload(payload)) {
+            throw new IllegalArgumentException("a payload is 1 to 64 characters of printable ASCII without spaces");
+        }
+        this.payload = payload;
+        this.deadline = deadline;
+    }
+
+    /** Makes a job that a server's queue has shown, or has given. */
+    Job(Element element, ServerClock clock, boolean hasExpired) {
+        payload = element.payload();
+        deadline = 0;
+        place = new Place(clock, element.id(), element.expiry(), element.attempt(), hasExpired);
+    }
+
+    /**
+     * What the job is about.
+     *
+     * @return 1 to 64 characters of printable ASCII, none of which is a space
+     */
+    public String payload() {
+        return payload;
+    }
+
+    /**
+     * The number of this attempt at the server. No other element of its queue ever has the same one: a job that comes
+     * back has a new one.
+     *
+     * @return an unsigned number of 64 bits, as {@link Long#toUnsignedString(long)} reads it
+     * @throws IllegalStateException if the job has not been offered
+     */
+    public long id() {
+        return offeredPlace().id;
+    }
+
+    /**
+     * When the job expires by the server's clock, which counts nanoseconds from 0 on.
+     *
+     * @return an unsigned number of 64 bits, as {@link Long#toUnsignedString(long)} reads it
+     * @throws IllegalStateException if the job has not been offered
+     */
+    public long expiry() {
+        return offeredPlace().expiry;
+    }
+
+    /**
+     * How often the job has been offered: once by its producer, and once for each time that it failed.
+     *
+     * @return 1 for a job that has not failed, 1,000 at most
+     */
+    public int attempt() {
+        Place here = place;
+        return here == null ? 1 : here.attempt;
+    }
+
+    /**
+     * The time until the job may be taken; zero or less once it may. That of a job which was made but not offered
+     * counts from its making. That of any other is told by the server's clock, of which the queue learns from the
+     * replies to its offers, to within the time that one exchange takes. It is never over before it is over at the
+     * server, unless the server has been replaced since the last offer.
+     *
+     * <p>A queue that has neither offered nor taken a job knows no clock yet. The delay of a job that it shows is then
+     * all of its {@link #expiry}, which is the most that it can be. A delay of more than 292 years, which other clients
+     * can offer, is {@link Long#MAX_VALUE} nanoseconds.
+     */
+    @Override
+    public long getDelay(TimeUnit unit) {
+        return unit.convert(delay(), NANOSECONDS);
+    }
+
+    /**
+     * Compares by the delay that is left: of two jobs that one queue offered, showed or gave, the one with the earlier
+     * expiry is less. Two jobs may compare as 0 and not be equal.
+     */
+    @Override
+    public int compareTo(Delayed other) {
+        if (!(other instanceof Job that)) {
+            return Long.compare(delay(), other.getDelay(NANOSECONDS));
+        }
+        Place here = place;
+        Place there = that.place;
+        if (here == null && there == null) {
+            long now = System.nanoTime();
+            return Long.compare(deadline - now, that.deadline - now);
+        }
+        if (here != null && there != null && here.clock == there.clock) {
+            return Long.compareUnsigned(here.expiry, there.expiry);
+        }
+        return Long.compare(delay(), that.delay());
+    }
+
+    /**
+     * The job is finished, and leaves the queue for ever. Nothing happens if it was {@linkplain Acknowledge#ON_TAKE
+     * acknowledged when it was taken}.
+     *
+     * @throws NotHeldException if the job was not taken, or has been answered before
+     * @throws ServerLostException if the session that held the job has ended; in doubt if the server may have heard
+     *         that the job is done, otherwise the job comes back as its next attempt
+     */
+    public void done() {
+        answering().done();
+    }
+
+    /**
+     * The job failed. It is offered again as its next attempt, after the delay that the server was told, unless this
+     * was its last one.
+     *
+     * @return whether the job comes back
+     * @throws NotHeldException if the job was not taken, or has been answered before, or was acknowledged when it was
+     *         taken
+     * @throws FullException if the run takes no job back; the job is gone from the queue
+     * @throws NoMemoryException if the server has no memory for it now; the job is held on, and may be answered again
+     * @throws ServerLostException if the session that held the job has ended, by which the job failed
+     */
+    public boolean fail() {
+        return answering().fail();
+    }
+
+    /**
+     * Whether the other is the same attempt of the same job, or this very object. A job that was not offered equals
+     * none but itself.
+     */
+    @Override
+    public boolean equals(Object other) {
+        if (!(other instanceof Job that)) {
+            return false;
+        }
+        Place here = place;
+        Place there = that.place;
+        return this == that || here != null && there != null && here.id == there.id && here.expiry == there.expiry
+            && here.attempt == there.attempt && payload.equals(that.payload);
+    }
+
+    /** The hash code of the payload, which an offer does not change. */
+    @Override
+    public int hashCode() {
+        return payload.hashCode();
+    }
+
+    /** The payload with the job's id and attempt, if it was offered. */
+    @Override
+    public String toString() {
+        Place here = place;
+        return here == null ? "job " + payload + ", not offered"
+            : "job " + payload + ", id " + Long.toUnsignedString(here.id) + ", attempt " + here.attempt;
+    }
+
+    /** A server's queue has accepted it. */
+    void isOffered(Replies.Placed placed, ServerClock clock) {
+        place = new Place(clock, placed.id(), placed.expiry(), 1, false);
+    }
+
+    /** It was taken, and this answers it. */
+    Job heldBy(Holding answered) {
+        holding = answered;
+        return this;
+    }
+
+    /** The id at the server, or null if it was not offered. */
+    Long idOrNull() {
+        Place here = place;
+        return here == null ? null : here.id;
+    }
+
+    /** When it expires by {@link System#nanoTime}. */
+    long deadline() {
+        Place here = place;
+        return here == null ? deadline : System.nanoTime() + here.delay();
+    }
+
+    /** The nanoseconds until it expires. */
+    private long delay() {
+        Place here = place;
+        return here == null ? deadline - System.nanoTime() : here.delay();
+    }
+
+    private Place offeredPlace() {
+        Place here = place;
+        if (here == null) {
+            throw new IllegalStateException("the job has not been offered");
+        }
+        return here;
+    }
+
+    private Holding answering() {
+        Holding here = holding;
+        if (here == null) {
+            throw new NotHeldException("the job was not taken");
+        }
+        return here;
+    }
+}

@@ -1,0 +1,36 @@
+package rbbroker.client;
+
+/**
+ * There is no server, it serves nobody else at the moment, or it was lost before it answered.
+ *
+ * <p>{@link #isInDoubt} says whether the server may have carried out the call. What a call in doubt may have done:
+ *
+ * <ul>
+ * <li>An offer may have been accepted. Offered again, the job may run twice; if not, it may never run.
+ * <li>A call that takes jobs may have been given some. They fail with their session, and come back to the queue as
+ *     their next attempts, unless these were their last ones.
+ * <li>{@link Job#done} may have been heard. If not, the job comes back.
+ * <li>{@link Job#fail} fails the job either way, since the session that held it has ended.
+ * <li>A removal or a {@code clear} may have been carried out.
+ * </ul>
+ */
+public class ServerLostException extends BrokerException {
+    private static final long serialVersionUID = 1;
+
+    /** Whether the server may have carried out the call. */
+    private final boolean isInDoubt;
+
+    ServerLostException(String text, boolean isInDoubt, Throwable cause) {
+        super(text + (isInDoubt ? "; the call is in doubt" : ""), cause);
+        this.isInDoubt = isInDoubt;
+    }
+
+    /**
+     * Tells whether the call may have been carried out.
+     *
+     * @return true if the server may have carried out the call, false if it surely did not
+     */
+    public boolean isInDoubt() {
+        return isInDoubt;
+    }
+}

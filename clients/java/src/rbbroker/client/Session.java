@@ -1,0 +1,204 @@
+package rbbroker.client;
+
+import java.io.IOException;
+import java.net.ProtocolException;
+import java.net.SocketTimeoutException;
+import java.util.List;
+import java.util.Set;
+import java.util.concurrent.ConcurrentHashMap;
+import java.util.concurrent.TimeUnit;
+import java.util.function.BooleanSupplier;
+
+/**
+ * A session with the server, from its connection to its end. The thread that the pool has lent it to may use it.
+ *
+ * <p>It begins with a request that changes nothing and is no call. The reply shows that a worker of the server serves
+ * this session; before that nothing is asked, and so nothing is in doubt.
+ */
+final class Session {
+    /** How long a thread that may be interrupted waits at a time before it looks. */
+    private static final long LOOK = TimeUnit.MILLISECONDS.toNanos(50);
+    /** How long the reply to {@code QUIT} is waited for, whatever the patience is. */
+    private static final long FAREWELL = TimeUnit.SECONDS.toNanos(2);
+
+    private final Options options;
+    private final Connection connection;
+    private final long begun = System.nanoTime();
+    private final Set<Long> held = ConcurrentHashMap.newKeySet();
+    /** Whether the reply to an offer on this session told the moment. */
+    boolean hasToldMoment;
+    private volatile boolean isFull;
+    private volatile boolean isClosed;
+
+    // The pool's, under its lock.
+    /** Whether a thread uses it. */
+    boolean isLent;
+    /** How many threads wait for this very session, to answer a job that it holds. */
+    int answering;
+    /** The thread that last took jobs on it. */
+    long taker;
+
+    private Session(Options options, Connection connection) {
+        this.options = options;
+        this.connection = connection;
+    }
+
+    /**
+     * Connects, and waits until the session is served, or is no longer wanted. If it is interrupted then, nothing has
+     * been asked.
+     */
+    static Session open(Options options, boolean mayInterrupt, BooleanSupplier isWanted) throws InterruptedException {
+        Connection connection = null;
+        boolean isServed = false;
+        try {
+            connection = Connection.to(options.host(), options.port());
+            Session session = new Session(options, connection);
+            session.awaitService(mayInterrupt, isWanted);
+            isServed = true;
+            return session;
+        } catch (ProtocolException fault) {
+            String text = options.address() + " is no broker: it sent " + fault.getMessage();
+            throw new UnknownReplyException(text, false, fault);
+        } catch (IOException fault) {
+            throw new ServerLostException("no server at " + options.address() + ": " + textOf(fault), false, fault);
+        } finally {
+            if (connection != null && !isServed) {
+                connection.close();
+            }
+        }
+    }
+
+    /**
+     * Asks, and gives the answer. A server that is lost meanwhile leaves the request in doubt if that changes anything.
+     */
+    <T> T ask(Request<T> request) {
+        return ask(request, 0, true);
+    }
+
+    /** Asks for something that changes nothing, so that it is never in doubt. */
+    <T> T look(Request<T> request) {
+        return ask(request, 0, false);
+    }
+
+    /** Asks something that may wait at the server for this long. */
+    <T> T askWaiting(Request<T> request, long wait) {
+        return ask(request, wait, true);
+    }
+
+    /** Asks several requests in one piece. The first that is refused raises its refusal, when all were answered. */
+    void askAll(List<? extends Request<?>> requests) {
+        StringBuilder piece = new StringBuilder();
+        requests.forEach(it -> piece.append(it.line()).append('\n'));
+        Request<RefusedException> all = new Request<>(piece.toString().strip(), lines -> {
+            RefusedException first = null;
+            for (Request<?> it : requests) {
+                try {
+                    it.reader().read(lines);
+                } catch (RefusedException refusal) {
+                    first = first == null ? refusal : first;
+                }
+            }
+            return first;
+        });
+        RefusedException refusal = requests.isEmpty() ? null : ask(all);
+        if (refusal != null) {
+            throw refusal;
+        }
+    }
+
+    /** Ends it in good order, as far as that can be had. The jobs that it holds fail. */
+    void leave() {
+        try {
+            if (!isClosed) {
+                long deadline = System.nanoTime() + Math.min(FAREWELL, options.patience());
+                connection.send("QUIT\n", deadline);
+                Request.quit().reader().read(() -> connection.receiveLine(deadline));
+            }
+        } catch (IOException | RefusedException ignored) {
+            // it has ended in another way
+        } finally {
+            close();
+        }
+    }
+
+    /** Hangs up. */
+    void close() {
+        isClosed = true;
+        connection.close();
+    }
+
+    /** Whether it has ended. If not, it may be lost all the same. */
+    boolean isClosed() {
+        return isClosed;
+    }
+
+    /** Looks whether it is lost, and if so closes it. */
+    boolean isLost() {
+        if (!isClosed && connection.isLost()) {
+            close();
+        }
+        return isClosed;
+    }
+
+    /** Whether it is to be left as soon as it holds no job. */
+    boolean isToBeLeft() {
+        return isFull || System.nanoTime() - begun >= options.longestSession();
+    }
+
+    /** The ids of the jobs that it holds. Other threads may look at them. */
+    Set<Long> held() {
+        return held;
+    }
+
+    private void awaitService(boolean mayInterrupt, BooleanSupplier isWanted) throws IOException, InterruptedException {
+        long deadline = System.nanoTime() + options.patience();
+        Request<Void> greeting = Request.greeting();
+        while (!connection.awaitConnected(LOOK)) {
+            goOn(deadline, mayInterrupt, isWanted, "it does not accept the connection");
+        }
+        connection.send(greeting.line() + "\n", deadline);
+        while (!connection.awaitInput(LOOK)) {
+            goOn(deadline, mayInterrupt, isWanted, "all its workers are busy");
+        }
+        greeting.reader().read(() -> connection.receiveLine(deadline));
+    }
+
+    private static void goOn(long deadline, boolean mayInterrupt, BooleanSupplier isWanted, String why)
+            throws IOException, InterruptedException {
+        if (mayInterrupt && Thread.interrupted()) {
+            throw new InterruptedException();
+        }
+        if (System.nanoTime() - deadline > 0 || !isWanted.getAsBoolean()) {
+            throw new SocketTimeoutException(why);
+        }
+    }
+
+    private <T> T ask(Request<T> request, long wait, boolean mayChange) {
+        long deadline = System.nanoTime() + options.patience() + wait;
+        boolean isAnswered = false;
+        try {
+            connection.send(request.line() + "\n", deadline);
+            T answer = request.reader().read(() -> connection.receiveLine(deadline));
+            isAnswered = true;
+            return answer;
+        } catch (RefusedException refusal) {
+            isAnswered = true;
+            isFull |= refusal instanceof FullException;
+            throw refusal;
+        } catch (ProtocolException fault) {
+            String text = options.address() + " answered '" + fault.getMessage() + "' to " + request.line();
+            throw new UnknownReplyException(text, mayChange, fault);
+        } catch (IOException fault) {
+            String text = "the server at " + options.address() + " was lost after " + request.line();
+            throw new ServerLostException(text + ": " + textOf(fault), mayChange, fault);
+        } finally {
+            if (!isAnswered) {
+                close(); // which line answers which request is no longer known
+            }
+        }
+    }
+
+    private static String textOf(IOException fault) {
+        return fault.getMessage() == null ? fault.getClass().getSimpleName() : fault.getMessage();
+    }
+}
