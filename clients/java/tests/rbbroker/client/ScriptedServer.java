@@ -1,0 +1,145 @@
+package rbbroker.client;
+
+import java.io.BufferedReader;
+import java.io.IOException;
+import java.io.InputStreamReader;
+import java.net.InetAddress;
+import java.net.ServerSocket;
+import java.net.Socket;
+import java.nio.charset.StandardCharsets;
+import java.util.ArrayList;
+import java.util.Collections;
+import java.util.List;
+import java.util.concurrent.ThreadLocalRandom;
+
+/** A server that plays a script for each connection, in the order in which they come, and hangs up at its end. */
+final class ScriptedServer implements AutoCloseable {
+    /** What the server does in one session. */
+    interface Script {
+        void play(Talk talk) throws Exception;
+    }
+
+    private final ServerSocket door;
+    private final List<Throwable> faults = Collections.synchronizedList(new ArrayList<>());
+    private final List<Socket> sockets = Collections.synchronizedList(new ArrayList<>());
+    private final Thread thread;
+
+    ScriptedServer(Script... scripts) throws IOException {
+        door = openDoor();
+        thread = new Thread(() -> playAll(scripts));
+        thread.start();
+    }
+
+    int port() {
+        return door.getLocalPort();
+    }
+
+    /** Waits until all scripts were played to their ends, and throws what went wrong in them. */
+    void finish() throws Exception {
+        thread.join(Server.PATIENCE * 1_000L);
+        if (thread.isAlive() || !faults.isEmpty()) {
+            throw new AssertionError("the scripts were not played: " + faults, faults.isEmpty() ? null : faults.get(0));
+        }
+    }
+
+    @Override
+    public void close() throws IOException {
+        door.close();
+        for (Socket it : sockets) {
+            it.close();
+        }
+    }
+
+    private static ServerSocket openDoor() throws IOException {
+        for (int tries = 0; ; tries++) {
+            try {
+                int port = ThreadLocalRandom.current().nextInt(23_000, 24_000);
+                return new ServerSocket(port, 50, InetAddress.getLoopbackAddress());
+            } catch (IOException inUse) {
+                if (tries == 20) {
+                    throw inUse;
+                }
+            }
+        }
+    }
+
+    private void playAll(Script... scripts) {
+        for (Script script : scripts) {
+            try (Socket socket = door.accept()) {
+                sockets.add(socket);
+                script.play(new Talk(socket));
+            } catch (Exception | AssertionError fault) {
+                faults.add(fault);
+                return;
+            }
+        }
+    }
+
+    /** One session, from the server's side. */
+    static final class Talk {
+        private final Socket socket;
+        private final BufferedReader lines;
+
+        private Talk(Socket socket) throws IOException {
+            this.socket = socket;
+            socket.setTcpNoDelay(true);
+            lines = new BufferedReader(new InputStreamReader(socket.getInputStream(), StandardCharsets.US_ASCII));
+        }
+
+        /** Answers the request by which a client learns that it is served. */
+        Talk greet() throws IOException {
+            return hear("AT 0").say("ERR 1 syntax");
+        }
+
+        /** Expects a line that begins so. */
+        Talk hear(String begin) throws IOException {
+            String line = lines.readLine();
+            if (line == null || !line.startsWith(begin)) {
+                throw new AssertionError("heard " + line + " in place of " + begin);
+            }
+            return this;
+        }
+
+        /** Expects this word with a number of at least 1 and at most {@code most}. */
+        Talk hearNumber(String word, long most) throws IOException {
+            String line = lines.readLine();
+            long number = Long.parseLong(line.replaceFirst("^" + word + " ", ""));
+            if (number < 1 || number > most) {
+                throw new AssertionError("heard " + line);
+            }
+            return this;
+        }
+
+        /** Expects that the client hangs up and says nothing more. */
+        void hearNothing() {
+            String line;
+            try {
+                line = lines.readLine();
+            } catch (IOException reset) {
+                return;
+            }
+            if (line != null) {
+                throw new AssertionError("heard " + line + " in place of the end");
+            }
+        }
+
+        /** Expects that the client leaves. */
+        void hearFarewell() throws IOException {
+            hear("QUIT").say("BYE").hearNothing();
+        }
+
+        Talk say(String line) throws IOException {
+            return sayBytes(line + "\n");
+        }
+
+        Talk sayBytes(String text) throws IOException {
+            socket.getOutputStream().write(text.getBytes(StandardCharsets.ISO_8859_1));
+            return this;
+        }
+
+        /** Ends the connection by a reset. */
+        void reset() throws IOException {
+            socket.setSoLinger(true, 0);
+        }
+    }
+}
