@@ -1,0 +1,250 @@
+"""A file of src/: its types, traits, constants and functions, and what each of them cites.
+
+A contract sees of a type with an `impl Model` the `Value` of that, and of any other its fields or variants. Of a
+function it is the signature and the clauses that count here, and of a trait all but the bodies.
+"""
+from __future__ import annotations
+
+import re
+from typing import Dict, Iterator, List, NamedTuple, Optional, Sequence, Set, Tuple
+
+from defining.definition import Citation, Definition, ImplPath, Key, MemberPath, RustPath
+from defining.free_names import FreeNames, bare
+from defining.imports import Imports
+from defining.rust_types import IMPL, bounds_in, outermost, parameters_of, types_in, uses_in
+from defining.source_text import Item, SourceText, dedented, without_attributes
+from defining.terms import parts_of
+
+TYPES = {"struct", "enum", "trait", "type", "const", "static"}
+AS_TRAIT = re.compile(r"⟦<(\w+)[^⟧]* as (\w+)[^⟧]*>⟧\.(\w+)")
+GHOST_FIELD = re.compile(r"(?:pub )?ghost \w+: \{(.*)\}", re.S)
+
+
+class Function(NamedTuple):
+    """A function with a contract, and the block that it stands in."""
+
+    item: Item
+    owner: str  # its type or trait; empty for one of the file's own
+    scope: "Scope"
+    depth: int
+
+
+class Scope:
+    """What the names of a clause may mean: imports, type parameters with their bounds, and members of a trait."""
+
+    def __init__(self, file: str, imports: Imports) -> None:
+        self.file, self.imports = file, imports
+        self.bounds: Dict[str, Tuple[RustPath, ...]] = {}
+        self.members: Dict[str, Key] = {}
+
+    def within(self, head: str, text: str = "") -> Scope:
+        """The scope in an item with this head, whose body has this text."""
+        inner = Scope(self.file, Imports(self.imports))
+        inner.imports.read(text)
+        inner.bounds = {**self.bounds}
+        for name, traits in bounds_in(head).items():
+            inner.bounds[name] = tuple(RustPath(self.file, it) for it in traits)
+        inner.members = {**self.members}
+        return inner
+
+    def in_term(self, term: str) -> List[Citation]:
+        """What the free names of a term mean, but for those that only the function knows."""
+        given = AS_TRAIT.findall(term)
+        cited: List[Citation] = [ImplPath(RustPath(self.file, (it,)), trait, member) for it, trait, member in given]
+        for word in self.words_in(AS_TRAIT.sub("", term)):
+            cited += self._meaning(word)
+        return cited
+
+    @staticmethod
+    def words_in(term: str) -> List[str]:
+        """The free names of a term."""
+        found = FreeNames(lambda name: False)
+        found.in_term(parts_of(term), set())
+        return found.found
+
+    def _meaning(self, word: str) -> List[Citation]:
+        head, *rest = bare(word).split(".")
+        target = self.imports.target_of(word)
+        if target is not None:
+            return [target]
+        if head in self.members:
+            return [self.members[head]]
+        if rest and head in self.bounds:
+            return [MemberPath(self.bounds[head], tuple(rest))]
+        return [RustPath(self.file, (head,))] if head[:1].isupper() else []
+
+    def in_type(self, text: str) -> List[Citation]:
+        """The types that a text names, but for type parameters."""
+        return [RustPath(self.file, it) for it in types_in(text) if it[0] not in self.bounds]
+
+
+class SourceFile:
+    """What one file of src/ declares."""
+
+    def __init__(self, path: str, text: str) -> None:
+        self.path = path
+        self.uses = {name: names for name, names, _ in uses_in(text)}
+        self.modules: Set[str] = set()
+        self.types: Dict[str, Item] = {}
+        self.functions: Dict[str, Function] = {}
+        self.values: Dict[str, Tuple[Item, Scope]] = {}  # the `impl Model` of a type
+        # What types give for the members of traits, by `TYPE as TRAIT.MEMBER`: the block, its scope, and the member.
+        self.given: Dict[str, Tuple[Item, Scope, Item]] = {}
+        self.implementors: Dict[str, List[str]] = {}  # the types that implement a trait, by its name here
+        self._definitions: Dict[str, Definition] = {}
+        imports = Imports()
+        items = list(SourceText(text).items())
+        for item in items:
+            if item.kind == "ghost use":
+                imports.read(item.code)
+        self._scope = Scope(path, imports)
+        for item in items:
+            self._add(item)
+
+    def _add(self, item: Item) -> None:
+        if item.kind in TYPES:
+            self.types[item.name] = item
+        if item.kind == "mod":
+            self.modules.add(item.name)
+        if item.kind == "fn":
+            self.functions[item.name] = Function(item, "", self._scope, 0)
+        if item.kind == "trait":
+            self._add_functions(item, item.name, self._in_trait(item))
+        if item.kind == "impl":
+            self._add_impl(item)
+
+    def _add_impl(self, item: Item) -> None:
+        found = IMPL.match(item.head)
+        if not found:
+            return
+        name, trait = found["type"], (found["trait"] or "").rpartition("::")[2]
+        scope = self._scope.within(item.head, item.body)
+        if trait == "Model":
+            self.values[name] = item, scope
+            return
+        if trait:
+            self.implementors.setdefault(trait, []).append(name)
+        for member in members_of(item):
+            if member.kind == "ghost":
+                self.given[f"{name} as {trait}.{member.name}"] = item, scope, member
+        self._add_functions(item, name, scope, trait)
+
+    def _add_functions(self, item: Item, owner: str, scope: Scope, trait: str = "") -> None:
+        for member in members_of(item):
+            if member.kind == "fn" and (member.clauses or not trait):
+                self.functions.setdefault(f"{owner}::{member.name}", Function(member, owner, scope, 4))
+
+    def _in_trait(self, item: Item) -> Scope:
+        scope = self._scope.within(item.head, item.body)
+        for member in members_of(item):
+            if member.kind == "ghost":
+                scope.members[member.name] = Key(self.path, item.name)
+        scope.bounds["Self"] = (RustPath(self.path, (item.name,)),)
+        return scope
+
+    def members(self, trait: str) -> Dict[str, List[Tuple[str, ...]]]:
+        """The members of a trait: of an associated type the traits of its bound, of any other member none."""
+        named = members_of(self.types[trait])
+        return {it.name: types_in(it.code.partition(":")[2]) if it.kind == "type" else [] for it in named}
+
+    def definition(self, name: str) -> Optional[Definition]:
+        """The definition of a name, or None if there is none here."""
+        if name not in self._definitions:
+            made = self._define(name)
+            if made is not None:
+                self._definitions[name] = made
+        return self._definitions.get(name)
+
+    def clauses(self, name: str, wanted: Sequence[str]) -> Definition:
+        """A function with all that it requires, and of what it ensures only these clauses, or all if none is named."""
+        function = self.functions[name]
+        kept = [it for it in function.item.clauses if it.kind != "ensures" or not wanted or it.name in wanted]
+        code = "\n    ".join([function.item.head, *(" " * function.depth + it.text for it in kept)])
+        item = function.item._replace(code=code, clauses=tuple(kept))
+        return self._define_function(name, function._replace(item=item))
+
+    def _define(self, name: str) -> Optional[Definition]:
+        if name in self.functions:
+            return self._define_function(name, self.functions[name])
+        if name in self.given:
+            item, scope, member = self.given[name]
+            code = f"{item.head} {{\n    {member.code}\n    ..\n}}"
+            return self._made(name, item, code, scope.in_term(member.code.partition("=")[2]))
+        if name in self.values and name in self.types:
+            return self._define_value(name)
+        if name not in self.types:
+            return None
+        item = self.types[name]
+        code = without_attributes(item.code)
+        if item.kind == "trait":
+            return self._made(name, item, without_bodies(item, code), self._in_members(item))
+        scope = self._scope.within(item.head)
+        return self._made(name, item, code, list(in_fields(item, scope)))
+
+    def _made(self, name: str, item: Item, code: str, cites: List[Citation], comment: str = "") -> Definition:
+        return Definition(Key(self.path, name), item.line, comment or item.comment, code, "", cites)
+
+    def _define_value(self, name: str) -> Definition:
+        """A type that contracts see as a value of another."""
+        model, scope = self.values[name]
+        value = next(it for it in members_of(model) if it.kind == "ghost" and it.name == "Value")
+        item = self.types[name]
+        code = f"{item.head} {{ .. }}\n\n{model.head} {{\n    {value.code}\n    ..\n}}"
+        return self._made(name, item, code, scope.in_term(value.code.partition("=")[2]))
+
+    def _define_function(self, name: str, function: Function) -> Definition:
+        item = function.item
+        scope = function.scope.within(item.head)
+        parameters, result = parameters_of(item.head)
+        owner = {"self": function.owner, "Self": function.owner}
+        named = {**parameters, "result": result, **({"self": function.owner} if "self" in parameters else {})}
+        cites: List[Citation] = []
+        for clause in item.clauses:
+            words = {it.partition(".")[0] for it in scope.words_in(clause.term)}
+            for kind in (named[it] for it in named if it in words):
+                cites += scope.in_type(re.sub(r"\bSelf\b(?!::)", owner["Self"], kind))
+            cites += [it for it in scope.in_term(clause.term) if it != RustPath(self.path, ("Self",))]
+        code = dedented(without_attributes(item.code), function.depth)
+        return self._made(name, item, code, cites)
+
+    def _in_members(self, item: Item) -> List[Citation]:
+        """What the ghost members and the methods of a trait cite."""
+        scope = self._in_trait(item)
+        cites: List[Citation] = []
+        for member in members_of(item):
+            if member.kind == "ghost":
+                cites += scope.in_term(member.code.partition(":")[2].strip()[1:-2])
+        for name, function in self.functions.items():
+            if function.owner == item.name:
+                cites += self._define_function(name, function).cites
+        return [it for it in cites if it != Key(self.path, item.name)]
+
+
+def members_of(item: Item) -> Iterator[Item]:
+    """The items in the body of an item."""
+    return SourceText(item.body, 4, item.body_place).items()
+
+
+def in_fields(item: Item, scope: Scope) -> Iterator[Citation]:
+    """What the fields or variants of a type cite, or the other side of an alias or a constant."""
+    if item.kind in ("type", "const", "static"):
+        yield from scope.in_type(item.code.partition("=" if item.kind == "type" else ":")[2])
+        return
+    body = item.body or item.head.partition("(")[2]
+    plain = re.sub(r"^\s*(//.*|#\[.*\])$", "", body, flags=re.M)
+    for field in outermost(plain, ","):
+        ghost = GHOST_FIELD.match(field.strip())
+        if ghost:
+            yield from scope.in_term(ghost[1].partition("} by {")[0])
+        elif item.kind == "enum":
+            yield from scope.in_type(re.sub(r"^\s*\w+", "", field))
+        else:
+            yield from scope.in_type(field)
+
+
+def without_bodies(item: Item, code: str) -> str:
+    """A trait's code without the bodies of its methods."""
+    for member in members_of(item):
+        if member.kind == "fn" and member.body:
+            code = re.sub(rf"\s*\{{{re.escape(member.body)}\}}", lambda _: ";", code, count=1)
+    return code
