@@ -1,7 +1,7 @@
 """A definition, as a reader of contracts sees it, and the names that it cites."""
 from __future__ import annotations
 
-from typing import List, NamedTuple, Tuple, Union
+from typing import Dict, List, NamedTuple, Tuple, Union
 
 from defining.imports import Target
 
@@ -56,6 +56,7 @@ class Definition(NamedTuple):
     code: str
     section: str  # the head of the `module _` block around it, if it stands in one
     cites: List[Citation]
+    renamed: Dict[str, str]  # names in it that stand for names of other modules, or for modules
 
     @property
     def language(self) -> str:

@@ -15,12 +15,12 @@ A page shows exactly the definitions that its clauses rest on: it is refused if 
 from __future__ import annotations
 
 import re
-from typing import Dict, Iterator, List, NamedTuple, Set, Tuple
+from typing import Dict, Iterator, List, NamedTuple, Set
 
-from defining.calls import full_name, meant_by
+from defining.calls import full_name, meant_by, names_of
 from defining.closure import Closure
 from defining.definition import Definition, Key, RustPath
-from defining.listing import outside_of, text_of
+from defining.listing import meanings_of, outside_of, text_of
 from defining.tree import Tree
 
 PAGE = "docs/HEADLINE.md"
@@ -72,12 +72,22 @@ class Headline:
         self._closure = Closure(tree, calls, calls, beyond)
         self._needed = {*self._closure.definitions} - {*calls} - {*beyond}
         self._shown: Set[Key] = set()
+        self._said: Dict[str, str] = {}
         self._rows = ROW.findall(text)
 
     def _key(self, name: str) -> Key:
         found = meant_by(self._tree, name)
         if len(found) != 1:
             raise Unwritable(f"{name} is " + (" or ".join(map(full_name, found)) or "nowhere"))
+        return found[0]
+
+    def _needed_key(self, name: str) -> Key:
+        """The definition of this name among those that the page has to show."""
+        names = tuple(name.split("::"))
+        found = [it for it in self._needed if names_of(it)[-len(names):] == names]
+        if len(found) != 1:
+            which = " or ".join(sorted(map(full_name, found)))
+            raise Unwritable(f"{name} is {which}" if found else f"no clause rests on {name}")
         return found[0]
 
     def _calls(self, orders: List[Order]) -> Dict[Key, Definition]:
@@ -118,7 +128,7 @@ class Headline:
         if order.word == "@clauses":
             return list(self._clauses(order))
         if order.word == "@definitions":
-            return list(self._definitions(order))
+            return self._definitions(order)
         if order.word == "@implementors":
             return list(self._implementors(order))
         if order.word == "@totals":
@@ -135,18 +145,26 @@ class Headline:
         definition = self._with_clauses(key, order.names[1:])
         yield from [f"{link_to(key)} `{key.name}`", "", "```rust", definition.code, "```"]
 
-    def _definitions(self, order: Order) -> Iterator[str]:
-        roots = [self._key(it) for it in order.names]
-        unneeded = [full_name(it) for it in roots if it not in self._needed]
-        if unneeded:
-            raise Unwritable(f"no clause rests on {', '.join(unneeded)}")
+    def _definitions(self, order: Order) -> List[str]:
+        roots = [self._needed_key(it) for it in order.names]
         keys = self._closure.lowest_first((self._closure.below(roots) & self._needed) - self._shown)
         self._shown.update(keys)
-        for path, group in in_files(keys):
+        blocks = []
+        for group in in_files(keys):
             definitions = [self._closure.definitions[it] for it in group]
             sections = ["", *(it.section for it in definitions)]
             texts = [text_of(it, above) for it, above in zip(definitions, sections)]
-            yield from [link_to(group[0]), "", f"```{definitions[0].language}", "\n\n".join(texts), "```", ""]
+            renamed = ", ".join(meanings_of(self._not_said(definitions), "`"))
+            place = link_to(group[0]) + (f", where {renamed}" if renamed else "")
+            blocks.append("\n".join([place, "", f"```{definitions[0].language}", "\n\n".join(texts), "```"]))
+        return "\n\n".join(blocks).split("\n")
+
+    def _not_said(self, definitions: List[Definition]) -> Dict[str, str]:
+        """What these definitions mean by names of their files' own, as far as no block above says the same."""
+        renamed = {local: full for it in definitions for local, full in it.renamed.items()}
+        found = {local: full for local, full in renamed.items() if self._said.get(local) != full}
+        self._said.update(found)
+        return found
 
     def _implementors(self, order: Order) -> Iterator[str]:
         trait = self._key(order.names[0])
@@ -163,7 +181,8 @@ class Headline:
                 raise Unwritable(f"no clause rests on {full_name(key)}")
             more = {*Closure(self._tree, [key]).definitions} - self._needed - {key}
             lines = sum(it.lines for it in map(self._tree.definition, more) if it)
-            yield f"- `{key.name}`, {link_to(key)}; it rests on {len(more)} definitions more, of {lines} lines."
+            rests = f"; it rests on {len(more)} more, of {lines} lines" if more else ""
+            yield f"- `{key.name}`, {link_to(key)}{rests}"
 
     def _outside(self) -> List[str]:
         """Nothing, if the text has a row for each name of a library, and for no other."""
@@ -176,16 +195,16 @@ class Headline:
         return []
 
 
-def in_files(keys: List[Key]) -> Iterator[Tuple[str, List[Key]]]:
+def in_files(keys: List[Key]) -> Iterator[List[Key]]:
     """The keys, those of one file that follow each other together."""
     group: List[Key] = []
     for key in keys:
         if group and key.path != group[-1].path:
-            yield group[0].path, group
+            yield group
             group = []
         group.append(key)
     if group:
-        yield group[0].path, group
+        yield group
 
 
 def link_to(key: Key) -> str:

@@ -2,7 +2,7 @@
 from __future__ import annotations
 
 import re
-from typing import Dict, NamedTuple, Optional
+from typing import Dict, Iterable, NamedTuple, Optional
 
 IMPORT = re.compile(r"^[ \t]*(pub )?(?:ghost )?use ([\w.\-]+?)(?:\.\{([^}]*)\}| as (\S+?))?;?[ \t]*$", re.M)
 
@@ -50,6 +50,17 @@ class Imports:
     def _add_name(self, local: str, target: Target) -> None:
         self.names[local] = target
         self._operators.update({part: local for part in local.split("◌") if part and "◌" in local})
+
+    def renamed(self, words: Iterable[str]) -> Dict[str, str]:
+        """Those names of these words that stand for another name, or for a module of another name, which gets a dot."""
+        found: Dict[str, str] = {}
+        for word in words:
+            head, _, rest = word.partition(".")
+            if rest and head in self.modules:
+                found[head] = f"{self.modules[head]}."
+            elif head in self.names:
+                found[head] = str(self.names[head])
+        return {local: full for local, full in found.items() if full.rstrip(".").rpartition(".")[2] != local}
 
     def target_of(self, word: str) -> Optional[Target]:
         """What a word means, by itself, as a part of an operator, or through a module; None if no import brings it."""

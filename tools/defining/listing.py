@@ -1,6 +1,7 @@
 """Definitions as text: each with its comment and its place, and at the end what they come to."""
 from __future__ import annotations
 
+import re
 from typing import Dict, Iterable, Iterator, List
 
 from defining.closure import Closure
@@ -20,8 +21,26 @@ def listing_of(closure: Closure, root: Key) -> Iterator[str]:
 
 
 def block_of(definition: Definition, section: str = "") -> str:
-    """A definition as it stands in its file, below its place; without the head of its block if that is this one."""
-    return f"{definition.key.path}:{definition.line}\n{text_of(definition, section)}\n"
+    """A definition below its place and what its own names mean; without the head of its block if that is this one."""
+    renamed = ", ".join(meanings_of(definition.renamed))
+    place = f"{definition.key.path}:{definition.line}" + (f" ({renamed})" if renamed else "")
+    return f"{place}\n{text_of(definition, section)}\n"
+
+
+def meanings_of(renamed: Dict[str, str], mark: str = "") -> Iterator[str]:
+    """What names mean that a file has given to others' modules and names. Each is put between marks."""
+    for local, full in renamed.items():
+        if full.endswith(".TheVariants."):
+            yield f"{mark}{local}.{mark} stands before variants of {mark}{full.split('.')[-3]}{mark}"
+        elif full.endswith("."):
+            yield f"{mark}{local}.{mark} stands before names of {mark}{plain(full[:-1])}{mark}"
+        else:
+            yield f"{mark}{local}{mark} is {mark}{plain(full)}{mark}"
+
+
+def plain(name: str) -> str:
+    """A name without the word that stands before each in imports."""
+    return re.sub(r"^Rattle\.", "", name)
 
 
 def text_of(definition: Definition, section: str = "") -> str:
@@ -46,5 +65,5 @@ def outside_of(closure: Closure, keys: Iterable[Key]) -> Dict[str, List[str]]:
     found: Dict[str, List[str]] = {}
     for name in sorted({it for key in keys for it in closure.ends_at[key]}):
         module, _, last = name.rpartition(".")
-        found.setdefault(module.replace("Rattle.", "", 1), []).append(last)
+        found.setdefault(plain(module), []).append(last)
     return found

@@ -181,8 +181,9 @@ class SourceFile:
         scope = self._scope.within(item.head)
         return self._made(name, item, code, list(in_fields(item, scope)))
 
-    def _made(self, name: str, item: Item, code: str, cites: List[Citation], comment: str = "") -> Definition:
-        return Definition(Key(self.path, name), item.line, comment or item.comment, code, "", cites)
+    def _made(self, name: str, item: Item, code: str, cites: List[Citation]) -> Definition:
+        renamed = self._scope.imports.renamed(Scope.words_in(code))
+        return Definition(Key(self.path, name), item.line, item.comment, code, "", cites, renamed)
 
     def _define_value(self, name: str) -> Definition:
         """A type that contracts see as a value of another."""

@@ -91,7 +91,6 @@ abbrev pub height : ℕ → ℕ
 height n = n
 ```
 
-
 Then:
 
 [rb_low/specs/Heights.antt](../crates/rb_low/specs/Heights.antt)
@@ -101,7 +100,6 @@ Then:
 abbrev pub IsHigh : ℕ → Type 0
 IsHigh n = 1 ≤ height n
 ```
-
 
 
 | Name | |
@@ -147,14 +145,14 @@ class HeadlinePage(InCrates):
 
     def test_a_definition_is_not_needed(self) -> None:
         text = TEXT.replace("@definitions IsHigh", "@definitions IsHigh IsFar")
-        self.refused(text, "no clause rests on rb_low::Heights::IsFar")
+        self.refused(text, "no clause rests on IsFar")
 
     def test_a_definition_that_is_not_opened(self) -> None:
         text = TEXT.replace(" high\n", "\n").replace("@totals", "@beyond IsHere")
         self.text.write_text(text, encoding="utf-8")
         self.assertEqual(0, self.run_command("--headline").returncode)
         page = self.page.read_text(encoding="utf-8")
-        line = f"- `IsHere`, {LINK}; it rests on 1 definitions more, of 2 lines."
+        line = f"- `IsHere`, {LINK}; it rests on 1 more, of 2 lines\n"
         self.assertIn(line, page)
         self.assertNotIn("IsFar", page)
         self.page.unlink()

@@ -3,6 +3,7 @@ from __future__ import annotations
 
 from typing import Set
 
+from defining.listing import meanings_of
 from defining.tests.support import InCrates
 
 SHELF = """-- Shelves.
@@ -76,6 +77,20 @@ class Specs(InCrates):
         for name in ("IsBroad", "widths.IsWide", "Rattle.rb_shelf.specs.Width.IsWide"):
             with self.subTest(name):
                 self.assertEqual({"IsWide"}, self.cites(f"abbrev pub f : ℕ → Type 0\nf n = {name} n\n"))
+
+    def test_names_of_the_file_s_own(self) -> None:
+        text = "abbrev pub f : ℕ → ℕ\nf Thin = IsBroad width\nf kinds.Thick = widths.width 1\n"
+        self.write({"rb_shelf/specs/Shelf.antt": SHELF + text})
+        closure = self.closure("rb_shelf/specs/Shelf.antt", "f")
+        definition = next(it for it in closure.definitions.values() if it.key.name == "f")
+        self.assertEqual(
+            {
+                "IsBroad is rb_shelf.specs.Width.IsWide",
+                "kinds. stands before variants of Kind",
+                "widths. stands before names of rb_shelf.specs.Width",
+            },
+            {*meanings_of(definition.renamed)},
+        )
 
     def test_binders_hide_a_name(self) -> None:
         for term in (
