@@ -8,15 +8,13 @@ from __future__ import annotations
 import re
 from typing import Dict, Iterator, List, NamedTuple, Optional, Sequence, Set, Tuple
 
-from defining.definition import Citation, Definition, ImplPath, Key, MemberPath, RustPath
-from defining.free_names import FreeNames, bare
+from defining.definition import Citation, Definition, Key, RustPath
 from defining.imports import Imports
-from defining.rust_types import IMPL, bounds_in, outermost, parameters_of, types_in, uses_in
+from defining.rust_types import IMPL, outermost, parameters_of, types_in, uses_in
+from defining.scope import Scope, words_in
 from defining.source_text import Item, SourceText, dedented, without_attributes
-from defining.terms import parts_of
 
 TYPES = {"struct", "enum", "trait", "type", "const", "static"}
-AS_TRAIT = re.compile(r"⟦<(\w+)[^⟧]* as (\w+)[^⟧]*>⟧\.(\w+)")
 GHOST_FIELD = re.compile(r"(?:pub )?ghost \w+: \{(.*)\}", re.S)
 
 
@@ -25,57 +23,8 @@ class Function(NamedTuple):
 
     item: Item
     owner: str  # its type or trait; empty for one of the file's own
-    scope: "Scope"
+    scope: Scope
     depth: int
-
-
-class Scope:
-    """What the names of a clause may mean: imports, type parameters with their bounds, and members of a trait."""
-
-    def __init__(self, file: str, imports: Imports) -> None:
-        self.file, self.imports = file, imports
-        self.bounds: Dict[str, Tuple[RustPath, ...]] = {}
-        self.members: Dict[str, Key] = {}
-
-    def within(self, head: str, text: str = "") -> Scope:
-        """The scope in an item with this head, whose body has this text."""
-        inner = Scope(self.file, Imports(self.imports))
-        inner.imports.read(text)
-        inner.bounds = {**self.bounds}
-        for name, traits in bounds_in(head).items():
-            inner.bounds[name] = tuple(RustPath(self.file, it) for it in traits)
-        inner.members = {**self.members}
-        return inner
-
-    def in_term(self, term: str) -> List[Citation]:
-        """What the free names of a term mean, but for those that only the function knows."""
-        given = AS_TRAIT.findall(term)
-        cited: List[Citation] = [ImplPath(RustPath(self.file, (it,)), trait, member) for it, trait, member in given]
-        for word in self.words_in(AS_TRAIT.sub("", term)):
-            cited += self._meaning(word)
-        return cited
-
-    @staticmethod
-    def words_in(term: str) -> List[str]:
-        """The free names of a term."""
-        found = FreeNames(lambda name: False)
-        found.in_term(parts_of(term), set())
-        return found.found
-
-    def _meaning(self, word: str) -> List[Citation]:
-        head, *rest = bare(word).split(".")
-        target = self.imports.target_of(word)
-        if target is not None:
-            return [target]
-        if head in self.members:
-            return [self.members[head]]
-        if rest and head in self.bounds:
-            return [MemberPath(self.bounds[head], tuple(rest))]
-        return [RustPath(self.file, (head,))] if head[:1].isupper() else []
-
-    def in_type(self, text: str) -> List[Citation]:
-        """The types that a text names, but for type parameters."""
-        return [RustPath(self.file, it) for it in types_in(text) if it[0] not in self.bounds]
 
 
 class SourceFile:
@@ -182,7 +131,7 @@ class SourceFile:
         return self._made(name, item, code, list(in_fields(item, scope)))
 
     def _made(self, name: str, item: Item, code: str, cites: List[Citation]) -> Definition:
-        renamed = self._scope.imports.renamed(Scope.words_in(code))
+        renamed = self._scope.imports.renamed(words_in(code))
         return Definition(Key(self.path, name), item.line, item.comment, code, "", cites, renamed)
 
     def _define_value(self, name: str) -> Definition:
@@ -197,14 +146,14 @@ class SourceFile:
         item = function.item
         scope = function.scope.within(item.head)
         parameters, result = parameters_of(item.head)
-        owner = {"self": function.owner, "Self": function.owner}
-        named = {**parameters, "result": result, **({"self": function.owner} if "self" in parameters else {})}
+        types = {**parameters, "result": result}
+        hidden = {*types, *(it.name for it in item.clauses if it.kind == "ghost")}
         cites: List[Citation] = []
         for clause in item.clauses:
-            words = {it.partition(".")[0] for it in scope.words_in(clause.term)}
-            for kind in (named[it] for it in named if it in words):
-                cites += scope.in_type(re.sub(r"\bSelf\b(?!::)", owner["Self"], kind))
-            cites += [it for it in scope.in_term(clause.term) if it != RustPath(self.path, ("Self",))]
+            words = {it.partition(".")[0] for it in words_in(clause.term)}
+            for kind in (types[it] for it in types if it in words):
+                cites += scope.in_type(re.sub(r"\bSelf\b(?!::)", function.owner, kind))
+            cites += scope.in_term(clause.term, hidden)
         code = dedented(without_attributes(item.code), function.depth)
         return self._made(name, item, code, cites)
 

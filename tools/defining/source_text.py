@@ -123,5 +123,5 @@ def without_attributes(code: str) -> str:
 
 
 def dedented(code: str, depth: int) -> str:
-    """The code with this many spaces fewer before each line but the first."""
-    return re.sub(rf"\n {{1,{depth}}}(?=\S| )", lambda it: "\n" + it[0][1 + depth:], code) if depth else code
+    """The code with this many spaces fewer before each line that begins with them."""
+    return re.sub(rf"^ {{{depth}}}", "", code, flags=re.M)

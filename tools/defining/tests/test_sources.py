@@ -159,6 +159,11 @@ class Sources(InCrates):
         cited = self.cited("rb_low/src/shelf.rt", "Shelf::put")
         self.assertEqual({"IsHigh", "Shelf", "Fault"}, cited)
 
+    def test_parameters_hide_a_name(self) -> None:
+        text = SHELF.replace("book: u64", "IsHigh: u64").replace("IsHigh book", "IsHigh ≡ 1")
+        self.write({"rb_low/src/shelf.rt": text})
+        self.assertEqual({"Shelf", "Fault"}, self.cited("rb_low/src/shelf.rt", "Shelf::put"))
+
     def test_a_constant_that_the_code_sees(self) -> None:
         self.assertEqual({"MOST"}, self.cited("rb_low/src/shelf.rt", "Shelf::count"))
 
