@@ -26,6 +26,7 @@ def full_name(key: Key) -> str:
 
 
 def names_of(key: Key) -> Tuple[str, ...]:
+    """The parts of that name."""
     _, crate, part, *path = key.path.rpartition(".")[0].split("/")
     return (crate, *(path if part == "specs" else []), *key.name.split("::"))
 
@@ -38,16 +39,19 @@ def is_public(file: SourceFile, name: str) -> bool:
 
 
 def public_calls(tree: Tree) -> Iterator[Tuple[Key, Tuple[str, ...]]]:
+    """Functions that others may call, laws among them, with the parts of their names."""
     for file in sources(tree):
         yield from named(Key(file.path, it) for it in file.functions if is_public(file, it))
 
 
 def private_functions(tree: Tree) -> Iterator[Tuple[Key, Tuple[str, ...]]]:
+    """All other functions."""
     for file in sources(tree):
         yield from named(Key(file.path, it) for it in file.functions if not is_public(file, it))
 
 
 def others(tree: Tree) -> Iterator[Tuple[Key, Tuple[str, ...]]]:
+    """Types, constants and the definitions of specs/."""
     for file in sources(tree):
         yield from named(Key(file.path, it) for it in file.types)
     for crate in tree.crates:
@@ -57,9 +61,11 @@ def others(tree: Tree) -> Iterator[Tuple[Key, Tuple[str, ...]]]:
 
 
 def named(keys: Iterator[Key]) -> Iterator[Tuple[Key, Tuple[str, ...]]]:
+    """Definitions with the parts of their names."""
     yield from ((key, names_of(key)) for key in keys)
 
 
 def sources(tree: Tree) -> Iterator[SourceFile]:
+    """The files of src/ of all crates."""
     for crate in tree.crates:
         yield from tree.sources(crate)

@@ -15,12 +15,13 @@ A page shows exactly the definitions that its clauses rest on: it is refused if 
 from __future__ import annotations
 
 import re
-from typing import Dict, Iterator, List, NamedTuple, Set
+from typing import Dict, Iterator, List, NamedTuple, Optional, Set
 
 from defining.calls import full_name, meant_by, names_of
 from defining.closure import Closure
 from defining.definition import Definition, Key, RustPath
 from defining.listing import meanings_of, outside_of, text_of
+from defining.source_text import Clause
 from defining.tree import Tree
 
 PAGE = "docs/HEADLINE.md"
@@ -40,7 +41,8 @@ class Order(NamedTuple):
     names: List[str]
 
 
-def order_of(line: str) -> "Order | None":
+def order_of(line: str) -> Optional[Order]:
+    """The order that a line gives, or None if it stands for itself."""
     word, *names = line.split() if line.startswith("@") else [""]
     return Order(word, names) if word else None
 
@@ -68,7 +70,6 @@ class Headline:
         beyond = [self._key(name) for it in orders if it.word == "@beyond" for name in it.names]
         calls = self._calls([it for it in orders if it.word == "@clauses"])
         self._calls_shown = {*calls}
-        self._beyond = {*beyond}
         self._closure = Closure(tree, calls, calls, beyond)
         self._needed = {*self._closure.definitions} - {*calls} - {*beyond}
         self._shown: Set[Key] = set()
@@ -76,6 +77,7 @@ class Headline:
         self._rows = ROW.findall(text)
 
     def _key(self, name: str) -> Key:
+        """The one definition that a name means."""
         found = meant_by(self._tree, name)
         if len(found) != 1:
             raise Unwritable(f"{name} is " + (" or ".join(map(full_name, found)) or "nowhere"))
@@ -98,13 +100,15 @@ class Headline:
             wanted.setdefault(key, []).extend(order.names[1:] or [it.name for it in self._clauses_of(key)])
         return {key: self._with_clauses(key, names) for key, names in wanted.items()}
 
-    def _clauses_of(self, key: Key) -> list:
+    def _clauses_of(self, key: Key) -> List[Clause]:
+        """What a function ensures."""
         source = self._tree.source(key.path)
         if source is None or key.name not in source.functions:
             raise Unwritable(f"{full_name(key)} is no function")
         return [it for it in source.functions[key.name].item.clauses if it.kind == "ensures"]
 
     def _with_clauses(self, key: Key, names: List[str]) -> Definition:
+        """A function with these clauses."""
         unknown = {*names} - {it.name for it in self._clauses_of(key)}
         source = self._tree.source(key.path)
         if unknown or source is None:
@@ -141,11 +145,13 @@ class Headline:
         return list(self._left_out(order))
 
     def _clauses(self, order: Order) -> Iterator[str]:
+        """A call with the clauses that are asked for."""
         key = self._key(order.names[0])
         definition = self._with_clauses(key, order.names[1:])
         yield from [f"{link_to(key)} `{key.name}`", "", "```rust", definition.code, "```"]
 
     def _definitions(self, order: Order) -> List[str]:
+        """Definitions that do not stand above, a block for those of one file that follow each other."""
         roots = [self._needed_key(it) for it in order.names]
         keys = self._closure.lowest_first((self._closure.below(roots) & self._needed) - self._shown)
         self._shown.update(keys)
@@ -167,6 +173,7 @@ class Headline:
         return found
 
     def _implementors(self, order: Order) -> Iterator[str]:
+        """A line for each type that implements the trait."""
         trait = self._key(order.names[0])
         for crate in self._tree.crates:
             for source in () if crate.endswith("_tests") else self._tree.sources(crate):
@@ -175,6 +182,7 @@ class Headline:
                         yield from (f"- `{it}`, {link_to(Key(source.path, it))}" for it in types)
 
     def _left_out(self, order: Order) -> Iterator[str]:
+        """A line for each definition that is not opened."""
         for name in order.names:
             key = self._key(name)
             if key not in self._closure.definitions:

@@ -53,6 +53,7 @@ def links_to(words: str, keys: List[Key]) -> Iterator[str]:
 
 
 def link_to(key: Key, text: str) -> str:
+    """A link to a definition of the page."""
     return f'<a href="#{anchor_of(key)}">{escape(text)}</a>'
 
 

@@ -5,7 +5,7 @@ import re
 from typing import Dict, Iterator, List, Tuple
 
 TYPE = re.compile(r"(?:\b[a-z]\w*::)*\b[A-Z]\w*(?:::[A-Z]\w*)*")
-USE = re.compile(r"^ *(pub )?use ([^;]+);", re.M)
+USE = re.compile(r"^ *(?:pub )?use ([^;]+);", re.M)
 IMPL = re.compile(r"impl(?:<[^{]*?>)? (?:(?P<trait>[\w:]+)(?:<[^{]*>)? for )?(?P<type>[\w:]+)")
 
 
@@ -38,13 +38,13 @@ def parameters_of(head: str) -> Tuple[Dict[str, str], str]:
     return types, head[end + 1:].replace("->", "", 1).strip()
 
 
-def uses_in(text: str) -> Iterator[Tuple[str, Tuple[str, ...], bool]]:
-    """What the `use` lines of a file bring in: the name, its path, and whether the file hands it on."""
+def uses_in(text: str) -> Iterator[Tuple[str, Tuple[str, ...]]]:
+    """What the `use` lines of a file bring in: each name with its path."""
     for found in USE.finditer(text):
-        for path in paths_of(re.sub(r"\s+", " ", found[2]).strip()):
+        for path in paths_of(re.sub(r"\s+", " ", found[1]).strip()):
             path, _, alias = path.partition(" as ")
             names = tuple(it for it in path.split("::") if it != "self")
-            yield alias or names[-1], names, bool(found[1])
+            yield alias or names[-1], names
 
 
 def paths_of(tree: str) -> Iterator[str]:

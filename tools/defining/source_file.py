@@ -32,7 +32,7 @@ class SourceFile:
 
     def __init__(self, path: str, text: str) -> None:
         self.path = path
-        self.uses = {name: names for name, names, _ in uses_in(text)}
+        self.uses = dict(uses_in(text))
         self.modules: Set[str] = set()
         self.types: Dict[str, Item] = {}
         self.functions: Dict[str, Function] = {}

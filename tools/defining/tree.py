@@ -47,6 +47,7 @@ class Tree:
         return self._sources[path]
 
     def _text(self, path: str) -> Optional[str]:
+        """What stands in a file, or None if there is none."""
         place = self.top / path
         return place.read_text(encoding="utf-8") if place.is_file() else None
 
@@ -89,7 +90,7 @@ class Tree:
 
     def _of_target(self, target: Target) -> Tuple[List[Key], List[str]]:
         parts = target.module.split(".")
-        if parts[0] != "Rattle" or parts[1] not in self.crates or parts[2] != "specs":
+        if parts[0] != "Rattle" or parts[1] not in self.crates or parts[2:3] != ["specs"]:
             return [], [str(target)]
         found = self._declared(parts[1], parts[4:], target.name) if parts[3:4] in (["declared"], ["contracts"]) \
             else self._specified(target)
@@ -106,6 +107,7 @@ class Tree:
         return Key(self._module_path(crate, path[:-1]), path[-1]) if path else None
 
     def _specified(self, target: Target) -> Optional[Key]:
+        """The definition of specs/ that a name means, there or in the file that hands it on."""
         path = self._spec_path(target.module)
         file = self.spec(path) if path else None
         if file is None or path is None:
@@ -164,6 +166,7 @@ class Tree:
 
     @staticmethod
     def _names_of(file: str) -> List[str]:
+        """The module that a file of src/ is, as the names that lead to it."""
         names = file.rpartition(".")[0].split("/")[3:]
         return [] if names in (["lib"], ["main"]) else names
 
