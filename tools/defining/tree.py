@@ -158,10 +158,10 @@ class Tree:
         """The item that these names lead to from a module of a crate on."""
         file = self._module_path(crate, modules)
         source = self.source(file)
-        if source is None or not names:
-            return None
-        if len(names) > 1 and names[0] in source.modules:
+        if source and len(names) > 1 and names[0] in source.modules:
             return self._below(crate, [*modules, names[0]], names[1:])
+        if source is None or not names or not {names[0]} & {*source.types, *source.uses, *source.functions}:
+            raise Unknown(f"{file} has no {'::'.join(names)}")
         return self._of_path(RustPath(file, tuple(names)))
 
     @staticmethod

@@ -2,6 +2,7 @@
 from __future__ import annotations
 
 from defining.tests.support import InCrates
+from defining.tree import Unknown
 
 SPECS = """use Rattle.std.specs.Prelude.{ℕ}
 
@@ -209,6 +210,12 @@ class Sources(InCrates):
         fault = next(it for it in definitions if it.key.name == "Fault")
         self.assertNotIn("#[", fault.comment + fault.code)
         self.assertIn("    /// There is no room.\n    Full,\n    Broken(Cause),", fault.code)
+
+    def test_a_type_that_is_nowhere(self) -> None:
+        text = SHELF.replace("{Fault, Unseen}", "{Lost as Fault, Unseen}")
+        self.write({"rb_low/src/shelf.rt": text})
+        with self.assertRaisesRegex(Unknown, "crates/rb_low/src/faults.rt has no Lost"):
+            self.closure("rb_low/src/shelf.rt", "Shelf::put")
 
     def test_what_another_crate_hands_on(self) -> None:
         self.write({"rb_high/src/lib.rt": HIGH})
