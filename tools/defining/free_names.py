@@ -29,18 +29,33 @@ class FreeNames:
             self._in_piece(piece, {*bound})
 
     def in_binders(self, parts: List[Part], bound: Set[str]) -> None:
-        """Those of the parameters before a `where`, or of patterns; the names that they bind are added to `bound`."""
+        """Those of the parameters of a `λ` or before a `where`, which are added to `bound`."""
         for part in parts:
             if isinstance(part, Group):
-                typed = binder_of(part)
-                self.in_term(part.parts[len(typed) + 1:] if typed else [], bound)
-                self.in_binders(list(typed or inside_of(part)), bound)
+                self._in_binder(part, bound)
+            elif part not in RESERVED:
+                bound.add(bare(part))
+
+    def in_patterns(self, parts: List[Part], bound: Set[str]) -> None:
+        """Those of patterns: the names of constructors. Any other name is added to `bound`."""
+        for part in parts:
+            if isinstance(part, Group):
+                self._in_binder(part, bound)
             elif part.startswith(".") or part in RESERVED or part[0].isdigit():
                 continue
             elif "." in part or self._is_constructor(part):
                 self._cite(part, bound)
             else:
                 bound.add(bare(part))
+
+    def _in_binder(self, group: Group, bound: Set[str]) -> None:
+        """Those of `(x y : T)`, or of a pattern in brackets."""
+        names = binder_of(group)
+        if names is None:
+            self.in_patterns(inside_of(group), bound)
+            return
+        self.in_term(group.parts[len(names) + 1:], bound)
+        bound.update(bare(name) for name in names)
 
     def _cite(self, word: str, bound: Set[str]) -> None:
         head = word.partition(".")[0]
@@ -51,7 +66,7 @@ class FreeNames:
         """Those of a term without a comma. A binder's names are bound up to its end."""
         rest = iter(parts)
         if "↦" in parts:
-            self.in_binders(list(up_to(rest, "↦")), bound)
+            self.in_patterns(list(up_to(rest, "↦")), bound)
         for part in rest:
             if isinstance(part, Group):
                 self._in_group(part, bound)
@@ -63,10 +78,8 @@ class FreeNames:
                 self._cite(part, bound)
 
     def _in_group(self, group: Group, bound: Set[str]) -> None:
-        names = binder_of(group)
-        if names:
-            self.in_term(group.parts[len(names) + 1:], bound)
-            bound.update(bare(name) for name in names)
+        if binder_of(group):
+            self._in_binder(group, bound)
             return
         for piece in split_at(group.parts, ",;|"):
             labelled = group.opening == "{" and len(piece) > 1 and piece[1] == "="

@@ -108,7 +108,7 @@ def in_clauses(piece: Piece, found: FreeNames, bound: Set[str]) -> None:
         parts = parts_of(clause)
         place = parts.index("=") if "=" in parts else 0
         within = {*bound}
-        found.in_binders(parts[1:place], within)
+        found.in_patterns(parts[1:place], within)
         found.in_term(parts[place + 1:], within)
 
 

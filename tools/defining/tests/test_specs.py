@@ -132,6 +132,12 @@ class Specs(InCrates):
         self.assertEqual({"Kind"}, self.cites("abbrev pub f : ℕ → ℕ\nf Thin = 1\nf kinds.Thick = 2\n"))
         self.assertEqual({"Change"}, self.cites("abbrev pub f : ℕ → ℕ\nf (puts book) = book\n"))
 
+    def test_a_plain_binder_hides_a_constructor(self) -> None:
+        for term in ("λ empties. empties", "(empties : ℕ) → empties", "λ (empties : ℕ). empties", "let empties = 1 in empties"):
+            with self.subTest(term):
+                self.assertEqual(set(), self.cites(f"abbrev pub f : ℕ → ℕ\nf n = {term}\n"))
+        self.assertEqual({"Change"}, self.cites("abbrev pub f : ℕ → ℕ\nf n = λ (empties, m). m\n"))
+
     def test_a_clause_binds_for_itself_alone(self) -> None:
         self.assertEqual({"width"}, self.cites("abbrev pub f : ℕ → ℕ → ℕ\nf width 0 = width\nf n m = width\n"))
 
