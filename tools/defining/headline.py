@@ -2,7 +2,8 @@
 
 A line of the text that begins with `@` stands for what the sources say:
 
-    @clauses CALL [NAME ..]     the call, with what it requires and of what it ensures these clauses, or all
+    @clauses CALL [NAME ..]     the call, with what it requires and of what it ensures these clauses, or all; below it
+                                links to the parts of the page that have what it cites
     @implementors TRAIT         the types that implement a trait, but for those of tests
     @beyond NAME ..             definitions that the page does not open: they and what only they rest on are left out
     @definitions NAME ..        these definitions and all that they rest on, but for those that stand above
@@ -74,6 +75,8 @@ class Headline:
         self._needed = {*self._closure.definitions} - {*calls} - {*beyond}
         self._shown: Set[Key] = set()
         self._said: Dict[str, str] = {}
+        self._heading = ""
+        self._headings: Dict[Key, str] = {}  # the heading above each definition
         self._rows = ROW.findall(text)
 
     def _key(self, name: str) -> Key:
@@ -116,16 +119,24 @@ class Headline:
         return source.clauses(key.name, names)
 
     def page(self) -> str:
-        """The whole page."""
-        lines = [MADE, ""]
-        for line in self._lines:
-            order = order_of(line)
-            lines += self._written(order) if order else [line]
+        """The whole page. It is written twice, since its beginning has links to what follows."""
+        self._all_lines()
+        lines = [MADE, "", *self._all_lines()]
         missing = self._needed - self._shown
         if missing:
             names = ", ".join(full_name(it) for it in self._closure.lowest_first(missing))
             raise Unwritable(f"no line shows {names}")
         return "\n".join([*lines, ""])
+
+    def _all_lines(self) -> List[str]:
+        """The lines of the page, written anew."""
+        self._shown, self._said = set(), {}
+        lines: List[str] = []
+        for line in self._lines:
+            self._heading = anchor_of(line) if line.startswith("#") else self._heading
+            order = order_of(line)
+            lines += self._written(order) if order else [line]
+        return lines
 
     def _written(self, order: Order) -> List[str]:
         """The lines in place of an order."""
@@ -149,12 +160,17 @@ class Headline:
         key = self._key(order.names[0])
         definition = self._with_clauses(key, order.names[1:])
         yield from [f"{link_to(key)} `{key.name}`", "", "```rust", definition.code, "```"]
+        cited = [it for citation in definition.cites for it in self._tree.resolve(citation)[0]]
+        links = [f"[`{it.name}`](#{self._headings[it]})" for it in dict.fromkeys(cited) if it in self._headings]
+        if links:
+            yield from ["", f"It cites {', '.join(links)}."]
 
     def _definitions(self, order: Order) -> List[str]:
         """Definitions that do not stand above, a block for those of one file that follow each other."""
         roots = [self._needed_key(it) for it in order.names]
         keys = self._closure.lowest_first((self._closure.below(roots) & self._needed) - self._shown)
         self._shown.update(keys)
+        self._headings.update(dict.fromkeys(keys, self._heading))
         blocks = []
         for group in in_files(keys):
             definitions = [self._closure.definitions[it] for it in group]
@@ -213,6 +229,11 @@ def in_files(keys: List[Key]) -> Iterator[List[Key]]:
         group.append(key)
     if group:
         yield group
+
+
+def anchor_of(heading: str) -> str:
+    """The name of a heading in links, as GitHub makes it."""
+    return re.sub(r"[^\w\- ]", "", heading.lstrip("#").strip()).lower().replace(" ", "-")
 
 
 def link_to(key: Key) -> str:

@@ -52,9 +52,13 @@ Any of these:
 
 @totals
 
+## Low ones, first
+
 @definitions Heights::height
 
-Then:
+## Then: high
+
+Others:
 
 @definitions IsHigh
 
@@ -77,11 +81,15 @@ pub fn climb(from: u64) -> u64
     ensures high {{ IsHigh result }}
 ```
 
+It cites [`IsHigh`](#then-high).
+
 Any of these:
 
 - `Ladder`, [rb_low/src/lib.rt](../crates/rb_low/src/lib.rt)
 
 2 definitions, 4 lines without comments.
+
+## Low ones, first
 
 [rb_low/specs/Heights.antt](../crates/rb_low/specs/Heights.antt)
 
@@ -91,7 +99,9 @@ abbrev pub height : ℕ → ℕ
 height n = n
 ```
 
-Then:
+## Then: high
+
+Others:
 
 [rb_low/specs/Heights.antt](../crates/rb_low/specs/Heights.antt)
 
