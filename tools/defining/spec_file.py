@@ -79,8 +79,9 @@ class SpecFile:
         cites = [it for it in map(self._citation, found.found) if it is not None]
         depth = indent_of(piece.code[0])
         comment, code = ("\n".join(it[depth:] for it in lines) for lines in (piece.comment, piece.code))
+        key, section = Key(self._path, piece.name), "\n".join(piece.section)
         renamed = self.imports.renamed(found.found)
-        return Definition(Key(self._path, piece.name), piece.line, comment, code, "\n".join(piece.section), cites, renamed)
+        return Definition(key, piece.line, comment, code, section, cites, renamed)
 
     def _citation(self, word: str) -> Optional[Citation]:
         head = bare(word.partition(".")[0])

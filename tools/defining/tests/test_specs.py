@@ -133,7 +133,8 @@ class Specs(InCrates):
         self.assertEqual({"Change"}, self.cites("abbrev pub f : ℕ → ℕ\nf (puts book) = book\n"))
 
     def test_a_plain_binder_hides_a_constructor(self) -> None:
-        for term in ("λ empties. empties", "(empties : ℕ) → empties", "λ (empties : ℕ). empties", "let empties = 1 in empties"):
+        for binder in ("λ empties.", "(empties : ℕ) →", "λ (empties : ℕ).", "let empties = 1 in"):
+            term = f"{binder} empties"
             with self.subTest(term):
                 self.assertEqual(set(), self.cites(f"abbrev pub f : ℕ → ℕ\nf n = {term}\n"))
         self.assertEqual({"Change"}, self.cites("abbrev pub f : ℕ → ℕ\nf n = λ (empties, m). m\n"))
