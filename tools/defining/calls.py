@@ -31,8 +31,10 @@ def names_of(key: Key) -> Tuple[str, ...]:
     return (crate, *(path if part == "specs" else []), *key.name.split("::"))
 
 
-def is_public(file: SourceFile, name: str) -> bool:
-    """Whether others may call the function."""
+def is_public(tree: Tree, file: SourceFile, name: str) -> bool:
+    """Whether others may call the function. A program has no public calls."""
+    if not tree.is_library(file.path.split("/")[1]):
+        return False
     function = file.functions[name]
     owner = file.types.get(function.owner)
     return function.item.is_public or (owner is not None and owner.kind == "trait" and owner.is_public)
@@ -41,13 +43,13 @@ def is_public(file: SourceFile, name: str) -> bool:
 def public_calls(tree: Tree) -> Iterator[Tuple[Key, Tuple[str, ...]]]:
     """Functions that others may call, laws among them, with the parts of their names."""
     for file in sources(tree):
-        yield from named(Key(file.path, it) for it in file.functions if is_public(file, it))
+        yield from named(Key(file.path, it) for it in file.functions if is_public(tree, file, it))
 
 
 def private_functions(tree: Tree) -> Iterator[Tuple[Key, Tuple[str, ...]]]:
     """All other functions."""
     for file in sources(tree):
-        yield from named(Key(file.path, it) for it in file.functions if not is_public(file, it))
+        yield from named(Key(file.path, it) for it in file.functions if not is_public(tree, file, it))
 
 
 def others(tree: Tree) -> Iterator[Tuple[Key, Tuple[str, ...]]]:

@@ -59,6 +59,10 @@ class Tree:
                 if file:
                     yield file
 
+    def is_library(self, crate: str) -> bool:
+        """Whether a crate is a library, and no program."""
+        return (self.top / "crates" / crate / "src" / "lib.rt").is_file()
+
     def spec_paths(self, crate: str) -> List[str]:
         """The paths of a crate's files of specs/."""
         places = sorted((self.top / "crates" / crate / "specs").rglob("*.antt"))
@@ -135,7 +139,7 @@ class Tree:
         folder = f"crates/{crate}/src"
         if names:
             return f"{folder}/{'/'.join(names)}.rt"
-        return f"{folder}/lib.rt" if (self.top / folder / "lib.rt").is_file() else f"{folder}/main.rt"
+        return f"{folder}/lib.rt" if self.is_library(crate) else f"{folder}/main.rt"
 
     def _of_path(self, path: RustPath) -> Optional[Key]:
         """The item that a path of the code names, if it is one of these crates."""

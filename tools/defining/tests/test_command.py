@@ -116,6 +116,11 @@ class Command(InCrates):
         self.expect(["fall"], 2, "", f"definitions: fall may be\n{lines}")
         self.assertEqual(0, self.run_command("Tree::fall").returncode)
 
+    def test_a_program_has_no_public_calls(self) -> None:
+        self.write({"rb_program/src/main.rt": HIGH.replace("stand", "climb_on")})
+        self.expect(["climb"], 0, PRINTED)
+        self.assertEqual(0, self.run_command("climb_on").returncode)
+
     def test_nothing_has_the_name(self) -> None:
         self.expect(["climbs"], 2, "", "definitions: nothing in src/ and specs/ has the name climbs\n")
 
