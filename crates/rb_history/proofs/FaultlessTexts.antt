@@ -8,7 +8,7 @@ use Rattle.rb_queue.specs.declared.event.Event.{Event}
 use Rattle.rb_queue.specs.declared.opening.Opening.{Opening}
 use Rattle.rb_queue.specs.declared.opening.TheConstants.{GREATEST_OPENING_ID, MOST_OPENING_ELEMENTS}
 use Rattle.rb_history.specs.EventText.{event_words, header_words, open_words, keep_words, end_words}
-use Rattle.rb_history.specs.Feeds.{HasNoLineFeed}
+use Rattle.rb_protocol.specs.Line.{HasNoLineFeed}
 use Rattle.rb_history.specs.HistoryText.{line_text, lines_text, opening_lines}
 use Rattle.rb_history.specs.OpeningReading.{numbers_words, MayOpen}
 use Rattle.rb_history.specs.Ranges.{IsWord, IsRightElement, IsRightEvent, IsRightOpening, AreRightElements, AreRightEvents}

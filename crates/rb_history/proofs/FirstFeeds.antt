@@ -1,5 +1,5 @@
 -- Where a text is cut at its first line feed.
-use Rattle.std.proofs.Common.{◌≡◌, ℕ, suc, ◌+◌, ◌<◌, ◌≤◌, ◌==◌, true, List, ◌∷◌, ◌++◌, length, take, drop, get_or, Some, None, sym, ap, ◌∙◌, arith, add-one}
+use Rattle.std.proofs.Common.{◌≡◌, ◌≢◌, ℕ, suc, ◌+◌, ◌<◌, ◌≤◌, ◌==◌, true, false, List, ◌∷◌, ◌++◌, length, take, drop, get_or, Some, None, sym, ap, ◌∙◌, arith, add-one}
 use Rattle.std.proofs.lemmas.Bool.Decides.{nat_tests}
 use Rattle.std.proofs.lemmas.List.{take-append-drop, get_or-take, length-take}
 use Rattle.std.proofs.lemmas.List.Quantifiers.{position-Some}
@@ -8,10 +8,15 @@ use Rattle.std.proofs.Math.Seq.{drop-cons}
 use Rattle.std.specs.List.{position_or_len}
 use Rattle.rb_protocol.proofs.Cuts.{at_end}
 use Rattle.rb_protocol.specs.declared.format.TheConstants.{LINE_FEED}
-use Rattle.rb_history.specs.Feeds.{first_feed, HasNoLineFeed}
+use Rattle.rb_protocol.specs.Line.{HasNoLineFeed}
+use Rattle.rb_history.specs.Feeds.{first_feed}
 
 is_feed : (byte : ℕ) → (byte == LINE_FEED) ≡ true → byte ≡ LINE_FEED
 is_feed byte is = grind (arith, nat_tests)
+
+is_none : (byte : ℕ) → (byte == LINE_FEED) ≡ false → byte ≢ LINE_FEED
+is_none byte other is =
+    let feed : (byte == LINE_FEED) ≡ true = grind (arith, nat_tests) in absurd (cc)
 
 -- the first line, its end, and what stands behind
 pub cut_at : (text : List ℕ) (place : ℕ) → first_feed text ≡ Some place
@@ -27,9 +32,9 @@ pub front_lacks : (text : List ℕ) (place : ℕ) → first_feed text ≡ Some p
 front_lacks text place is = λ k d below.
     let found = position-Some (λ byte. byte == LINE_FEED) text place d is in
     let within : k < place = omega (arith, below, found.0, length-take place text) in
-    ap (λ byte. byte == LINE_FEED) (get_or-take place text k d within) ∙ found.2 k within
+    is_none _ (ap (λ byte. byte == LINE_FEED) (get_or-take place text k d within) ∙ found.2 k within)
 
 pub whole_lacks : (text : List ℕ) → first_feed text ≡ None → HasNoLineFeed text
 whole_lacks text none = λ k d below.
     let all : length text ≤ position_or_len (λ byte. byte == LINE_FEED) text = at_end _ _ none in
-    fails_before_first (λ byte. byte == LINE_FEED) text k d (omega arith)
+    is_none _ (fails_before_first (λ byte. byte == LINE_FEED) text k d (omega arith))

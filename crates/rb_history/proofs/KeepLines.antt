@@ -4,14 +4,13 @@ use Rattle.std.specs.Prelude.{slice_index}
 use Rattle.std.proofs.lemmas.List.{map-append, get_or_append_left, get_or_at, length-map}
 use Rattle.std.proofs.lemmas.Bool.{cases_lt}
 use Rattle.std.proofs.lemmas.List.Elements.{All-push}
-use Rattle.rb_protocol.specs.Line.{words_of}
+use Rattle.rb_protocol.specs.Line.{words_of, HasNoLineFeed}
 use Rattle.rb_protocol.specs.declared.format.TheConstants.{LINE_FEED}
 use Rattle.rb_delayed.specs.declared.element.Element.{Element}
 use Rattle.rb_queue.specs.Opening.{ids_of, AreInOrder}
 use Rattle.rb_queue.proofs.Orders.{InOrderSoFar, so_far_more, out_of_order, in_order}
 use Rattle.rb_history.specs.BodyReading.{KeepsNext, KeepsNone, KeepsAll, StopsKeeping}
 use Rattle.rb_history.specs.EventText.{whole_element_words, keep_words}
-use Rattle.rb_history.specs.Feeds.{HasNoLineFeed}
 use Rattle.rb_history.specs.HistoryText.{line_text, lines_text}
 use Rattle.rb_history.specs.Ranges.{IsRightElement, AreRightElements}
 use Rattle.rb_history.specs.declared.text_fault.TextReason.TheVariants.{Opening}

@@ -11,9 +11,8 @@ use Rattle.std.specs.List.{list_all}
 use Rattle.rb_delayed.specs.Payload.{IsPayload, is_visible}
 use Rattle.rb_protocol.proofs.Cuts.{at_end}
 use Rattle.rb_protocol.proofs.Numbers.{number_digits}
-use Rattle.rb_protocol.specs.Line.{spaced, words_of}
+use Rattle.rb_protocol.specs.Line.{spaced, words_of, HasNoLineFeed}
 use Rattle.rb_protocol.specs.declared.format.TheConstants.{SPACE, LINE_FEED}
-use Rattle.rb_history.specs.Feeds.{HasNoLineFeed}
 use Rattle.rb_history.specs.HistoryText.{line_text, lines_text}
 use Rattle.rb_history.proofs.Parts.{head_of, tail_of}
 
@@ -60,8 +59,11 @@ payload_plain payload right = λ k d below.
 no_space : (byte : ℕ) → 33 ≤ byte → (byte == SPACE) ≡ false
 no_space byte above = grind (arith, nat_tests)
 
-no_feed : (byte : ℕ) → 33 ≤ byte → (byte == LINE_FEED) ≡ false
-no_feed byte above = grind (arith, nat_tests)
+no_feed : (byte : ℕ) → 33 ≤ byte → byte ≢ LINE_FEED
+no_feed byte above is = omega (arith, above, is)
+
+space_no_feed : SPACE ≢ LINE_FEED
+space_no_feed is = omega (arith, is)
 
 spaceless : (word : List ℕ) → IsPlain word → All (λ byte. (byte == SPACE) ≡ false) word
 spaceless word plain = λ k d below. no_space _ (plain k d below)
@@ -79,8 +81,8 @@ words_of-spaced word (next ∷ words) plain others =
 feedless-spaced : (word : List ℕ) (words : List (List ℕ)) → IsPlain word → ArePlain words → HasNoLineFeed (spaced (word ∷ words))
 feedless-spaced word [] plain others = feedless word plain
 feedless-spaced word (next ∷ words) plain others =
-    All-append (λ byte. (byte == LINE_FEED) ≡ false) word (SPACE ∷ spaced (next ∷ words)) (feedless word plain)
-    (All-cons (λ byte. (byte == LINE_FEED) ≡ false) SPACE (spaced (next ∷ words)) refl (feedless-spaced next words others.0 others.1))
+    All-append (λ byte. byte ≢ LINE_FEED) word (SPACE ∷ spaced (next ∷ words)) (feedless word plain)
+    (All-cons (λ byte. byte ≢ LINE_FEED) SPACE (spaced (next ∷ words)) space_no_feed (feedless-spaced next words others.0 others.1))
 
 pub words_again : (words : List (List ℕ)) → IsLine words → words_of (spaced words) ≡ words
 words_again [] line = absurd line
@@ -92,10 +94,7 @@ line_whole (word ∷ words) line = feedless-spaced word words line.0 line.1
 
 -- a text has one first line
 no_feed_first : (byte : ℕ) (text : List ℕ) → HasNoLineFeed (byte ∷ text) → LINE_FEED ≡ byte → ⊥
-no_feed_first byte text lacks is =
-    let none : (byte == LINE_FEED) ≡ false = All-head (λ b. (b == LINE_FEED) ≡ false) byte text lacks in
-    let feed : (LINE_FEED == LINE_FEED) ≡ false = subst (λ b. (b == LINE_FEED) ≡ false) (sym is) none in
-    absurd (cc)
+no_feed_first byte text lacks is = All-head (λ b. b ≢ LINE_FEED) byte text lacks (sym is)
 
 pub cut_once : (line other behind rest : List ℕ) → HasNoLineFeed line → HasNoLineFeed other
     → line ++ (LINE_FEED ∷ behind) ≡ other ++ (LINE_FEED ∷ rest) → (line ≡ other) × (behind ≡ rest)
@@ -104,14 +103,14 @@ cut_once [] (byte ∷ other) behind rest whole lacks is = absurd (no_feed_first 
 cut_once (byte ∷ line) [] behind rest whole lacks is = absurd (no_feed_first byte line whole (sym (head_of _ _ _ _ is)))
 cut_once (byte ∷ line) (next ∷ other) behind rest whole lacks is =
     let bytes : byte ≡ next = head_of _ _ _ _ is in
-    let more = cut_once line other behind rest (All-tail (λ b. (b == LINE_FEED) ≡ false) byte line whole)
-    (All-tail (λ b. (b == LINE_FEED) ≡ false) next other lacks) (tail_of _ _ _ _ is) in
+    let more = cut_once line other behind rest (All-tail (λ b. b ≢ LINE_FEED) byte line whole)
+    (All-tail (λ b. b ≢ LINE_FEED) next other lacks) (tail_of _ _ _ _ is) in
     let lines : line ≡ other = more.0 in
     (cc, more.1)
 
 pub feed_in : (front behind : List ℕ) → HasNoLineFeed (front ++ (LINE_FEED ∷ behind)) → ⊥
 feed_in [] behind lacks = no_feed_first LINE_FEED behind lacks refl
-feed_in (byte ∷ front) behind lacks = feed_in front behind (All-tail (λ b. (b == LINE_FEED) ≡ false) byte (front ++ (LINE_FEED ∷ behind)) lacks)
+feed_in (byte ∷ front) behind lacks = feed_in front behind (All-tail (λ b. b ≢ LINE_FEED) byte (front ++ (LINE_FEED ∷ behind)) lacks)
 
 pub line_first : (words : List (List ℕ)) (behind : List ℕ) → line_text words ++ behind ≡ spaced words ++ (LINE_FEED ∷ behind)
 line_first words behind = append_assoc (spaced words) (LINE_FEED ∷ []) behind

@@ -1,6 +1,6 @@
 -- Why a text is not read: its first fault, with the lines before it.
 use Rattle.std.specs.Prelude.{◌≡◌, ◌≢◌, ℕ, ◌+◌, ◌<◌, ◌≤◌, ◌⊎◌, List, [], ◌∷◌, ◌++◌, length, map, Result, Ok, Err}
-use Rattle.rb_protocol.specs.Line.{words_of}
+use Rattle.rb_protocol.specs.Line.{words_of, HasNoLineFeed}
 use Rattle.rb_protocol.specs.declared.format.TheConstants.{LINE_FEED}
 use Rattle.rb_delayed.specs.declared.element.Element.{Element}
 use Rattle.rb_queue.specs.Opening.{AreInOrder}
@@ -10,7 +10,6 @@ use Rattle.rb_queue.specs.declared.opening.TheConstants.{GREATEST_OPENING_ID, MO
 use Rattle.rb_history.specs.OpeningReading.{IsOpenLine, HasNoHeader, MayOpen, numbers_words}
 use Rattle.rb_history.specs.EventText.{event_words, header_words, keep_words, end_words}
 use Rattle.rb_history.specs.HistoryText.{line_text, lines_text, opening_lines}
-use Rattle.rb_history.specs.Feeds.{HasNoLineFeed}
 use Rattle.rb_history.specs.Ranges.{IsWord, IsRightElement, IsRightEvent, IsRightOpening, AreRightElements, AreRightEvents}
 use Rattle.rb_history.specs.declared.version.Version.{Version}
 use Rattle.rb_history.specs.declared.version.Version.TheVariants.{One}

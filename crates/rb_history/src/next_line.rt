@@ -1,5 +1,6 @@
 ghost use Rattle.std.specs.Prelude.{◌≡◌, ◌<◌, ◌∷◌, ◌++◌, length, IfSome, IfNone};
-ghost use Rattle.rb_history.specs.Feeds.{first_feed, HasNoLineFeed};
+ghost use Rattle.rb_protocol.specs.Line.{HasNoLineFeed};
+ghost use Rattle.rb_history.specs.Feeds.{first_feed};
 
 use rb_protocol::LINE_FEED;
 

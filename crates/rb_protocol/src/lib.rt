@@ -22,7 +22,7 @@ mod send;
 mod writing;
 
 pub use error_word::ErrorWord;
-pub use format::{LINE_FEED, SPACE};
+pub use format::{CARRIAGE_RETURN, LINE_FEED, SPACE};
 pub use laws::limits_have_their_values;
 pub use limited_reader::LimitedReader;
 pub use limits::{BUFFER_BYTES, MOST_READS};

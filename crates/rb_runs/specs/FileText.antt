@@ -12,11 +12,6 @@ IsReadFault Broker.ReadTurns = Unit {0}
 IsReadFault Broker.Memory = Unit {0}
 IsReadFault _ = ⊥
 
--- there were too many reads only where none is left
-abbrev pub IsUsedUpAt : ℕ → Result (Vec ℕ Global) BrokerFault → Type 0
-IsUsedUpAt left (Err Broker.ReadTurns) = left ≡ 0
-IsUsedUpAt left result = Unit {0}
-
 -- The text is all that came, and the reader is at its end; or what came is lost.
 abbrev pub ReadsAll : Option (List ℕ) → Result (Vec ℕ Global) BrokerFault → Option (List ℕ) → Type 0
 ReadsAll left (Ok text) left' = Consumes left left' text.items × IsAtEnd left'

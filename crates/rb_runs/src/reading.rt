@@ -1,5 +1,5 @@
-ghost use Rattle.std.specs.Prelude.{◌≡◌, ◌<◌, IfOk, length, vec_len};
-ghost use Rattle.rb_runs.specs.FileText.{ReadsAll, IsUsedUpAt};
+ghost use Rattle.std.specs.Prelude.{◌≡◌, ◌<◌, Err, IfOk, length, vec_len};
+ghost use Rattle.rb_runs.specs.FileText.{ReadsAll};
 
 use rb_ending::BrokerFault;
 use rb_protocol::{BUFFER_BYTES, LimitedReader};
@@ -27,7 +27,7 @@ fn read_pieces<R: Read>(
 ) -> Result<Vec<u8>, BrokerFault>
     requires { 0 < length piece.old }
     ensures reads { ReadsAll (R.remaining reader.old.inner.now) result (R.remaining reader.new.inner.now) }
-    ensures used_up { IsUsedUpAt reader.new.left result }
+    ensures used_up { result ≡ Err BrokerFault.ReadTurns → reader.new.left ≡ 0 }
     ensures same_reference { reader.new.inner.ghost_name ≡ reader.old.inner.ghost_name }
 {
     let mut text = Vec::new(alloc);

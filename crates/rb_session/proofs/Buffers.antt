@@ -1,32 +1,37 @@
 -- Lines in lists of bytes: where they end, and what is left.
 use Rattle.std.proofs.Common.{◌≡◌, ◌≢◌, ℕ, suc, ◌+◌, ◌-◌, ◌<◌, ◌≤◌, List, [], ◌∷◌, ◌++◌, refl, sym, ap, ◌∙◌, arith, length, get_or, take, drop, cond, Bool, true, false, nat_eq, length-append, length-take-le, length-drop, append_assoc}
 use Rattle.std.proofs.lemmas.List.{take-append-drop, drop-take, drop-drop, take-append-le, drop-append-le}
+use Rattle.std.proofs.lemmas.List.Elements.{All-nil, All-append}
 use Rattle.std.proofs.lemmas.Bool.Decides.{nat_tests}
 use Rattle.std.proofs.Math.Seq.{drop-cons, take-append-add}
 use Rattle.std.specs.Prelude.{slice_range, MatchBool}
-use Rattle.rb_session.specs.Lines.{HasNoLineFeed, line_of}
+use Rattle.rb_protocol.specs.Line.{HasNoLineFeed}
+use Rattle.rb_protocol.specs.declared.format.TheConstants.{LINE_FEED, CARRIAGE_RETURN}
+use Rattle.rb_session.specs.Lines.{line_of}
 
--- two parts with no line feed have none together
-pub no_feed-append : (front back : List ℕ) → HasNoLineFeed front → HasNoLineFeed back → HasNoLineFeed (front ++ back)
-no_feed-append [] back h k = k
-no_feed-append (byte ∷ front) back h k = (h.0, no_feed-append front back h.1 k)
+-- where there is no byte there is no line feed, and two parts with none have none together
+pub no_feed-nil : HasNoLineFeed []
+no_feed-nil = All-nil (λ byte. byte ≢ LINE_FEED)
+
+no_feed-append : (front back : List ℕ) → HasNoLineFeed front → HasNoLineFeed back → HasNoLineFeed (front ++ back)
+no_feed-append front back = All-append (λ byte. byte ≢ LINE_FEED) front back
 
 -- a carriage return at the end belongs to the line's end
-pub line_of-return : (raw : List ℕ) → 0 < length raw → get_or raw (length raw - 1) 0 ≡ 13 → take (length raw - 1) raw ≡ line_of raw
+pub line_of-return : (raw : List ℕ) → 0 < length raw → get_or raw (length raw - 1) 0 ≡ CARRIAGE_RETURN → take (length raw - 1) raw ≡ line_of raw
 line_of-return [] some last = absurd (omega arith)
 line_of-return (byte ∷ []) some last =
-    let test : nat_eq byte 13 ≡ true = grind (arith, nat_tests) in
+    let test : nat_eq byte CARRIAGE_RETURN ≡ true = grind (arith, nat_tests) in
     sym (ap (λ b. cond b [] (byte ∷ [])) test)
 line_of-return (byte ∷ next ∷ rest) some last =
     let at : length (byte ∷ next ∷ rest) - 1 ≡ suc (length (next ∷ rest) - 1) = omega arith in
-    let behind : get_or (next ∷ rest) (length (next ∷ rest) - 1) 0 ≡ 13 = sym (ap (λ i. get_or (byte ∷ next ∷ rest) i 0) at) ∙ last in
+    let behind : get_or (next ∷ rest) (length (next ∷ rest) - 1) 0 ≡ CARRIAGE_RETURN = sym (ap (λ i. get_or (byte ∷ next ∷ rest) i 0) at) ∙ last in
     ap (λ i. take i (byte ∷ next ∷ rest)) at ∙ ap (λ bytes. byte ∷ bytes) (line_of-return (next ∷ rest) (omega arith) behind)
 
-pub line_of-other : (raw : List ℕ) → (0 < length raw → get_or raw (length raw - 1) 0 ≢ 13) → raw ≡ line_of raw
+pub line_of-other : (raw : List ℕ) → (0 < length raw → get_or raw (length raw - 1) 0 ≢ CARRIAGE_RETURN) → raw ≡ line_of raw
 line_of-other [] other = refl
 line_of-other (byte ∷ []) other =
-    let differs : byte ≢ 13 = other (omega arith) in
-    let test : nat_eq byte 13 ≡ false = grind (arith, nat_tests) in
+    let differs : byte ≢ CARRIAGE_RETURN = other (omega arith) in
+    let test : nat_eq byte CARRIAGE_RETURN ≡ false = grind (arith, nat_tests) in
     sym (ap (λ b. cond b [] (byte ∷ [])) test)
 line_of-other (byte ∷ next ∷ rest) other =
     let at : length (byte ∷ next ∷ rest) - 1 ≡ suc (length (next ∷ rest) - 1) = omega arith in
@@ -35,15 +40,15 @@ line_of-other (byte ∷ next ∷ rest) other =
 -- a line loses one byte at most to its end
 pub length-line_of : (raw : List ℕ) → length raw ≤ length (line_of raw) + 1
 length-line_of [] = omega arith
-length-line_of (byte ∷ []) = elim (nat_eq byte 13) as (λ b. length (byte ∷ []) ≤ length (cond b [] (byte ∷ [])) + 1) [ true ↦ omega arith | false ↦ omega arith ]
+length-line_of (byte ∷ []) = elim (nat_eq byte CARRIAGE_RETURN) as (λ b. length (byte ∷ []) ≤ length (cond b [] (byte ∷ [])) + 1) [ true ↦ omega arith | false ↦ omega arith ]
 length-line_of (byte ∷ next ∷ rest) = omega (arith, length-line_of (next ∷ rest))
 
 -- the bytes round a line feed
-pub cut_at : (held : List ℕ) (len : ℕ) → len < length held → get_or held len 0 ≡ 10 → held ≡ take len held ++ 10 ∷ drop (len + 1) held
+pub cut_at : (held : List ℕ) (len : ℕ) → len < length held → get_or held len 0 ≡ LINE_FEED → held ≡ take len held ++ LINE_FEED ∷ drop (len + 1) held
 cut_at held len within feed =
-    let at : drop len held ≡ 10 ∷ drop (suc len) held = drop-cons held len 0 within ∙ ap (λ b. b ∷ drop (suc len) held) feed in
+    let at : drop len held ≡ LINE_FEED ∷ drop (suc len) held = drop-cons held len 0 within ∙ ap (λ b. b ∷ drop (suc len) held) feed in
     let next : suc len ≡ len + 1 = omega arith in
-    sym (take-append-drop len held) ∙ ap (λ bytes. take len held ++ bytes) (at ∙ ap (λ n. 10 ∷ drop n held) next)
+    sym (take-append-drop len held) ∙ ap (λ bytes. take len held ++ bytes) (at ∙ ap (λ n. LINE_FEED ∷ drop n held) next)
 
 -- what is left of a range after its first bytes
 pub range_after : (xs : List ℕ) (start k end : ℕ) → start + k ≤ end → slice_range xs (start + k) end ≡ drop k (slice_range xs start end)
@@ -83,13 +88,20 @@ pub unserved_same : (is_long : Bool) (most : ℕ) (held held' bytes : List ℕ) 
 unserved_same true most held held' bytes same (dropped, none, many, is) = (dropped, none, many, is ∙ ap (λ b. dropped ++ b) (sym same))
 unserved_same false most held held' bytes same is = is ∙ sym same
 
--- the first line of what a buffer has to serve, from the first line feed of what it holds
-pub first_line : (is_long : Bool) (most : ℕ) (held bytes : List ℕ) (len : ℕ) → len < length held → HasNoLineFeed (take len held) → get_or held len 0 ≡ 10
+-- what is to be served is too long for a request, where its first bytes were dropped or more are held than a request has
+pub too_long : (is_long : Bool) (most : ℕ) (held bytes : List ℕ) → (is_long ≡ false → most < length held)
     → MatchBool is_long ((dropped : List ℕ) × HasNoLineFeed dropped × (most < length dropped) × (bytes ≡ dropped ++ held)) (bytes ≡ held)
-    → (raw : List ℕ) × (bytes ≡ raw ++ 10 ∷ drop (len + 1) held) × HasNoLineFeed raw × MatchBool is_long (most < length raw) (raw ≡ take len held)
+    → most < length bytes
+too_long true most held bytes more (dropped, none, many, is) = omega (arith, ap length is, length-append dropped held, many)
+too_long false most held bytes more is = omega (arith, ap length is, more refl)
+
+-- the first line of what a buffer has to serve, from the first line feed of what it holds
+pub first_line : (is_long : Bool) (most : ℕ) (held bytes : List ℕ) (len : ℕ) → len < length held → HasNoLineFeed (take len held) → get_or held len 0 ≡ LINE_FEED
+    → MatchBool is_long ((dropped : List ℕ) × HasNoLineFeed dropped × (most < length dropped) × (bytes ≡ dropped ++ held)) (bytes ≡ held)
+    → (raw : List ℕ) × (bytes ≡ raw ++ LINE_FEED ∷ drop (len + 1) held) × HasNoLineFeed raw × MatchBool is_long (most < length raw) (raw ≡ take len held)
 first_line true most held bytes len within none feed (dropped, none_before, many, is) = (
   dropped ++ take len held,
-  is ∙ ap (λ b. dropped ++ b) (cut_at held len within feed) ∙ sym (append_assoc dropped (take len held) (10 ∷ drop (len + 1) held)),
+  is ∙ ap (λ b. dropped ++ b) (cut_at held len within feed) ∙ sym (append_assoc dropped (take len held) (LINE_FEED ∷ drop (len + 1) held)),
   no_feed-append dropped (take len held) none_before none,
   omega (arith, length-append dropped (take len held), many),
 )

@@ -1,5 +1,5 @@
 -- Sessions through an outlet: what was served, where what answers it could not be handed on.
-use Rattle.std.proofs.Common.{◌≡◌, ℕ, List, [], Option, Some, Result, Ok, Err, true, false, refl, sym, ◌∙◌, inl, inr}
+use Rattle.std.proofs.Common.{◌≡◌, ◌≢◌, ℕ, List, [], Option, Some, Result, Ok, Err, true, false, refl, sym, ◌∙◌, inl, inr}
 use Rattle.std.proofs.lemmas.List.{append-nil}
 use Rattle.std.specs.Prelude.{OnOk, OnErr, is_err}
 use Rattle.rb_queue.specs.declared.ask.Ask.{Ask}
@@ -10,7 +10,7 @@ use Rattle.rb_session.specs.Turn.{Point}
 use Rattle.rb_session.specs.Session.{answers_of}
 use Rattle.rb_session.specs.Ran.{BreaksOff, Ran}
 use Rattle.rb_session.specs.Outlet.{ServesSome, FailsToSend, RanThrough, HandedOn}
-use Rattle.rb_session.specs.Progress.{Stands, Stops, IsClearAt, IsClearAtRead, IsUsedUpAt, AnswersEnd, ServesLines, end_of}
+use Rattle.rb_session.specs.Progress.{Stands, Stops, IsClearAt, IsClearAtRead, AnswersEnd, ServesLines, end_of}
 use Rattle.rb_session.specs.declared.line_buffer.LineBuffer.{LineBuffer}
 use Rattle.rb_session.specs.declared.ended.Ended.{Ended}
 use Rattle.rb_session.specs.declared.ended.Ended.TheVariants as ends
@@ -45,23 +45,23 @@ clear_at_end clear stops.Write bytes sent ends = tt
 clear_at_end clear stops.ReadTurns bytes sent ends = tt
 
 -- the end of the input is not one read too many
-pub unused_at_end : (left : ℕ) (stop : Stop) (bytes sent : List ℕ) → AnswersEnd stop bytes sent → IsUsedUpAt left stop
-unused_at_end left stops.Quit bytes sent ends = tt
-unused_at_end left stops.EndOfInput bytes sent ends = tt
-unused_at_end left stops.Read bytes sent ends = tt
-unused_at_end left stops.Write bytes sent ends = tt
-unused_at_end left stops.ReadTurns bytes sent ends = absurd ends
+pub unused_at_end : (stop : Stop) (bytes sent : List ℕ) → AnswersEnd stop bytes sent → stop ≢ stops.ReadTurns
+unused_at_end stops.Quit bytes sent ends is = absurd ends
+unused_at_end stops.EndOfInput bytes sent ends is = absurd (cc)
+unused_at_end stops.Read bytes sent ends is = absurd ends
+unused_at_end stops.Write bytes sent ends is = absurd (cc)
+unused_at_end stops.ReadTurns bytes sent ends is = absurd ends
 
 module _ {S : Type 0} (gives : S → ℕ → Type 0) (Sets : S → ℕ → Option ℕ → S → Type 0)
     (Steps : S → ℕ → Ask → Result Reply DeskFault → S → Type 0) (policy : Policy) where
   -- nor is a line
-  pub unused_at_line : (left : ℕ) (HoldsBack : Type 0) (from to : Point S) (bytes sent : List ℕ) (stop : Stop) (buffer : LineBuffer)
-      → ServesLines gives Sets Steps policy HoldsBack from bytes sent (Some stop) buffer to → IsUsedUpAt left stop
-  unused_at_line left HoldsBack from to bytes sent stops.Quit buffer served = tt
-  unused_at_line left HoldsBack from to bytes sent stops.EndOfInput buffer served = tt
-  unused_at_line left HoldsBack from to bytes sent stops.Read buffer served = tt
-  unused_at_line left HoldsBack from to bytes sent stops.Write buffer served = tt
-  unused_at_line left HoldsBack from to bytes sent stops.ReadTurns buffer served = absurd served
+  pub unused_at_line : (HoldsBack : Type 0) (from to : Point S) (bytes sent : List ℕ) (stop : Stop) (buffer : LineBuffer)
+      → ServesLines gives Sets Steps policy HoldsBack from bytes sent (Some stop) buffer to → stop ≢ stops.ReadTurns
+  unused_at_line HoldsBack from to bytes sent stops.Quit buffer served is = absurd (cc)
+  unused_at_line HoldsBack from to bytes sent stops.EndOfInput buffer served is = absurd served
+  unused_at_line HoldsBack from to bytes sent stops.Read buffer served is = absurd served
+  unused_at_line HoldsBack from to bytes sent stops.Write buffer served is = absurd (cc)
+  unused_at_line HoldsBack from to bytes sent stops.ReadTurns buffer served is = absurd served
 
   -- nor a failing read
   pub clear_at_line : (clear HoldsBack : Type 0) (from to : Point S) (bytes sent : List ℕ) (stop : Stop) (buffer : LineBuffer)

@@ -2,11 +2,13 @@
 use Rattle.std.specs.Prelude.{◌≡◌, ℕ, ◌<◌, List, ◌∷◌, ◌++◌, length, slice_range, Option, Some, None, Result, Ok, Err, MatchBool}
 use Rattle.std.specs.Io.KnownBytes.{Consumes, Keeps, IsAtEnd}
 use Rattle.std.specs.declared.io.Error.{Error}
-use Rattle.rb_session.specs.Lines.{HasNoLineFeed, line_of}
+use Rattle.rb_protocol.specs.Line.{HasNoLineFeed}
+use Rattle.rb_session.specs.Lines.{line_of}
 use Rattle.rb_protocol.specs.Reading.{IsReading}
 use Rattle.rb_protocol.specs.declared.request.Request.{Request}
 use Rattle.rb_protocol.specs.declared.line_fault.LineFault.{LineFault}
 use Rattle.rb_session.specs.declared.line_buffer.LineBuffer.{LineBuffer}
+use Rattle.rb_protocol.specs.declared.format.TheConstants.{LINE_FEED}
 use Rattle.rb_protocol.specs.declared.limits.TheConstants.{BUFFER_BYTES}
 use Rattle.rb_session.specs.declared.line_buffer.TheConstants.{MOST_RAW_BYTES}
 
@@ -26,7 +28,7 @@ IsUnserved buffer bytes = MatchBool buffer.is_long
 abbrev pub TakesLine : List ℕ → Option (Result Request LineFault) → LineBuffer → Type 0
 TakesLine bytes None new = HasNoLineFeed bytes × IsUnserved new bytes
 TakesLine bytes (Some reading) new = (raw rest : List ℕ)
-    × (bytes ≡ raw ++ 10 ∷ rest) × HasNoLineFeed raw × IsReading (line_of raw) reading × IsUnserved new rest × (length rest < BUFFER_BYTES)
+    × (bytes ≡ raw ++ LINE_FEED ∷ rest) × HasNoLineFeed raw × IsReading (line_of raw) reading × IsUnserved new rest × (length rest < BUFFER_BYTES)
 
 -- so many bytes came and stand behind those that are not served, none only where the input is over
 abbrev pub TakesMore : List ℕ → Option (List ℕ) → Result ℕ Error → LineBuffer → Option (List ℕ) → Type 0

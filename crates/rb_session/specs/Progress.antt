@@ -7,7 +7,7 @@ use Rattle.rb_retry.specs.declared.desk_fault.DeskFault.{DeskFault}
 use Rattle.rb_retry.specs.declared.policy.Policy.{Policy}
 use Rattle.rb_protocol.specs.declared.line_reply.LineReply.{LineReply}
 use Rattle.rb_protocol.specs.declared.line_reply.LineReply.TheVariants as lines
-use Rattle.rb_session.specs.Lines.{HasNoLineFeed}
+use Rattle.rb_protocol.specs.Line.{HasNoLineFeed}
 use Rattle.rb_session.specs.Buffer.{IsUnserved}
 use Rattle.rb_protocol.specs.declared.format.TheConstants.{LINE_FEED}
 use Rattle.rb_protocol.specs.declared.request.Request.{Request}
@@ -54,11 +54,6 @@ IsClearAt clear stop = clear
 abbrev pub IsClearAtRead : Type 0 → Stop → Type 0
 IsClearAtRead clear Read = clear
 IsClearAtRead clear stop = Unit {0}
-
--- there were too many reads only where none is left
-abbrev pub IsUsedUpAt : ℕ → Stop → Type 0
-IsUsedUpAt left ReadTurns = left ≡ 0
-IsUsedUpAt left stop = Unit {0}
 
 -- how a session ends that stopped so
 abbrev pub end_of : Stop → ℕ → Result Ended SessionFault

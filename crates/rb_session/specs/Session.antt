@@ -13,7 +13,8 @@ use Rattle.rb_protocol.specs.declared.line_fault.LineFault.{LineFault}
 use Rattle.rb_protocol.specs.declared.line_reply.LineReply.{LineReply}
 use Rattle.rb_protocol.specs.declared.line_reply.LineReply.TheVariants as lines
 use Rattle.rb_protocol.specs.declared.error_word.ErrorWord.TheVariants as words
-use Rattle.rb_session.specs.Lines.{HasNoLineFeed, line_of}
+use Rattle.rb_protocol.specs.Line.{HasNoLineFeed}
+use Rattle.rb_session.specs.Lines.{line_of}
 use Rattle.rb_protocol.specs.declared.limits.TheConstants.{BUFFER_BYTES}
 use Rattle.rb_session.specs.Turn.{Point, IsTurn}
 

@@ -1,13 +1,16 @@
 ghost use Rattle.std.specs.Prelude.{◌≡◌, ℕ, ◌+◌, ◌<◌, ◌≤◌, List, [], ◌∷◌, ◌++◌, ◌↔◌, length, take, slice_index, ◌-◌, IfOk, IfSome, IsTrue, MatchOption, vec_len};
-ghost use Rattle.rb_session.specs.Lines.{HasNoLineFeed, line_of};
+ghost use Rattle.rb_protocol.specs.Line.{HasNoLineFeed};
+ghost use Rattle.rb_session.specs.Lines.{line_of};
 ghost use Rattle.rb_protocol.specs.Reading.{IsReading};
+ghost use Rattle.rb_protocol.specs.declared.format.TheConstants.{LINE_FEED};
 ghost use Rattle.rb_protocol.specs.declared.limits.TheConstants.{BUFFER_BYTES};
 ghost use Rattle.rb_session.specs.declared.line_buffer.TheConstants.{MOST_RAW_BYTES};
 
 use crate::outlet::Outlet;
 use memchr::memchr;
 use rb_protocol::{
-    BUFFER_BYTES, LINE_FEED, LimitedReader, LineFault, MOST_LINE_BYTES, Request, read_request,
+    BUFFER_BYTES, CARRIAGE_RETURN, LINE_FEED, LimitedReader, LineFault, MOST_LINE_BYTES, Request,
+    read_request,
 };
 use std::alloc::{AllocError, Global};
 use std::io;
@@ -122,7 +125,7 @@ impl LineBuffer {
 #[tactic(auto, using(crate::proofs::LineFeeds::first_feed))]
 fn find_feed(held: &[u8]) -> Option<usize>
     ensures { MatchOption result (HasNoLineFeed held.now) (λ len.
-        (len < length held.now) × HasNoLineFeed (take len held.now) × (slice_index held.now len ≡ 10)) }
+        (len < length held.now) × HasNoLineFeed (take len held.now) × (slice_index held.now len ≡ LINE_FEED)) }
 {
     memchr(LINE_FEED, held)
 }
@@ -132,7 +135,7 @@ fn without_return(raw: &[u8]) -> &[u8]
     ensures { result.now ≡ line_of raw.now }
 {
     let len = raw.len();
-    if len > 0 && raw[len - 1] == b'\r' {
+    if len > 0 && raw[len - 1] == CARRIAGE_RETURN {
         &raw[..len - 1]
     } else {
         raw

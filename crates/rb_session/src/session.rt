@@ -4,7 +4,7 @@ ghost use Rattle.rb_protocol.specs.declared.request.Request.TheVariants.{Quit};
 ghost use Rattle.rb_session.specs.Buffer.{IsUnserved};
 ghost use Rattle.rb_session.specs.Turn.{point, AsksToWait};
 ghost use Rattle.rb_session.specs.Exchange.{Exchanges};
-ghost use Rattle.rb_session.specs.Progress.{ServesLines, AnswersEnd, Stops, IsClearAt, IsClearAtRead, IsUsedUpAt};
+ghost use Rattle.rb_session.specs.Progress.{ServesLines, AnswersEnd, Stops, IsClearAt, IsClearAtRead};
 
 use crate::answer::answer;
 use crate::held_jobs::HeldJobs;
@@ -55,7 +55,7 @@ impl Session {
             (O.contents outlet.old) (O.contents outlet.new)
             (λ came sent. Stops D.gives D.Sets D.Steps policy.now O.HoldsBack (IsAtEnd (R.remaining reader.new.inner.now))
             (point (D.state desk.old) self.old.held) came sent result (point (D.state desk.new) self.new.held)) }
-        ensures used_up { IsUsedUpAt reader.new.left result }
+        ensures used_up { result ≡ Stop.ReadTurns → reader.new.left ≡ 0 }
         ensures same_reference { reader.new.inner.ghost_name ≡ reader.old.inner.ghost_name }
         ensures clear { IsClearAt (O.IsClear outlet.new) result }
         ensures becomes { O.Becomes outlet.old outlet.new }
@@ -85,7 +85,7 @@ impl Session {
             (O.contents outlet.old) (O.contents outlet.new)
             (λ came sent. Stops D.gives D.Sets D.Steps policy.now O.HoldsBack (IsAtEnd (R.remaining reader.new.inner.now))
             (point (D.state desk.old) self.old.held) came sent result (point (D.state desk.new) self.new.held)) }
-        ensures used_up { IsUsedUpAt reader.new.left result }
+        ensures used_up { result ≡ Stop.ReadTurns → reader.new.left ≡ 0 }
         ensures same_reference { reader.new.inner.ghost_name ≡ reader.old.inner.ghost_name }
         ensures clear { IsClearAtRead (O.IsClear outlet.new) result }
         ensures becomes { O.Becomes outlet.old outlet.new }

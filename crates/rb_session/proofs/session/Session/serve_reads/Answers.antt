@@ -8,6 +8,7 @@ use Rattle.std.specs.declared.io.Error.{Error}
 use Rattle.rb_session.specs.Buffer.{TakesMore}
 use Rattle.rb_session.specs.Turn.{point}
 use Rattle.rb_session.specs.Progress.{ServesLines, AnswersEnd}
+use Rattle.rb_session.proofs.Buffers.{no_feed-nil}
 use Rattle.rb_session.proofs.LongerExchanges.{exchanges_same, exchanges_more}
 use Rattle.rb_session.proofs.Turns.{stands_first}
 use Rattle.rb_session.proofs.StreamRuns.{breaks_off, ran_end, stands_on, stopped}
@@ -46,7 +47,7 @@ loop-outlet-init g c = record {
     sent = [];
     consumed = Consumes-nil _;
     appended = Appends-nil _;
-    holds = (stands_first g.D.Desk.gives g.D.Desk.Sets g.D.Desk.Steps c.args.policy.now (point (g.D.Desk.state c.args.desk.now) c.args.self.now.held) [], tt, c.requires.fresh);
+    holds = (stands_first g.D.Desk.gives g.D.Desk.Sets g.D.Desk.Steps c.args.policy.now (point (g.D.Desk.state c.args.desk.now) c.args.self.now.held) [], no_feed-nil, c.requires.fresh);
   };
   same_reference = refl;
   becomes = g.met.O.Outlet.stays c.args.outlet.now;
@@ -88,7 +89,7 @@ pub returns-in-Ok-eq0-clause-used_up : goal.returns-in-Ok-eq0-clause-used_up
 returns-in-Ok-eq0-clause-used_up g c =
     let more = read_took g (goal.at.returns-in-Ok-eq0-clause-used_up g c).After-read_from _ c.in-Ok-eq0.is in
     let ends = c.finish.ensures.ends (c.loop-outlet.invariant.stands.holds.0.rest ++ more.0) more.2 in
-    unused_at_end _ c.finish.result _ ends.0 ends.2
+    λ is. absurd (unused_at_end c.finish.result _ ends.0 ends.2 is)
 
 -- all was handed on before the read
 pub returns-in-Err-2-clause-clear : goal.returns-in-Err-2-clause-clear
@@ -102,8 +103,8 @@ returns-in-Some-clause-clear g c =
 
 pub returns-in-Some-clause-used_up : goal.returns-in-Some-clause-used_up
 returns-in-Some-clause-used_up g c =
-    unused_at_line g.D.Desk.gives g.D.Desk.Sets g.D.Desk.Steps c.args.policy.now _ g.O.Outlet.HoldsBack (point (g.D.Desk.state c.loop-outlet.desk) c.loop-outlet.self.held)
-    (point (g.D.Desk.state c.serve_lines.new.desk) c.serve_lines.new.self.held) _ _ c.in-Some.stop _ (line_stopped g (goal.at.returns-in-Some-clause-used_up g c).In-Some).4
+    λ is. absurd (unused_at_line g.D.Desk.gives g.D.Desk.Sets g.D.Desk.Steps c.args.policy.now g.O.Outlet.HoldsBack (point (g.D.Desk.state c.loop-outlet.desk) c.loop-outlet.self.held)
+    (point (g.D.Desk.state c.serve_lines.new.desk) c.serve_lines.new.self.held) _ _ c.in-Some.stop _ (line_stopped g (goal.at.returns-in-Some-clause-used_up g c).In-Some).4 is)
 
 -- a read that was interrupted took nothing
 pub loop-outlet-preserved-in-Err : goal.loop-outlet-preserved-in-Err

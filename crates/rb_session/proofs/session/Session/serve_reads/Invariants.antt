@@ -2,7 +2,7 @@
 use Rattle.std.proofs.Common.{◌≡◌}
 use Rattle.rb_session.specs.Exchange.{Exchanges}
 use Rattle.rb_session.specs.Buffer.{IsUnserved}
-use Rattle.rb_session.specs.Lines.{HasNoLineFeed}
+use Rattle.rb_protocol.specs.Line.{HasNoLineFeed}
 use Rattle.rb_session.specs.Turn.{point}
 use Rattle.rb_session.specs.Progress.{Stands}
 use Rattle.rb_session.proofs.session.Session.serve_reads.Given as goal
