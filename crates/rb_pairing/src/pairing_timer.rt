@@ -4,12 +4,8 @@ ghost use Rattle.rb_pairing.specs.Nodes.{expiries};
 ghost use Rattle.rb_pairing.specs.Forest.{IsTree, IsEntry};
 
 use crate::nodes::Nodes;
-use rb_timer::Timer;
+use rb_timer::{Timer, clears_one_by_one};
 use std::alloc::{AllocError, Global};
-
-// How many slots of room there may be to an entry before a pass over the room costs more than to take the
-// entries out one by one.
-const SLOTS_TO_AN_ENTRY: usize = 8;
 
 /// A pairing heap of the entries, by expiry, whose links are slots.
 ///
@@ -97,7 +93,7 @@ impl Timer for PairingTimer {
     }
 
     fn clear(&mut self) {
-        if self.len < self.nodes.room() / SLOTS_TO_AN_ENTRY {
+        if clears_one_by_one(self.len, self.nodes.room()) {
             self.take_each();
         } else {
             self.take_all();

@@ -72,14 +72,6 @@ some_standing bag id element found = positive (map.len bag) refl
         let gone : map.get bag id ≡ None = ap (λ b. map.get b id) (map.empty_of_len bag none) ∙ get-empty {X = Element} nat_cmp id in absurd (cc)
     positive (suc n) some = omega arith
 
--- an element less stands where one that stood was taken out
-pub one_fewer : (bag : Bag) (id : ℕ) (element : Element) → map.get bag id ≡ Some element → map.len (map.remove bag id) < map.len bag
-one_fewer bag id element found =
-    let some = some_standing bag id element found in
-    let left : map.len (map.remove bag id) ≡ map.len bag - 1 = len-remove nat_cmp_total bag id
-    ∙ ap (λ (o : Option Element). cond (is_some o) (map.len bag - 1) (map.len bag)) found in
-    omega (arith, some, left)
-
 pub drained_more : (old new after : Queue) (now : ℕ) (items : List Element) (element : Element) → Drained old new now items → Acts new now (acts.Poll (Some element.id)) after → map.get new.bag element.id ≡ Some element
     → Drained old after now (items ++ element ∷ [])
 drained_more old new after now items element so_far polls found = record {

@@ -1,5 +1,5 @@
 -- What the timer and the directory say of the elements in the slots, and what keeps the three alike.
-use Rattle.std.proofs.Common.{◌≡◌, ◌≢◌, ℕ, ◌+◌, ◌-◌, ◌<◌, ◌≤◌, [], refl, sym, ap, subst, ◌∙◌, arith, Option, Some, None, true, false, cond, inl, inr, ◌⊎◌, nat_eq}
+use Rattle.std.proofs.Common.{◌≡◌, ◌≢◌, Bool, ℕ, ◌+◌, ◌-◌, ◌<◌, ◌≤◌, List, [], ◌∷◌, ◌++◌, refl, sym, ap, subst, ◌∙◌, arith, Option, Some, None, true, false, cond, inl, inr, ◌⊎◌, nat_eq}
 use Rattle.std.proofs.lemmas.Bool.Decides.{nat_tests}
 use Rattle.std.proofs.lemmas.Int.{ints}
 use Rattle.std.proofs.lemmas.Option.{same_Some}
@@ -135,6 +135,25 @@ sound_empty s content directory none empty unlisted = record {
     nothing : (slot : ℕ) → get s slot ≡ None
     nothing slot = ap (λ slots. slice_index_or slots slot None) none
 
+-- where the directory names no slot, no slot has an element: an empty timer and another empty directory agree with that
+pub sound_unlisted : (s : Slab Element) (content : Content) (old new : Directory) → IsFiled s content old
+    → ((id : ℕ) → slot_of old id ≡ None) → ((id : ℕ) → slot_of new id ≡ None) → IsFiled s map.empty new
+sound_unlisted s content old new sound unlisted none = record {
+  timed = λ slot. get-empty nat_cmp slot ∙ sym (ap (option_map (λ (e : Element). e.expiry)) (vacant slot (get s slot) refl));
+  listed = λ slot element here. absurd (nowhere slot element here);
+  filed = λ id slot found. let missing = none id in absurd (cc);
+  counted = sound.counted;
+}
+  where
+    nowhere : (slot : ℕ) (element : Element) → get s slot ≡ Some element → ⊥
+    nowhere slot element here =
+        let there = sound.listed slot element here in
+        let missing = unlisted element.id in absurd (cc)
+
+    vacant : (slot : ℕ) (o : Option Element) → get s slot ≡ o → get s slot ≡ None
+    vacant slot None is = is
+    vacant slot (Some element) is = absurd (nowhere slot element is)
+
 -- what the directory has after an update at an id
 abbrev pub UpdatesSlot : Directory → Directory → ℕ → Option ℕ → Type 0
 UpdatesSlot old new id slot = (other : ℕ) → slot_of new other ≡ cond (nat_eq id other) slot (slot_of old other)
@@ -148,7 +167,7 @@ pub updated_after : (old kept new : Directory) (id : ℕ) (slot : Option ℕ) �
 updated_after old kept new id slot same updates other =
     updates other ∙ ap (λ entries. cond (nat_eq id other) slot (lookup (nat_eq other) entries)) same
 
-updated_same : (old new : Directory) (id : ℕ) (slot : Option ℕ) → UpdatesSlot old new id slot → slot_of new id ≡ slot
+pub updated_same : (old new : Directory) (id : ℕ) (slot : Option ℕ) → UpdatesSlot old new id slot → slot_of new id ≡ slot
 updated_same old new id slot updates =
     let test : nat_eq id id ≡ true = grind (arith, nat_tests) in
     updates id ∙ ap (λ b. cond b slot (slot_of old id)) test
@@ -157,6 +176,26 @@ updated_other : (old new : Directory) (id other : ℕ) (slot : Option ℕ) → U
 updated_other old new id other slot updates differ =
     let test : nat_eq id other ≡ false = grind (arith, nat_tests) in
     updates other ∙ ap (λ b. cond b slot (slot_of old other)) test
+
+-- the slot of an id that stands last, and nowhere before
+lookup_last : (entries : List (ℕ × ℕ)) (id slot : ℕ) → lookup (nat_eq id) entries ≡ None → lookup (nat_eq id) (entries ++ (id, slot) ∷ []) ≡ Some slot
+lookup_last [] id slot none =
+    let test : nat_eq id id ≡ true = grind (arith, nat_tests) in
+    ap (λ b. cond b (Some slot) None) test
+lookup_last (entry ∷ entries) id slot none = by_test (nat_eq id entry.0) refl (lookup_last entries id slot)
+  where
+    by_test : (b : Bool) → nat_eq id entry.0 ≡ b
+        → (lookup (nat_eq id) entries ≡ None → lookup (nat_eq id) (entries ++ (id, slot) ∷ []) ≡ Some slot)
+        → lookup (nat_eq id) ((entry ∷ entries) ++ (id, slot) ∷ []) ≡ Some slot
+    by_test true is behind =
+        let found : lookup (nat_eq id) (entry ∷ entries) ≡ Some entry.1 = ap (λ b. cond b (Some entry.1) (lookup (nat_eq id) entries)) is in absurd (cc)
+    by_test false is behind =
+        ap (λ b. cond b (Some entry.1) (lookup (nat_eq id) (entries ++ (id, slot) ∷ []))) is
+        ∙ behind (sym (ap (λ b. cond b (Some entry.1) (lookup (nat_eq id) entries)) is) ∙ none)
+
+pub slot_of_last : (old new : Directory) (id slot : ℕ) → old.entries ≡ new.entries ++ (id, slot) ∷ [] → UpdatesSlot old new id None → slot_of old id ≡ Some slot
+slot_of_last old new id slot last updates =
+    ap (lookup (nat_eq id)) last ∙ lookup_last new.entries id slot (updated_same old new id None updates)
 
 -- one element more, under an id that the bag lacks
 module _ (old new : Slab Element) (content content' : Content) (directory directory' : Directory) (slot : ℕ) (element : Element)

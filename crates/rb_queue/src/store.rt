@@ -3,17 +3,15 @@ ghost use Rattle.std.specs.FinMap as map;
 ghost use Rattle.rb_queue.specs.Bag.{NoneExpired};
 ghost use Rattle.rb_queue.specs.Head.{IsHead, IsLeast, IsNextExpiry};
 ghost use Rattle.std.specs.Prelude.{MatchOption};
+ghost use Rattle.rb_timer.specs.Content.{Content};
+ghost use Rattle.rb_queue.specs.Filing.{IsFiled};
 
 use indexmap::IndexMap;
 use rb_delayed::{Delayed, Element};
-use rb_timer::Timer;
+use rb_timer::{Timer, clears_one_by_one};
 use slab::Slab;
 use std::alloc::{AllocError, Global};
 use std::marker::Model;
-
-// If there are more slots of room than this for each element, taking the elements out one by one
-// costs less than a pass over the room.
-const SLOTS_TO_AN_ELEMENT: usize = 8;
 
 /// The elements of a queue, found by id and by expiry.
 ///
@@ -87,7 +85,7 @@ impl<T: Timer> Store<T> {
     }
 
     /// Takes out the element of the id, if there is one.
-    // A removal spends its time here. `clear` calls it too, and a call that is not compiled in copies the element.
+    // A removal spends its time here, and a call that is not compiled in copies the element.
     #[inline(always)]
     pub(crate) fn remove(&mut self, id: u64) -> Option<Element>
         ensures element { result ≡ map.get self.old id }
@@ -122,32 +120,26 @@ impl<T: Timer> Store<T> {
     }
 
     /// Discards all elements, at the cost of those that are there, not of the room nor of what once
-    /// was there. If they are few, they are taken out one by one.
+    /// was there.
     pub(crate) fn clear(&mut self)
         ensures { self.new ≡ map.empty }
     {
-        if self.len() < self.timer.room() / SLOTS_TO_AN_ELEMENT {
-            self.discard_each();
-        } else {
-            self.discard_at_once();
-        }
-    }
-
-    // Takes out one element after the other.
-    fn discard_each(&mut self)
-        ensures { self.new ≡ map.empty }
-    {
-        while let Some(element) = self.least() {
-            self.remove(element.id);
-        }
-    }
-
-    // Makes one pass over the whole room.
-    fn discard_at_once(&mut self)
-        ensures { self.new ≡ map.empty }
-    {
-        self.elements.clear();
+        discard_all(&mut self.elements, &mut self.directory);
         self.timer.clear();
-        self.directory.clear();
+    }
+}
+
+// Discards the elements in all slots, and their ids. They need no order, so the timer is left to clear itself.
+fn discard_all(elements: &mut Slab<Element>, directory: &mut IndexMap<u64, usize>)
+    requires { (content : Content) × IsFiled elements.old content directory.old }
+    ensures { IsFiled elements.new map.empty directory.new }
+{
+    if clears_one_by_one(elements.len(), elements.capacity()) {
+        while let Some((_, slot)) = directory.pop() {
+            elements.remove(slot);
+        }
+    } else {
+        elements.clear();
+        directory.clear();
     }
 }

@@ -6,12 +6,14 @@
 //! has what timers store slots in.
 #![tactic(auto)]
 
+mod clearing;
 mod command;
 pub mod link;
 mod list_timer;
 mod run;
 mod timer;
 
+pub use clearing::clears_one_by_one;
 pub use command::{TimerAnswer, TimerCommand};
 pub use list_timer::ListTimer;
 pub use run::run_timer;

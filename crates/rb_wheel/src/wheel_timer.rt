@@ -2,7 +2,7 @@ use crate::cells::cell_of;
 use crate::lists::{Lists, earlier_of};
 use crate::next_first::first_without;
 use rb_pairing::PairingTimer;
-use rb_timer::Timer;
+use rb_timer::{Timer, clears_one_by_one};
 use std::alloc::{AllocError, Global};
 use std::marker::Model;
 
@@ -115,7 +115,7 @@ impl<E: Timer> Timer for Wheel<E> {
     }
 
     fn clear(&mut self) {
-        if self.len <= self.lists.room() / 8 {
+        if clears_one_by_one(self.len, self.lists.room()) {
             self.take_each();
         } else {
             self.take_all();
