@@ -12,7 +12,7 @@ use Rattle.rb_queue.specs.declared.event.Event.{Event}
 use Rattle.rb_queue.specs.declared.opening.Opening.{Opening}
 use Rattle.rb_queue.specs.declared.reply.Reply.{Reply}
 use Rattle.rb_queue.specs.Queue.{Queue}
-use Rattle.rb_queue.specs.Effect.{Effect, inserts, gives, discards, empties, effect_of, queue_after, inserted, given, discarded, cleared}
+use Rattle.rb_queue.specs.Effect.{Effect, inserts, gives, removes, empties, effect_of, queue_after, inserted, given, removed, cleared}
 use Rattle.rb_queue.specs.Calls.{Acts, Permits}
 use Rattle.rb_queue.specs.History.{State, start_of, state_after, state_from, state_of, Allows, IsLegal}
 use Rattle.rb_queue.specs.Counts.{offer_count, give_count, removed_count, cleared_from, cleared_count}
@@ -49,7 +49,7 @@ offers_few (event ∷ history) =
     one : (effect : Effect) → length (inserted effect) ≤ 1
     one (inserts element) = omega arith
     one (gives ids) = omega arith
-    one (discards ids) = omega arith
+    one (removes ids) = omega arith
     one empties = omega arith
 
 -- an id is given out for each call at most
@@ -60,7 +60,7 @@ next_id_few from (event ∷ events) = omega (arith, next_id_few (state_after fro
     one : (effect : Effect) → (queue_after from.queue effect).next_id ≤ from.queue.next_id + 1
     one (inserts element) = omega arith
     one (gives ids) = omega arith
-    one (discards ids) = omega arith
+    one (removes ids) = omega arith
     one empties = omega arith
 
 -- what a history of this length comes to
@@ -117,8 +117,8 @@ module _ (queue new : Queue) (log : Log) (event : Event) (space : ℕ) (books : 
   few_more : AreFew log.opening (with_event log event).history MOST_CALLS
   few_more = are_few log.opening (with_event log event).history MOST_CALLS legal_more (omega (arith, length-append log.history (event ∷ []), next.room, kept.most))
 
-  removed_more : removed_count (with_event log event).history ≡ removals + length (discarded (effect_of event.act))
-  removed_more = counted-append (λ e. length (discarded (effect_of e.act))) log.history event ∙ ap (λ n. n + length (discarded (effect_of event.act))) (sym kept.removed)
+  removed_more : removed_count (with_event log event).history ≡ removals + length (removed (effect_of event.act))
+  removed_more = counted-append (λ e. length (removed (effect_of e.act))) log.history event ∙ ap (λ n. n + length (removed (effect_of event.act))) (sym kept.removed)
 
   cleared_more : cleared_count log.opening (with_event log event).history ≡ clearings + cleared (effect_of event.act) (map.len queue.bag)
   cleared_more =
@@ -127,7 +127,7 @@ module _ (queue new : Queue) (log : Log) (event : Event) (space : ℕ) (books : 
       ∙ ap (λ n. n + cleared (effect_of event.act) (map.len queue.bag)) (sym kept.cleared)
 
   -- the counts stay far from the greatest number
-  pub removed_fits : removals + length (discarded (effect_of event.act)) < 2 ^ 64
+  pub removed_fits : removals + length (removed (effect_of event.act)) < 2 ^ 64
   removed_fits = omega (arith, removed_more, few_more.removed, log.opening.opening.few)
 
   pub cleared_fits : clearings + cleared (effect_of event.act) (map.len queue.bag) < 2 ^ 64
@@ -150,7 +150,7 @@ module _ (queue new : Queue) (log : Log) (event : Event) (space : ℕ) (books : 
 
   -- what is kept true stays true with one event more
   pub kept_more : (items : List Event) (books' : Totals) (removals' clearings' : ℕ) → items ≡ log.history ++ event ∷ [] → books' ≡ total_of books (amount_of event)
-      → removals' ≡ removals + length (discarded (effect_of event.act)) → clearings' ≡ clearings + cleared (effect_of event.act) (map.len queue.bag)
+      → removals' ≡ removals + length (removed (effect_of event.act)) → clearings' ≡ clearings + cleared (effect_of event.act) (map.len queue.bag)
       → IsKept new (record log { history = items }) space books' removals' clearings'
   kept_more items books' removals' clearings' is booked removed cleared_away =
       subst (λ (h : List Event). IsKept new (record log { history = h }) space books' removals' clearings') (sym is)

@@ -13,7 +13,7 @@ use Rattle.rb_queue.specs.declared.act.Act.TheVariants.{Offer, Poll, Take, PollF
 use Rattle.rb_queue.specs.Bag.{Bag, without}
 use Rattle.rb_queue.specs.Head.{IsHead, IsHeadId}
 use Rattle.rb_queue.specs.Queue.{Queue}
-use Rattle.rb_queue.specs.Effect.{Effect, inserts, gives, discards, empties, effect_of, queue_after, inserted, given, discarded, cleared}
+use Rattle.rb_queue.specs.Effect.{Effect, inserts, gives, removes, empties, effect_of, queue_after, inserted, given, removed, cleared}
 use Rattle.rb_queue.specs.Calls.{Permits, AreHeads}
 use Rattle.rb_queue.specs.Leaving.{times, standing, offers_of, leavings_of}
 use Rattle.rb_queue.specs.Filing.{AreBelow}
@@ -34,7 +34,7 @@ AreTaken bag (id ∷ ids) = IsSome (map.get bag id) × AreTaken (map.remove bag 
 abbrev pub FitsIn : Queue → Effect → Type 0
 FitsIn queue (inserts element) = element.id ≡ queue.next_id
 FitsIn queue (gives ids) = AreTaken queue.bag ids
-FitsIn queue (discards ids) = AreTaken queue.bag ids
+FitsIn queue (removes ids) = AreTaken queue.bag ids
 FitsIn queue empties = Unit {0}
 
 head_taken : (bag : Bag) (now id : ℕ) → IsHeadId bag now id → IsSome (map.get bag id)
@@ -65,7 +65,7 @@ below_without bag (id ∷ ids) next below = below_without (map.remove bag id) id
 pub below_after : (queue : Queue) (effect : Effect) → FitsIn queue effect → AreBelow queue.bag queue.next_id → AreBelow (queue_after queue effect).bag (queue_after queue effect).next_id
 below_after queue (inserts element) fits below = below_insert queue.bag queue.next_id element below fits
 below_after queue (gives ids) fits below = below_without queue.bag ids queue.next_id below
-below_after queue (discards ids) fits below = below_without queue.bag ids queue.next_id below
+below_after queue (removes ids) fits below = below_without queue.bag ids queue.next_id below
 below_after queue empties fits below = below_empty queue.next_id
 
 pub times_cons : (id first : ℕ) (ids : List ℕ) → times id (first ∷ ids) ≡ bit (nat_eq first id) + times id ids
@@ -118,7 +118,7 @@ standing_after queue (inserts element) id fits below = by_id (same_or_not id ele
         let same : standing id (map.insert queue.bag element.id element) ≡ standing id queue.bag = ap (λ (o : Option Element). bit (is_some o)) (get_inserted_other queue.bag element.id id element differ) in
         omega (arith, offers, none, same)
 standing_after queue (gives ids) id fits below = let all = standing_without queue.bag id ids fits in omega (arith, all)
-standing_after queue (discards ids) id fits below = let all = standing_without queue.bag id ids fits in omega (arith, all)
+standing_after queue (removes ids) id fits below = let all = standing_without queue.bag id ids fits in omega (arith, all)
 standing_after queue empties id fits below =
     let none : standing id (map.empty {K = ℕ} {X = Element} {R = nat_cmp}) ≡ 0 = ap (λ (o : Option Element). bit (is_some o)) (get-empty {X = Element} nat_cmp id) in
     omega (arith, none)
@@ -143,12 +143,12 @@ len_without bag (id ∷ ids) taken =
 
 -- What stood or came in leaves or stands: in numbers.
 pub len_after : (queue : Queue) (effect : Effect) → FitsIn queue effect → AreBelow queue.bag queue.next_id
-    → map.len queue.bag + length (inserted effect) ≡ length (given effect) + length (discarded effect) + cleared effect (map.len queue.bag) + map.len (queue_after queue effect).bag
+    → map.len queue.bag + length (inserted effect) ≡ length (given effect) + length (removed effect) + cleared effect (map.len queue.bag) + map.len (queue_after queue effect).bag
 len_after queue (inserts element) fits below =
     let absent : map.get queue.bag element.id ≡ None = ap (map.get queue.bag) fits ∙ next_absent queue.bag queue.next_id below in
     let more : map.len (map.insert queue.bag element.id element) ≡ map.len queue.bag + 1 = len-insert nat_cmp_total queue.bag element.id element
     ∙ ap (λ (o : Option Element). cond (is_some o) (map.len queue.bag) (map.len queue.bag + 1)) absent in
     omega (arith, more)
 len_after queue (gives ids) fits below = let all = len_without queue.bag ids fits in omega (arith, all)
-len_after queue (discards ids) fits below = let all = len_without queue.bag ids fits in omega (arith, all)
+len_after queue (removes ids) fits below = let all = len_without queue.bag ids fits in omega (arith, all)
 len_after queue empties fits below = let none = len-empty nat_cmp Element in omega (arith, none)

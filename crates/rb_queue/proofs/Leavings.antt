@@ -11,7 +11,7 @@ use Rattle.rb_queue.specs.declared.opening.Opening.{Opening}
 use Rattle.rb_queue.specs.Bag.{Bag, bag_from}
 use Rattle.rb_queue.specs.Opening.{ids_of}
 use Rattle.rb_queue.specs.Queue.{Queue}
-use Rattle.rb_queue.specs.Effect.{Effect, inserts, gives, discards, empties, effect_of, queue_after, inserted, given, discarded}
+use Rattle.rb_queue.specs.Effect.{Effect, inserts, gives, removes, empties, effect_of, queue_after, inserted, given, removed}
 use Rattle.rb_queue.specs.History.{State, start_of, state_after, state_from, AllowsAll}
 use Rattle.rb_queue.specs.Counts.{offer_count, give_count, removed_count, cleared_from}
 use Rattle.rb_queue.specs.Leaving.{times, standing, offers_of, offer_times, leaving_times_from, IsOfferedOnce, LeavesOnce, IsBalanced}
@@ -49,7 +49,7 @@ offers_none queue (inserts element) id fits before =
     let test : nat_eq element.id id ≡ false = grind (arith, nat_tests) in
     (times_cons id element.id [] ∙ omega (arith, ap bit test), omega arith)
 offers_none queue (gives ids) id fits before = (refl, before)
-offers_none queue (discards ids) id fits before = (refl, before)
+offers_none queue (removes ids) id fits before = (refl, before)
 offers_none queue empties id fits before = (refl, before)
 
 -- ids below the next one are not offered any more
@@ -72,7 +72,7 @@ offers_one queue (inserts element) id fits = by_id (same_or_not id element.id)
         let test : nat_eq element.id id ≡ false = grind (arith, nat_tests) in
         inl (times_cons id element.id [] ∙ omega (arith, ap bit test))
 offers_one queue (gives ids) id fits = inl refl
-offers_one queue (discards ids) id fits = inl refl
+offers_one queue (removes ids) id fits = inl refl
 offers_one queue empties id fits = inl refl
 
 offered_once : (id : ℕ) (from : State) (events : List Event) → AllowsAll from events → offers_in id events ≤ 1
@@ -176,7 +176,7 @@ len_along from (event ∷ events) all below =
       rest,
       sum_by-cons (λ (e : Event). length (inserted (effect_of e.act))) event events,
       sum_by-cons (λ (e : Event). length (given (effect_of e.act))) event events,
-      sum_by-cons (λ (e : Event). length (discarded (effect_of e.act))) event events,
+      sum_by-cons (λ (e : Event). length (removed (effect_of e.act))) event events,
     )
 
 pub is_balanced : IsBalanced

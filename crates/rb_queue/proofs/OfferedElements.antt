@@ -15,7 +15,7 @@ use Rattle.rb_queue.specs.declared.reply.Reply.{Reply}
 use Rattle.rb_queue.specs.declared.reply.Reply.TheVariants.{Drained}
 use Rattle.rb_queue.specs.Bag.{Bag}
 use Rattle.rb_queue.specs.Queue.{Queue}
-use Rattle.rb_queue.specs.Effect.{Effect, inserts, gives, discards, empties, effect_of, queue_after}
+use Rattle.rb_queue.specs.Effect.{Effect, inserts, gives, removes, empties, effect_of, queue_after}
 use Rattle.rb_queue.specs.History.{State, start_of, state_after, state_from, state_of}
 use Rattle.rb_queue.specs.Replies.{elements_in, answer_in, reply_in, with_inserted, offered_from, offered, reply_of}
 use Rattle.rb_queue.proofs.Options.{same_or_not}
@@ -36,7 +36,7 @@ within_after queue all (inserts new) within id element found = by_id (same_or_no
     by_id (inr differ) =
         get_inserted_other all new.id id new differ ∙ within id element (sym (get_inserted_other queue.bag new.id id new differ) ∙ found)
 within_after queue all (gives ids) within id element found = within id element (without_kept queue.bag ids id element found)
-within_after queue all (discards ids) within id element found = within id element (without_kept queue.bag ids id element found)
+within_after queue all (removes ids) within id element found = within id element (without_kept queue.bag ids id element found)
 within_after queue all empties within id element found = let none = get-empty {X = Element} nat_cmp id in absurd (cc)
 
 within_along : (from : State) (all : Bag) (events : List Event) → IsWithin from.queue.bag all → IsWithin (state_from from events).queue.bag (offered_from all events)

@@ -1,7 +1,7 @@
 -- Whose events a history has, and their counts.
 use Rattle.std.specs.Prelude.{ℕ, ◌+◌, ◌==◌, List, [], ◌∷◌, length, filter, sum_by}
 use Rattle.std.specs.FinMap as map
-use Rattle.rb_queue.specs.Effect.{effect_of, inserted, given, discarded, cleared}
+use Rattle.rb_queue.specs.Effect.{effect_of, inserted, given, removed, cleared}
 use Rattle.rb_queue.specs.History.{State, start_of, state_after, state_of}
 use Rattle.rb_queue.specs.declared.audit.Audit.{Audit}
 use Rattle.rb_queue.specs.declared.event.Event.{Event}
@@ -21,7 +21,7 @@ abbrev pub give_count : List Event → ℕ
 give_count history = sum_by (λ event. length (given (effect_of event.act))) history
 
 abbrev pub removed_count : List Event → ℕ
-removed_count history = sum_by (λ event. length (discarded (effect_of event.act))) history
+removed_count history = sum_by (λ event. length (removed (effect_of event.act))) history
 
 -- how many elements the events clear away, from this state on
 abbrev pub cleared_from : State → List Event → ℕ

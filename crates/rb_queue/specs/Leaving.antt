@@ -3,7 +3,7 @@ use Rattle.std.specs.Prelude.{◌≡◌, ℕ, ◌+◌, ◌≤◌, ◌==◌, List
 use Rattle.std.specs.FinMap as map
 use Rattle.rb_queue.specs.Bag.{Bag}
 use Rattle.rb_queue.specs.Opening.{ids_of}
-use Rattle.rb_queue.specs.Effect.{Effect, inserts, gives, discards, empties, effect_of, inserted}
+use Rattle.rb_queue.specs.Effect.{Effect, inserts, gives, removes, empties, effect_of, inserted}
 use Rattle.rb_queue.specs.History.{State, start_of, state_after, IsLegal}
 use Rattle.rb_queue.specs.Counts.{offer_count, give_count, removed_count, cleared_count, left_count}
 use Rattle.rb_queue.specs.declared.event.Event.{Event}
@@ -25,7 +25,7 @@ offers_of id effect = times id (ids_of (inserted effect))
 abbrev pub leavings_of : ℕ → Bag → Effect → ℕ
 leavings_of id bag (inserts element) = 0
 leavings_of id bag (gives ids) = times id ids
-leavings_of id bag (discards ids) = times id ids
+leavings_of id bag (removes ids) = times id ids
 leavings_of id bag empties = standing id bag
 
 -- how often the id is offered; an element of the opening counts as offered once

@@ -3,7 +3,7 @@ use Rattle.std.specs.Prelude.{ℕ, ◌-◌, List, [], ◌∷◌, length, Option,
 use Rattle.std.specs.FinMap as map
 use Rattle.rb_delayed.specs.declared.element.Element.{Element}
 use Rattle.rb_queue.specs.Bag.{Bag, bag_from}
-use Rattle.rb_queue.specs.Effect.{Effect, inserts, gives, discards, empties, effect_of}
+use Rattle.rb_queue.specs.Effect.{Effect, inserts, gives, removes, empties, effect_of}
 use Rattle.rb_queue.specs.declared.act.Act.{Act}
 use Rattle.rb_queue.specs.declared.act.Act.TheVariants as acts
 use Rattle.rb_queue.specs.declared.reply.Reply.{Reply}
@@ -38,7 +38,7 @@ reply_in bag (acts.Size count) = Some (Size count)
 abbrev pub with_inserted : Bag → Effect → Bag
 with_inserted bag (inserts element) = map.insert bag element.id element
 with_inserted bag (gives ids) = bag
-with_inserted bag (discards ids) = bag
+with_inserted bag (removes ids) = bag
 with_inserted bag empties = bag
 
 -- these elements and all that the events offered

@@ -38,7 +38,7 @@ pub enum Act {
 }
 
 impl Act {
-    ghost use Rattle.rb_queue.specs.Effect.{effect_of, inserted, given, discarded, cleared};
+    ghost use Rattle.rb_queue.specs.Effect.{effect_of, inserted, given, removed, cleared};
 
     /// How many elements it inserted.
     pub fn offered(&self) -> u64
@@ -60,7 +60,7 @@ impl Act {
 
     /// How many elements it took out by name.
     pub fn removed(&self) -> u64
-        ensures { result ≡ length (discarded (effect_of self.now)) }
+        ensures { result ≡ length (removed (effect_of self.now)) }
     {
         u64::from(matches!(self, Act::Remove { found: true, .. }))
     }

@@ -11,7 +11,7 @@ use Rattle.std.specs.FinMap as map
 use Rattle.rb_delayed.specs.declared.element.Element.{Element}
 use Rattle.rb_queue.specs.Bag.{Bag, bag_from}
 use Rattle.rb_queue.specs.Queue.{Queue}
-use Rattle.rb_queue.specs.Effect.{Effect, inserts, gives, discards, empties, effect_of, queue_after, inserted, given}
+use Rattle.rb_queue.specs.Effect.{Effect, inserts, gives, removes, empties, effect_of, queue_after, inserted, given}
 use Rattle.rb_queue.specs.Calls.{Permits}
 use Rattle.rb_queue.specs.History.{State, start_of, state_after, state_from, state_of, Allows, AllowsAll, IsLegal}
 use Rattle.rb_queue.proofs.Histories.{state_from-append}
@@ -142,7 +142,7 @@ offers_next_id policy opening events i event attempts legal within is so_far ele
 next_id_after : (queue : Queue) (effect : Effect) → (queue_after queue effect).next_id ≡ queue.next_id + length (inserted effect)
 next_id_after queue (inserts element) = refl
 next_id_after queue (gives ids) = omega arith
-next_id_after queue (discards ids) = omega arith
+next_id_after queue (removes ids) = omega arith
 next_id_after queue empties = omega arith
 
 pub looked_more : (policy : Policy) (opening : Opening) (events : List Event) (i : ℕ) (event : Event) (old new : AttemptIndex)

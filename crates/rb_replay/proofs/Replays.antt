@@ -8,7 +8,7 @@ use Rattle.std.specs.FinMap as map
 use Rattle.rb_queue.specs.Bag.{Bag, NoneExpired, without}
 use Rattle.rb_queue.specs.Head.{IsLeast, IsHeadId}
 use Rattle.rb_queue.specs.Queue.{Queue}
-use Rattle.rb_queue.specs.Effect.{Effect, inserts, gives, discards, empties, effect_of, queue_after, inserted, given, discarded}
+use Rattle.rb_queue.specs.Effect.{Effect, inserts, gives, removes, empties, effect_of, queue_after, inserted, given, removed}
 use Rattle.rb_queue.specs.Calls.{AreHeads, Permits}
 use Rattle.rb_queue.specs.Counts.{offer_count, give_count, removed_count, cleared_count, left_count}
 use Rattle.rb_queue.specs.History.{State, start_of, state_after, state_from, state_of, Allows, IsLegal}
@@ -111,7 +111,7 @@ ids_few from (event ∷ events) = omega (arith, ids_few (state_after from event)
     one : (effect : Effect) → (queue_after from.queue effect).next_id ≤ from.queue.next_id + 1
     one (inserts element) = omega arith
     one (gives ids) = omega arith
-    one (discards ids) = omega arith
+    one (removes ids) = omega arith
     one empties = omega arith
 
 -- an event offers one element at most
@@ -123,7 +123,7 @@ offers_few (event ∷ events) =
     one : (effect : Effect) → length (inserted effect) ≤ 1
     one (inserts element) = omega arith
     one (gives ids) = omega arith
-    one (discards ids) = omega arith
+    one (removes ids) = omega arith
     one empties = omega arith
 
 -- what a legal history came to
@@ -156,10 +156,10 @@ gives_fit opening events i event legal few within is =
     omega (arith, part (λ e. length (given (effect_of e.act))) events i event within is, all.offered, all.balanced, all.few, few)
 
 pub removals_fit : (opening : Opening) (events : List Event) (i : ℕ) (event : Event) → IsLegal opening events → length events ≤ 1_000_000
-    → i < length events → event ≡ get_or events i event → removed_count (take i events) + length (discarded (effect_of event.act)) < 2 ^ 64
+    → i < length events → event ≡ get_or events i event → removed_count (take i events) + length (removed (effect_of event.act)) < 2 ^ 64
 removals_fit opening events i event legal few within is =
     let all = counted opening events legal in
-    omega (arith, part (λ e. length (discarded (effect_of e.act))) events i event within is, all.offered, all.balanced, all.few, few)
+    omega (arith, part (λ e. length (removed (effect_of e.act))) events i event within is, all.offered, all.balanced, all.few, few)
 
 -- the next id is far from the last number
 pub ids_left : (opening : Opening) (events : List Event) (i : ℕ) (state : State) → length events ≤ 1_000_000
