@@ -1,4 +1,4 @@
--- The two arrays when an entry is put at the end of the heap, and settles from there.
+-- The two arrays when an entry is put at the end of the heap, and is sifted from there.
 use Rattle.std.proofs.Common.{◌≡◌, ℕ, ◌+◌, ◌<◌, ◌≢◌, List, [], ◌∷◌, ◌++◌, length, get_or, set, Option, Some, None, refl, sym, ap, ◌∙◌, arith, ⊎_elim, get_or-set_same, get_or-set_other, length-set}
 use Rattle.std.specs.Prelude.{is_some, option_map, count_by, cond}
 use Rattle.std.proofs.lemmas.Bool.{cases_eq, cases_lt}
@@ -102,7 +102,7 @@ module _ (heap : List Entry) (places : List (Option ℕ)) (entry : Entry) (agree
       ∙ same_shown (expiry_at heap) (expiry_at pushed) (place_of places slot)
       (λ place is. ap (λ (e : Entry). e.expiry) (at_old place (agrees.in_heap slot place is)))))
 
-  -- the content that the settled arrays have
+  -- the content that the sifted arrays have
   pub content_of-pushed : (row : List (Option ℕ))
       → row ≡ expiries pushed (note pushed places (length heap))
       → content_of row ≡ finite.insert (content_of (expiries heap places)) entry.slot entry.expiry

@@ -247,7 +247,7 @@ module _ {heap after : List Entry} {places : List (Option ℕ)} {slot place : �
         (ap (option_map (expiry_at after)) (renoted_other slot (λ same. mover_apart (sym same)) ∙ forgotten_here))
         inner_shown
 
-  -- the content that the settled arrays have
+  -- the content that the sifted arrays have
   pub content_of-taken : (row : List (Option ℕ)) → row ≡ set (expiries heap places) slot None
       → content_of row ≡ finite.remove (content_of (expiries heap places)) slot
   content_of-taken row same =

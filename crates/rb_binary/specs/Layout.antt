@@ -83,7 +83,7 @@ pub record IsPutAt (heap : List Entry) (places : List (Option ℕ)) (place : ℕ
   pub agrees : Agrees heap (note heap places place)
 
 -- the entry at `place` found its place among the others, and no slot's expiry has changed
-pub record Settles (heap : List Entry) (places : List (Option ℕ)) (place : ℕ)
+pub record Sifts (heap : List Entry) (places : List (Option ℕ)) (place : ℕ)
     (new_heap : List Entry) (new_places : List (Option ℕ)) : Type 0 where
   pub agrees : Agrees new_heap new_places
   pub ordered : IsOrdered new_heap

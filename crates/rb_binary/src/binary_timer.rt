@@ -2,7 +2,7 @@ ghost use Rattle.std.specs.Prelude.{◌≤◌, vec_len, vec_capacity};
 ghost use Rattle.std.proofs.Props.{props};
 ghost use Rattle.rb_binary.specs.Layout.{Agrees, IsOrdered};
 
-use crate::heap::{Entry, forget_all, settle, sift_up};
+use crate::heap::{Entry, forget_all, sift, sift_up};
 use rb_timer::Timer;
 use rb_timer::link::Link;
 use std::alloc::{AllocError, Global};
@@ -72,7 +72,7 @@ impl Timer for BinaryTimer {
         let place = self.places[slot].take().unwrap();
         let removed = self.heap.swap_remove(place);
         if place < self.heap.len() {
-            settle(&mut self.heap, &mut self.places, place);
+            sift(&mut self.heap, &mut self.places, place);
         }
         removed.expiry
     }

@@ -1,5 +1,5 @@
 ghost use Rattle.std.specs.Prelude.{◌≡◌, ℕ, ◌+◌, ◌*◌, ◌-◌, ◌/◌, ◌<◌, ◌≤◌, None, Some, length, replicate, slice_set};
-ghost use Rattle.rb_binary.specs.Layout.{Agrees, slot_at, IsPutAt, IsOrderedBut, MayRise, MaySink, IsLeastChild, Settles};
+ghost use Rattle.rb_binary.specs.Layout.{Agrees, slot_at, IsPutAt, IsOrderedBut, MayRise, MaySink, IsLeastChild, Sifts};
 
 use rb_timer::link::Link;
 
@@ -27,7 +27,7 @@ fn put(heap: &mut [Entry], places: &mut [Link], place: usize, entry: Entry)
 pub(crate) fn sift_up(heap: &mut [Entry], places: &mut [Link], mut place: usize)
     requires put { IsPutAt heap.old places.old place }
     requires ordered { MayRise heap.old place }
-    ensures { Settles heap.old places.old place heap.new places.new }
+    ensures { Sifts heap.old places.old place heap.new places.new }
 {
     let entry = heap[place];
     while place > 0 {
@@ -46,7 +46,7 @@ pub(crate) fn sift_up(heap: &mut [Entry], places: &mut [Link], mut place: usize)
 fn sift_down(heap: &mut [Entry], places: &mut [Link], mut place: usize)
     requires put { IsPutAt heap.old places.old place }
     requires ordered { MaySink heap.old place }
-    ensures { Settles heap.old places.old place heap.new places.new }
+    ensures { Sifts heap.old places.old place heap.new places.new }
 {
     let entry = heap[place];
     while place < heap.len() / 2 {
@@ -74,10 +74,10 @@ fn least_child(heap: &[Entry], place: usize) -> usize
 }
 
 /// Moves the entry up or down to where it belongs. Its place need not have been noted.
-pub(crate) fn settle(heap: &mut [Entry], places: &mut [Link], place: usize)
+pub(crate) fn sift(heap: &mut [Entry], places: &mut [Link], place: usize)
     requires put { IsPutAt heap.old places.old place }
     requires ordered { IsOrderedBut heap.old place }
-    ensures { Settles heap.old places.old place heap.new places.new }
+    ensures { Sifts heap.old places.old place heap.new places.new }
 {
     if place > 0 && heap[place].expiry < heap[(place - 1) / 2].expiry {
         sift_up(heap, places, place);

@@ -1,4 +1,4 @@
--- The entry is put at the end of the heap, and settles from there.
+-- The entry is put at the end of the heap, and is sifted from there.
 use Rattle.std.proofs.Common.{◌≡◌, length, arith}
 use Rattle.rb_binary.specs.declared.heap.Entry.{Entry}
 use Rattle.rb_binary.specs.Layout.{expiries}

@@ -53,10 +53,10 @@ swap_remove-removed-requires c =
     let within = c.args.self.now.agrees.in_heap c.args.slot c.unwrap-place.result (noted (goal.at.swap_remove-removed-requires c).After-unwrap-place) in
     omega arith
 
-pub settle-requires-clause-put : goal.settle-requires-clause-put
-settle-requires-clause-put c =
+pub sift-requires-clause-put : goal.sift-requires-clause-put
+sift-requires-clause-put c =
     rw (c.deref_mut.ensures.value, c.deref_mut-then-place-len.ensures.value, c.take.ensures.after)
-    (inner_put (takes_entry (goal.at.settle-requires-clause-put c).After-swap_remove-removed) (omega arith))
+    (inner_put (takes_entry (goal.at.sift-requires-clause-put c).After-swap_remove-removed) (omega arith))
 
 pub invariant_of-self-else-place-len-clause-agrees : goal.invariant_of-self-else-place-len-clause-agrees
 invariant_of-self-else-place-len-clause-agrees c =
@@ -68,10 +68,10 @@ returns-then-place-len-clause-value c = removed_expiry (goal.at.returns-then-pla
 pub returns-then-place-len-clause-content : goal.returns-then-place-len-clause-content
 returns-then-place-len-clause-content c =
     let takes = takes_entry (goal.at.returns-then-place-len-clause-content c).After-swap_remove-removed in
-    let settled = rw (c.deref_mut.ensures.value, c.deref_mut-then-place-len.ensures.value, c.take.ensures.after) at c.settle.ensures.same in
-    let heap_back = written_back c.swap_remove-removed.new.self.len c.settle.new.heap c.swap_remove-removed.new.self.items (omega arith) in
-    let places_back = written_back c.args.self.now.places.len c.settle.new.places (slice_set c.args.self.now.places.items c.args.slot c.take.new.self) (omega arith) in
-    rw (heap_back, places_back) (content_of-taken takes _ (settled ∙ inner_row takes (omega arith)))
+    let sifted = rw (c.deref_mut.ensures.value, c.deref_mut-then-place-len.ensures.value, c.take.ensures.after) at c.sift.ensures.same in
+    let heap_back = written_back c.swap_remove-removed.new.self.len c.sift.new.heap c.swap_remove-removed.new.self.items (omega arith) in
+    let places_back = written_back c.args.self.now.places.len c.sift.new.places (slice_set c.args.self.now.places.items c.args.slot c.take.new.self) (omega arith) in
+    rw (heap_back, places_back) (content_of-taken takes _ (sifted ∙ inner_row takes (omega arith)))
 
 pub returns-else-place-len-clause-value : goal.returns-else-place-len-clause-value
 returns-else-place-len-clause-value c = removed_expiry (goal.at.returns-else-place-len-clause-value c).After-swap_remove-removed
