@@ -9,7 +9,7 @@ use Rattle.rb_kept.specs.Shares.{totals_of}
 use Rattle.rb_lock.specs.Records.{names_of, AreDifferent}
 use Rattle.rb_lock.specs.Passes.{Seen, all_records, tally_of}
 use Rattle.rb_lock.specs.ClosedQueues.{HasCallsOf, IsNotAll, AreCounts}
-use Rattle.rb_lock.specs.Views.{idle, pass_of, holder_of, settled}
+use Rattle.rb_lock.specs.Views.{idle, pass_of, holder_of, caught_up}
 use Rattle.rb_lock.specs.Rule.{pair_of}
 use Rattle.rb_lock.specs.LockSteps.{LockSeat, Noted, TakesLock, MayGive, in_hand}
 use Rattle.rb_lock.specs.declared.pair.Pair.{Pair}
@@ -84,9 +84,9 @@ module _ {T : Type 0} {pass : Seen} {seat0 seat1 : LockSeat T} {pair : Pair T} {
     }
 
     -- the lock is given back
-    module _ (table : TableId) (seat3 : LockSeat T) (of_pass : table ≡ pass.table) (gave : seat3 ≡ (settled seat2.0 (in_hand seat2.1) Idle, [])) where
+    module _ (table : TableId) (seat3 : LockSeat T) (of_pass : table ≡ pass.table) (gave : seat3 ≡ (caught_up seat2.0 (in_hand seat2.1) Idle, [])) where
       seat3_is : seat3 ≡ (idle (learned pass got.names pair.kept.history), [])
-      seat3_is = gave ∙ ap (λ (m : LockSeat T). (settled m.0 (in_hand m.1) Idle, [])) seat2_is
+      seat3_is = gave ∙ ap (λ (m : LockSeat T). (caught_up m.0 (in_hand m.1) Idle, [])) seat2_is
 
       view_is : pass_of table seat3.0 ≡ learned pass got.names pair.kept.history
       view_is = seen_as table seat3 (learned pass got.names pair.kept.history) of_pass seat3_is

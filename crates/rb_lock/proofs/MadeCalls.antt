@@ -19,7 +19,7 @@ use Rattle.rb_kept.specs.declared.fault.CallFault.TheVariants.{Full, Memory}
 use Rattle.rb_lock.specs.Records.{calls_of}
 use Rattle.rb_lock.specs.Passes.{Seen, IsSoundPass, Learns, log_at, capped, tally_of}
 use Rattle.rb_lock.specs.SharedCalls.{Answered}
-use Rattle.rb_lock.specs.Views.{idle, pass_of, holder_of, settled}
+use Rattle.rb_lock.specs.Views.{idle, pass_of, holder_of, caught_up}
 use Rattle.rb_lock.specs.Rule.{pair_of}
 use Rattle.rb_lock.specs.LockSteps.{LockSeat, Noted, TakesLock, Grown, MayGive, ActsIn, IsPass, in_hand}
 use Rattle.rb_lock.specs.declared.pair.Pair.{Pair}
@@ -213,9 +213,9 @@ module _ {T : Type 0} {pass : Seen} {try : Try} {step : Result Outcome CallFault
     few = got.found.few;
   }
 
-  module _ (table : TableId) (seat3 : LockSeat T) (of_pass : table ≡ pass.table) (gave : seat3 ≡ (settled seat2.0 (in_hand seat2.1) Idle, [])) where
+  module _ (table : TableId) (seat3 : LockSeat T) (of_pass : table ≡ pass.table) (gave : seat3 ≡ (caught_up seat2.0 (in_hand seat2.1) Idle, [])) where
     seat3_is : seat3 ≡ (idle (learned pass got.names acts.acts.after.kept.history), [])
-    seat3_is = gave ∙ ap (λ (m : LockSeat T). (settled m.0 (in_hand m.1) Idle, [])) seat2_is
+    seat3_is = gave ∙ ap (λ (m : LockSeat T). (caught_up m.0 (in_hand m.1) Idle, [])) seat2_is
 
     -- what the pass is seen as now
     view3 : pass_of table seat3.0 ≡ learned pass got.names acts.acts.after.kept.history

@@ -13,7 +13,7 @@ use Rattle.rb_queue.specs.declared.event.Event.{Event}
 use Rattle.rb_kept.specs.Log.{Log}
 use Rattle.rb_lock.specs.Records.{bit, times_in, names_of}
 use Rattle.rb_lock.specs.Passes.{Seen}
-use Rattle.rb_lock.specs.Views.{idle, records_of, weight, holders, is_held, drawn, total, holder_of, settled}
+use Rattle.rb_lock.specs.Views.{idle, records_of, weight, holders, is_held, drawn, total, holder_of, caught_up}
 use Rattle.rb_lock.specs.Rule.{AtStage, IsThere, Fits, Locked, IsFree, IsHeld, pair_of}
 use Rattle.rb_lock.specs.LockSteps.{LockSeat, MayGive, MayDraw, Grown, gave, drew}
 use Rattle.rb_lock.specs.declared.pair.Pair.{Pair}
@@ -42,7 +42,7 @@ before pass found names = holder_of (idle pass) found names
 
 -- and once it has given it back
 abbrev pub after_it : Seen → List Event → ℕ → List Event → Stage → View
-after_it pass found names new next = settled (before pass found names) new next
+after_it pass found names new next = caught_up (before pass found names) new next
 
 module _ {T : Type 0} (pass : Seen) (found new : Log) (names after : ℕ) (next : Stage)
     (capacity : new.capacity ≡ pass.capacity) (opening : new.opening ≡ pass.opening)

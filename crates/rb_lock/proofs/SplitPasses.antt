@@ -3,7 +3,7 @@ use Rattle.std.proofs.Common.{◌≡◌, ℕ, ◌+◌, ◌<◌, [], ◌∷◌, a
 use Rattle.std.specs.Prelude.{Option, Some, None}
 use Rattle.atomic_table.specs.Table.{Splits}
 use Rattle.rb_lock.specs.Passes.{Seen}
-use Rattle.rb_lock.specs.Views.{idle, holder_of, settled, rested, cut_off}
+use Rattle.rb_lock.specs.Views.{idle, holder_of, caught_up, rested, cut_off}
 use Rattle.rb_lock.specs.Rule.{pair_of, Locked}
 use Rattle.rb_lock.specs.LockSteps.{LockSeat, Noted, TakesLock, MayGive, MayDraw, NamesIn, in_hand}
 use Rattle.rb_lock.specs.declared.pair.Pair.{Pair}
@@ -70,9 +70,9 @@ module _ {T : Type 0} (pass : Seen) (seat0 seat1 seat2 : LockSeat T) (rest : sea
     }
 
     -- the seat has drawn the name
-    module _ (seat3 : LockSeat T) (drew : seat3 ≡ (settled seat2.0 (in_hand seat2.1) (Drew seat2.0.noted), [])) where
+    module _ (seat3 : LockSeat T) (drew : seat3 ≡ (caught_up seat2.0 (in_hand seat2.1) (Drew seat2.0.noted), [])) where
       drawn_is : seat3 ≡ (drawing (learned pass got.names got.log.history) got.names, [])
-      drawn_is = drew ∙ ap (λ (m : LockSeat T). (settled m.0 (in_hand m.1) (Drew m.0.noted), [])) some_is
+      drawn_is = drew ∙ ap (λ (m : LockSeat T). (caught_up m.0 (in_hand m.1) (Drew m.0.noted), [])) some_is
 
       pub may_cut : (id : ℕ) → Splits (Locked {T = T}) id seat3.0 (rested seat3.0) (cut_off seat3.0)
       may_cut id =

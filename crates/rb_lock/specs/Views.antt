@@ -97,9 +97,9 @@ newcomer start = record {
 abbrev pub holder_of : View → List Event → ℕ → View
 holder_of v found names = record v { noted = names; stage = Holds found }
 
--- the lock is given back: the whole history was seen
-abbrev pub settled : View → List Event → Stage → View
-settled v history next = record v { seen = history; mine = events_of history v.name; stage = next }
+-- the lock is given back: by then the whole history was seen
+abbrev pub caught_up : View → List Event → Stage → View
+caught_up v history next = record v { seen = history; mine = events_of history v.name; stage = next }
 
 -- the seat is about to do nothing
 abbrev pub rested : View → View

@@ -2,7 +2,7 @@
 ghost use Rattle.std.specs.Prelude.{◌≡◌, ◌≤◌, [], ◌∷◌, Some, None, length, true, false};
 ghost use Rattle.rb_queue.specs.History.{IsLegal};
 ghost use Rattle.rb_lock.specs.LockSteps.{HasOneWord, AtRest, TakesLock, MayGive, MayDraw, ActsIn, ActsOn, NamesIn, NamesOn, HasLearned, in_hand};
-ghost use Rattle.rb_lock.specs.Views.{settled};
+ghost use Rattle.rb_lock.specs.Views.{caught_up};
 ghost use Rattle.rb_lock.specs.declared.stage.Stage.TheVariants.{Idle, Drew};
 
 use crate::pair::Pair;
@@ -85,7 +85,7 @@ pub(crate) fn give<T: Timer>(table: &LockTable<T>, seat: &mut PassSeat<T>)
     requires table { seat.old.table_id ≡ table.now.table_id }
     requires holds { MayGive seat.old.me }
     ensures table { seat.new.table_id ≡ seat.old.table_id }
-    ensures seen { seat.new.me ≡ (settled seat.old.me.0 (in_hand seat.old.me.1) Idle, []) }
+    ensures seen { seat.new.me ≡ (caught_up seat.old.me.0 (in_hand seat.old.me.1) Idle, []) }
 {
     let found = table.swap::<Give>(seat, 0, FREE);
     wake(table, found);
@@ -97,7 +97,7 @@ pub(crate) fn give_and_draw<T: Timer>(table: &LockTable<T>, seat: &mut PassSeat<
     requires table { seat.old.table_id ≡ table.now.table_id }
     requires holds { MayDraw seat.old.me }
     ensures table { seat.new.table_id ≡ seat.old.table_id }
-    ensures drawn { seat.new.me ≡ (settled seat.old.me.0 (in_hand seat.old.me.1) (Drew seat.old.me.0.noted), []) }
+    ensures drawn { seat.new.me ≡ (caught_up seat.old.me.0 (in_hand seat.old.me.1) (Drew seat.old.me.0.noted), []) }
 {
     let found = table.swap::<Draw>(seat, 0, FREE);
     wake(table, found);

@@ -5,8 +5,8 @@ use Rattle.rb_protocol.specs.Form.{form_of, argument_words, AreRight, Takes}
 use Rattle.rb_protocol.specs.Line.{words_of}
 use Rattle.rb_protocol.specs.Reading.{NoGap, HasNumber, HasPayload}
 use Rattle.rb_protocol.specs.declared.format.TheConstants.{SPACE}
-use Rattle.rb_protocol.specs.declared.line_words.Places.{Places}
-use Rattle.rb_protocol.specs.declared.line_words.Places.TheVariants.{Nothing, One, Two}
+use Rattle.rb_protocol.specs.declared.line_words.WordPlaces.{WordPlaces}
+use Rattle.rb_protocol.specs.declared.line_words.WordPlaces.TheVariants.{Nothing, One, Two}
 use Rattle.rb_protocol.specs.declared.request.Request.{Request}
 use Rattle.rb_protocol.specs.declared.line_fault.LineFault.{LineFault}
 use Rattle.rb_protocol.specs.declared.line_fault.LineFault.TheVariants.{Line, Syntax, Number, Payload}
@@ -22,7 +22,7 @@ words_behind None = []
 words_behind (Some text) = words_of text.now
 
 -- the words in the places
-abbrev pub place_words : Places → List (List ℕ)
+abbrev pub place_words : WordPlaces → List (List ℕ)
 place_words Nothing = []
 place_words (One word) = word.now ∷ []
 place_words (Two word other) = word.now ∷ other.now ∷ []

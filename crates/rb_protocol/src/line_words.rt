@@ -6,7 +6,7 @@ use crate::format::SPACE;
 
 /// The words after a keyword, as parts of their line, before the number and the payload are read.
 #[derive(Clone, Copy)]
-pub enum Places<'a> {
+pub enum WordPlaces<'a> {
     Nothing,
     One(&'a [u8]),
     Two(&'a [u8], &'a [u8]),
@@ -14,7 +14,7 @@ pub enum Places<'a> {
 
 /// Splits a line at its spaces into a keyword and the words after it. `None` exactly if more than
 /// two words follow, or one of them is empty.
-pub fn read_line_words(line: &[u8]) -> Option<(&[u8], Places<'_>)>
+pub fn read_line_words(line: &[u8]) -> Option<(&[u8], WordPlaces<'_>)>
     ensures words { IfSome result (λ words. words_of line.now ≡ words.0.now ∷ place_words words.1) }
     ensures few { IfSome result (λ words. AreFew (place_words words.1)) }
     ensures none { IfNone result ((keyword : List ℕ) (places : List (List ℕ))
@@ -25,23 +25,23 @@ pub fn read_line_words(line: &[u8]) -> Option<(&[u8], Places<'_>)>
 }
 
 // The words of what follows the keyword.
-fn read_places(rest: Option<&[u8]>) -> Option<Places<'_>>
+fn read_places(rest: Option<&[u8]>) -> Option<WordPlaces<'_>>
     ensures words { IfSome result (λ places. place_words places ≡ words_behind rest.entry) }
     ensures few { IfSome result (λ places. AreFew (place_words places)) }
     ensures none { IfNone result (¬ AreFew (words_behind rest.entry)) }
 {
     let Some(rest) = rest else {
-        return Some(Places::Nothing);
+        return Some(WordPlaces::Nothing);
     };
     let (word, rest) = cut_word(rest);
     let Some(rest) = rest else {
-        return (!word.is_empty()).then_some(Places::One(word));
+        return (!word.is_empty()).then_some(WordPlaces::One(word));
     };
     let (other, rest) = cut_word(rest);
     if word.is_empty() || other.is_empty() || rest.is_some() {
         return None;
     }
-    Some(Places::Two(word, other))
+    Some(WordPlaces::Two(word, other))
 }
 
 /// The first word of a text, and what follows the space that ends it, if there is one.

@@ -7,7 +7,7 @@ ghost use Rattle.rb_protocol.specs.declared.line_fault.LineFault.{LineFault};
 
 use crate::keywords::{NumberKeyword, OfferKeyword, read_alone};
 use crate::line_fault::LineFault;
-use crate::line_words::{Places, read_line_words};
+use crate::line_words::{WordPlaces, read_line_words};
 use crate::number::read_number;
 use rb_delayed::Payload;
 
@@ -63,17 +63,17 @@ pub fn read_request(line: &[u8]) -> Result<Request, LineFault>
 
 // The keyword is read before the number, and the number before the payload: that is the order of
 // their faults.
-fn request_of(keyword: &[u8], places: Places<'_>) -> Result<Request, LineFault>
+fn request_of(keyword: &[u8], places: WordPlaces<'_>) -> Result<Request, LineFault>
     ensures { IsAnswer keyword.now (place_words places.entry) result }
 {
     match places {
-        Places::Nothing => read_alone(keyword).ok_or(LineFault::Syntax),
-        Places::One(word) => {
+        WordPlaces::Nothing => read_alone(keyword).ok_or(LineFault::Syntax),
+        WordPlaces::One(word) => {
             let keyword = NumberKeyword::read(keyword).ok_or(LineFault::Syntax)?;
             let number = read_number(word).ok_or(LineFault::Number)?;
             Ok(keyword.request(number))
         }
-        Places::Two(word, bytes) => {
+        WordPlaces::Two(word, bytes) => {
             let keyword = OfferKeyword::read(keyword).ok_or(LineFault::Syntax)?;
             let number = read_number(word).ok_or(LineFault::Number)?;
             let payload = Payload::new(bytes).map_err(|_| LineFault::Payload)?;
