@@ -99,7 +99,7 @@ impl<E: Timer> Timer for Wheel<E> {
 
     fn remove(&mut self, slot: usize) -> u64 {
         let expiry = self.take_out(slot);
-        self.rest();
+        self.reset_if_empty();
         expiry
     }
 
@@ -146,8 +146,8 @@ impl<E: Timer> Wheel<E> {
         expiry
     }
 
-    // Where no entry is left the next one lies in a cell, whatever its expiry.
-    fn rest(&mut self)
+    // Begins anew with base 0 where no entry is left: the next one then lies in a cell, whatever its expiry.
+    fn reset_if_empty(&mut self)
         ensures { self.new ≡ self.old }
     {
         if self.len == 0 {

@@ -11,5 +11,5 @@ returns-clause-value g c = get-content_of c.args.self.now c.args.slot ∙ c.take
 
 pub returns-clause-content : goal.returns-clause-content
 returns-clause-content g c =
-    ap content_of (c.rest.ensures ∙ c.take_out-expiry.ensures.left)
+    ap content_of (c.reset_if_empty.ensures ∙ c.take_out-expiry.ensures.left)
     ∙ content_of-remove c.args.self.now c.args.slot (in_range_of_content c.args.self.now c.args.slot c.requires)
