@@ -163,7 +163,7 @@ fn next_name_of<T: Timer>(slot: &mut Option<Pair<T>>) -> Option<u64>
     ensures { NamesOn result slot.old slot.new }
 {
     let Some(pair) = slot else { unreachable!() };
-    pair.next_name()
+    pair.give_name()
 }
 
 /// A seat learns what another has seen. Both are at rest.

@@ -17,8 +17,8 @@ pub(crate) struct Pair<T: Timer> {
 impl<T: Timer> Pair<T> {
     ghost use Rattle.rb_lock.specs.LockSteps.{GivesName};
 
-    /// The next name, which is thereby given. `None` if all are given.
-    pub(crate) fn next_name(&mut self) -> Option<u64>
+    /// Gives the next name. `None` if all are given.
+    pub(crate) fn give_name(&mut self) -> Option<u64>
         ensures gives { GivesName self.old result self.new }
         ensures legal { IsLegal self.old.kept.opening self.old.kept.history }
         ensures fits { length self.old.kept.history ≤ self.old.kept.capacity }

@@ -26,7 +26,7 @@ use Rattle.rb_queue.specs.Effect.{given}
 use Rattle.rb_queue.proofs.Bags.{get_inserted}
 use Rattle.rb_queue.proofs.Queues.{absent_before, bag_from-more, named_at}
 use Rattle.rb_replay.specs.Links.{Past, is_attempt}
-use Rattle.rb_replay.specs.AttemptIndex.{attempt_cmp, attempt_of, offer_at, offer_of, next_id_of, IsPlaceOf, element_of, first_given_in, begun, given_first, Recalls, MarksLater, RecallsOffer, KeepsOpened, KeepsOffer, KeepsGiven}
+use Rattle.rb_replay.specs.AttemptIndex.{attempt_cmp, attempt_of, offer_at, offer_of, next_id_of, IsPlaceOf, element_of, first_given_in, begun, given_first, Recalls, MarksRetry, RecallsOffer, KeepsOpened, KeepsOffer, KeepsGiven}
 use Rattle.rb_replay.specs.declared.offered_element.OfferedElement.{OfferedElement}
 use Rattle.rb_replay.specs.declared.attempt.Attempt.{Attempt}
 use Rattle.rb_replay.specs.declared.attempt_index.AttemptIndex.{AttemptIndex}
@@ -174,7 +174,7 @@ recalls_nothing attempts offers opened offered given = record {
       given_before attempts attempt (nowhere attempts attempt.origin offers) ∙ ap (lookup (is_at (attempt_cmp attempt))) given;
 }
 
--- a later attempt is marked
+-- a retry is marked
 or_last : (here before : Bool) → cond here true before ≡ (before || (here || false))
 or_last true true = refl
 or_last true false = refl
@@ -183,10 +183,10 @@ or_last false false = refl
 
 pub marked : (attempt : Attempt) (old new : BTreeSet Attempt)
     → ((other : Attempt) → set.contains attempt_cmp new other ≡ cond (is_at (attempt_cmp attempt) other) true (set.contains attempt_cmp old other))
-    → MarksLater attempt old new
+    → MarksRetry attempt old new
 marked attempt old new is other later = is other
 
-pub first_unmarked : (attempt : Attempt) (offered : BTreeSet Attempt) → attempt.number < 2 → MarksLater attempt offered offered
+pub first_unmarked : (attempt : Attempt) (offered : BTreeSet Attempt) → attempt.number < 2 → MarksRetry attempt offered offered
 first_unmarked attempt offered first other later =
     let apart : (attempt.number == other.number) ≡ false = grind (arith, nat_tests) in
     sym (ap (λ b. cond b true (set.contains attempt_cmp offered other)) (tied attempt other ∙ ap (λ b. (attempt.origin == other.origin) && b) apart ∙ never (attempt.origin == other.origin)))
@@ -209,7 +209,7 @@ marks element old new past attempt before after =
 recalls_offer : (element : Element) (old new : AttemptIndex)
     → ((id : ℕ) → element_of new id ≡ cond (id == element.id) (Some element) (element_of old id))
     → ((attempt : Attempt) → given_first new attempt ≡ given_first old attempt)
-    → MarksLater (attempt_of element) old.offered new.offered → RecallsOffer element old new
+    → MarksRetry (attempt_of element) old.offered new.offered → RecallsOffer element old new
 recalls_offer element old new filed same later came past recalls = record {
   elements = λ id.
       filed id ∙ ap (λ b. cond b (Some element) (element_of old id)) (sym (unsigned_tied id element.id))
@@ -223,7 +223,7 @@ recalls_offer element old new filed same later came past recalls = record {
 pub keeps_opened : (element : Element) (old new : AttemptIndex) → old.offers.items ≡ [] → new.offers ≡ old.offers → new.first_id ≡ old.first_id
     → new.given ≡ old.given
     → ((id : ℕ) → tree.get nat_cmp new.opened id ≡ cond (is_at (nat_cmp element.id) id) (Some element) (tree.get nat_cmp old.opened id))
-    → MarksLater (attempt_of element) old.offered new.offered → KeepsOpened element old new
+    → MarksRetry (attempt_of element) old.offered new.offered → KeepsOpened element old new
 keeps_opened element old new none offers first_id given filed later =
     let none_after : new.offers.items ≡ [] = ap (λ a. a.items) offers ∙ none in
     record {
@@ -244,7 +244,7 @@ keeps_opened element old new none offers first_id given filed later =
 pub keeps_offered : (element : Element) (old new : AttemptIndex)
     → new.offers.items ≡ old.offers.items ++ (record { element = element; is_given_first = false }) ∷ [] → new.first_id ≡ old.first_id
     → new.opened ≡ old.opened → new.given ≡ old.given → element.id ≡ next_id_of old
-    → MarksLater (attempt_of element) old.offered new.offered → KeepsOffer element old new
+    → MarksRetry (attempt_of element) old.offered new.offered → KeepsOffer element old new
 keeps_offered element old new offers first_id opened given next later = record {
   recalls = recalls_offer element old new
       (λ id.

@@ -92,9 +92,9 @@ pub record Keeps (act : Act) (old new : AttemptIndex) : Type 0 where
       → Recalls (with_inserted came (effect_of act)) (past_after came past act) new
   pub next_id : next_id_of new ≡ next_id_of old + length (inserted (effect_of act))
 
--- the attempt is marked too, if it is not a first one
-abbrev pub MarksLater : Attempt → BTreeSet Attempt → BTreeSet Attempt → Type 0
-MarksLater attempt old new = (other : Attempt) → 2 ≤ other.number → set.contains attempt_cmp new other
+-- the attempt is marked too, if it is a retry
+abbrev pub MarksRetry : Attempt → BTreeSet Attempt → BTreeSet Attempt → Type 0
+MarksRetry attempt old new = (other : Attempt) → 2 ≤ other.number → set.contains attempt_cmp new other
     ≡ (if is_at (attempt_cmp attempt) other then true else set.contains attempt_cmp old other)
 
 -- the index has an element more that came in

@@ -2,7 +2,7 @@ ghost use Rattle.std.specs.Prelude.{◌≡◌, ◌≤◌, ◌∷◌, [], None, I
 ghost use Rattle.std.specs.List.{find, list_any};
 ghost use Rattle.rb_queue.specs.Bag.{Bag, bag_from};
 ghost use Rattle.rb_replay.specs.Links.{Past, is_attempt};
-ghost use Rattle.rb_replay.specs.AttemptIndex.{next_id_of, offer_of, element_of, begun, given_first, Recalls, IsNext, IsPlaceOf, MarksLater, Keeps, KeepsOpened, KeepsOffer, KeepsGiven};
+ghost use Rattle.rb_replay.specs.AttemptIndex.{next_id_of, offer_of, element_of, begun, given_first, Recalls, IsNext, IsPlaceOf, MarksRetry, Keeps, KeepsOpened, KeepsOffer, KeepsGiven};
 
 use crate::attempt::Attempt;
 use crate::offered_element::OfferedElement;
@@ -92,7 +92,7 @@ impl AttemptIndex {
         ensures { OnOk result (KeepsOpened element.now self.old self.new) }
     {
         self.opened.insert(element.id, *element)?;
-        mark_later(&mut self.offered, Attempt::of(element))
+        mark_retry(&mut self.offered, Attempt::of(element))
     }
 
     // Keeps that the element was offered.
@@ -104,7 +104,7 @@ impl AttemptIndex {
             element: *element,
             is_given_first: false,
         })?;
-        mark_later(&mut self.offered, Attempt::of(element))
+        mark_retry(&mut self.offered, Attempt::of(element))
     }
 
     // Keeps that the elements of these ids were given, one after the other.
@@ -176,9 +176,9 @@ impl AttemptIndex {
     }
 }
 
-// Marks that the attempt came in, where it is not a first one.
-fn mark_later(offered: &mut BTreeSet<Attempt>, attempt: Attempt) -> Result<(), AllocError>
-    ensures { OnOk result (MarksLater attempt offered.old offered.new) }
+// Marks that the attempt came in, if it is a retry: a first attempt needs no mark.
+fn mark_retry(offered: &mut BTreeSet<Attempt>, attempt: Attempt) -> Result<(), AllocError>
+    ensures { OnOk result (MarksRetry attempt offered.old offered.new) }
 {
     if attempt.number >= 2 {
         offered.insert(attempt)?;

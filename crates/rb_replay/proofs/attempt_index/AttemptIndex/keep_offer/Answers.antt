@@ -6,5 +6,5 @@ use Rattle.rb_replay.proofs.attempt_index.AttemptIndex.keep_offer.Goals as goal
 
 pub returns : goal.returns
 returns c =
-    on_ok_weaker c.mark_later.result (keeps_offered c.args.element.now c.args.self.now _ c.in_ok-push.ensures.items refl refl refl c.requires)
-    (rw c.of.ensures at c.mark_later.ensures)
+    on_ok_weaker c.mark_retry.result (keeps_offered c.args.element.now c.args.self.now _ c.in_ok-push.ensures.items refl refl refl c.requires)
+    (rw c.of.ensures at c.mark_retry.ensures)
