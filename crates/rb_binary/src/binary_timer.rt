@@ -4,7 +4,7 @@ ghost use Rattle.rb_binary.specs.Layout.{Agrees, IsOrdered};
 
 use crate::heap::{Entry, forget_all, sift, sift_up};
 use rb_timer::Timer;
-use rb_timer::link::Link;
+use rb_timer::optional_index::OptionalIndex;
 use std::alloc::{AllocError, Global};
 
 /// A binary heap of the entries, by expiry, that also knows where each slot's entry is.
@@ -16,7 +16,7 @@ use std::alloc::{AllocError, Global};
 pub struct BinaryTimer {
     heap: Vec<Entry>,
     // For each slot of the room, the place of its entry in the heap.
-    places: Vec<Link>,
+    places: Vec<OptionalIndex>,
     ghost agrees: { Agrees heap.items places.items } by { Prim.hlevel props },
     ghost ordered: { IsOrdered heap.items } by { Prim.hlevel props },
     ghost reserved: { vec_len places ≤ vec_capacity heap },
@@ -50,14 +50,14 @@ impl Timer for BinaryTimer {
     }
 
     fn get(&self, slot: usize) -> Option<u64> {
-        let place = self.places.get(slot)?.slot()?;
+        let place = self.places.get(slot)?.as_option()?;
         Some(self.heap[place].expiry)
     }
 
     fn reserve(&mut self, wanted: usize) -> Result<(), AllocError> {
         if wanted > self.places.len() {
             self.heap.reserve(wanted - self.heap.len())?;
-            self.places.resize(wanted, Link::none())?;
+            self.places.resize(wanted, OptionalIndex::none())?;
         }
         Ok(())
     }

@@ -1,7 +1,7 @@
 ghost use Rattle.std.specs.Prelude.{◌≡◌, ℕ, ◌+◌, ◌*◌, ◌-◌, ◌/◌, ◌<◌, ◌≤◌, None, Some, length, replicate, slice_set};
 ghost use Rattle.rb_binary.specs.Layout.{Agrees, slot_at, IsPutAt, IsOrderedBut, MayRise, MaySink, IsLeastChild, Sifts};
 
-use rb_timer::link::Link;
+use rb_timer::optional_index::OptionalIndex;
 
 /// A slot and its expiry, in nanoseconds.
 #[derive(Clone, Copy, Debug)]
@@ -11,20 +11,20 @@ pub(crate) struct Entry {
 }
 
 // Puts the entry there, and notes its place.
-fn put(heap: &mut [Entry], places: &mut [Link], place: usize, entry: Entry)
+fn put(heap: &mut [Entry], places: &mut [OptionalIndex], place: usize, entry: Entry)
     requires in_heap { place < length heap.old }
     requires in_room { entry.slot < length places.old }
     ensures heap { heap.new ≡ slice_set heap.old place entry }
     ensures places { places.new ≡ slice_set places.old entry.slot (Some place) }
 {
     heap[place] = entry;
-    places[entry.slot] = Link::to(place);
+    places[entry.slot] = OptionalIndex::some(place);
 }
 
 /// Moves the entry up until it does not expire before its parent.
 ///
 /// Its place need not have been noted.
-pub(crate) fn sift_up(heap: &mut [Entry], places: &mut [Link], mut place: usize)
+pub(crate) fn sift_up(heap: &mut [Entry], places: &mut [OptionalIndex], mut place: usize)
     requires put { IsPutAt heap.old places.old place }
     requires ordered { MayRise heap.old place }
     ensures { Sifts heap.old places.old place heap.new places.new }
@@ -43,7 +43,7 @@ pub(crate) fn sift_up(heap: &mut [Entry], places: &mut [Link], mut place: usize)
 }
 
 // Moves the entry down until no child expires before it. Its place need not have been noted.
-fn sift_down(heap: &mut [Entry], places: &mut [Link], mut place: usize)
+fn sift_down(heap: &mut [Entry], places: &mut [OptionalIndex], mut place: usize)
     requires put { IsPutAt heap.old places.old place }
     requires ordered { MaySink heap.old place }
     ensures { Sifts heap.old places.old place heap.new places.new }
@@ -74,7 +74,7 @@ fn least_child(heap: &[Entry], place: usize) -> usize
 }
 
 /// Moves the entry up or down to where it belongs. Its place need not have been noted.
-pub(crate) fn sift(heap: &mut [Entry], places: &mut [Link], place: usize)
+pub(crate) fn sift(heap: &mut [Entry], places: &mut [OptionalIndex], place: usize)
     requires put { IsPutAt heap.old places.old place }
     requires ordered { IsOrderedBut heap.old place }
     ensures { Sifts heap.old places.old place heap.new places.new }
@@ -87,11 +87,11 @@ pub(crate) fn sift(heap: &mut [Entry], places: &mut [Link], place: usize)
 }
 
 /// Notes at each slot that it has no entry, at the cost of the entries and not of the room.
-pub(crate) fn forget_all(heap: &[Entry], places: &mut [Link])
+pub(crate) fn forget_all(heap: &[Entry], places: &mut [OptionalIndex])
     requires { Agrees heap.now places.old }
     ensures { places.new ≡ replicate (length places.old) None }
 {
     for entry in heap {
-        places[entry.slot] = Link::none();
+        places[entry.slot] = OptionalIndex::none();
     }
 }

@@ -1,6 +1,6 @@
 ghost use Rattle.std.specs.Prelude.{◌≡◌, ℕ, ◌<◌, ◌↔◌, Some, None, IsTrue, IsSome};
 
-use rb_timer::link::{Link, NONE};
+use rb_timer::optional_index::{NONE, OptionalIndex};
 use std::marker::Model;
 
 // In the place of the child: the slot has no entry. Every slot of the room is below it.
@@ -15,11 +15,11 @@ pub(crate) struct Node {
     // In nanoseconds.
     expiry: u64,
     // The first entry of the row under this one.
-    child: Link,
+    child: OptionalIndex,
     // The entry behind this one in its row.
-    next: Link,
+    next: OptionalIndex,
     // The entry before this one in its row, or for the first of a row the parent.
-    previous: Link,
+    previous: OptionalIndex,
 }
 
 const _: () = prove!(size_of::<Node>() == 32);
@@ -41,13 +41,13 @@ impl Model for Node {
 }
 
 // The link to a slot, if there is one.
-fn link_to(slot: Option<usize>) -> Link
+fn link_to(slot: Option<usize>) -> OptionalIndex
     requires { (other : ℕ) → slot ≡ Some other → other < VACANT }
     ensures { result ≡ slot }
 {
     match slot {
-        Some(slot) => Link::to(slot),
-        None => Link::none(),
+        Some(slot) => OptionalIndex::some(slot),
+        None => OptionalIndex::none(),
     }
 }
 
@@ -58,9 +58,9 @@ impl Node {
     {
         Node {
             expiry: 0,
-            child: Link::to(VACANT),
-            next: Link::none(),
-            previous: Link::none(),
+            child: OptionalIndex::some(VACANT),
+            next: OptionalIndex::none(),
+            previous: OptionalIndex::none(),
         }
     }
 
@@ -68,7 +68,7 @@ impl Node {
     pub(crate) fn expiry(&self) -> Option<u64>
         ensures { result ≡ self.now.expiry }
     {
-        match self.child.slot() {
+        match self.child.as_option() {
             Some(VACANT) => None,
             _ => Some(self.expiry),
         }
@@ -86,7 +86,7 @@ impl Node {
     pub(crate) fn child(&self) -> Option<usize>
         ensures { result ≡ self.now.child }
     {
-        match self.child.slot() {
+        match self.child.as_option() {
             Some(VACANT) => None,
             child => child,
         }
@@ -97,21 +97,21 @@ impl Node {
         requires { slot < VACANT }
         ensures { IsTrue result ↔ (self.now.child ≡ Some slot) }
     {
-        self.child.slot() == Some(slot)
+        self.child.as_option() == Some(slot)
     }
 
     /// The entry behind this one in its row.
     pub(crate) fn next(&self) -> Option<usize>
         ensures { result ≡ self.now.next }
     {
-        self.next.slot()
+        self.next.as_option()
     }
 
     /// The entry before this one in its row, or for the first of a row the parent.
     pub(crate) fn previous(&self) -> Option<usize>
         ensures { result ≡ self.now.previous }
     {
-        self.previous.slot()
+        self.previous.as_option()
     }
 
     /// Puts an entry at a slot that has no child.
@@ -120,7 +120,7 @@ impl Node {
         ensures { self.new ≡ record self.old { expiry = Some expiry } }
     {
         self.expiry = expiry;
-        self.child = Link::none();
+        self.child = OptionalIndex::none();
     }
 
     /// Takes away the entry of a slot that has no child.
@@ -129,7 +129,7 @@ impl Node {
         ensures { self.new ≡ record self.old { expiry = None } }
     {
         self.expiry = 0;
-        self.child = Link::to(VACANT);
+        self.child = OptionalIndex::some(VACANT);
     }
 
     /// Notes the first entry of the row under this one.

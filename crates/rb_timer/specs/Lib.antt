@@ -1,4 +1,4 @@
 pub mod Content
-pub mod LinkWords
+pub mod IndexWords
 pub mod Run
 pub mod Slots

@@ -2,14 +2,14 @@
 //!
 //! Contracts see a timer as a finite map from slot to expiry, with a room that every slot is below.
 //! A slot is a number that the timer's owner chose, and an expiry a moment in nanoseconds. Only
-//! `reserve` may fail for want of memory, so an owner that has made room cannot fail later. `link`
-//! has what timers store slots in.
+//! `reserve` may fail for want of memory, so an owner that has made room cannot fail later.
+//! `optional_index` has what timers note slots and places in.
 #![tactic(auto)]
 
 mod clearing;
 mod command;
-pub mod link;
 mod list_timer;
+pub mod optional_index;
 mod run;
 mod timer;
 

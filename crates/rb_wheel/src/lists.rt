@@ -8,7 +8,7 @@ use crate::cells::CELLS;
 use crate::marks::Marks;
 use crate::node::{Node, set_next, set_previous};
 use crate::spread::{put_first, spread};
-use rb_timer::link::Link;
+use rb_timer::optional_index::OptionalIndex;
 use std::alloc::{AllocError, Global};
 use std::marker::Model;
 
@@ -17,7 +17,7 @@ use std::marker::Model;
 #[derive(Debug, Drop)]
 pub(crate) struct Lists {
     // The first slot of each cell's list. There are none until the first `reserve`.
-    heads: Vec<Link>,
+    heads: Vec<OptionalIndex>,
     // The cells that hold a slot.
     marks: Marks,
     nodes: Vec<Node>,
@@ -68,7 +68,7 @@ impl Lists {
         ensures err { OnErr result (self.new ≡ self.old) }
     {
         if wanted > self.nodes.len() {
-            self.heads.resize(CELLS, Link::none())?;
+            self.heads.resize(CELLS, OptionalIndex::none())?;
             self.nodes.resize(wanted, Node::vacant())?;
         }
         Ok(())
@@ -174,7 +174,7 @@ impl Lists {
             let node = &self.nodes[slot];
             let expiry = node.expiry().unwrap();
             least = Some(earlier_of(least, (slot, expiry)));
-            cursor = node.next.slot();
+            cursor = node.next.as_option();
         }
         least
     }
@@ -184,17 +184,17 @@ impl Lists {
         ensures expiries { self.new.expiries ≡ replicate (length self.old.expiries) None }
         ensures cells { self.new.cells ≡ replicate (length self.old.cells) None }
     {
-        self.heads.fill(Link::none());
+        self.heads.fill(OptionalIndex::none());
         self.nodes.fill(Node::vacant());
         self.marks = Marks::new();
     }
 }
 
 // The first slot of the cell's list.
-fn head_of(heads: &[Link], cell: usize) -> Option<usize>
+fn head_of(heads: &[OptionalIndex], cell: usize) -> Option<usize>
     ensures { result ≡ slice_index_or heads.now cell None }
 {
-    heads.get(cell)?.slot()
+    heads.get(cell)?.as_option()
 }
 
 /// The entry that expires first, of the best so far and another, which is given of two equals.
@@ -210,26 +210,32 @@ pub(crate) fn earlier_of(best: Option<(usize, u64)>, entry: (usize, u64)) -> (us
 }
 
 // Begins the cell's list with `next`, where nothing precedes that, and marks the cell accordingly.
-fn set_first(heads: &mut [Link], marks: &mut Marks, cell: usize, previous: Link, next: Link)
+fn set_first(
+    heads: &mut [OptionalIndex],
+    marks: &mut Marks,
+    cell: usize,
+    previous: OptionalIndex,
+    next: OptionalIndex,
+)
     requires in_heads { cell < length heads.old }
     requires in_wheel { cell < CELLS }
     ensures heads { heads.new ≡ with_first heads.old cell previous next }
     ensures here { mark_at marks.new cell ≡ mark_with_first previous next (mark_at marks.old cell) }
     ensures elsewhere { (other : ℕ) → other ≢ cell → mark_at marks.new other ≡ mark_at marks.old other }
 {
-    if previous.slot().is_none() {
+    if previous.as_option().is_none() {
         heads[cell] = next;
         mark_held(marks, cell, next);
     }
 }
 
 // Marks the cell where it has a first slot, and only there.
-fn mark_held(marks: &mut Marks, cell: usize, first: Link)
+fn mark_held(marks: &mut Marks, cell: usize, first: OptionalIndex)
     requires { cell < CELLS }
     ensures here { mark_at marks.new cell ≡ mark_of first }
     ensures elsewhere { (other : ℕ) → other ≢ cell → mark_at marks.new other ≡ mark_at marks.old other }
 {
-    match first.slot() {
+    match first.as_option() {
         Some(_) => marks.insert(cell),
         None => marks.remove(cell),
     }

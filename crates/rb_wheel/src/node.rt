@@ -2,7 +2,7 @@ ghost use Rattle.std.specs.Prelude.{◌≡◌, ◌<◌, Some, None, IfSome, leng
 ghost use Rattle.rb_wheel.specs.Nodes.{vacant, expiry_of, with_next, with_previous};
 
 use crate::cells::CELLS;
-use rb_timer::link::Link;
+use rb_timer::optional_index::OptionalIndex;
 
 /// What a slot of the room holds: its entry's expiry, if it has one, and where the slot lies.
 #[derive(Clone, Copy, Debug)]
@@ -10,8 +10,8 @@ pub(crate) struct Node {
     // In nanoseconds. It says nothing where the slot has no entry.
     pub(crate) expiry: u64,
     // The neighbours in the list of the cell.
-    pub(crate) next: Link,
-    pub(crate) previous: Link,
+    pub(crate) next: OptionalIndex,
+    pub(crate) previous: OptionalIndex,
     // The cell that the slot lies in.
     pub(crate) cell: Option<u16>,
     // Whether the slot has an entry.
@@ -28,8 +28,8 @@ impl Node {
     {
         Node {
             expiry: 0,
-            next: Link::none(),
-            previous: Link::none(),
+            next: OptionalIndex::none(),
+            previous: OptionalIndex::none(),
             cell: None,
             is_taken: false,
         }
@@ -47,12 +47,12 @@ impl Node {
     }
 
     /// Puts the slot first in the list of a cell, before `next`.
-    pub(crate) fn put_first(&mut self, cell: usize, next: Link)
+    pub(crate) fn put_first(&mut self, cell: usize, next: OptionalIndex)
         requires { cell < CELLS }
         ensures { self.new ≡ record self.old { next = next; previous = None; cell = Some cell } }
     {
         self.next = next;
-        self.previous = Link::none();
+        self.previous = OptionalIndex::none();
         self.cell = Some(cell as u16);
     }
 
@@ -60,28 +60,28 @@ impl Node {
     pub(crate) fn take_out(&mut self)
         ensures { self.new ≡ record self.old { next = None; previous = None; cell = None } }
     {
-        self.next = Link::none();
-        self.previous = Link::none();
+        self.next = OptionalIndex::none();
+        self.previous = OptionalIndex::none();
         self.cell = None;
     }
 }
 
 /// Notes which slot precedes this one, if there is one.
-pub(crate) fn set_previous(nodes: &mut [Node], slot: Link, previous: Link)
+pub(crate) fn set_previous(nodes: &mut [Node], slot: OptionalIndex, previous: OptionalIndex)
     requires { IfSome slot (λ slot. slot < length nodes.old) }
     ensures { nodes.new ≡ with_previous nodes.old slot previous }
 {
-    if let Some(slot) = slot.slot() {
+    if let Some(slot) = slot.as_option() {
         nodes[slot].previous = previous;
     }
 }
 
 /// Notes which slot follows this one, if there is one.
-pub(crate) fn set_next(nodes: &mut [Node], slot: Link, next: Link)
+pub(crate) fn set_next(nodes: &mut [Node], slot: OptionalIndex, next: OptionalIndex)
     requires { IfSome slot (λ slot. slot < length nodes.old) }
     ensures { nodes.new ≡ with_next nodes.old slot next }
 {
-    if let Some(slot) = slot.slot() {
+    if let Some(slot) = slot.as_option() {
         nodes[slot].next = next;
     }
 }

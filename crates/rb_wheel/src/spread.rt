@@ -6,11 +6,11 @@ ghost use Rattle.rb_wheel.specs.WheelLinks.{head_at, cells_of, expiries_of, with
 use crate::cells::{CELLS, cell_of};
 use crate::marks::Marks;
 use crate::node::{Node, set_previous};
-use rb_timer::link::Link;
+use rb_timer::optional_index::OptionalIndex;
 
 /// Puts a slot first in the list of a cell, whatever its own place was.
 pub(crate) fn put_first(
-    heads: &mut [Link],
+    heads: &mut [OptionalIndex],
     marks: &mut Marks,
     nodes: &mut [Node],
     slot: usize,
@@ -26,7 +26,7 @@ pub(crate) fn put_first(
     ensures elsewhere { (other : ℕ) → other ≢ cell → mark_at marks.new other ≡ mark_at marks.old other }
 {
     let next = heads[cell];
-    let link = Link::to(slot);
+    let link = OptionalIndex::some(slot);
     set_previous(nodes, next, link);
     nodes[slot].put_first(cell, next);
     heads[cell] = link;
@@ -37,7 +37,7 @@ pub(crate) fn put_first(
 ///
 /// The list is taken off whole, so that each of its slots is linked once.
 pub(crate) fn spread(
-    heads: &mut [Link],
+    heads: &mut [OptionalIndex],
     marks: &mut Marks,
     nodes: &mut [Node],
     base: u64,
@@ -55,7 +55,7 @@ pub(crate) fn spread(
     marks.remove(cell);
     while let Some(slot) = rest {
         let node = nodes[slot];
-        rest = node.next.slot();
+        rest = node.next.as_option();
         put_first(heads, marks, nodes, slot, cell_of(base, node.expiry));
     }
 }

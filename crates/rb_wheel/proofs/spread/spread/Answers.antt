@@ -122,7 +122,7 @@ loop-rest-preserved c =
     let heads : List (Option ℕ) = c.loop-rest.heads in
     let nodes : List Node = c.loop-rest.nodes in
     let node = c.index-nodes-slot.result in
-    let rest_is : c.slot-rest.result ≡ (node_at nodes slot).next = c.slot-rest.ensures ∙ ap (λ (n : Node). n.next) (node_is now) in
+    let rest_is : c.as_option-rest.result ≡ (node_at nodes slot).next = c.as_option-rest.ensures ∙ ap (λ (n : Node). n.next) (node_is now) in
     let off = put_on cell slot lower heads c.loop-rest.marks nodes (off now) c.loop-rest.invariant.low (apart now) (has_head now)
     c.put_first.new.marks c.put_first.ensures.here c.put_first.ensures.elsewhere in
     let may = may_still base cell (expiries_of nodes) (cells_of nodes) c.loop-rest.invariant.may slot node (lies now) (expires now) lower c.cell_of.ensures.cell in

@@ -34,15 +34,15 @@ loop-cursor-preserved c =
     c.loop-cursor.invariant c.in-Some.is
     (expiry_at-viewed lists.nodes.items now c.self.view_is c.in-Some.slot ∙ sym (c.expiry.ensures ∙ ap expiry_of node_is) ∙ c.unwrap-expiry.ensures)
     c.earlier_of.ensures.no_later c.earlier_of.ensures.no_worse c.earlier_of.ensures.either
-    c.slot-cursor.result (c.slot-cursor.ensures ∙ ap (λ (n : Node). n.next) node_is)
+    c.as_option-cursor.result (c.as_option-cursor.ensures ∙ ap (λ (n : Node). n.next) node_is)
 
 pub loop-cursor-smaller : goal.loop-cursor-smaller
 loop-cursor-smaller c =
     let lists = c.self.inside in
     let at_node = (goal.at.loop-cursor-smaller c).After-index-node in
     fewer_left lists.heads.items lists.marks lists.nodes.items c.args.self.now c.args.cell
-    c.self.invariant c.self.view_is c.loop-cursor.cursor c.slot-cursor.result c.in-Some.slot
-    (low at_node) c.in-Some.is (c.slot-cursor.ensures ∙ ap (λ (n : Node). n.next) (node_is at_node))
+    c.self.invariant c.self.view_is c.loop-cursor.cursor c.as_option-cursor.result c.in-Some.slot
+    (low at_node) c.in-Some.is (c.as_option-cursor.ensures ∙ ap (λ (n : Node). n.next) (node_is at_node))
 
 pub returns : goal.returns
 returns c =

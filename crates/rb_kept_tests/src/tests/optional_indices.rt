@@ -1,0 +1,27 @@
+use super::fixtures::expect;
+use rb_timer::optional_index::OptionalIndex;
+use std::process::Abort;
+
+fn expect_index(rt: &impl Abort, index: OptionalIndex, option: Option<usize>) {
+    assert_eq!(rt; index.as_option(), option);
+}
+
+// The word of the greatest index is beside that of none.
+#[test]
+fn has_the_index_that_it_was_made_of(rt: HostRuntime) {
+    expect_index(&rt, OptionalIndex::none(), None);
+    expect_index(&rt, OptionalIndex::some(0), Some(0));
+    expect_index(
+        &rt,
+        OptionalIndex::some(usize::MAX - 1),
+        Some(usize::MAX - 1),
+    );
+}
+
+// What is taken is given once.
+#[test]
+fn has_no_index_once_it_was_taken(rt: HostRuntime) {
+    let mut index = OptionalIndex::some(7);
+    expect(&rt, index.take() == Some(7), "the index");
+    expect(&rt, index.take().is_none(), "no index");
+}
