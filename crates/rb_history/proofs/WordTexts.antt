@@ -9,6 +9,7 @@ use Rattle.std.proofs.lemmas.Str.Parse.{digit_at}
 use Rattle.std.specs.Int.{IsInRange}
 use Rattle.std.specs.List.{list_all}
 use Rattle.rb_delayed.specs.Payload.{IsPayload, is_visible}
+use Rattle.rb_delayed.specs.declared.payload.TheConstants.{LEAST_PAYLOAD_BYTE}
 use Rattle.rb_protocol.proofs.Cuts.{at_end}
 use Rattle.rb_protocol.proofs.Numbers.{number_digits}
 use Rattle.rb_protocol.specs.Line.{spaced, words_of, HasNoLineFeed}
@@ -18,7 +19,7 @@ use Rattle.rb_history.proofs.Parts.{head_of, tail_of}
 
 -- each byte of the word is a visible character
 abbrev pub IsPlain : List ℕ → Type 0
-IsPlain word = All (λ byte. 33 ≤ byte) word
+IsPlain word = All (λ byte. LEAST_PAYLOAD_BYTE ≤ byte) word
 
 abbrev pub ArePlain : List (List ℕ) → Type 0
 ArePlain [] = Unit {0}
@@ -34,11 +35,11 @@ AreLines [] = Unit {0}
 AreLines (words ∷ lines) = IsLine words × AreLines lines
 
 -- keywords, numbers and payloads are plain
-tested : (byte : ℕ) → nat_le 33 byte ≡ true → 33 ≤ byte
+tested : (byte : ℕ) → nat_le LEAST_PAYLOAD_BYTE byte ≡ true → LEAST_PAYLOAD_BYTE ≤ byte
 tested byte is = grind (arith, nat_tests)
 
-pub keyword_plain : (word : List ℕ) → list_all (λ byte. nat_le 33 byte) word ≡ true → IsPlain word
-keyword_plain word is = λ k d below. tested _ (AllPass-from_list_all (λ byte. nat_le 33 byte) word is k d below)
+pub keyword_plain : (word : List ℕ) → list_all (λ byte. nat_le LEAST_PAYLOAD_BYTE byte) word ≡ true → IsPlain word
+keyword_plain word is = λ k d below. tested _ (AllPass-from_list_all (λ byte. nat_le LEAST_PAYLOAD_BYTE byte) word is k d below)
 
 pub digit_in : (value k d : ℕ) → value < 2 ^ 64 → k < length (decimal value) → IsInRange 48 57 (get_or (decimal value) k d)
 digit_in value k d small below =
@@ -47,7 +48,7 @@ digit_in value k d small below =
 pub number_plain : (value : ℕ) → value < 2 ^ 64 → IsPlain (decimal value)
 number_plain value small = λ k d below. omega (arith, digit_in value k d small below)
 
-visible_above : (byte : ℕ) → not (is_visible byte) ≡ false → 33 ≤ byte
+visible_above : (byte : ℕ) → not (is_visible byte) ≡ false → LEAST_PAYLOAD_BYTE ≤ byte
 visible_above byte is = grind (arith, nat_tests)
 
 pub payload_plain : (payload : List ℕ) → IsPayload payload → IsPlain payload
@@ -56,10 +57,10 @@ payload_plain payload right = λ k d below.
     visible_above _ (fails_before_first (λ byte. not (is_visible byte)) payload k d (omega arith))
 
 -- plain words have neither a space nor a line feed
-no_space : (byte : ℕ) → 33 ≤ byte → (byte == SPACE) ≡ false
+no_space : (byte : ℕ) → LEAST_PAYLOAD_BYTE ≤ byte → (byte == SPACE) ≡ false
 no_space byte above = grind (arith, nat_tests)
 
-no_feed : (byte : ℕ) → 33 ≤ byte → byte ≢ LINE_FEED
+no_feed : (byte : ℕ) → LEAST_PAYLOAD_BYTE ≤ byte → byte ≢ LINE_FEED
 no_feed byte above is = omega (arith, above, is)
 
 space_no_feed : SPACE ≢ LINE_FEED

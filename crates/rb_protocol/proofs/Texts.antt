@@ -8,6 +8,7 @@ use Rattle.std.proofs.lemmas.Str.Parse.{digit_at}
 use Rattle.std.specs.Int.{IsInRange}
 use Rattle.std.specs.List.{All, list_all}
 use Rattle.rb_delayed.specs.Payload.{IsPayload, is_visible}
+use Rattle.rb_delayed.specs.declared.payload.TheConstants.{LEAST_PAYLOAD_BYTE}
 use Rattle.rb_protocol.proofs.Cuts.{at_end}
 use Rattle.rb_protocol.proofs.Numbers.{number_digits}
 use Rattle.rb_protocol.specs.Form.{form_of, Arguments, nothing, number, number_and_payload, argument_words, AreRight}
@@ -46,7 +47,7 @@ keyword_spaceless : (request : Request) → NoSpace (form_of request).keyword
 keyword_spaceless request = λ k d below. false_of _ (AllPass-from_list_all _ _ (spaceless request) k d below)
 
 -- nor has a number, or a payload
-above_space : (byte : ℕ) → 33 ≤ byte → (byte == SPACE) ≡ false
+above_space : (byte : ℕ) → LEAST_PAYLOAD_BYTE ≤ byte → (byte == SPACE) ≡ false
 above_space byte h = grind (arith, nat_tests)
 
 number_spaceless : (value : ℕ) → value < 2 ^ 64 → NoSpace (decimal value)
@@ -57,7 +58,7 @@ number_spaceless value h = λ k d below.
     get_or_default_zero (decimal value) k d below in
     above_space _ (omega (arith, range))
 
-visible_above : (byte : ℕ) → not (is_visible byte) ≡ false → 33 ≤ byte
+visible_above : (byte : ℕ) → not (is_visible byte) ≡ false → LEAST_PAYLOAD_BYTE ≤ byte
 visible_above byte h = grind (arith, nat_tests)
 
 payload_spaceless : (payload : List ℕ) → IsPayload payload → NoSpace payload
