@@ -1,6 +1,7 @@
 ghost use Rattle.std.specs.Prelude.{◌≡◌};
 ghost use Rattle.rb_queue.specs.declared.ask.Ask.TheVariants.{Offer};
 ghost use Rattle.rb_lock.specs.Passes.{Learns};
+ghost use Rattle.rb_lock.specs.SharedCalls.{Answered};
 ghost use Rattle.rb_blocking.specs.WaitingCalls.{try_of};
 ghost use Rattle.rb_blocking.specs.RungOffers.{OfferAnswered};
 
@@ -29,21 +30,46 @@ pub fn offer_ring<T: Timer, R: Wait>(
     ensures learns { Learns pass.old pass.new }
     ensures offered { OfferAnswered pass.old pass.new (try_of pass.old asked (Offer draft)) result }
 {
-    let Outcome::Done(reply) = shared.call(rt, pass, asked, Ask::Offer(draft))? else {
+    let outcome = call_and_ring(rt, shared, pass, asked, Ask::Offer(draft), bell)?;
+    let Outcome::Done(reply) = outcome else {
         unreachable!()
     };
     let Reply::Offered(element) = reply else {
         unreachable!()
     };
-    bell.announce(rt, due_at(&element, asked));
     Ok(element)
 }
 
-// From when on an element that was offered at the moment `asked` can be taken: at once where it has expired.
-fn due_at(element: &Element, asked: u64) -> u64 {
-    if element.expiry <= asked {
-        0
-    } else {
-        element.expiry
+/// Makes one call as `Shared::call` does, and rings as `offer_ring` does if the ask is an offer. It waits while another
+/// pass calls.
+pub fn call_and_ring<T: Timer, R: Wait>(
+    rt: &R,
+    shared: &Shared<T>,
+    pass: &mut Pass<T>,
+    asked: u64,
+    ask: Ask,
+    bell: &Bell,
+) -> Result<Outcome, CallFault>
+    requires pass { pass.old.table ≡ shared.now }
+    ensures learns { Learns pass.old pass.new }
+    ensures answered { Answered pass.old pass.new (try_of pass.old asked ask) result }
+{
+    let answer = shared.call(rt, pass, asked, ask);
+    if answer.is_ok() {
+        ring_for(rt, bell, &ask, asked);
+    }
+    answer
+}
+
+// Rings for the element of an offer that was made at the moment `asked`. Where that has expired, it can be taken at
+// once.
+fn ring_for<R: Wait>(rt: &R, bell: &Bell, ask: &Ask, asked: u64) {
+    if let Ask::Offer(draft) = ask {
+        let due = if draft.expiry <= asked {
+            0
+        } else {
+            draft.expiry
+        };
+        bell.announce(rt, due);
     }
 }

@@ -37,7 +37,7 @@ pub fn take<T: Timer, C: Clock, G: Gate, R: Wait + time::Clock>(
     ensures waited { TakeWaited (C.gives clock.now) (G.answers gate.old) pass.old pass.new result }
     ensures gate { (turns : ℕ) (goes_on : Bool) → G.answers gate.new turns goes_on ↔ G.answers gate.old turns goes_on }
 {
-    match wait(rt, shared, pass, clock, gate, bell, &Ask::Take)? {
+    match call_and_wait(rt, shared, pass, clock, gate, bell, &Ask::Take)? {
         Reply::Item(element) => Ok(element),
         _ => unreachable!(),
     }
@@ -64,16 +64,17 @@ pub fn poll_for<T: Timer, C: Clock, G: Gate, R: Wait + time::Clock>(
     ensures gate { (turns : ℕ) (goes_on : Bool) → G.answers gate.new turns goes_on ↔ G.answers gate.old turns goes_on }
 {
     let ask = Ask::PollFor { start, timeout };
-    match wait(rt, shared, pass, clock, gate, bell, &ask)? {
+    match call_and_wait(rt, shared, pass, clock, gate, bell, &ask)? {
         Reply::Item(element) => Ok(Some(element)),
         Reply::Nothing => Ok(None),
         _ => unreachable!(),
     }
 }
 
-// Tries an ask until it is answered, or refused for want of room, or the gate says no. A call that was woken
-// and takes nothing wakes another.
-fn wait<T: Timer, C: Clock, G: Gate, R: Wait + time::Clock>(
+/// Tries an ask, any but an offer and a drain, until it gets a reply, the history is full, or the gate says no.
+///
+/// `take` and `poll_for` do the same, and unwrap the reply. A call that was woken and takes nothing wakes another.
+pub fn call_and_wait<T: Timer, C: Clock, G: Gate, R: Wait + time::Clock>(
     rt: &R,
     shared: &Shared<T>,
     pass: &mut Pass<T>,

@@ -34,19 +34,16 @@ pub fn fail<D: Desk>(
     }
 }
 
-// Offers a draft.
+// Offers a draft. The desk's answer is the element, or that there is no room or no memory for it.
 fn offer<D: Desk>(desk: &mut D, draft: Draft, now: u64) -> Result<Element, CallFault>
     ensures step { D.Steps (D.state desk.old) now (asks.Offer draft) (offer_answer result) (D.state desk.new) }
     ensures name { D.name (D.state desk.new) ≡ D.name (D.state desk.old) }
 {
-    let reply = match desk.call(now, Ask::Offer(draft)) {
-        Ok(reply) => reply,
-        Err(DeskFault::Full) => return Err(CallFault::Full),
-        Err(DeskFault::Memory) => return Err(CallFault::Memory),
-        Err(DeskFault::Stopped) => unreachable!(),
-    };
-    match reply {
-        Reply::Offered(element) => Ok(element),
+    let answer = desk.call(now, Ask::Offer(draft));
+    match &answer {
+        Ok(Reply::Offered(element)) => Ok(*element),
+        Err(DeskFault::Full) => Err(CallFault::Full),
+        Err(DeskFault::Memory) => Err(CallFault::Memory),
         _ => unreachable!(),
     }
 }

@@ -3,6 +3,7 @@ ghost use Rattle.rb_delayed.specs.declared.element.Element.{Element};
 ghost use Rattle.rb_queue.specs.declared.ask.Ask.TheVariants as asks;
 ghost use Rattle.rb_queue.specs.declared.reply.Reply.TheVariants as replies;
 ghost use Rattle.rb_kept.specs.declared.kept.TheConstants.{MOST_CALLS};
+ghost use Rattle.rb_retry.specs.Asked.{IsReplyTo};
 ghost use Rattle.rb_retry.specs.Jobs.{answer_with, answer_with_one};
 
 use crate::desk::Desk;
@@ -18,11 +19,8 @@ pub fn poll<D: Desk>(desk: &mut D, asked: u64) -> Result<Option<Job>, DeskFault>
     ensures step { D.Steps (D.state desk.old) asked asks.Poll (answer_with result) (D.state desk.new) }
     ensures name { D.name (D.state desk.new) ≡ D.name (D.state desk.old) }
 {
-    match desk.call(asked, Ask::Poll)? {
-        Reply::Item(element) => Ok(Some(Job::new(element))),
-        Reply::Nothing => Ok(None),
-        _ => unreachable!(),
-    }
+    let reply = desk.call(asked, Ask::Poll)?;
+    Ok(polled(&reply))
 }
 
 /// Fetches the head, waiting for it by the desk's clock.
@@ -46,10 +44,18 @@ pub fn poll_for<D: Desk>(desk: &mut D, start: u64, timeout: u64) -> Result<Optio
     ensures step { D.Steps (D.state desk.old) start (asks.PollFor start timeout) (answer_with result) (D.state desk.new) }
     ensures name { D.name (D.state desk.new) ≡ D.name (D.state desk.old) }
 {
-    match desk.call(start, Ask::PollFor { start, timeout })? {
-        Reply::Item(element) => Ok(Some(Job::new(element))),
-        Reply::Nothing => Ok(None),
-        _ => unreachable!(),
+    let reply = desk.call(start, Ask::PollFor { start, timeout })?;
+    Ok(polled(&reply))
+}
+
+// The job that a poll's reply gives, if it gives one.
+fn polled(reply: &Reply) -> Option<Job>
+    requires { IsReplyTo asks.Poll reply.now }
+    ensures { answer_with (Ok result) ≡ Ok reply.now }
+{
+    match reply {
+        Reply::Item(element) => Some(Job::new(*element)),
+        _ => None,
     }
 }
 

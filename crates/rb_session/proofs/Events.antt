@@ -11,6 +11,7 @@ use Rattle.rb_queue.specs.declared.draft.Draft.{Draft}
 use Rattle.rb_queue.specs.declared.reply.Reply.{Reply}
 use Rattle.rb_queue.specs.declared.reply.Reply.TheVariants.{Offered}
 use Rattle.rb_kept.specs.declared.fault.CallFault.{CallFault}
+use Rattle.rb_kept.specs.declared.fault.CallFault.TheVariants as refusals
 use Rattle.rb_retry.specs.Made.{Made}
 use Rattle.rb_retry.specs.Asked.{Makes, MayGet}
 use Rattle.rb_retry.specs.Retry.{IsNextAttempt}
@@ -28,7 +29,7 @@ use Rattle.rb_protocol.specs.declared.line_reply.LineReply.{LineReply}
 use Rattle.rb_protocol.specs.declared.line_reply.LineReply.TheVariants as lines
 use Rattle.rb_protocol.specs.declared.error_word.ErrorWord.TheVariants as words
 use Rattle.rb_session.specs.Held.{place_of}
-use Rattle.rb_session.specs.Turn.{Point, IsTurn, IsServed, IsCall, IsFetch, IsFailure, AnswersAlone, fault_line, lines_for, moment_line, word_for}
+use Rattle.rb_session.specs.Turn.{Point, IsTurn, IsServed, IsCall, IsFetch, IsFailure, AnswersAlone, fault_line, lines_for, moment_line, refusal_word, word_for}
 use Rattle.rb_session.specs.Events.{IsNextOf, Asks, TellsOf, TellsOfNone, AreOfLine, AreOfClosing, moment_after, MakesByLines, MakesByClosing}
 use Rattle.rb_session.specs.declared.held_jobs.TheConstants.{MOST_HELD}
 
@@ -47,6 +48,11 @@ fault_tells_none : (fault : DeskFault) → TellsOfNone (fault_line fault)
 fault_tells_none Full = tt
 fault_tells_none Memory = tt
 fault_tells_none Stopped = tt
+
+-- a next attempt that is refused has the line of the desk's fault
+refused_line : (fault : CallFault) → lines.Error (refusal_word fault) ≡ fault_line (fault_of fault)
+refused_line refusals.Full = refl
+refused_line refusals.Memory = refl
 
 moment_tells_none : (result : Option ℕ) → TellsOfNone (moment_line result)
 moment_tells_none None = tt
@@ -148,7 +154,8 @@ module _ {S : Type 0} (gives : S → ℕ → Type 0) (Sets : S → ℕ → Optio
     answer = Err (fault_of fault);
     steps = steps;
     answered = λ reply is. absurd (cc);
-    refused = λ other is. are ∙ ap (λ (f : DeskFault). fault_line f ∷ []) (same_err (fault_of fault) other (Err (fault_of fault)) refl is);
+    refused = λ other is. are ∙ ap (λ (line : LineReply). line ∷ []) (refused_line fault)
+        ∙ ap (λ (f : DeskFault). fault_line f ∷ []) (same_err (fault_of fault) other (Err (fault_of fault)) refl is);
     stands = λ moment. refl;
   }))
 

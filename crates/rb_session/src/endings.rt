@@ -2,14 +2,14 @@ ghost use Rattle.std.specs.Prelude.{◌≡◌, ◌∷◌, [], MatchOption, remov
 ghost use Rattle.rb_protocol.specs.declared.line_reply.LineReply.TheVariants as lines;
 ghost use Rattle.rb_protocol.specs.declared.error_word.ErrorWord.TheVariants as words;
 ghost use Rattle.rb_session.specs.Held.{place_of};
-ghost use Rattle.rb_session.specs.Turn.{point, AnswersAlone, IsFailure};
+ghost use Rattle.rb_session.specs.Turn.{point, refusal_word, AnswersAlone, IsFailure};
 ghost use Rattle.rb_session.specs.Closing.{Closes};
 ghost use Rattle.rb_session.specs.Progress.{replies_of};
 
-use crate::calls::fault_line;
 use crate::held_jobs::HeldJobs;
+use rb_kept::CallFault;
 use rb_protocol::{ErrorWord, LineReply};
-use rb_retry::{Desk, DeskFault, Policy, Verdict, done, fail};
+use rb_retry::{Desk, Policy, Verdict, done, fail};
 
 /// The job of this id is done, if it is held.
 pub(crate) fn finish_job(held: &mut HeldJobs, id: u64) -> LineReply
@@ -54,8 +54,18 @@ pub(crate) fn fail_job<D: Desk>(
         Ok(Verdict::Dead(dead)) => LineReply::Dead(dead.id),
         Err((job, fault)) => {
             held.put_back(place, job);
-            fault_line(DeskFault::from(fault))
+            LineReply::Error(refusal_word(fault))
         }
+    }
+}
+
+// The word for a next attempt that was refused.
+fn refusal_word(fault: CallFault) -> ErrorWord
+    ensures { result ≡ refusal_word fault }
+{
+    match fault {
+        CallFault::Full => ErrorWord::Full,
+        CallFault::Memory => ErrorWord::Memory,
     }
 }
 

@@ -3,7 +3,7 @@ ghost use Rattle.rb_kept.specs.declared.kept.TheConstants.{MOST_CALLS};
 ghost use Rattle.rb_shared_desk.specs.SharedSteps.{SharedState, SharedName, SharedSteps, SetsShared, fault_of_wait, made_through, name_of};
 ghost use Rattle.rb_shared_desk.specs.SharedLaws.{shared_makes, shared_refuses, shared_stays};
 
-use rb_blocking::{Bell, Clock, Gate, WaitFault, offer_ring, poll_for, take};
+use rb_blocking::{Bell, Clock, Gate, WaitFault, call_and_ring, call_and_wait};
 use rb_kept::Outcome;
 use rb_lock::{Pass, Shared};
 use rb_queue::{Ask, Reply};
@@ -119,32 +119,14 @@ impl<'a, T: Timer, C: Clock, G: Gate, R: Wait + time::Clock> Desk for SharedDesk
         // The proof learns here that the pass has seen a legal history.
         let _ = self.pass.name();
         let (rt, shared, clock, bell) = (self.rt, self.shared, self.clock, self.bell);
-        match ask {
-            Ask::Take => {
-                let taken = take(rt, shared, self.pass, clock, self.gate, bell);
-                match taken {
-                    Ok(element) => Ok(Reply::Item(element)),
-                    Err(fault) => Err(desk_fault_of(fault)),
-                }
-            }
-            Ask::PollFor { start, timeout } => {
-                let polled = poll_for(
-                    rt, shared, self.pass, clock, self.gate, bell, start, timeout,
-                );
-                match polled {
-                    Ok(found) => Ok(found.map_or(Reply::Nothing, Reply::Item)),
-                    Err(fault) => Err(desk_fault_of(fault)),
-                }
-            }
-            Ask::Offer(draft) => {
-                let element = offer_ring(rt, shared, self.pass, asked, draft, bell)?;
-                Ok(Reply::Offered(element))
-            }
-            ask => match shared.call(rt, self.pass, asked, ask) {
-                Ok(Outcome::Done(reply)) => Ok(reply),
-                Ok(Outcome::Later(_)) => unreachable!(),
-                Err(fault) => Err(DeskFault::from(fault)),
-            },
+        if matches!(ask, Ask::Take | Ask::PollFor { .. }) {
+            let waited = call_and_wait(rt, shared, self.pass, clock, self.gate, bell, &ask);
+            return waited.map_err(desk_fault_of);
+        }
+        match call_and_ring(rt, shared, self.pass, asked, ask, bell) {
+            Ok(Outcome::Done(reply)) => Ok(reply),
+            Ok(Outcome::Later(_)) => unreachable!(),
+            Err(fault) => Err(DeskFault::from(fault)),
         }
     }
 

@@ -3,18 +3,18 @@ use Rattle.std.proofs.Common.{◌≡◌, ℕ, List, [], ◌∷◌, Result, Ok, E
 use Rattle.std.specs.Prelude.{MatchOption}
 use Rattle.rb_delayed.specs.declared.element.Element.{Element}
 use Rattle.rb_kept.specs.declared.fault.CallFault.{CallFault}
+use Rattle.rb_protocol.specs.declared.error_word.ErrorWord.{ErrorWord}
 use Rattle.rb_protocol.specs.declared.line_reply.LineReply.{LineReply}
+use Rattle.rb_protocol.specs.declared.line_reply.LineReply.TheVariants as lines
 use Rattle.rb_queue.specs.declared.ask.Ask.{Ask}
 use Rattle.rb_queue.specs.declared.reply.Reply.{Reply}
 use Rattle.rb_retry.specs.Jobs.{FailsTo}
-use Rattle.rb_retry.specs.KeptSteps.{fault_of}
 use Rattle.rb_retry.specs.declared.desk_fault.DeskFault.{DeskFault}
 use Rattle.rb_retry.specs.declared.policy.Policy.{Policy}
 use Rattle.rb_retry.specs.declared.verdict.Verdict.{Verdict}
-use Rattle.rb_session.specs.Turn.{point, verdict_line, held_after, fault_line, IsFailure}
+use Rattle.rb_session.specs.Turn.{point, verdict_line, held_after, IsFailure}
 use Rattle.rb_session.specs.Held.{place_of}
 use Rattle.rb_session.specs.Progress.{replies_of}
-use Rattle.rb_session.proofs.PlainCalls.{one_fault_line}
 use Rattle.rb_session.proofs.Closings.{insert_removed}
 use Rattle.rb_session.proofs.endings.fail_job.Given.{Over}
 use Rattle.rb_session.proofs.endings.fail_job.Goals as goal
@@ -45,9 +45,8 @@ back_is Steps policy element now old new back fault (draft, retry, step, same) =
 pub returns-in-Err-clause-failed : goal.returns-in-Err-clause-failed
 returns-in-Err-clause-failed g c =
     let back = back_is g.D.Desk.Steps c.args.policy.now c.take_out-job.result c.args.now (g.D.Desk.state c.args.desk.now) (g.D.Desk.state c.fail.new.desk) c.in-Err.job c.in-Err.fault c.in-Err.ensures.fails in
-    let line = c.fault_line.ensures ∙ ap fault_line c.from.ensures in
     job_failed g (goal.at.returns-in-Err-clause-failed g c).After-fail _ _ _ _ c.in-Err.is
-    (ap (λ l. replies_of l c.put_back.new.self) line ∙ one_fault_line (fault_of c.in-Err.fault) c.put_back.new.self)
+    (ap (λ (word : ErrorWord). replies_of (lines.Error word) c.put_back.new.self) c.refusal_word.ensures)
     (c.put_back.ensures ∙ ap (λ (held : List Element). insert held c.in-Some.place c.in-Err.job) c.take_out-job.ensures.rest
     ∙ ap (insert (remove c.args.held.now c.in-Some.place) c.in-Some.place) back
     ∙ insert_removed c.args.held.now c.in-Some.place c.take_out-job.result c.take_out-job.ensures.job)
