@@ -13,7 +13,7 @@ use rb_kept::MOST_CALLS;
 use std::alloc::{AllocError, Global};
 
 /// `--calls N`
-pub fn calls_option<'a>(alloc: Global) -> Arg<'a>
+pub(crate) fn calls_option<'a>(alloc: Global) -> Arg<'a>
     ensures rule { rule_of result ≡ calls_option }
     ensures local { result.global ≡ false }
 {
@@ -26,7 +26,7 @@ pub fn calls_option<'a>(alloc: Global) -> Arg<'a>
 }
 
 /// `--timer T`
-pub fn timer_option<'a>(alloc: Global) -> Arg<'a>
+pub(crate) fn timer_option<'a>(alloc: Global) -> Arg<'a>
     ensures rule { (names : Bor (List (Bor (List ℕ)))) × AreTimerNames names × (rule_of result ≡ timer_option names) }
     ensures local { result.global ≡ false }
 {
@@ -39,7 +39,7 @@ pub fn timer_option<'a>(alloc: Global) -> Arg<'a>
 }
 
 /// `--delay N`
-pub fn delay_option<'a>(alloc: Global) -> Arg<'a>
+pub(crate) fn delay_option<'a>(alloc: Global) -> Arg<'a>
     ensures rule { rule_of result ≡ delay_option }
     ensures local { result.global ≡ false }
 {
@@ -52,7 +52,7 @@ pub fn delay_option<'a>(alloc: Global) -> Arg<'a>
 }
 
 /// `--rate N`, which stands in the place of a delay: it conflicts with that option, and no other two do.
-pub fn rate_option<'a>(alloc: Global) -> Result<Arg<'a>, AllocError>
+pub(crate) fn rate_option<'a>(alloc: Global) -> Result<Arg<'a>, AllocError>
     ensures rule { IfOk result (λ arg. rule_of arg ≡ rate_option) }
     ensures local { IfOk result (λ arg. arg.global ≡ false) }
     ensures conflicts { IfOk result (λ arg. map (λ id. id.now) arg.conflicts.items ≡ codes "delay" ∷ []) }
@@ -66,7 +66,7 @@ pub fn rate_option<'a>(alloc: Global) -> Result<Arg<'a>, AllocError>
 }
 
 /// `--attempts N`
-pub fn attempts_option<'a>(alloc: Global) -> Arg<'a>
+pub(crate) fn attempts_option<'a>(alloc: Global) -> Arg<'a>
     ensures rule { rule_of result ≡ attempts_option }
     ensures local { result.global ≡ false }
 {
@@ -79,7 +79,7 @@ pub fn attempts_option<'a>(alloc: Global) -> Arg<'a>
 }
 
 /// `--history FILE`
-pub fn history_option<'a>(alloc: Global) -> Arg<'a>
+pub(crate) fn history_option<'a>(alloc: Global) -> Arg<'a>
     ensures rule { rule_of result ≡ history_option }
     ensures local { result.global ≡ false }
 {
@@ -90,7 +90,7 @@ pub fn history_option<'a>(alloc: Global) -> Arg<'a>
 }
 
 /// `--from FILE`
-pub fn from_option<'a>(alloc: Global) -> Arg<'a>
+pub(crate) fn from_option<'a>(alloc: Global) -> Arg<'a>
     ensures rule { rule_of result ≡ from_option }
     ensures local { result.global ≡ false }
 {
@@ -101,7 +101,7 @@ pub fn from_option<'a>(alloc: Global) -> Arg<'a>
 }
 
 /// `--port P`
-pub fn port_option<'a>(alloc: Global) -> Arg<'a>
+pub(crate) fn port_option<'a>(alloc: Global) -> Arg<'a>
     ensures rule { rule_of result ≡ port_option }
     ensures local { result.global ≡ false }
 {
@@ -114,7 +114,7 @@ pub fn port_option<'a>(alloc: Global) -> Arg<'a>
 }
 
 /// `--workers N`
-pub fn workers_option<'a>(alloc: Global) -> Arg<'a>
+pub(crate) fn workers_option<'a>(alloc: Global) -> Arg<'a>
     ensures rule { rule_of result ≡ workers_option }
     ensures local { result.global ≡ false }
 {
@@ -127,7 +127,7 @@ pub fn workers_option<'a>(alloc: Global) -> Arg<'a>
 }
 
 /// `--sessions N`
-pub fn sessions_option<'a>(alloc: Global) -> Arg<'a>
+pub(crate) fn sessions_option<'a>(alloc: Global) -> Arg<'a>
     ensures rule { rule_of result ≡ sessions_option }
     ensures local { result.global ≡ false }
 {
@@ -140,7 +140,7 @@ pub fn sessions_option<'a>(alloc: Global) -> Arg<'a>
 }
 
 /// `--turns N`
-pub fn turns_option<'a>(alloc: Global) -> Arg<'a>
+pub(crate) fn turns_option<'a>(alloc: Global) -> Arg<'a>
     ensures rule { rule_of result ≡ turns_option }
     ensures local { result.global ≡ false }
 {
@@ -153,7 +153,7 @@ pub fn turns_option<'a>(alloc: Global) -> Arg<'a>
 }
 
 /// `--chains`
-pub fn chains_flag<'a>(alloc: Global) -> Arg<'a>
+pub(crate) fn chains_flag<'a>(alloc: Global) -> Arg<'a>
     ensures rule { rule_of result ≡ chains_flag }
     ensures local { result.global ≡ false }
 {
@@ -164,7 +164,7 @@ pub fn chains_flag<'a>(alloc: Global) -> Arg<'a>
 }
 
 /// `FILE`
-pub fn file_argument<'a>(alloc: Global) -> Arg<'a>
+pub(crate) fn file_argument<'a>(alloc: Global) -> Arg<'a>
     ensures rule { rule_of result ≡ file_argument }
     ensures local { result.global ≡ false }
 {

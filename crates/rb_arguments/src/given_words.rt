@@ -21,7 +21,7 @@ use std::alloc::{AllocError, Global};
 ///
 /// clap has already refused all other values. But its contracts promise the ranges only for a
 /// command's own options, and not for those of a subcommand, so they are tested here again.
-pub fn asked_by(
+pub(crate) fn asked_by(
     alloc: Global,
     name: &str,
     given: &ArgMatches<'_>,

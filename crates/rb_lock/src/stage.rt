@@ -2,7 +2,7 @@ use rb_queue::{Event, Opening};
 use std::collections::LinkedList;
 
 /// What a seat is about to do. No value of it is made.
-pub enum Stage {
+pub(crate) enum Stage {
     /// Nothing.
     Idle,
     /// It holds the lock, and found this history.

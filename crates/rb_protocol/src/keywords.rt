@@ -7,7 +7,7 @@ use rb_delayed::Payload;
 
 /// A keyword that takes a number.
 #[derive(Clone, Copy)]
-pub enum NumberKeyword {
+pub(crate) enum NumberKeyword {
     PollFor,
     Remove,
     Drain,
@@ -18,13 +18,13 @@ pub enum NumberKeyword {
 
 /// A keyword that takes a number and a payload.
 #[derive(Clone, Copy)]
-pub enum OfferKeyword {
+pub(crate) enum OfferKeyword {
     Offer,
     OfferAt,
 }
 
 /// The request of a keyword that takes no argument.
-pub fn read_alone(word: &[u8]) -> Option<Request>
+pub(crate) fn read_alone(word: &[u8]) -> Option<Request>
     ensures some { IfSome result (λ request. form_of request
         ≡ record { keyword = word.now; arguments = nothing }) }
     ensures none { IfNone result (¬ Takes word.now 0) }
@@ -42,7 +42,7 @@ pub fn read_alone(word: &[u8]) -> Option<Request>
 
 impl NumberKeyword {
     /// The keyword that the word is, or `None` if it is none of them.
-    pub fn read(word: &[u8]) -> Option<NumberKeyword>
+    pub(crate) fn read(word: &[u8]) -> Option<NumberKeyword>
         ensures some { IfSome result (λ keyword. (value : ℕ)
             → form_of (number_request keyword value)
             ≡ record { keyword = word.now; arguments = number value }) }
@@ -60,7 +60,7 @@ impl NumberKeyword {
     }
 
     /// The request with this number.
-    pub fn request(self, number: u64) -> Request
+    pub(crate) fn request(self, number: u64) -> Request
         ensures { result ≡ number_request self number }
     {
         match self {
@@ -76,7 +76,7 @@ impl NumberKeyword {
 
 impl OfferKeyword {
     /// The keyword that the word is, or `None` if it is none of them.
-    pub fn read(word: &[u8]) -> Option<OfferKeyword>
+    pub(crate) fn read(word: &[u8]) -> Option<OfferKeyword>
         ensures some { IfSome result (λ keyword. (value : ℕ) (payload : List ℕ)
             → form_of (offer_request keyword value payload)
             ≡ record { keyword = word.now; arguments = number_and_payload value payload }) }
@@ -90,7 +90,7 @@ impl OfferKeyword {
     }
 
     /// The request with this number and this payload.
-    pub fn request(self, number: u64, payload: Payload) -> Request
+    pub(crate) fn request(self, number: u64, payload: Payload) -> Request
         ensures { result ≡ offer_request self number payload }
     {
         match self {

@@ -6,7 +6,7 @@ use crate::format::SPACE;
 
 /// The words after a keyword, as parts of their line, before the number and the payload are read.
 #[derive(Clone, Copy)]
-pub enum WordPlaces<'a> {
+pub(crate) enum WordPlaces<'a> {
     Nothing,
     One(&'a [u8]),
     Two(&'a [u8], &'a [u8]),
@@ -14,7 +14,7 @@ pub enum WordPlaces<'a> {
 
 /// Splits a line at its spaces into a keyword and the words after it. `None` exactly if more than
 /// two words follow, or one of them is empty.
-pub fn read_line_words(line: &[u8]) -> Option<(&[u8], WordPlaces<'_>)>
+pub(crate) fn read_line_words(line: &[u8]) -> Option<(&[u8], WordPlaces<'_>)>
     ensures words { IfSome result (λ words. words_of line.now ≡ words.0.now ∷ place_words words.1) }
     ensures few { IfSome result (λ words. AreFew (place_words words.1)) }
     ensures none { IfNone result ((keyword : List ℕ) (places : List (List ℕ))

@@ -7,13 +7,13 @@ use crate::line_reply::REPLY_ROOM;
 use itoa::write_digits;
 
 /// The greatest number of digits that a number has.
-pub const MOST_DIGITS: usize = 20;
+pub(crate) const MOST_DIGITS: usize = 20;
 
 /// A reply's line, whose last bytes are written.
 ///
 /// It is written from its end to its front, in the order in which the digits of a number are found.
 #[derive(Drop)]
-pub struct ReplyLine {
+pub(crate) struct ReplyLine {
     bytes: [u8; REPLY_ROOM],
     start: usize,
     ghost within: { start ≤ REPLY_ROOM },
@@ -23,7 +23,7 @@ impl ReplyLine {
     ghost use Rattle.rb_protocol.specs.ReplyLine.{written};
 
     /// A line of which only the line feed is written.
-    pub fn new() -> ReplyLine
+    pub(crate) fn new() -> ReplyLine
         ensures written { written result ≡ LINE_FEED ∷ [] }
         ensures start { result.start + 1 ≡ REPLY_ROOM }
     {
@@ -34,7 +34,7 @@ impl ReplyLine {
     }
 
     /// The bytes that are written so far.
-    pub fn as_bytes(&self) -> &[u8]
+    pub(crate) fn as_bytes(&self) -> &[u8]
         ensures bytes { result.now ≡ written self.now }
         ensures len { self.now.start + length result.now ≡ REPLY_ROOM }
     {
@@ -42,7 +42,7 @@ impl ReplyLine {
     }
 
     /// Puts these bytes in front.
-    pub fn put(&mut self, bytes: &[u8])
+    pub(crate) fn put(&mut self, bytes: &[u8])
         requires { length bytes.now ≤ self.old.start }
         ensures written { written self.new ≡ bytes.now ++ written self.old }
         ensures start { self.new.start + length bytes.now ≡ self.old.start }
@@ -53,7 +53,7 @@ impl ReplyLine {
     }
 
     /// Puts the number's digits in front.
-    pub fn put_number(&mut self, number: u64)
+    pub(crate) fn put_number(&mut self, number: u64)
         requires { MOST_DIGITS ≤ self.old.start }
         ensures written { written self.new ≡ decimal number ++ written self.old }
         ensures start { self.new.start + length (decimal number) ≡ self.old.start }

@@ -7,7 +7,7 @@ use std::alloc::Global;
 
 /// The verdict on the text of a history.
 #[derive(Clone, Copy, Debug, PartialEq, Eq)]
-pub enum Verdict {
+pub(crate) enum Verdict {
     /// It is not a history: the line of this number, counted from 1, has the first fault.
     Unreadable { line: u64, reason: TextReason },
     /// The history is not legal: the event of this index, counted from 0, is the first that is not
@@ -24,7 +24,7 @@ impl Verdict {
     ghost use Rattle.rb_runs.specs.Verdict.{verdict_text, status_of_verdict};
 
     /// The line that `replay` prints. The only fault is `Memory`.
-    pub fn line(&self, alloc: Global) -> Result<String, BrokerFault>
+    pub(crate) fn line(&self, alloc: Global) -> Result<String, BrokerFault>
         ensures text { IfOk result (λ line. string_bytes line ≡ verdict_text self.now) }
         ensures fault { IfErr result (λ fault. fault ≡ BrokerFault.Memory) }
     {
@@ -46,7 +46,7 @@ impl Verdict {
     }
 
     /// The exit status: 0 if the history is accepted, 1 if it is not.
-    pub fn status(&self) -> u8
+    pub(crate) fn status(&self) -> u8
         ensures { result ≡ status_of_verdict self.now }
     {
         match self {

@@ -25,7 +25,7 @@ pub fn print_listening<W: Write>(
 /// Prints how many sessions, faults and lost jobs there were, and the audit line, and flushes.
 ///
 /// The faults are `Memory`, before anything is written, and `Write`.
-pub fn print_report<T: Timer, W: Write>(
+pub(crate) fn print_report<T: Timer, W: Write>(
     alloc: Global,
     writer: &mut W,
     report: &ServeReport<T>,

@@ -5,18 +5,18 @@ use rb_session::{Ended, SessionFault};
 
 /// The counts of visits, each at most 2^64 - 1.
 #[derive(Clone, Copy, Debug, PartialEq, Eq)]
-pub struct VisitCounts {
+pub(crate) struct VisitCounts {
     /// How many visits there were.
-    pub sessions: u64,
+    pub(crate) sessions: u64,
     /// How many of them were refused at the door, or ended by a fault.
-    pub faults: u64,
+    pub(crate) faults: u64,
     /// How many jobs were lost at their ends: those whose next attempt was refused.
-    pub lost: u64,
+    pub(crate) lost: u64,
 }
 
 impl VisitCounts {
     /// No visit.
-    pub fn none() -> VisitCounts
+    pub(crate) fn none() -> VisitCounts
         ensures { result ≡ no_visit }
     {
         VisitCounts {
@@ -27,7 +27,7 @@ impl VisitCounts {
     }
 
     /// A visit that was refused at the door.
-    pub fn of_refusal() -> VisitCounts
+    pub(crate) fn of_refusal() -> VisitCounts
         ensures { result ≡ refused_visit }
     {
         VisitCounts {
@@ -38,7 +38,7 @@ impl VisitCounts {
     }
 
     /// A visit whose session ended like this.
-    pub fn of_session(outcome: &Result<Ended, SessionFault>) -> VisitCounts
+    pub(crate) fn of_session(outcome: &Result<Ended, SessionFault>) -> VisitCounts
         ensures { result ≡ ended_visit outcome.now }
     {
         VisitCounts {
@@ -49,7 +49,7 @@ impl VisitCounts {
     }
 
     /// The sum of the two.
-    pub fn with(self, other: VisitCounts) -> VisitCounts
+    pub(crate) fn with(self, other: VisitCounts) -> VisitCounts
         ensures { result ≡ both_counts self other }
     {
         VisitCounts {

@@ -12,8 +12,13 @@ use rb_retry::{Desk, Policy};
 use std::alloc::Global;
 use std::io::{Read, Write};
 
-/// Runs a session whose replies are written when `delivery` says so: like `run_session` at once, or
-/// like `run_gathered`.
+/// Runs a session like `run_session`, whose replies are written when `delivery` says so.
+///
+/// If they are gathered, the writer gets them before each read, at the end and, if `HandsOn` says
+/// so, before each request that may wait. So a batch of requests costs one write for each read or
+/// wait, and no client waits for a reply that is held back. The room of 64 KiB is taken before the
+/// first read. A write that fails comes later than the replies that it loses. The session then ends
+/// as after any fault of a write.
 pub fn run_delivered<R: Read, W: Write, D: Desk>(
     alloc: Global,
     reader: &mut R,

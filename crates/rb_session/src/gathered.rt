@@ -12,14 +12,8 @@ use rb_retry::{Desk, Policy};
 use std::alloc::Global;
 use std::io::{Read, Write};
 
-/// Runs a session whose replies are gathered. The writer gets them before each read, at the end
-/// and, if `hands_on` says so, before each request that may wait. So a batch of requests costs one
-/// write for each read or wait, and no client waits for a reply that is held back. The room of 64
-/// KiB is taken before the first read.
-///
-/// A write that fails comes later than the replies that it loses. The session then ends as after
-/// any fault of a write.
-pub fn run_gathered<R: Read, W: Write, D: Desk>(
+/// Runs a session whose replies are gathered, as `run_delivered` says.
+pub(crate) fn run_gathered<R: Read, W: Write, D: Desk>(
     alloc: Global,
     reader: &mut R,
     writer: &mut W,

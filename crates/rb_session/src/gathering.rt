@@ -18,7 +18,7 @@ pub(crate) const GATHERED_BYTES: usize = 64 * 1024;
 ///
 /// What was sent is what the writer has got, followed by what is gathered.
 #[derive(Drop)]
-pub struct Gathering<'a, W: Write> {
+pub(crate) struct Gathering<'a, W: Write> {
     writer: &'a mut W,
     gathered: Vec<u8>,
     hands_on: HandsOn,
@@ -27,7 +27,7 @@ pub struct Gathering<'a, W: Write> {
 
 impl<'a, W: Write> Gathering<'a, W> {
     /// Gathers for this writer, in the room of an empty vector. It takes no more memory.
-    pub fn new(writer: &'a mut W, room: Vec<u8>, hands_on: HandsOn) -> Gathering<'a, W>
+    pub(crate) fn new(writer: &'a mut W, room: Vec<u8>, hands_on: HandsOn) -> Gathering<'a, W>
         requires { room.items ≡ [] }
         ensures same_reference { result.writer.ghost_name ≡ writer.entry.ghost_name }
         ensures same { result.writer.now ≡ writer.old }
@@ -42,7 +42,7 @@ impl<'a, W: Write> Gathering<'a, W> {
     }
 
     /// The writer. What is still gathered is dropped.
-    pub fn into_writer(self) -> &'a mut W
+    pub(crate) fn into_writer(self) -> &'a mut W
         ensures same_reference { result.ghost_name ≡ self.entry.writer.ghost_name }
         ensures same { result.now ≡ self.entry.writer.now }
     {

@@ -29,12 +29,10 @@ mod stop;
 pub use delivered::run_delivered;
 pub use delivery::Delivery;
 pub use ended::Ended;
-pub use gathered::run_gathered;
 pub use hands_on::HandsOn;
 pub use held_jobs::MOST_HELD;
 pub use laws::{
     came_first, events_of_session, history_of_session, sent_last, session_limits_have_their_values,
 };
-pub use outlet::Outlet;
-pub use run::{run_session, run_session_through};
+pub use run::run_session;
 pub use session_fault::SessionFault;

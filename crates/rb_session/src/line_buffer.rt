@@ -25,7 +25,7 @@ const MOST_RAW_BYTES: usize = MOST_LINE_BYTES + 1;
 /// The beginning of a line is kept until its line feed comes. If it is too long to be a request, it
 /// is dropped, and only the fact is remembered, so no line needs more room than the buffer.
 #[derive(Drop)]
-pub struct LineBuffer {
+pub(crate) struct LineBuffer {
     bytes: Vec<u8>,
     start: usize,
     end: usize,
@@ -41,7 +41,7 @@ impl LineBuffer {
     ghost use Rattle.rb_session.specs.Buffer.{IsUnserved, TakesLine, TakesMore};
 
     /// An empty buffer, whose memory is taken at once.
-    pub fn new(alloc: Global) -> Result<Self, AllocError>
+    pub(crate) fn new(alloc: Global) -> Result<Self, AllocError>
         ensures { IfOk result (λ buffer. IsUnserved buffer []) }
     {
         Ok(LineBuffer {
@@ -53,7 +53,7 @@ impl LineBuffer {
     }
 
     /// Takes out the first whole line and reads it. `None` exactly if there is no line feed.
-    pub fn next_request(&mut self) -> Option<Result<Request, LineFault>>
+    pub(crate) fn next_request(&mut self) -> Option<Result<Request, LineFault>>
         ensures line { (bytes : List ℕ) → IsUnserved self.old bytes → TakesLine bytes result self.new }
         ensures shorter { IfSome result (λ _. self.new.end - self.new.start < self.old.end - self.old.start) }
     {
@@ -73,7 +73,7 @@ impl LineBuffer {
     /// 0 at the end of the input.
     ///
     /// Nothing may be held back then, so that no client waits for a reply that it has not got.
-    pub fn read_from<R: Read, O: Outlet>(
+    pub(crate) fn read_from<R: Read, O: Outlet>(
         &mut self,
         reader: &mut LimitedReader<'_, R>,
         _outlet: &O,
@@ -97,7 +97,7 @@ impl LineBuffer {
     }
 
     /// Whether there are bytes after the last line feed.
-    pub fn has_rest(&self) -> bool
+    pub(crate) fn has_rest(&self) -> bool
         ensures { (bytes : List ℕ) → IsUnserved self.now bytes → IsTrue result ↔ (0 < length bytes) }
     {
         self.is_long || self.start < self.end

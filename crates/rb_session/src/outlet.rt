@@ -11,7 +11,7 @@ use rb_protocol::WriteFault;
 /// has to be handed on at the session's end and before each read, so that no client waits for a
 /// reply that is held back. Before it serves a request that may wait, the session says so, and the
 /// outlet decides what has to be handed on.
-pub trait Outlet {
+pub(crate) trait Outlet {
     /// The bytes that were sent, after those that were there before, if they are known.
     ghost contents: { Self → Option (List ℕ) };
 

@@ -47,7 +47,7 @@ pub fn run_session<R: Read, W: Write, D: Desk>(
 /// back when a read fails, nor after an end that is no fault. The outlet is told before each
 /// request that may wait, a take or a timed poll. If it can't hand on what it must, a write failed,
 /// and that request is not served.
-pub fn run_session_through<R: Read, O: Outlet, D: Desk>(
+pub(crate) fn run_session_through<R: Read, O: Outlet, D: Desk>(
     alloc: Global,
     reader: &mut R,
     outlet: &mut O,

@@ -6,7 +6,7 @@ use rb_binary::BinaryTimer;
 use rb_ending::BrokerFault;
 use rb_kept::Kept;
 use rb_retry::{KeptDesk, Policy};
-use rb_session::{Ended, HandsOn, SessionFault, run_gathered};
+use rb_session::{Delivery, Ended, HandsOn, SessionFault, run_delivered};
 use std::alloc::{AllocError, Global};
 use std::cell::Cell;
 use std::process::Abort;
@@ -135,7 +135,8 @@ fn cut_off(rt: &impl Abort, alloc: Global, script: &[u8], hands_on: HandsOn) -> 
     let mut desk = KeptDesk::new(&mut kept, &mut tally);
     let mut source = Source::of(script, usize::MAX);
     let mut sink = Sink::bounded(alloc, 5, true);
-    let ended = run_gathered(alloc, &mut source, &mut sink, &mut desk, &policy, hands_on);
+    let delivery = Delivery::Gathered(hands_on);
+    let ended = run_delivered(alloc, &mut source, &mut sink, &mut desk, &policy, delivery);
     Ok(Cut {
         ended,
         bytes: sink.bytes,

@@ -2,7 +2,7 @@ use crate::tests::devices::{Slip, expect_bytes, expect_end};
 use rb_binary::BinaryTimer;
 use rb_kept::Kept;
 use rb_retry::{KeptDesk, Policy};
-use rb_session::{Ended, HandsOn, SessionFault, run_gathered};
+use rb_session::{Delivery, Ended, HandsOn, SessionFault, run_delivered};
 use std::alloc::{AllocError, Global};
 use std::process::Abort;
 use std::test::Fail;
@@ -24,14 +24,14 @@ fn slipped(rt: &impl Abort, alloc: Global, script: &[u8]) -> Result<Slipped, Fai
     let (mut reader, mut writer) = (script, Slip { bytes });
     let policy = Policy::fixed(1_000, 3).expect(rt, "a policy");
     let mut desk = KeptDesk::new(&mut kept, &mut tally);
-    let hands_on = HandsOn::BeforeReads;
-    let ended = run_gathered(
+    let delivery = Delivery::Gathered(HandsOn::BeforeReads);
+    let ended = run_delivered(
         alloc,
         &mut reader,
         &mut writer,
         &mut desk,
         &policy,
-        hands_on,
+        delivery,
     );
     Ok((ended, writer.bytes))
 }
