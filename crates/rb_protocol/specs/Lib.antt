@@ -5,5 +5,4 @@ pub mod Reading
 pub mod Keywords
 pub mod Words
 pub mod ReplyText
-pub mod ReplyLine
 pub mod Sending

@@ -30,6 +30,7 @@ pub use line_fault::LineFault;
 pub use line_reply::{LineReply, MOST_REPLY_BYTES, REPLY_ROOM, write_reply};
 pub use line_words::cut_word;
 pub use number::read_number;
+pub use reply_line::ReplyLine;
 pub use request::{MOST_LINE_BYTES, Request, one_reading, read_request, request_has_text};
 pub use send::{flush, send_at_once, send_line};
 pub use writing::{WriteFault, write_out};

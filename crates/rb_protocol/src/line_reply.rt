@@ -1,7 +1,6 @@
 ghost use Rattle.std.specs.Prelude.{◌≡◌, ◌+◌, ◌<◌, ◌≤◌, [], ◌∷◌, ◌++◌, length, codes, decimal, OnOk, OnErr, IsOk, vec_len, vec_capacity};
 ghost use Rattle.rb_protocol.specs.Line.{spaced};
 ghost use Rattle.rb_protocol.specs.ReplyText.{text_of, reply_words, element_words, error_words};
-ghost use Rattle.rb_protocol.specs.ReplyLine.{written};
 
 use crate::error_word::ErrorWord;
 use crate::format::SPACE;
@@ -50,6 +49,18 @@ pub enum LineReply {
     Error(ErrorWord),
 }
 
+impl LineReply {
+    /// The reply's line, with its line feed: at most 117 bytes. It takes no memory.
+    pub fn line(&self) -> ReplyLine
+        ensures text { result ≡ text_of self.now }
+        ensures longest { length result ≤ MOST_REPLY_BYTES }
+    {
+        let mut line = ReplyLine::new();
+        put_words(&mut line, self);
+        line
+    }
+}
+
 /// Appends the reply's line, with its line feed: at most 117 bytes.
 ///
 /// With `REPLY_ROOM` bytes of free capacity it takes no memory and succeeds. It fails only if the
@@ -57,21 +68,19 @@ pub enum LineReply {
 pub fn write_reply(reply: &LineReply, text: &mut Vec<u8>) -> Result<(), AllocError>
     ensures ok { OnOk result (text.new.items ≡ text.old.items ++ text_of reply.now) }
     ensures err { OnErr result (text.new.items ≡ text.old.items) }
-
     ensures room { vec_len text.old + REPLY_ROOM ≤ vec_capacity text.old → IsOk result }
     ensures capacity { vec_capacity text.old ≤ vec_capacity text.new }
     ensures longest { OnOk result (vec_len text.new ≤ vec_len text.old + MOST_REPLY_BYTES) }
 {
-    let mut line = ReplyLine::new();
-    put_words(&mut line, reply);
+    let line = reply.line();
     text.extend_from_slice(line.as_bytes())
 }
 
 // Puts the words in front of the line's end.
 fn put_words(line: &mut ReplyLine, reply: &LineReply)
-    requires { MOST_REPLY_BYTES ≤ line.old.start }
-    ensures written { written line.new ≡ spaced (reply_words reply.now) ++ written line.old }
-    ensures start { line.old.start < line.new.start + MOST_REPLY_BYTES }
+    requires { length line.old + MOST_REPLY_BYTES ≤ REPLY_ROOM }
+    ensures written { line.new ≡ spaced (reply_words reply.now) ++ line.old }
+    ensures len { length line.new < length line.old + MOST_REPLY_BYTES }
 {
     match reply {
         LineReply::Offered { id, expiry } => put_numbers(line, b"OFFERED ", *id, *expiry),
@@ -102,9 +111,9 @@ const ELEMENT_ROOM: usize = 111;
 
 // Puts the front, id, expiry, attempt and payload.
 fn put_element(line: &mut ReplyLine, front: &[u8], element: &Element)
-    requires { length front.now + ELEMENT_ROOM ≤ line.old.start }
-    ensures written { written line.new ≡ (front.now ++ spaced (element_words element.now)) ++ written line.old }
-    ensures start { line.old.start ≤ line.new.start + length front.now + ELEMENT_ROOM }
+    requires { length line.old + length front.now + ELEMENT_ROOM ≤ REPLY_ROOM }
+    ensures written { line.new ≡ (front.now ++ spaced (element_words element.now)) ++ line.old }
+    ensures len { length line.new ≤ length line.old + length front.now + ELEMENT_ROOM }
 {
     line.put(element.payload.as_bytes());
     line.put(&[SPACE]);
@@ -115,9 +124,9 @@ fn put_element(line: &mut ReplyLine, front: &[u8], element: &Element)
 
 // Puts the front and two numbers.
 fn put_numbers(line: &mut ReplyLine, front: &[u8], one: u64, other: u64)
-    requires { length front.now + NUMBERS_ROOM ≤ line.old.start }
-    ensures written { written line.new ≡ (front.now ++ spaced (decimal one ∷ decimal other ∷ [])) ++ written line.old }
-    ensures start { line.old.start ≤ line.new.start + length front.now + NUMBERS_ROOM }
+    requires { length line.old + length front.now + NUMBERS_ROOM ≤ REPLY_ROOM }
+    ensures written { line.new ≡ (front.now ++ spaced (decimal one ∷ decimal other ∷ [])) ++ line.old }
+    ensures len { length line.new ≤ length line.old + length front.now + NUMBERS_ROOM }
 {
     line.put_number(other);
     line.put(&[SPACE]);
@@ -126,9 +135,9 @@ fn put_numbers(line: &mut ReplyLine, front: &[u8], one: u64, other: u64)
 
 // Puts the front and a number.
 fn put_number(line: &mut ReplyLine, front: &[u8], number: u64)
-    requires { length front.now + MOST_DIGITS ≤ line.old.start }
-    ensures written { written line.new ≡ (front.now ++ decimal number) ++ written line.old }
-    ensures start { line.old.start ≤ line.new.start + length front.now + MOST_DIGITS }
+    requires { length line.old + length front.now + MOST_DIGITS ≤ REPLY_ROOM }
+    ensures written { line.new ≡ (front.now ++ decimal number) ++ line.old }
+    ensures len { length line.new ≤ length line.old + length front.now + MOST_DIGITS }
 {
     line.put_number(number);
     line.put(front);

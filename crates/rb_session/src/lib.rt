@@ -20,7 +20,6 @@ mod laws;
 mod line_buffer;
 mod outlet;
 mod replies;
-mod reply_text;
 mod run;
 mod session;
 mod session_fault;

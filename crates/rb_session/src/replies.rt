@@ -7,7 +7,6 @@ ghost use Rattle.rb_session.specs.Progress.{replies_of};
 
 use crate::held_jobs::HeldJobs;
 use crate::outlet::Outlet;
-use crate::reply_text::ReplyText;
 use rb_protocol::{LineReply, WriteFault};
 use rb_retry::Job;
 
@@ -17,58 +16,48 @@ use rb_retry::Job;
 /// After an `Err` the outlet has taken the first bytes of the lines, perhaps none.
 pub(crate) fn send_replies<O: Outlet>(
     outlet: &mut O,
-    text: &mut ReplyText,
     reply: &LineReply,
     held: &HeldJobs,
 ) -> Result<(), WriteFault>
     ensures sent { Sends result (O.contents outlet.old) (texts_of (replies_of reply.now held.now)) (O.contents outlet.new) }
     ensures becomes { O.Becomes outlet.old outlet.new }
 {
-    send_lines(outlet, text, reply, held)?;
+    send_lines(outlet, reply, held)?;
     outlet.flush()
 }
 
 // Sends the lines of a reply.
 fn send_lines<O: Outlet>(
     outlet: &mut O,
-    text: &mut ReplyText,
     reply: &LineReply,
     held: &HeldJobs,
 ) -> Result<(), WriteFault>
     ensures sent { Sends result (O.contents outlet.old) (texts_of (replies_of reply.now held.now)) (O.contents outlet.new) }
     ensures becomes { O.Becomes outlet.old outlet.new }
 {
-    send_reply(outlet, text, reply)?;
+    send_reply(outlet, reply)?;
     match reply {
-        LineReply::Drained(count) => send_items(outlet, text, held.last(*count as usize)),
+        LineReply::Drained(count) => send_items(outlet, held.last(*count as usize)),
         _ => Ok(()),
     }
 }
 
 // Sends a line for each job.
-fn send_items<O: Outlet>(
-    outlet: &mut O,
-    text: &mut ReplyText,
-    jobs: &[Job],
-) -> Result<(), WriteFault>
+fn send_items<O: Outlet>(outlet: &mut O, jobs: &[Job]) -> Result<(), WriteFault>
     ensures sent { Sends result (O.contents outlet.old) (texts_of (map lines.Item jobs.now)) (O.contents outlet.new) }
     ensures becomes { O.Becomes outlet.old outlet.new }
 {
     for job in jobs {
-        send_reply(outlet, text, &LineReply::Item(*job.element()))?;
+        send_reply(outlet, &LineReply::Item(*job.element()))?;
     }
     Ok(())
 }
 
 // Sends one line, in one piece.
-fn send_reply<O: Outlet>(
-    outlet: &mut O,
-    text: &mut ReplyText,
-    reply: &LineReply,
-) -> Result<(), WriteFault>
+fn send_reply<O: Outlet>(outlet: &mut O, reply: &LineReply) -> Result<(), WriteFault>
     ensures sent { Sends result (O.contents outlet.old) (text_of reply.now) (O.contents outlet.new) }
     ensures becomes { O.Becomes outlet.old outlet.new }
 {
-    text.put(reply);
-    outlet.send(text.line())
+    let line = reply.line();
+    outlet.send(line.as_bytes())
 }

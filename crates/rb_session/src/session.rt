@@ -11,7 +11,6 @@ use crate::held_jobs::HeldJobs;
 use crate::line_buffer::LineBuffer;
 use crate::outlet::Outlet;
 use crate::replies::send_replies;
-use crate::reply_text::ReplyText;
 use crate::stop::Stop;
 use rb_protocol::{ErrorWord, LimitedReader, LineFault, LineReply, Request, WriteFault};
 use rb_retry::{Desk, Policy};
@@ -19,11 +18,10 @@ use std::alloc::{AllocError, Global};
 use std::io::{ErrorKind, Read};
 
 /// What a session keeps from one request to the next: the bytes that were read and are not served
-/// yet, room for a reply, and the jobs that it holds.
+/// yet, and the jobs that it holds.
 #[derive(Drop)]
 pub(crate) struct Session {
     buffer: LineBuffer,
-    text: ReplyText,
     pub(crate) held: HeldJobs,
 }
 
@@ -35,7 +33,6 @@ impl Session {
     {
         Ok(Session {
             buffer: LineBuffer::new(alloc)?,
-            text: ReplyText::new(alloc)?,
             held: HeldJobs::new(alloc)?,
         })
     }
@@ -96,7 +93,7 @@ impl Session {
                 return Stop::Write;
             }
             match self.buffer.read_from(reader, outlet) {
-                Ok(0) => return finish(&self.buffer, outlet, &mut self.text, &self.held),
+                Ok(0) => return finish(&self.buffer, outlet, &self.held),
                 Ok(_) => {}
                 Err(error) if error.kind() == ErrorKind::Interrupted => continue,
                 Err(_) => return Stop::Read,
@@ -128,7 +125,7 @@ impl Session {
             }
             let quits = is_quit(&reading);
             let reply = answer(outlet, desk, &mut self.held, policy, reading);
-            if send_replies(outlet, &mut self.text, &reply, &self.held).is_err() {
+            if send_replies(outlet, &reply, &self.held).is_err() {
                 return Some(Stop::Write);
             }
             if quits {
@@ -163,19 +160,14 @@ fn is_quit(reading: &Result<Request, LineFault>) -> bool
 }
 
 // The input is over: bytes that no line feed ends are answered once.
-fn finish<O: Outlet>(
-    buffer: &LineBuffer,
-    outlet: &mut O,
-    text: &mut ReplyText,
-    held: &HeldJobs,
-) -> Stop
+fn finish<O: Outlet>(buffer: &LineBuffer, outlet: &mut O, held: &HeldJobs) -> Stop
     ensures ends { (bytes : List ℕ) → IsUnserved buffer.now bytes
         → (sent : List ℕ) × Appends (O.contents outlet.old) (O.contents outlet.new) sent × AnswersEnd result bytes sent }
     ensures becomes { O.Becomes outlet.old outlet.new }
 {
     if buffer.has_rest() {
         let error = LineReply::Error(ErrorWord::Line);
-        if send_replies(outlet, text, &error, held).is_err() {
+        if send_replies(outlet, &error, held).is_err() {
             return Stop::Write;
         }
     }
