@@ -1,4 +1,4 @@
-"""The program that the tools run: this checkout's, which is built if it has to be, or another that `--program` names."""
+"""The program that the tools run: the one of this checkout, which is built if it has to be, or one that is named."""
 from __future__ import annotations
 
 import argparse
@@ -10,6 +10,9 @@ from typing import Optional
 
 TOP = os.path.dirname(os.path.dirname(os.path.dirname(os.path.realpath(__file__))))
 PROGRAM = os.path.join(TOP, "crates", "rb_broker", "out", "rb_broker")
+
+# The setting that names the program that tests run, if it is not this checkout's.
+TESTED = "RB_BROKER_PROGRAM"
 
 
 def built_program(given: Optional[str] = None) -> str:
@@ -35,3 +38,14 @@ def program_named(word: str) -> str:
 def add_program_option(parser: argparse.ArgumentParser, use: str = "the program to test") -> None:
     """The option `--program PATH`; what it names is checked, and `built_program` takes it or its absence."""
     parser.add_argument("--program", metavar="PATH", type=program_named, help=f"{use} (default: that of ./broker)")
+
+
+def test_with(given: Optional[str]) -> str:
+    """Lets tests run the given program, or this checkout's, which is built if it has to be. Returns its path."""
+    os.environ[TESTED] = built_program(given)
+    return os.environ[TESTED]
+
+
+def tested_program() -> str:
+    """The program that tests run: what `test_with` chose, also in a process that began this one, or this checkout's."""
+    return os.environ.get(TESTED) or PROGRAM

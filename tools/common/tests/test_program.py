@@ -1,0 +1,49 @@
+"""Which program is run."""
+from __future__ import annotations
+
+import argparse
+import os
+import subprocess
+import sys
+from unittest import mock
+
+from common.program import PROGRAM, TESTED, TOP, built_program, program_named, test_with, tested_program
+from common.testing import RoomTest
+
+
+class ProgramTest(RoomTest):
+    def test_a_program_that_is_given_is_taken(self) -> None:
+        with mock.patch("subprocess.run") as run:
+            self.assertEqual(built_program("/bin/other"), "/bin/other")
+        self.assertFalse(run.called)
+
+    def test_the_checkouts_program_is_built_by_broker(self) -> None:
+        for status in (0, 126):
+            with mock.patch("subprocess.run", return_value=subprocess.CompletedProcess([], status)) as run:
+                if status:
+                    with self.assertRaises(SystemExit) as end:
+                        built_program()
+                    self.assertEqual(end.exception.code, 2)
+                else:
+                    self.assertEqual(built_program(), PROGRAM)
+            self.assertEqual(run.call_args.args, ([f"{TOP}/broker", "--help"],))
+
+    def test_a_program_that_is_named(self) -> None:
+        path = self.file("program", "")
+        for word in (path, f"{self.room}/none", "no-such-command"):
+            self.assertRaises(argparse.ArgumentTypeError, program_named, word)
+        os.chmod(path, 0o700)
+        self.assertEqual(program_named(path), path)
+        self.assertEqual(program_named(os.path.relpath(path)), os.path.abspath(path))
+        self.assertTrue(os.path.isabs(program_named("sh")))
+
+    def test_tests_run_what_was_chosen(self) -> None:
+        with mock.patch.dict(os.environ):
+            os.environ.pop(TESTED, None)
+            self.assertEqual(tested_program(), PROGRAM)
+            self.assertEqual(test_with("/bin/other"), "/bin/other")
+            self.assertEqual(tested_program(), "/bin/other")
+            code = "from common.program import tested_program; print(tested_program())"
+            told = subprocess.run([sys.executable, "-B", "-c", code], cwd=f"{TOP}/tools", stdout=subprocess.PIPE,
+                                  check=True, encoding="utf-8")
+            self.assertEqual(told.stdout, "/bin/other\n")

@@ -1,0 +1,37 @@
+"""The words of a tool's command line, and its end where nobody takes its output."""
+from __future__ import annotations
+
+import argparse
+import os
+import sys
+from typing import Callable, Optional, Type, TypeVar, Union
+
+Number = Union[int, float]
+Parser = TypeVar("Parser", bound=argparse.ArgumentParser)
+
+
+def parser_of(
+    name: str, doc: Optional[str], usage: Optional[str] = None, kind: Type[Parser] = argparse.ArgumentParser
+) -> Parser:
+    """The parser of a tool of this name, whose --help is the text of its file as it stands."""
+    about, _, rest = (doc or "").partition("\n\n")
+    form = argparse.RawDescriptionHelpFormatter
+    return kind(name, usage, about, rest, formatter_class=form, allow_abbrev=False)
+
+
+def number(kind: Callable[[str], Number], least: Number, most: Number) -> Callable[[str], Number]:
+    """Reads a number from `least` to `most`."""
+
+    def read(word: str) -> Number:
+        value = kind(word)
+        if not least <= value <= most:
+            raise argparse.ArgumentTypeError(f"{word} is not from {least} to {most}")
+        return value
+
+    read.__name__ = kind.__name__  # which argparse names if the word is not a number
+    return read
+
+
+def give_up_output() -> None:
+    """Nobody takes standard output any more, and its last flush must not find that once again."""
+    os.dup2(os.open(os.devnull, os.O_WRONLY), sys.stdout.fileno())
