@@ -15,17 +15,16 @@ import argparse
 import os
 import signal
 import statistics
-import subprocess
 import sys
 import threading
 import time
 
 TOP = os.path.dirname(os.path.dirname(os.path.realpath(__file__)))
-sys.path.insert(0, f"{TOP}/clients/python/src")
-sys.path.insert(0, f"{TOP}/tools")
+sys.path[:0] = [f"{TOP}/tools", f"{TOP}/clients/python/src"]
 
+from common.program import add_program_option, built_program  # noqa: E402
 from rb_broker_client import Fleet, FleetProducer, FleetWorker, Item, Server  # noqa: E402
-from serving.server import PROGRAM, Server as Program  # noqa: E402
+from serving.server import Server as Program  # noqa: E402
 
 COUNTS = (1, 2, 4)
 THREADS = 4
@@ -99,8 +98,7 @@ def measure(count: int, jobs: int, program: str) -> "list[float]":
         return [offered, slow, work_off(fleet, jobs, 0)]
     finally:
         for it in servers:
-            it.process.kill()
-            it.process.communicate()
+            it.kill()
 
 
 def row(*cells: object) -> str:
@@ -109,20 +107,19 @@ def row(*cells: object) -> str:
 
 def main() -> None:
     asked = argparse.ArgumentParser(description=__doc__, formatter_class=argparse.RawDescriptionHelpFormatter)
-    asked.add_argument("--program", metavar="PATH", default=PROGRAM, help="the program (default: the built one)")
+    add_program_option(asked, "the program to measure")
     asked.add_argument("--jobs", type=int, default=3_200, metavar="N", help="in each round (default: 3,200)")
     asked.add_argument("--rounds", type=int, default=5, metavar="N", help="of each count of servers (default: 5)")
     options = asked.parse_args()
     signal.signal(signal.SIGTERM, signal.default_int_handler)  # as Ctrl-C, after which no server is left either
     if options.jobs < 1 or options.rounds < 1:
         asked.error("there is at least one job and one round")
-    if options.program == PROGRAM and subprocess.run([f"{TOP}/broker", "--help"], stdout=subprocess.DEVNULL).returncode:
-        sys.exit(2)
+    program = built_program(options.program)
     results: "dict[int, list[list[float]]]" = {count: [] for count in COUNTS}
     print(row("servers", *MEASURED), flush=True)
     for _ in range(options.rounds):
         for count in COUNTS:
-            results[count].append(measure(count, options.jobs, options.program))
+            results[count].append(measure(count, options.jobs, program))
             print(row(count, *(f"{it:.0f}" for it in results[count][-1])), flush=True)
     medians = {count: [statistics.median(it) for it in zip(*rounds)] for count, rounds in results.items()}
     print("medians, and in brackets the multiples of one server")

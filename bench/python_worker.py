@@ -13,49 +13,23 @@ import json
 import os
 import random
 import statistics
-import subprocess
 import sys
 import tempfile
 import threading
 import time
 
 TOP = os.path.dirname(os.path.dirname(os.path.realpath(__file__)))
-sys.path.insert(0, os.path.join(TOP, "clients", "python", "src"))
+sys.path[:0] = [f"{TOP}/tools", f"{TOP}/clients/python/src"]
 
+from common.program import add_program_option, built_program  # noqa: E402
 from rb_broker_client import AsyncWorker, Broker, Producer, Worker, requests  # noqa: E402
+from serving.server import Server  # noqa: E402
 
-LONGEST = 300  # seconds after which a server is ended
+OPTIONS = ("--workers", 2, "--sessions", 100, "--calls", 1_000_000)
 PIECE = 1_000
 NAP = 0.05  # seconds that a job sleeps
 SPARSE = 200  # jobs that are offered one by one
 PAUSE = 0.1  # seconds between two of these, in the mean
-
-
-class Server:
-    """The program as a server of two workers, until the end of a `with`."""
-
-    def __init__(self, program):
-        for _ in range(20):
-            self.port = random.randrange(22_000, 23_000)
-            words = [program, "serve", "--port", str(self.port), "--workers", "2", "--sessions", "100", "--calls",
-                     "1000000"]
-            self._process = subprocess.Popen(words, stdout=subprocess.PIPE, stderr=subprocess.DEVNULL, encoding="ascii")
-            if self._process.stdout.readline().startswith("listening"):
-                break
-        else:
-            sys.exit("python_worker: no server could be started")
-        self._watch = threading.Timer(LONGEST, self._process.kill)
-        self._watch.daemon = True
-        self._watch.start()
-
-    def __enter__(self):
-        return self
-
-    def __exit__(self, *fault):
-        self._watch.cancel()
-        self._process.kill()
-        self._process.wait()
-        self._process.stdout.close()
 
 
 class Run:
@@ -95,7 +69,7 @@ class Run:
 def rate(program, is_async, nap, concurrency):
     """Jobs a second, when all are due."""
     count = int(100 * concurrency) if nap else 20_000
-    with Server(program) as server:
+    with Server(OPTIONS, program) as server:
         with Broker(server.port) as broker:
             for first in range(0, count, PIECE):
                 broker.ask_all([requests.offer(0, str(it)) for it in range(first, min(first + PIECE, count))])
@@ -111,7 +85,7 @@ def rate(program, is_async, nap, concurrency):
 def delays(program, is_async):
     """Of jobs that come one by one: the milliseconds until each begins, and those until its end is told."""
     offered, chance = {}, random.Random(7)
-    with tempfile.TemporaryDirectory() as room, Server(program) as server:
+    with tempfile.TemporaryDirectory() as room, Server(OPTIONS, program) as server:
         run = Run(is_async, server.port, NAP, 8, f"{room}/record")
         with Producer(server.port) as producer:
             for number in range(SPARSE):
@@ -133,19 +107,19 @@ def percentile(values, percent):
 
 def main():
     asked = argparse.ArgumentParser(description=__doc__, formatter_class=argparse.RawDescriptionHelpFormatter)
-    default = os.path.join(TOP, "crates", "rb_broker", "out", "rb_broker")
-    asked.add_argument("--program", metavar="PATH", default=default, help="the program (default: the built one)")
+    add_program_option(asked, "the program to measure")
     asked.add_argument("--runs", type=int, default=3, metavar="N", help="how often each is measured (default: 3)")
     options = asked.parse_args()
+    program = built_program(options.program)
     kinds = (("Worker", False), ("AsyncWorker", True))
     for name, is_async in kinds:
         for nap in (0, NAP):
             for concurrency in (1, 8, 64):
-                rates = [rate(options.program, is_async, nap, concurrency) for _ in range(options.runs)]
+                rates = [rate(program, is_async, nap, concurrency) for _ in range(options.runs)]
                 print(f"{name}, {concurrency} at a time, jobs of {1e3 * nap:.0f} ms: "
                       f"{statistics.median(rates):.0f} a second ({min(rates):.0f} to {max(rates):.0f})", flush=True)
     for name, is_async in kinds:
-        begins, ends = delays(options.program, is_async)
+        begins, ends = delays(program, is_async)
         for what, values in (("a job begins", begins), ("its end is told", ends)):
             print(f"{name}, {1 / PAUSE:.0f} jobs a second of {1e3 * NAP:.0f} ms, milliseconds until {what}: "
                   f"median {statistics.median(values):.1f}, 99th percentile {percentile(values, 99):.1f}, "

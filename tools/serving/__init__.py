@@ -1,5 +1,11 @@
-"""The parts of tools/check_server: the clients, and what their replies say about the history. And the servers with a
-few clients that tools/check_program tries."""
+"""Servers and their clients, for all tests that need some, and the parts of tools/check_server.
+
+    server.py, session.py, cuts.py   the program as a server, a client's session, and cuts of sessions from outside
+    clients.py, accounts.py          the clients of check_server, and what their replies say about the history
+    few_clients.py                   servers with a few clients, which tools/check_program tries
+"""
+
+HOST = "127.0.0.1"
 
 # What the server is told: nanoseconds after which a failed job comes back, a job's attempts, and turns of a wait.
 DELAY, ATTEMPTS, TURNS = 5_000_000, 3, 50

@@ -2,10 +2,10 @@
 import collections
 import random
 import socket
-import struct
 import time
 
-from serving import FIRST_MARK, PATIENCE
+from serving import FIRST_MARK
+from serving.session import Session
 
 
 class Client:
@@ -21,32 +21,25 @@ class Client:
         self.offered = 0
 
     def connect(self, port):
-        self.socket = socket.create_connection(("127.0.0.1", port), timeout=PATIENCE)
-        self.socket.setsockopt(socket.IPPROTO_TCP, socket.TCP_NODELAY, 1)
-        self.lines = self.socket.makefile("rb")
+        self.session = Session(port)
+        self.socket = self.session.socket
 
     def send(self, *requests):
         """Sends requests in one piece."""
         self.unanswered += requests
-        self.socket.sendall(b"".join(it + b"\n" for it in requests))
+        self.session.send(*requests)
 
     def read(self):
         """Reads the reply to the first request that has none yet. Returns the words of its first line."""
-        replies = [self.line()]
-        words = replies[0].split(" ")
-        if words[0] == "DRAINED":
-            replies += [self.line() for _ in range(int(words[1]))]
+        try:
+            replies = self.session.reply()
+        except EOFError:
+            raise EOFError(f"the connection ended where the reply to {self.unanswered[0]!r} was due") from None
         for line in replies:
             if line.startswith("ITEM ") and line.split(" ")[3] == "1":
                 self.got_at[line.split(" ")[4]] = time.monotonic_ns()
         self.answers.append((self.unanswered.popleft(), replies))
-        return words
-
-    def line(self):
-        line = self.lines.readline()
-        if not line.endswith(b"\n"):
-            raise EOFError(f"the connection ended where the reply to {self.unanswered[0]!r} was due")
-        return line[:-1].decode("ascii")
+        return replies[0].split(" ")
 
     def ask(self, request):
         self.send(request)
@@ -91,20 +84,18 @@ class Client:
         self.expect_end()
 
     def expect_end(self):
-        rest = self.lines.read()
+        rest = self.session.rest()
         if rest:
             raise AssertionError(f"bytes behind the last reply: {rest[:100]!r}")
         self.hang_up()
 
     def hang_up(self):
-        self.lines.close()
-        self.socket.close()
+        self.session.hang_up()
 
     def reset(self):
         """Hangs up so that the server's next read or write fails."""
         self.is_reset = True
-        self.socket.setsockopt(socket.SOL_SOCKET, socket.SO_LINGER, struct.pack("ii", 1, 0))
-        self.hang_up()
+        self.session.reset()
 
 
 # What a client does, after its mark. Each ends its session in its own way.
@@ -229,14 +220,8 @@ def reads_no_more(client):
     """It sends until the server stops reading, because nobody reads what the server writes."""
     client.is_heard = False
     client.send(client.offer(0), b"TAKE")
-    noise = b"x\n" * 10_000
-    client.socket.settimeout(1)
-    try:
-        for _ in range(10_000):
-            client.socket.sendall(noise)
-        raise AssertionError("the server reads on, though its replies are not read")
-    except TimeoutError:
-        client.reset()
+    client.session.fill()
+    client.reset()
 
 
 KINDS = [

@@ -6,7 +6,7 @@ import shutil
 import socket
 import subprocess
 
-HOST = "127.0.0.1"
+from serving import HOST
 
 # As ss is in a kernel without INET_DIAG_DESTROY: it closes no connection, and says nothing of it.
 CLOSES_NOTHING = """#!/bin/sh

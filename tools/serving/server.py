@@ -1,61 +1,108 @@
-"""The program as a server, and a count of what is as expected."""
-import os
+"""The program as a server."""
+from __future__ import annotations
+
+import atexit
+import contextlib
 import random
+import socket
 import subprocess
-import sys
+import time
+from types import TracebackType
+from typing import List, NamedTuple, Optional, Sequence
 
-from serving import PATIENCE
+from common.checking import Tally  # noqa: F401
+from common.program import PROGRAM, TOP, tested_program  # noqa: F401
+from serving import HOST, PATIENCE
 
-TOP = os.path.dirname(os.path.dirname(os.path.dirname(os.path.realpath(__file__))))
-PROGRAM = f"{TOP}/crates/rb_broker/out/rb_broker"
+PORTS = range(20_000, 32_000)  # below those that the system gives to clients
+TRIES = 20  # of ports, which others may have
+
+
+class NoServer(Exception):
+    """No server could be started."""
+
+
+class Ended(NamedTuple):
+    """The end of a server: its exit status, the lines that it wrote then, at least one, and standard error."""
+
+    status: Optional[int]
+    lines: List[str]
+    errors: str
+
+
+def started(words: Sequence[str], folder: str = ".") -> subprocess.Popen[str]:
+    """A process of these words in a folder, with pipes for what it writes. It does not outlive this one."""
+    pipe = subprocess.PIPE
+    process = subprocess.Popen(words, cwd=folder, stdout=pipe, stderr=pipe, encoding="utf-8")
+    atexit.register(process.kill)
+    return process
+
+
+def free_port() -> int:
+    """A port at which nobody listens."""
+    for _ in range(TRIES):
+        port = random.choice(PORTS)
+        with socket.socket() as it, contextlib.suppress(OSError):
+            it.bind((HOST, port))
+            return port
+    raise NoServer("no port is free")
 
 
 class Server:
-    """The program as a server, at a port that is chosen here. Another program may take its place."""
+    """A server at a port that is chosen here, unless one is given, until its end, or that of a `with`."""
 
-    def __init__(self, options, program=PROGRAM):
-        for _ in range(20):
-            self.port = random.randrange(20_000, 32_000)  # below those that the system gives to clients
-            words = [program, "serve", "--port", str(self.port), *options]
-            pipe = subprocess.PIPE
-            self.process = subprocess.Popen(words, stdout=pipe, stderr=pipe, encoding="utf-8")
-            if self.process.stdout.readline() == f"listening 127.0.0.1:{self.port}\n":
+    patience = PATIENCE  # seconds in which it has to end
+
+    def __init__(
+        self, options: Sequence[object] = (), program: Optional[str] = None, port: Optional[int] = None
+    ) -> None:
+        """Starts the program, the one that is tested unless another one is given."""
+        self._program, self._options = program or tested_program(), [*map(str, options)]
+        self._start(port)
+
+    def _start(self, port: Optional[int]) -> None:
+        for _ in range(TRIES):
+            self.port = port or random.choice(PORTS)
+            self.process = self._process()
+            assert self.process.stdout
+            if self.process.stdout.readline() == f"listening {HOST}:{self.port}\n":
                 return
             self.process.kill()
-            self.process.communicate()
-        sys.exit("no server could be started")
+            _, errors = self.process.communicate()
+        raise NoServer(f"no server could be started: {errors.strip()}")
 
-    def end(self):
-        """Waits for its end. Returns its status, the lines that it wrote then, and what it wrote to standard error."""
+    def _process(self) -> subprocess.Popen[str]:
+        """Starts a process that is to serve at `port`."""
+        return started([self._program, "serve", "--port", str(self.port), *self._options])
+
+    def __enter__(self) -> Server:
+        return self
+
+    def __exit__(
+        self, kind: Optional[type[BaseException]], fault: Optional[BaseException], trace: Optional[TracebackType]
+    ) -> None:
+        self.kill()
+
+    def use_up(self) -> None:
+        """Uses up the sessions that are left, so that it ends once those that go on have ended."""
+        until = time.monotonic() + PATIENCE
+        while time.monotonic() < until:
+            try:
+                socket.create_connection((HOST, self.port), timeout=PATIENCE).close()
+            except OSError:
+                return
+            time.sleep(0.001)
+
+    def end(self) -> Ended:
+        """Waits for its end."""
         try:
-            said, errors = self.process.communicate(timeout=PATIENCE)
-            return self.process.returncode, said.splitlines() or [""], errors
+            said, errors = self.process.communicate(timeout=self.patience)
+            return Ended(self.process.returncode, said.splitlines() or [""], errors)
         except subprocess.TimeoutExpired:
-            self.process.kill()
-            self.process.communicate()
-            return None, [""], "the server does not end"
+            self.kill()
+            return Ended(None, [""], "the server does not end")
 
-
-class Tally:
-    """Counts what is as it must be, and prints what is not."""
-
-    def __init__(self):
-        self.passed = self.failed = self.passed_over = 0
-
-    def count(self, name, fault):
-        if fault:
-            self.failed += 1
-            print(f"{name}: {fault}")
-        else:
-            self.passed += 1
-
-    def pass_over(self, name, reason):
-        """Counts what can't be tried here, and says so."""
-        self.passed_over += 1
-        print(f"{name}: passed over: {reason}")
-
-    def end(self):
-        """Prints the count, and returns whether everything that was tried is as it must be."""
-        rest = f", {self.passed_over} passed over" if self.passed_over else ""
-        print(f"{self.passed} as they must be, {self.failed} not{rest}")
-        return self.failed == 0
+    def kill(self) -> None:
+        """Ends it at once, if it has not ended by itself."""
+        self.process.kill()
+        self.process.communicate()

@@ -1,4 +1,7 @@
-"""What a history says of elements: which were offered, and which were given. docs/HISTORY.md describes the text."""
+"""What a history says of elements: which were offered, and which were given. docs/HISTORY.md describes the text.
+
+It is no part of the repository's tools: the tests of this package need nothing but the program.
+"""
 from typing import Dict, List, NamedTuple
 
 

@@ -1,4 +1,7 @@
-"""The program as a server, and what it leaves. RB_BROKER_PROGRAM names another program than the built one."""
+"""The program as a server, and what it leaves. RB_BROKER_PROGRAM names another program than the built one.
+
+It is no part of the repository's tools: the tests of this package need nothing but the program.
+"""
 import atexit
 import logging
 import os
