@@ -4,13 +4,13 @@ from __future__ import annotations
 import json
 from typing import Dict, Optional, Union
 
-from exporting.left import Left
+from histories.element import Element
 from reporting.dates import Dates, date_text
 
 MILLISECOND = 1_000_000
 
 
-def json_line(it: Left, dates: Optional[Dates]) -> bytes:
+def json_line(it: Element, dates: Optional[Dates]) -> bytes:
     """A line with the words of a `keep` line by their names, and with the date of the expiry if that can be told."""
     told: Dict[str, Union[int, str]] = dict(it._asdict())
     if dates is not None:
@@ -18,14 +18,14 @@ def json_line(it: Left, dates: Optional[Dates]) -> bytes:
     return json.dumps(told).encode() + b"\n"
 
 
-def redis_commands(it: Left, dates: Optional[Dates], prefix: str) -> bytes:
+def redis_commands(it: Element, dates: Optional[Dates], prefix: str) -> bytes:
     """Three commands. The id is due last: whoever finds it in the set finds its payload and its attempt."""
     return (_command("HSET", f"{prefix}:payloads", str(it.id), it.payload)
             + _command("HSET", f"{prefix}:attempts", str(it.id), str(it.attempt))
             + _command("ZADD", f"{prefix}:due", str(_score(it, dates)), str(it.id)))
 
 
-def _score(it: Left, dates: Optional[Dates]) -> int:
+def _score(it: Element, dates: Optional[Dates]) -> int:
     """The expiry in milliseconds. Redis keeps a score as a floating-point number, which has no room for nanoseconds.
     It is rounded up, so that nothing is due too early."""
     expiry = it.expiry if dates is None else dates.date(it.expiry)

@@ -6,7 +6,8 @@ import gzip
 import os
 import shutil
 
-from packaging import SOURCES, TOP, Fault
+from common.program import TOP
+from packaging import SOURCES, Fault
 from packaging.bash_completion import bash_completion
 from packaging.pages import PAGES, installed_page
 from packaging.table import read_table
@@ -34,8 +35,9 @@ COPIED = {
 # What the pages tell their readers to look at or to run, below the folder of documents as below this repository's.
 BESIDE_PAGES = ("docs/*.png", "docs/*.svg", "examples/*", "clients/python/examples/*.py")
 
-# The tools that become commands, each with the folder of its modules.
+# The tools that become commands, each with the folder of its modules, and what several of them import.
 COMMANDS = {"report": "reporting", "verify": "verifying", "watch": "watching", "load": "loading"}
+SHARED = ("common/__init__.py", "common/words.py", "histories/*.py")
 
 
 def write(root: str, place: str, content: bytes, is_command: bool = False) -> None:
@@ -87,6 +89,8 @@ def lay_out_tools(root: str) -> None:
         write(root, f"{TOOLS}/{name}", content_of(f"{TOP}/tools/{name}"), is_command=True)
         copy_modules(root, f"{TOP}/tools/{modules}", f"{TOOLS}/{modules}")
         os.symlink(f"../share/rb_broker/tools/{name}", f"{root}/usr/bin/rb_broker_{name}")
+    for path in sorted(path for form in SHARED for path in glob.glob(f"{TOP}/tools/{form}")):
+        write(root, f"{TOOLS}/{path[len(TOP) + len('/tools/') :]}", content_of(path))
     copy_modules(root, f"{TOP}/clients/python/src/rb_broker_client", f"{PYTHON}/rb_broker_client")
     # Where tools look for the client package, so that they find it whatever python3 is the first on the path.
     os.makedirs(f"{root}/usr/share/rb_broker/clients/python/src")
@@ -94,9 +98,8 @@ def lay_out_tools(root: str) -> None:
 
 
 def copy_modules(root: str, folder: str, place: str) -> None:
-    """Copies the files of a folder that are no tests, and none of the folders in it."""
-    names = sorted(it for it in os.listdir(folder) if os.path.isfile(f"{folder}/{it}") and not it.startswith("test_"))
-    for name in names:
+    """Copies the files of a folder, and none of the folders in it, such as its tests."""
+    for name in sorted(it for it in os.listdir(folder) if os.path.isfile(f"{folder}/{it}")):
         write(root, f"{place}/{name}", content_of(f"{folder}/{name}"))
 
 

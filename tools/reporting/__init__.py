@@ -1,12 +1,10 @@
-"""The parts of tools/report: the reading of a history, its figures, and how they are shown on a terminal and on
-a page. The columns of a history are `array`s, so that 1,000,000 events take tens of megabytes and no object each.
+"""The parts of tools/report: the figures of a history, which tools/histories reads into columns, and how they are shown
+on a terminal and on a page.
 
-    acts.py, grammar.py, history.py               what a text says, and its columns
-    reader.py, events.py, reported_queue.py, faults.py  the reading, with the queue that the text describes
-    series.py, continuation.py                    the files of runs that follow one another
     policy.py, dates.py                           what the report is told about a history
     depth.py, rates.py, lateness.py, jobs.py, retries.py, seats.py  figures
     findings.py, figures.py                       what looks wrong, and all figures of a history
+    faults.py                                     why there is no report on what was asked for
     buckets.py, columns.py, units.py              long series made short or sorted, and numbers as people read them
     tables.py, terminal.py                        the report as text
     svg.py, time_axis.py, span_axis.py            the axes of plots, and what else they are drawn with
@@ -16,5 +14,5 @@ a page. The columns of a history are `array`s, so that 1,000,000 events take ten
     page.js, lives.js, jobs.js, readings.js       what it does in a browser
     progress.py                                   a line that says how far a long report is
 
-The tests are below tests/, with a maker of large histories. tools/check_report runs them.
+The tests are below tests/, with a maker of large histories; tools/check_report runs them.
 """

@@ -11,7 +11,7 @@ from bisect import bisect_left
 from datetime import datetime, timedelta, timezone
 from typing import NamedTuple, Sequence
 
-from reporting.history import History
+from histories.history import History
 from reporting.units import SECOND
 
 EPOCH = datetime(1970, 1, 1, tzinfo=timezone.utc)

@@ -5,9 +5,9 @@ from array import array
 from dataclasses import dataclass, field
 from typing import Tuple
 
-from reporting import acts
+from histories import acts
+from histories.history import NONE, History
 from reporting.columns import in_rising_order
-from reporting.history import NONE, History
 
 
 @dataclass

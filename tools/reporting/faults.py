@@ -1,21 +1,5 @@
-"""Why there is no report: a fault of the history that was read, or of what was asked for."""
+"""Why there is no report on what was asked for."""
 from __future__ import annotations
-
-
-class Wrong(Exception):
-    """What a line says is not what a queue does."""
-
-
-class Damaged(Exception):
-    """The line of this number, from 1, is not one of a history, or says what no queue does, or does not continue the
-    run before. The file is named where there may be several."""
-
-    def __init__(self, line: int, what: str) -> None:
-        super().__init__(line, what)
-        self.line, self.what, self.file = line, what, ""
-
-    def __str__(self) -> str:
-        return f"{self.file}: line {self.line}: {self.what}" if self.file else f"line {self.line}: {self.what}"
 
 
 class NoJob(Exception):

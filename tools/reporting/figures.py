@@ -4,11 +4,11 @@ from __future__ import annotations
 from dataclasses import dataclass
 from typing import Callable, List, NamedTuple, Optional
 
-from reporting import acts
+from histories import acts
+from histories.history import History, Run
 from reporting.dates import Dates
 from reporting.depth import Depth, depth_of
 from reporting.findings import Finding, findings_of
-from reporting.history import History, Run
 from reporting.jobs import Jobs, jobs_of
 from reporting.lateness import Lateness, lateness_of
 from reporting.policy import Policy

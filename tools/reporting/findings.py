@@ -8,9 +8,9 @@ from array import array
 from heapq import nsmallest
 from typing import List, NamedTuple, Optional, Sequence
 
-from reporting import acts
+from histories import acts
+from histories.history import NONE, History
 from reporting.depth import Depth
-from reporting.history import NONE, History
 from reporting.jobs import Jobs, given_events, lives
 from reporting.policy import Policy
 from reporting.retries import AT_ONCE, Retries

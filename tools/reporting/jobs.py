@@ -8,8 +8,8 @@ from array import array
 from collections import Counter
 from typing import Dict, Iterable, List, NamedTuple, Tuple
 
+from histories.history import NONE, History
 from reporting.faults import NoJob
-from reporting.history import NONE, History
 from reporting.lateness import GIVES
 
 

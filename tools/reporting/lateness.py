@@ -4,10 +4,10 @@ from __future__ import annotations
 from array import array
 from typing import Iterator, List, NamedTuple, Sequence, Tuple
 
-from reporting import acts
+from histories import acts
+from histories.history import NONE, History
 from reporting.buckets import Buckets
 from reporting.columns import in_rising_order
-from reporting.history import NONE, History
 
 GIVES = acts.GIVES_ONE | {acts.DRAIN}
 

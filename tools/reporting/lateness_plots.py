@@ -11,7 +11,7 @@ from reporting.plot import Plot, Reading
 from reporting.span_axis import SpanAxis
 from reporting.svg import SHARES, Tick
 from reporting.time_axis import TimeAxis
-from reporting.units import counted, mark, number, span
+from reporting.units import counted, mark, span
 
 MOST_BUCKETS = 180
 LEAST_DASH = 2.0  # shares

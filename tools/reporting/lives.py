@@ -6,9 +6,9 @@ import json
 from itertools import chain, islice
 from typing import Dict, Iterator, List, NamedTuple, Sequence, Union
 
-from reporting.acts import ACTS
+from histories.acts import ACTS
+from histories.history import NONE, History
 from reporting.figures import Figures
-from reporting.history import NONE, History
 from reporting.jobs import lives
 from reporting.lateness import GIVES
 from reporting.plot import Plot

@@ -4,8 +4,8 @@ from __future__ import annotations
 from html import escape
 from typing import Iterable, List, Sequence, Tuple
 
+from histories.history import NONE
 from reporting.figures import Figures
-from reporting.history import NONE
 from reporting.jobs import given_events, lives
 from reporting.lives import Chosen
 from reporting.plot import Plot

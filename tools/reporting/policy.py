@@ -3,7 +3,7 @@ from __future__ import annotations
 
 from typing import NamedTuple, Optional
 
-from reporting.grammar import GREATEST
+from histories.grammar import GREATEST
 
 
 class Policy(NamedTuple):

@@ -4,9 +4,9 @@ from __future__ import annotations
 from array import array
 from typing import List, NamedTuple
 
-from reporting import acts
+from histories import acts
+from histories.history import NONE, History
 from reporting.buckets import Buckets
-from reporting.history import NONE, History
 
 
 class Rates(NamedTuple):

@@ -9,7 +9,7 @@ from array import array
 from dataclasses import dataclass, field
 from typing import Iterator, Tuple
 
-from reporting.history import NONE, History
+from histories.history import NONE, History
 from reporting.lateness import GIVES
 from reporting.policy import Policy
 

@@ -4,9 +4,9 @@ from __future__ import annotations
 from collections import Counter
 from typing import Dict, Iterable, List, NamedTuple, Tuple
 
-from reporting import acts
+from histories import acts
+from histories.history import History
 from reporting.buckets import Buckets
-from reporting.history import History
 
 MOST_SEATS = 16  # that are told one by one
 

@@ -3,10 +3,10 @@ from __future__ import annotations
 
 from typing import List, Optional, Sequence
 
-from reporting import acts
+from histories import acts
+from histories.history import NONE, History
 from reporting.dates import Dates
 from reporting.figures import Figures
-from reporting.history import NONE, History
 from reporting.jobs import given_events, lives
 from reporting.tables import table
 from reporting.units import counted, number, percent, span

@@ -4,10 +4,10 @@ from __future__ import annotations
 import math
 from typing import Iterator, List, Optional
 
+from histories.history import History
 from reporting import svg
 from reporting.buckets import Buckets
 from reporting.dates import Dates, date_text
-from reporting.history import History
 from reporting.svg import BOTTOM, SHARES, TOP, Scale, Tick
 from reporting.units import SECOND, SIZES
 

@@ -1,33 +1,26 @@
 """What the replies that a client saw say about its events, and what a history says about elements and jobs."""
 import collections
 
+from histories.element import Element
+from histories.given import given_ids
+from histories.text import Text
 from serving import ATTEMPTS, DELAY, FIRST_MARK
 
 MOST_HELD = 64
 
 Event = collections.namedtuple("Event", "seat asked at act")
-Element = collections.namedtuple("Element", "id expiry origin first attempt payload")
 
 
 def read_history(path):
-    """The events of a history that began with an empty queue. An act is given by its words."""
-    with open(path, encoding="ascii") as it:
-        lines = it.read().splitlines()
-    if lines[:2] != ["history 3", "open 0 0 0"]:
-        return []
-    told = [line.split(" ") for line in lines[2:-1]]
+    """The events of a history. An act is given by its words. Raises a `Damaged` if a line is none of a history."""
+    with open(path, "rb") as file:
+        told = [line.string[:-1].decode("ascii").split(" ") for _, line in Text(file).events()]
     return [Event(int(words[0]), int(words[1]), int(words[2]), words[3:]) for words in told]
 
 
 def element_of(act):
     *numbers, payload = act[1:]
     return Element(*[int(it) for it in numbers], payload)
-
-
-def gifts_of(act):
-    """The ids of the elements that an act gave."""
-    ids = {"poll": act[1:2], "take": act[1:2], "pollfor": act[3:4], "drain": act[2:]}.get(act[0], [])
-    return [int(it) for it in ids if it != "none"]
 
 
 class Expected:
@@ -183,7 +176,7 @@ def differs(client, block, elements):
 
 def jobs_that_differ(events, elements, clients):
     """What is wrong with how elements left, and with what became of the jobs."""
-    gave = [(it, id) for it in events for id in gifts_of(it.act)]
+    gave = [(it, id) for it in events for id in given_ids(it.act)]
     removed = [int(it.act[1]) for it in events if it.act[0] == "remove" and it.act[2] == "yes"]
     for id, count in collections.Counter([id for _, id in gave] + removed).items():
         if count > 1:

@@ -4,6 +4,7 @@ from __future__ import annotations
 from collections import deque
 from typing import Deque, List
 
+from histories.given import given_ids
 from verifying.calls import Session, Unanswered
 from verifying.history import NONE
 from verifying.placing import Placing
@@ -68,7 +69,7 @@ class Endings:
                 requests.extend(rest)
                 self._take(session, event, request)
                 self.unheard += 1
-                for id in given_by(act):
+                for id in given_ids(act):
                     back = self._return_of(id)
                     if back == NONE:
                         self.gone += 1
@@ -95,9 +96,3 @@ def may_answer(asked: List[str], act: List[str]) -> bool:
     if keyword == "POLLFOR":
         return act[0] == "pollfor" and act[2:3] == asked[1:2]
     return act[0] == keyword.lower() and keyword in ("TAKE", "POLL", "PEEK", "DRAIN", "CLEAR", "SIZE")
-
-
-def given_by(act: List[str]) -> List[int]:
-    """The ids of the elements that an act gave."""
-    ids = {"poll": act[1:2], "take": act[1:2], "pollfor": act[3:4], "drain": act[2:]}.get(act[0], [])
-    return [int(it) for it in ids if it != "none"]

@@ -1,4 +1,4 @@
-"""What is wrong with a run, and why a run can't be judged."""
+"""What is wrong with a run."""
 from __future__ import annotations
 
 import collections
@@ -17,17 +17,6 @@ KINDS: Dict[str, str] = {
     "time": "a call whose reply had come before another was sent stands before it",
     "unrecorded": "each event is a call of a record",
 }
-
-
-class Damaged(Exception):
-    """A file is no history, or no record. The line is counted from 1."""
-
-    def __init__(self, line: int, what: str) -> None:
-        super().__init__(line, what)
-        self.line, self.what = line, what
-
-    def __str__(self) -> str:
-        return f"line {self.line}: {self.what}"
 
 
 class Faults:

@@ -2,10 +2,11 @@
 from __future__ import annotations
 
 from array import array
-from typing import BinaryIO, Dict, Iterator, List, Match, NamedTuple
+from typing import BinaryIO, Dict, List, Match, NamedTuple
 
-from reporting.grammar import END, GRAMMARS, HEADERS, LONGEST_LINE, MOST_EVENTS, OPEN
-from verifying.faults import Damaged
+from histories.faults import Damaged
+from histories.grammar import Head
+from histories.text import Text
 
 # Takes the place of an event if there is none.
 NONE = -1
@@ -13,13 +14,11 @@ NONE = -1
 # In the words of an act, what is not told.
 ANY = "…"
 
-TOO_SHORT = "the text ends before the history does"
-
 FURTHEST_ID = 1 << 22  # above the opening's next id; no run gives as many
 
 
 class Element(NamedTuple):
-    """What a history says about an element, in the words of its text."""
+    """What a history says about an element, in the words of its text, since replies must have the same words."""
 
     id: str
     expiry: str
@@ -114,87 +113,52 @@ def element_of(words: List[str]) -> Element:
 
 def read_history(file: BinaryIO) -> History:
     """The history in a file, in any version."""
-    lines = iter(lambda: file.readline(LONGEST_LINE), b"")
-    version = HEADERS.get(next(lines, b""))
-    if version is None:
-        raise Damaged(1, "no `history 1`, `history 2` or `history 3`")
-    reader = _Reader(version)
-    number = 1 if version == 1 else reader.read_opening(lines)
-    reader.read_events(lines, number + 1)
+    text = Text(file)
+    reader = _Reader(text.head)
+    for _, line in text.kept():
+        reader.keep(line)
+    for number, line in text.events():
+        reader.add(line, number)
     return reader.history
 
 
 class _Reader:
-    """Reads the lines behind the header."""
+    """Fills the columns and indexes of a history, line by line."""
 
-    def __init__(self, version: int) -> None:
-        self.history = History(version, 0)
-        self._next_id = 0
+    def __init__(self, head: Head) -> None:
+        self.history = History(head.version, head.next_id)
+        self._next_id = head.next_id
         self._latest: Dict[int, int] = {}  # the id of the latest attempt of each job that was offered again
         self._seat_indexes: Dict[bytes, int] = {}
 
-    def read_opening(self, lines: Iterator[bytes]) -> int:
-        """Reads the opening. Returns the number of its last line."""
-        numbers = OPEN.fullmatch(next(lines, b""))
-        if numbers is None:
-            raise Damaged(2, "no `open` line")
-        self._next_id, _, count = map(int, numbers.groups())
-        self.history = History(self.history.version, self._next_id)
-        keep = GRAMMARS[self.history.version].keep
-        for number in range(3, 3 + count):
-            line = next(lines, b"")
-            if keep.fullmatch(line) is None:
-                raise Damaged(number, "no `keep` line")
-            element = element_of(line[:-1].decode("ascii").split(" ")[1:])
-            self.history.kept[int(element.id)] = element
-            self._latest[int(element.origin)] = int(element.id)
-        return 2 + count
+    def keep(self, line: Match[bytes]) -> None:
+        """Adds an element of the opening."""
+        element = element_of(line.string[:-1].decode("ascii").split(" ")[1:])
+        self.history.kept[int(element.id)] = element
+        self._latest[int(element.origin)] = int(element.id)
 
-    def read_events(self, lines: Iterator[bytes], first: int) -> None:
-        """Reads the events, the first of which is in this line, and the last line."""
-        history, pattern, number = self.history, GRAMMARS[self.history.version].event, first - 1
-        for number, line in enumerate(lines, first):
-            match = pattern.fullmatch(line)
-            if match is None:
-                self._read_end(line, lines, number)
-                return
-            if len(history) == MOST_EVENTS:
-                raise Damaged(number, f"an event behind {MOST_EVENTS:,} others")
-            self._add(match, line, number)
-        raise Damaged(number + 1, TOO_SHORT)
-
-    def _read_end(self, line: bytes, lines: Iterator[bytes], number: int) -> None:
-        if not line.endswith(b"\n"):
-            raise Damaged(number, TOO_SHORT)
-        count = END.fullmatch(line)
-        if count is None:
-            raise Damaged(number, "neither an event nor the last line")
-        if int(count[1]) != len(self.history):
-            raise Damaged(number, f"it tells {int(count[1])}, and the number of events is {len(self.history)}")
-        if next(lines, b""):
-            raise Damaged(number + 1, "it stands behind the last line")
-
-    def _add(self, match: Match[bytes], line: bytes, number: int) -> None:
+    def add(self, line: Match[bytes], number: int) -> None:
+        """Adds the event of the line of this number."""
         history, event = self.history, len(self.history)
-        index = self._seat_indexes.get(match[1])
+        index = self._seat_indexes.get(line[1])
         if index is None:
-            index = self._new_seat(match[1], number)
+            index = self._new_seat(line[1], number)
         history.seats.append(index)
         history.places.append(len(history.rows[index]))
         history.rows[index].append(event)
-        history.text += line
+        history.text += line.string
         history.starts.append(len(history.text))
-        act = match.lastgroup
+        act = line.lastgroup
         if act == "offer":
-            self._offer(event, int(match[4]), int(match[6]), number)
+            self._offer(event, int(line[4]), int(line[6]), number)
         elif act in ("take", "poll", "pollfor"):
-            if match[act] != b"none":
-                history.exits[self._id(match[act], number)] = event
+            if line[act] != b"none":
+                history.exits[self._id(line[act], number)] = event
         elif act == "drain":
-            for id in match["drain"].split():
+            for id in line["drain"].split():
                 history.exits[self._id(id, number)] = event
-        elif act == "remove" and match["remove"] == b"yes":
-            history.exits[self._id(match["removed"], number)] = event
+        elif act == "remove" and line["remove"] == b"yes":
+            history.exits[self._id(line["removed"], number)] = event
 
     def _new_seat(self, name: bytes, number: int) -> int:
         index = self._seat_indexes[name] = len(self.history.rows)

@@ -11,7 +11,7 @@ from __future__ import annotations
 import json
 from typing import Any, BinaryIO, Dict, Iterator, List, NamedTuple, Optional
 
-from verifying.faults import Damaged
+from histories.faults import Damaged
 
 LONGEST_LINE = 1 << 20
 GREATEST_TIME = (1 << 63) - 1

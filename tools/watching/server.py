@@ -6,18 +6,13 @@ import time
 from dataclasses import dataclass
 from typing import List, Optional
 
+from histories.faults import Damaged
+from histories.next_run import Opening, opening_after
+
 SECOND = 1_000_000_000
 
 # What an option is if it is not given, by docs/OPERATING.md.
 DEFAULTS = {"--workers": 4, "--sessions": 1, "--calls": 10_000}
-
-
-@dataclass(frozen=True)
-class Opening:
-    """How a run begins: the id of its first offer, and its first moment."""
-
-    next_id: int
-    moment: int
 
 
 @dataclass(frozen=True)
@@ -87,18 +82,5 @@ def _opening(pid: int, path: str, age: int) -> Optional[Opening]:
             if time.time_ns() - os.fstat(file.fileno()).st_mtime_ns < age:
                 return None
             return opening_after(file.read())
-    except (OSError, ValueError, IndexError):
+    except (OSError, Damaged, ValueError, IndexError):
         return None
-
-
-def opening_after(text: bytes) -> Opening:
-    """How the run begins that continues this history."""
-    words = text[:200].split(b"\n", 2)
-    first = words[1].split(b" ") if words[0] != b"history 1" else [b"open", b"0", b"0"]
-    next_id, moment = int(first[1]), int(first[2])
-    place = text.rfind(b" offer ")
-    if place >= 0:
-        next_id = int(text[place + len(b" offer "):].split(b" ", 1)[0]) + 1
-    end = text.rfind(b"\nend ")
-    last = text[text.rfind(b"\n", 0, end) + 1:end].split(b" ", 3)
-    return Opening(next_id, int(last[2]) if last[0].isdigit() else moment)

@@ -15,21 +15,17 @@ from __future__ import annotations
 
 import argparse
 import heapq
+import os
 import random
 import sys
-from typing import Dict, Iterator, List, NamedTuple, TextIO, Tuple
+from typing import Dict, Iterator, List, TextIO, Tuple
+
+sys.path.insert(0, os.path.dirname(os.path.dirname(os.path.dirname(os.path.realpath(__file__)))))
+
+from histories.element import Element  # noqa: E402
 
 RETRY_DELAY, ATTEMPTS = 50_000_000, 3
 MOST_HELD = 64  # of a seat
-
-
-class Element(NamedTuple):
-    id: int
-    expiry: int
-    origin: int
-    first: int
-    attempt: int
-    payload: str
 
 
 class Maker:

@@ -16,7 +16,9 @@ import tempfile
 
 sys.path.insert(0, os.path.dirname(os.path.dirname(os.path.dirname(os.path.realpath(__file__)))))
 
-from reporting.tests import MAKE_HISTORY, REPORT, TOP  # noqa: E402
+from common.program import TOP  # noqa: E402
+from common.testing import tool  # noqa: E402
+from reporting.tests import MAKE_HISTORY  # noqa: E402
 from reporting.tests.browser import Browser  # noqa: E402
 
 WIDTH, EVENTS = 1100, "200000"
@@ -26,7 +28,7 @@ def picture_of_page(command: str, room: str) -> bytes:
     """Makes the history and its page in a folder, and takes a picture of the whole page."""
     with open(f"{room}/run.txt", "w", encoding="ascii") as file:
         subprocess.run([sys.executable, MAKE_HISTORY, EVENTS], stdout=file, check=True)
-    words = [sys.executable, REPORT, "run.txt", "--html", "page.html"]
+    words = [*tool("report"), "run.txt", "--html", "page.html"]
     subprocess.run(words, cwd=room, stdout=subprocess.DEVNULL, check=True)
     browser = Browser(command, room)
     try:

@@ -2,16 +2,11 @@
 payloads are text."""
 from __future__ import annotations
 
-import subprocess
-import sys
-import tempfile
 import time
-import unittest
 from typing import Any, Tuple
 
-from reporting import tests
-from reporting.tests.browser import Browser
-from reporting.tests.support import RUN, call, offer, text_of
+from histories.tests.support import RUN, offer, text_of
+from reporting.tests.support import PageTest, call, made
 from reporting.tests.test_page import HOSTILE, hostile_text
 from reporting.tests.test_series import RUNS
 
@@ -22,20 +17,7 @@ PATIENCE = 10.0  # seconds
 ANSWER = "document.getElementById('answer').textContent"
 
 
-class BrowserTest(unittest.TestCase):
-    browser: Browser
-    room: str
-
-    @classmethod
-    def setUpClass(cls) -> None:
-        if not tests.BROWSER:
-            raise unittest.SkipTest("there is no chromium, and none was named")
-        room = tempfile.TemporaryDirectory(prefix="rb-report-")
-        cls.addClassCleanup(room.cleanup)
-        cls.room = room.name
-        cls.browser = Browser(tests.BROWSER, cls.room)
-        cls.addClassCleanup(cls.browser.end)
-
+class BrowserTest(PageTest):
     def setUp(self) -> None:
         self.browser.complaints.clear()
 
@@ -240,8 +222,7 @@ class BrowserTest(unittest.TestCase):
         self.assertNotEqual(self.browser.complaints, [])
 
     def test_a_large_page(self) -> None:
-        words = [sys.executable, tests.MAKE_HISTORY, "30000"]
-        self.show(subprocess.run(words, capture_output=True, encoding="ascii", check=True).stdout)
+        self.show(made(30_000))
         for kind in ("standing", "expired"):
             drawn = self.browser.value(f"document.querySelector('.line.{kind}').getAttribute('d').split('V').length")
             note = self.browser.value("document.querySelector('#plot-depth').nextSibling.textContent")

@@ -3,17 +3,17 @@ from __future__ import annotations
 
 import os
 import subprocess
-import sys
 import unittest
 from typing import Tuple
 from unittest import mock
 
+from common.testing import tool
+from histories.tests.support import RUN, offer, text_of
 from reporting.progress import Progress
-from reporting.tests import REPORT
-from reporting.tests.support import RUN, FilesTest, offer, run, text_of
+from reporting.tests.support import ReportTest, run
 
 
-class CommandTest(FilesTest):
+class CommandTest(ReportTest):
     def setUp(self) -> None:
         super().setUp()
         self.history = self.file("run.txt", RUN)
@@ -95,7 +95,7 @@ class CommandTest(FilesTest):
             self.assertEqual(file.read(), RUN)
 
     def test_a_reader_that_has_seen_enough(self) -> None:
-        words = [sys.executable, REPORT, self.history]
+        words = [*tool("report"), self.history]
         reading, writing = os.pipe()
         os.close(reading)
         ran = subprocess.run(words, stdout=writing, stderr=subprocess.PIPE, encoding="utf-8", timeout=60)

@@ -5,6 +5,7 @@ import unittest
 from array import array
 from typing import List
 
+from histories.tests.support import RUN, offer, read, text_of
 from reporting.attempts_plot import grouped
 from reporting.buckets import Buckets, thinned
 from reporting.depth import depth_of
@@ -13,7 +14,7 @@ from reporting.jobs import Attempts, life
 from reporting.lateness import rank
 from reporting.lateness_plots import bins_of
 from reporting.seats import calls_over_time
-from reporting.tests.support import RUN, figures, offer, read, text_of
+from reporting.tests.support import figures
 from reporting.units import percent, span
 
 

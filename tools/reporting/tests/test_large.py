@@ -13,6 +13,7 @@ import unittest
 from concurrent.futures import Future, ThreadPoolExecutor
 from typing import Dict, List, NamedTuple
 
+from common.testing import tool
 from reporting import tests
 
 MOST_BYTES = 200 * 10**6
@@ -46,7 +47,7 @@ def measured(room: str, name: str) -> Measured:
         words = [sys.executable, tests.MAKE_HISTORY, str(tests.EVENTS), *LARGE[name].words]
         subprocess.run(words, stdout=file, check=True, timeout=300)
     start = time.monotonic()
-    report = subprocess.Popen([sys.executable, tests.REPORT, path, "--html", page], stdout=subprocess.DEVNULL)
+    report = subprocess.Popen([*tool("report"), path, "--html", page], stdout=subprocess.DEVNULL)
     _, status, used = os.wait4(report.pid, 0)
     report.returncode = status
     memory = used.ru_maxrss * 1024  # Linux counts it in kibibytes

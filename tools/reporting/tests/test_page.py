@@ -8,9 +8,10 @@ from html.parser import HTMLParser
 from typing import Any, Dict, List, Optional, Tuple
 from unittest import mock
 
+from histories.tests.support import RUN, offer, read, text_of
 from reporting.figures import figures_of
 from reporting.page import page
-from reporting.tests.support import RUN, figures, offer, read, text_of
+from reporting.tests.support import figures
 
 HOSTILE = [
     "<script>alert(1)</script>", "</script><script>alert(2)</script>", "<!--<script>", "-->", "]]>",

@@ -5,6 +5,7 @@ import re
 import unittest
 from typing import List
 
+from histories.tests.support import RUN, offer, read, text_of
 from reporting import svg
 from reporting.buckets import Buckets
 from reporting.dates import Dates, nanoseconds_of
@@ -15,7 +16,7 @@ from reporting.rates_plot import rates_plot
 from reporting.seats_plot import seats_plot
 from reporting.span_axis import SpanAxis
 from reporting.svg import ROOMS, SHARES, Scale, Tick
-from reporting.tests.support import RUN, figures, offer, read, text_of
+from reporting.tests.support import figures
 from reporting.time_axis import TimeAxis
 from reporting.units import compact, mark
 

@@ -3,29 +3,20 @@ from __future__ import annotations
 
 import json
 import subprocess
-import sys
-import tempfile
 import time
-import unittest
 
-from reporting import tests
+from common.program import TOP, tested_program
+from common.testing import RoomTest
 from reporting.dates import nanoseconds_of
-from reporting.tests.support import run
+from reporting.tests.support import made, run
 
 
-class ProgramTest(unittest.TestCase):
-    def setUp(self) -> None:
-        if not tests.PROGRAM:
-            self.skipTest("no program was named or built")
-        room = tempfile.TemporaryDirectory(prefix="rb-report-")
-        self.addCleanup(room.cleanup)
-        self.room = room.name
-
+class ProgramTest(RoomTest):
     def script(self, name: str, *options: str) -> str:
         """Serves a script of examples/. The file with the run's history."""
         path = f"{self.room}/{name}.history"
-        with open(f"{tests.TOP}/examples/{name}", "rb") as script:
-            words = [str(tests.PROGRAM), "script", "--history", path, *options]
+        with open(f"{TOP}/examples/{name}", "rb") as script:
+            words = [tested_program(), "script", "--history", path, *options]
             subprocess.run(words, stdin=script, check=True, capture_output=True, timeout=60)
         return path
 
@@ -61,13 +52,10 @@ class ProgramTest(unittest.TestCase):
         self.assertIn(f"from {told[:10]} ", run(history, "--began", told).stdout)
 
     def test_a_made_history_is_counted_alike(self) -> None:
-        path = f"{self.room}/made.txt"
         for options in (["--version", "1"], ["--version", "3"], ["--offers"]):
-            with open(path, "w", encoding="ascii") as file:
-                words = [sys.executable, tests.MAKE_HISTORY, "6000", *options]
-                subprocess.run(words, stdout=file, check=True, timeout=60)
+            path = self.file("made.txt", made(6_000, *options))
             chains = ["--chains", "--delay", "50000000", "--attempts", "3"]
-            verdict = subprocess.run([str(tests.PROGRAM), "replay", path, *chains], capture_output=True, timeout=120)
+            verdict = subprocess.run([tested_program(), "replay", path, *chains], capture_output=True, timeout=120)
             self.assertEqual(verdict.returncode, 0, verdict.stdout)
             told = json.loads(verdict.stdout)
             line = (f"{told['opening']} elements at the start, {told['offered']:,} offered, {told['given']:,} given, "

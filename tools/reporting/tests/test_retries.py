@@ -5,10 +5,11 @@ import io
 import unittest
 from typing import List
 
+from histories.reader import read_history
+from histories.tests.support import offer, text_of
 from reporting.figures import Figures, figures_of
 from reporting.policy import Policy
-from reporting.reader import read_history
-from reporting.tests.support import FilesTest, offer, text_of
+from reporting.tests.support import ReportTest
 
 MILLISECOND = 1_000_000
 
@@ -106,7 +107,7 @@ class PolicyTest(unittest.TestCase):
             self.assertEqual(figures(text, policy).retries.misfits, 0)
 
 
-class AskedTest(FilesTest):
+class AskedTest(ReportTest):
     def test_last_attempts_are_listed(self) -> None:
         lines = self.lines(self.file("run.txt", failing(3, 2, 5_000_000)), "--attempts", "2")
         self.assertEqual(lines[-6:-3], [
@@ -130,7 +131,7 @@ class AskedTest(FilesTest):
             self.assertIn("not allowed with", self.refused(2, "run.txt", *words))
 
 
-class PayloadTest(FilesTest):
+class PayloadTest(ReportTest):
     def setUp(self) -> None:
         super().setUp()
         payloads = ["mail-1", "mail-12", "mail-1", "bill", "mail-*", "ail-1"]

@@ -2,15 +2,9 @@
 from __future__ import annotations
 
 import math
-import subprocess
-import sys
-import tempfile
-import unittest
 from typing import List, Tuple
 
-from reporting import tests
-from reporting.tests.browser import Browser
-from reporting.tests.support import call
+from reporting.tests.support import PageTest, call, made
 from reporting.tests.test_plots import backlog
 from reporting.tests.test_series import RUNS
 
@@ -61,24 +55,15 @@ def contrast(one: str, other: str) -> float:
     return (high + 0.05) / (low + 0.05)
 
 
-class SightTest(unittest.TestCase):
-    browser: Browser
-    room: str
+class SightTest(PageTest):
     pages: List[Tuple[str, str]]
 
     @classmethod
     def setUpClass(cls) -> None:
-        if not tests.BROWSER:
-            raise unittest.SkipTest("there is no chromium, and none was named")
-        room = tempfile.TemporaryDirectory(prefix="rb-report-")
-        cls.addClassCleanup(room.cleanup)
-        cls.room = room.name
-        cls.browser = Browser(tests.BROWSER, cls.room)
-        cls.addClassCleanup(cls.browser.end)
-        words = [sys.executable, tests.MAKE_HISTORY, "30000"]
-        made = subprocess.run(words, capture_output=True, encoding="ascii", check=True).stdout
+        super().setUpClass()
         dates = [word for second in (0, 3600, 7200) for word in ("--began", f"@{1_795_680_000 + second}")]
-        cls.pages = [cls.page("made", [made]), cls.page("backlog", [backlog()], "--began", "2026-11-26T08:00:00Z"),
+        cls.pages = [cls.page("made", [made(30_000)]),
+                     cls.page("backlog", [backlog()], "--began", "2026-11-26T08:00:00Z"),
                      cls.page("series", RUNS, *dates, "--attempts", "3")]
 
     @classmethod

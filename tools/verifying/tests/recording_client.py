@@ -3,11 +3,10 @@ from __future__ import annotations
 
 import json
 import random
-import socket
 import time
-from typing import BinaryIO, List, TextIO
+from typing import List, TextIO
 
-PATIENCE = 60
+from serving.session import Session
 
 
 class RecordingClient:
@@ -15,9 +14,7 @@ class RecordingClient:
 
     def __init__(self, name: str, port: int, record: TextIO, seed: str) -> None:
         self.name, self._record, self._random = name, record, random.Random(f"{seed} {name}")
-        self._socket = socket.create_connection(("127.0.0.1", port), timeout=PATIENCE)
-        self._socket.setsockopt(socket.IPPROTO_TCP, socket.TCP_NODELAY, 1)
-        self._replies: BinaryIO = self._socket.makefile("rb")
+        self._session = Session(port)
         self._held: List[str] = []
         self._last = "0"  # the id of its last offer
 
@@ -29,20 +26,17 @@ class RecordingClient:
             self.ask("QUIT")
         elif ending == "TAKE":
             sent = time.monotonic_ns()
-            self._socket.sendall(b"TAKE\n")
+            self._session.send("TAKE")
             time.sleep(0.002)
             self._note(sent, None, "TAKE", [])
-        self._replies.close()
-        self._socket.close()
+        self._session.hang_up()
 
     def ask(self, *requests: str) -> None:
         """Sends requests in one piece, and reads their replies."""
         sent = time.monotonic_ns()
-        self._socket.sendall("".join(f"{it}\n" for it in requests).encode("latin-1"))
+        self._session.send(*(it.encode("latin-1") for it in requests))
         for request in requests:
-            reply = [self._line()]
-            if reply[0].startswith("DRAINED "):
-                reply += [self._line() for _ in range(int(reply[0].split(" ")[1]))]
+            reply = self._session.reply()
             self._note(sent, time.monotonic_ns(), request, reply)
             self._learn(request, reply)
 
@@ -66,12 +60,6 @@ class RecordingClient:
                 self._last = words[1]
             elif words[0] in ("DONE", "AGAIN", "DEAD"):
                 self._held.remove(request.split(" ")[1])
-
-    def _line(self) -> str:
-        line = self._replies.readline()
-        if not line.endswith(b"\n"):
-            raise EOFError(f"session {self.name}: the connection ended")
-        return line[:-1].decode("ascii")
 
     def _note(self, sent: int, received: object, request: str, reply: List[str]) -> None:
         told = {"session": self.name, "sent": sent, "received": received, "request": request, "reply": reply}

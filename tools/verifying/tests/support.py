@@ -5,16 +5,13 @@ import io
 import json
 import re
 import subprocess
-import sys
-import tempfile
-import unittest
 from typing import Any, Dict, List, Tuple
 
+from common.testing import RoomTest, run_tool
 from verifying.history import read_history
 from verifying.judge import judge
 from verifying.record import read_record
 from verifying.report import report
-from verifying.tests import VERIFY
 
 Line = Dict[str, Any]
 
@@ -62,31 +59,15 @@ def lines() -> List[Line]:
     ]
 
 
-def text_of(events: List[str]) -> str:
-    return "\n".join(["history 3", "open 0 0 0", *events, f"end {len(events)}", ""])
-
-
 def record_of(record: List[Line]) -> str:
     return "".join(f"{json.dumps(it)}\n" for it in record)
 
 
-class RunTest(unittest.TestCase):
-    """A test with a folder of its own."""
-
-    def setUp(self) -> None:
-        room = tempfile.TemporaryDirectory(prefix="rb-verify-")
-        self.addCleanup(room.cleanup)
-        self.room = room.name
-
-    def file(self, name: str, text: str) -> str:
-        path = f"{self.room}/{name}"
-        with open(path, "w", encoding="utf-8") as file:
-            file.write(text)
-        return path
+class RunTest(RoomTest):
+    """A test of runs that are files in its folder, or texts."""
 
     def verify(self, *words: str) -> subprocess.CompletedProcess[str]:
-        command = [sys.executable, "-B", VERIFY, *words]
-        return subprocess.run(command, capture_output=True, encoding="utf-8", timeout=300, check=False)
+        return run_tool("verify", *words)
 
     def judged(self, history: str, record: str, is_whole: bool = True) -> Tuple[Dict[str, int], List[str]]:
         """The number of faults of each kind that has any, and the lines of the faults."""

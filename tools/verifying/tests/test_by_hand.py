@@ -3,7 +3,8 @@ from __future__ import annotations
 
 from typing import Dict, List, Optional
 
-from verifying.tests.support import EVENTS, Line, RunTest, line, lines, record_of, text_of
+from histories.tests.support import text_of
+from verifying.tests.support import EVENTS, Line, RunTest, line, lines, record_of
 
 
 class HandMadeTest(RunTest):
@@ -12,15 +13,15 @@ class HandMadeTest(RunTest):
         counts: Optional[Dict[str, int]] = None,
     ) -> None:
         """Expects one fault of this kind and no other, whose line ends with these words."""
-        found = self.judged(text_of(events or EVENTS), record_of(record or lines()))
+        found = self.judged(text_of(*(events or EVENTS)), record_of(record or lines()))
         self.assertEqual(found[0], counts or {kind: 1}, found[1])
         self.assertTrue(any(f": {kind}: {says}" in it for it in found[1]), found[1])
 
     def test_the_run_as_it_was(self) -> None:
-        self.assertEqual(self.judged(text_of(EVENTS), record_of(lines())), ({}, []))
+        self.assertEqual(self.judged(text_of(*EVENTS), record_of(lines())), ({}, []))
 
     def test_what_was_compared(self) -> None:
-        ran = self.verify(self.file("run.txt", text_of(EVENTS)), self.file("a.jsonl", record_of(lines())))
+        ran = self.verify(self.file("run.txt", text_of(*EVENTS)), self.file("a.jsonl", record_of(lines())))
         self.assertEqual(ran.stdout.splitlines()[:3], [
             "13 events at 2 seats; 14 requests of 3 sessions",
             "10 replies that speak of an event; 1 request without a reply, of which 1 were carried out",
@@ -30,7 +31,7 @@ class HandMadeTest(RunTest):
 
     def test_records_in_several_files(self) -> None:
         """The names of sessions are unique within a file, not among all."""
-        history = self.file("run.txt", text_of(EVENTS))
+        history = self.file("run.txt", text_of(*EVENTS))
         paths = []
         for session in "abc":
             own = [{**it, "session": 1} for it in lines() if it["session"] == session]
@@ -40,8 +41,8 @@ class HandMadeTest(RunTest):
 
     def test_clients_without_a_record(self) -> None:
         others = [it for it in lines() if it["session"] != "b"]
-        self.assertEqual(self.judged(text_of(EVENTS), record_of(others), is_whole=False), ({}, []))
-        counts, _ = self.judged(text_of(EVENTS), record_of(others))
+        self.assertEqual(self.judged(text_of(*EVENTS), record_of(others), is_whole=False), ({}, []))
+        counts, _ = self.judged(text_of(*EVENTS), record_of(others))
         self.assertEqual(counts, {"unrecorded": 5})
 
     def test_a_reply_that_came_in_part(self) -> None:
@@ -49,7 +50,7 @@ class HandMadeTest(RunTest):
         events = ["1 10 10 offer 0 10 0 10 1 x", "1 20 20 drain 5 0", "1 30 30 offer 1 40 0 10 2 x"]
         drain = {**line("a", 15, 22, "DRAIN 5", "DRAINED 1"), "received": None}
         record = [line("a", 5, 12, "OFFER 0 x", "OFFERED 0 10"), drain]
-        self.assertEqual(self.judged(text_of(events), record_of(record)), ({}, []))
+        self.assertEqual(self.judged(text_of(*events), record_of(record)), ({}, []))
 
     # The six ways.
 
@@ -98,7 +99,7 @@ class HandMadeTest(RunTest):
 
     def test_an_offer_that_the_history_leaves_out(self) -> None:
         record = [it for it in lines() if it["session"] != "c"] + [line("d", 111, 112, "OFFER 0 q", "OFFERED 7 111")]
-        counts, faults = self.judged(text_of(EVENTS[:11]), record_of(record))
+        counts, faults = self.judged(text_of(*EVENTS[:11]), record_of(record))
         self.assertEqual(counts, {"missing": 1}, faults)
 
     def test_a_call_that_the_record_leaves_out(self) -> None:
@@ -121,7 +122,7 @@ class HandMadeTest(RunTest):
             (3, 4, "event 7 (peek 2, seat 1) does not stand where its request does"),
         ]:
             with self.subTest(says=says):
-                counts, faults = self.judged(text_of(EVENTS), record_of(exchanged(one, other)))
+                counts, faults = self.judged(text_of(*EVENTS), record_of(exchanged(one, other)))
                 self.assertEqual(counts.keys(), {"order", "time"}, faults)
                 self.assertTrue(any(f": order: {says}" in it for it in faults), faults)
 
@@ -142,13 +143,13 @@ class HandMadeTest(RunTest):
         """Calls that touch are not in order by real time."""
         record = lines()
         record[6]["sent"], record[6]["received"] = 1000 + 3, 1000 + 5
-        self.assertEqual(self.judged(text_of(EVENTS), record_of(record)), ({}, []))
+        self.assertEqual(self.judged(text_of(*EVENTS), record_of(record)), ({}, []))
 
     # More of what may be wrong.
 
     def test_a_job_that_comes_back_elsewhere(self) -> None:
         events = [*EVENTS[:8], EVENTS[8].replace("1 ", "2 ", 1), *EVENTS[9:]]
-        counts, _ = self.judged(text_of(events), record_of(lines()), is_whole=False)
+        counts, _ = self.judged(text_of(*events), record_of(lines()), is_whole=False)
         self.assertEqual(counts, {"return": 1})
 
     def test_strange_replies(self) -> None:
@@ -160,7 +161,7 @@ class HandMadeTest(RunTest):
             with self.subTest(reply=reply):
                 record = lines()
                 record[number]["reply"] = [reply]
-                counts, faults = self.judged(text_of(EVENTS), record_of(record))
+                counts, faults = self.judged(text_of(*EVENTS), record_of(record))
                 wanted = 1 + {7: 1, 10: 2}.get(number, 0)  # with the ends of jobs that were then not fetched
                 self.assertEqual(counts["strange"], wanted, faults)
 
@@ -170,7 +171,7 @@ class HandMadeTest(RunTest):
             line("a", 5, 12, "OFFER 0 x", "OFFERED 0 10"), line("b", 15, 22, "OFFER 0 y", "OFFERED 1 20"),
             line("a", 25, 32, "OFFER 0 z", "OFFERED 2 30"),
         ]
-        counts, faults = self.judged(text_of(events), record_of(record))
+        counts, faults = self.judged(text_of(*events), record_of(record))
         self.assertEqual(counts, {"gap": 1})
         self.assertIn("of ", faults[0])
 
@@ -178,9 +179,9 @@ class HandMadeTest(RunTest):
         events = ["1 5 5 size 0", "1 6 6 size 0", "1 10 10 offer 0 10 0 10 1 x", "1 20 20 size 1"]
         record = [line("a", 5, 5, "SIZE", "SIZE 0"), line("a", 6, 6, "SIZE", "SIZE 0"),
                   line("a", 8, 12, "OFFER 0 x", "OFFERED 0 10"), line("a", 15, 22, "SIZE", "SIZE 1")]
-        self.assertEqual(self.judged(text_of(events), record_of(record)), ({}, []))
+        self.assertEqual(self.judged(text_of(*events), record_of(record)), ({}, []))
         record[0]["reply"] = ["SIZE 1"]
-        counts, _ = self.judged(text_of(events), record_of(record))
+        counts, _ = self.judged(text_of(*events), record_of(record))
         self.assertEqual(counts, {"changed": 1})
 
     def test_sessions_that_name_no_element(self) -> None:
@@ -196,9 +197,9 @@ class HandMadeTest(RunTest):
             line("c", 2_999_990, 3_000_010, "OFFER 0 x", "OFFERED 0 3000000"),
             line("e", 5_999_000, 6_000_100, "SIZE", "SIZE 1"),
         ]
-        self.assertEqual(self.judged(text_of(events), record_of(record)), ({}, []))
+        self.assertEqual(self.judged(text_of(*events), record_of(record)), ({}, []))
         record[0]["reply"] = ["SIZE 4"]
-        counts, _ = self.judged(text_of(events), record_of(record))
+        counts, _ = self.judged(text_of(*events), record_of(record))
         self.assertEqual(counts, {"missing": 1, "unrecorded": 1})
 
     def test_earlier_versions(self) -> None:

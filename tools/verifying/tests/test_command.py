@@ -4,16 +4,16 @@ from __future__ import annotations
 import json
 import os
 import subprocess
-import sys
 
-from verifying.tests import VERIFY
-from verifying.tests.support import EVENTS, Line, RunTest, line, lines, record_of, text_of
+from common.testing import tool
+from histories.tests.support import text_of
+from verifying.tests.support import EVENTS, Line, RunTest, line, lines, record_of
 
 
 class CommandTest(RunTest):
     def setUp(self) -> None:
         super().setUp()
-        self.history = self.file("run.txt", text_of(EVENTS))
+        self.history = self.file("run.txt", text_of(*EVENTS))
         self.record = self.file("record.jsonl", record_of(lines()))
 
     def expect_refused(self, says: str, *words: str) -> None:
@@ -30,12 +30,12 @@ class CommandTest(RunTest):
             ("", "line 1: no `history 1`, `history 2` or `history 3`"),
             ("history 3\nopen 0 0\n", "line 2: no `open` line"),
             ("history 3\nopen 3 0 1\nkeep 0 0 0\n", "line 3: no `keep` line"),
-            (text_of(EVENTS).replace("size 1", "size"), "line 4: neither an event nor the last line"),
-            (text_of(EVENTS).replace("end 13", "end 12"), "line 16: it tells 12, and the number of events is 13"),
-            (text_of(EVENTS) + "more", "line 17: it stands behind the last line"),
-            (text_of(EVENTS)[:-8], "line 15: the text ends before the history does"),
-            (text_of(EVENTS)[:-7], "line 16: the text ends before the history does"),
-            (text_of(EVENTS).replace("offer 3 ", "offer 99999999 "),
+            (text_of(*EVENTS).replace("size 1", "size"), "line 4: neither an event nor the last line"),
+            (text_of(*EVENTS).replace("end 13", "end 12"), "line 16: it tells 12, and the number of events is 13"),
+            (text_of(*EVENTS) + "more", "line 17: it stands behind the last line"),
+            (text_of(*EVENTS)[:-8], "line 15: the text ends before the history does"),
+            (text_of(*EVENTS)[:-7], "line 16: the text ends before the history does"),
+            (text_of(*EVENTS).replace("offer 3 ", "offer 99999999 "),
              "line 11: the id 99999999, where the first one is 0"),
         ]:
             with self.subTest(says=says):
@@ -93,15 +93,15 @@ class CommandTest(RunTest):
         self.assertIn("changed:    2 faults: ", ran.stdout)
 
     def test_a_history_and_a_record_that_come_through_pipes(self) -> None:
-        command = f'"$0" -B "$1" <(cat "$2") <(cat "$3") --all'
-        ran = subprocess.run(["bash", "-c", command, sys.executable, VERIFY, self.history, self.record],
+        command = '"${@:1:3}" <(cat "$4") <(cat "$5") --all'
+        ran = subprocess.run(["bash", "-c", command, "bash", *tool("verify"), self.history, self.record],
                              capture_output=True, encoding="utf-8", check=False)
         self.assertEqual((ran.returncode, ran.stderr, ran.stdout.splitlines()[-1]), (0, "", "0 faults"))
 
     def test_a_reader_that_has_seen_enough(self) -> None:
         reading, writing = os.pipe()
         os.close(reading)
-        ran = subprocess.run([sys.executable, "-B", VERIFY, self.history, self.record], stdout=writing,
+        ran = subprocess.run([*tool("verify"), self.history, self.record], stdout=writing,
                              stderr=subprocess.PIPE, encoding="utf-8", check=False)
         os.close(writing)
         self.assertEqual((ran.returncode, ran.stderr), (2, "verify: cannot write output\n"))

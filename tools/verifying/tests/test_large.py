@@ -3,8 +3,8 @@ from __future__ import annotations
 
 import os
 import subprocess
-import sys
 
+from common.testing import tool
 from verifying import tests
 from verifying.tests.support import RunTest
 
@@ -34,7 +34,7 @@ class LargeTest(RunTest):
 
     def test_a_large_run(self) -> None:
         self.write_run(tests.EVENTS)
-        words = [sys.executable, "-B", tests.VERIFY, f"{self.room}/run.txt", f"{self.room}/record.jsonl", "--all"]
+        words = [*tool("verify"), f"{self.room}/run.txt", f"{self.room}/record.jsonl", "--all"]
         with open(f"{self.room}/out", "w+", encoding="utf-8") as out:
             process = subprocess.Popen(words, stdout=out)
             _, status, usage = os.wait4(process.pid, 0)

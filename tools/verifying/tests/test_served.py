@@ -3,16 +3,15 @@ from __future__ import annotations
 
 import io
 import os
-import socket
 import subprocess
-import sys
 import threading
 from typing import List
 
-from verifying import tests  # which says where the client package is
-
+import verifying.tests  # noqa: F401  # which says where the client package is
+from common.testing import run_tool, tool
 from rb_broker_client import Item, Producer, Worker
 from serving.server import Server
+from serving.testing import ServingTest
 from verifying.tests.recording_client import RecordingClient
 from verifying.tests.support import RunTest
 
@@ -20,14 +19,10 @@ TIMERS = ("list", "heap", "pairing", "wheel")
 WORKERS, SESSIONS, ROUNDS = 6, 60, 60
 
 
-class ServedTest(RunTest):
-    def serve(self, timer: str, *options: object) -> Server:
+class ServedTest(RunTest, ServingTest):
+    def serve_over(self, timer: str, *options: object) -> Server:
         """A server with this timer, which writes run.txt."""
-        words = ["--timer", timer, "--history", f"{self.room}/run.txt", *map(str, options)]
-        server = Server(words, tests.PROGRAM)
-        self.addCleanup(server.process.communicate)
-        self.addCleanup(server.process.kill)
-        return server
+        return self.serve("--timer", timer, "--history", self.path("run.txt"), *options)
 
     def expect_no_fault(self, server: Server, *records: str) -> List[str]:
         """Expects that the run has ended well and has no fault. Returns what was printed."""
@@ -39,8 +34,8 @@ class ServedTest(RunTest):
     def test_clients_that_do_anything(self) -> None:
         for timer in TIMERS:
             with self.subTest(timer=timer):
-                server = self.serve(timer, "--workers", WORKERS, "--sessions", SESSIONS, "--calls", 100_000,
-                                    "--turns", 2, "--delay", 100_000, "--attempts", 4)
+                server = self.serve_over(timer, "--workers", WORKERS, "--sessions", SESSIONS, "--calls", 100_000,
+                                         "--turns", 2, "--delay", 100_000, "--attempts", 4)
                 records = [io.StringIO() for _ in range(WORKERS)]
                 threads = [threading.Thread(target=self._visit, args=(server.port, number, it, timer))
                            for number, it in enumerate(records)]
@@ -60,10 +55,11 @@ class ServedTest(RunTest):
     def test_clients_of_the_load(self) -> None:
         for timer in TIMERS:
             with self.subTest(timer=timer):
-                server = self.serve(timer, "--workers", 8, "--sessions", 8, "--calls", 100_000, "--delay", 1_000_000)
+                server = self.serve_over(timer, "--workers", 8, "--sessions", 8, "--calls", 100_000,
+                                         "--delay", 1_000_000)
                 records = [f"{self.room}/{number}.jsonl" for number in range(2)]
                 words = ["--clients", "4", "--rate", "400", "--fail", "0.3", "--seconds", "1"]
-                command = [sys.executable, "-B", tests.LOAD, "--port", str(server.port), *words, "--record"]
+                command = [*tool("load"), "--port", str(server.port), *words, "--record"]
                 loads = [subprocess.Popen([*command, it], stdout=subprocess.DEVNULL) for it in records]
                 self.assertEqual([it.wait() for it in loads], [0, 0])
                 lines = self.expect_no_fault(server, *records)
@@ -71,8 +67,8 @@ class ServedTest(RunTest):
 
     def test_clients_of_the_python_package(self) -> None:
         """A producer and two workers, a third of whose jobs fail, and that leave their sessions now and then."""
-        server = self.serve("heap", "--workers", 3, "--sessions", 1000, "--calls", 100_000, "--turns", 50,
-                            "--delay", 1_000_000, "--attempts", 9)
+        server = self.serve_over("heap", "--workers", 3, "--sessions", 1000, "--calls", 100_000, "--turns", 50,
+                                 "--delay", 1_000_000, "--attempts", 9)
         path, done = f"{self.room}/package.jsonl", threading.Semaphore(0)
 
         def deliver(job: Item) -> None:
@@ -92,28 +88,18 @@ class ServedTest(RunTest):
             for worker, thread in zip(workers, threads):
                 worker.stop()
                 thread.join()
-        self._use_up_sessions(server)
+        server.use_up()
         lines = self.expect_no_fault(server, path)
         self.assertRegex(lines[0], r"^[\d,]+ events at \d seats; [\d,]+ requests of [\d,]+ sessions$")
-
-    @staticmethod
-    def _use_up_sessions(server: Server) -> None:
-        """Connects until the server has ended, as docs/OPERATING.md says."""
-        while server.process.poll() is None:
-            try:
-                socket.create_connection(("127.0.0.1", server.port), timeout=1).close()
-            except OSError:
-                pass
 
     def test_a_server_that_is_not_the_records(self) -> None:
         """Two runs alike, each with the other's record."""
         paths = []
         for number in range(2):
-            server = self.serve("heap", "--workers", 2, "--sessions", 2)
+            server = self.serve_over("heap", "--workers", 2, "--sessions", 2)
             paths.append((f"{self.room}/{number}.txt", f"{self.room}/{number}.jsonl"))
-            words = ["--port", str(server.port), "--clients", "2", "--rate", "100", "--seconds", "0.5"]
-            subprocess.run([sys.executable, "-B", tests.LOAD, *words, "--record", paths[number][1]],
-                           stdout=subprocess.DEVNULL, check=True)
+            words = ["--port", server.port, "--clients", 2, "--rate", 100, "--seconds", 0.5]
+            self.assertEqual(run_tool("load", *words, "--record", paths[number][1]).returncode, 0)
             self.assertEqual(server.end()[0], 0)
             os.rename(f"{self.room}/run.txt", paths[number][0])
         self.assertEqual(self.verify(paths[0][0], paths[0][1], "--all").returncode, 0)

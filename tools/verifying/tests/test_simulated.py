@@ -5,7 +5,7 @@ import random
 import subprocess
 from typing import Dict, List, Set, Tuple
 
-from verifying import tests
+from common.program import tested_program
 from verifying.tests.simulated import ATTEMPTS, DELAY, Line, Simulation
 from verifying.tests.support import RunTest
 
@@ -44,7 +44,7 @@ class SimulatedTest(RunTest):
     def test_the_program_finds_them_legal(self) -> None:
         for seed in SEEDS[:3]:
             words = ["replay", self.file("run.txt", self.simulated(seed).history), "--chains"]
-            command = [tests.PROGRAM, *words, "--delay", str(DELAY), "--attempts", str(ATTEMPTS)]
+            command = [tested_program(), *words, "--delay", str(DELAY), "--attempts", str(ATTEMPTS)]
             ran = subprocess.run(command, capture_output=True, encoding="utf-8", check=False)
             self.assertEqual(ran.returncode, 0, ran.stdout)
 

@@ -1,12 +1,10 @@
 """Whether a run begins with what the run before it left: the next id, the last moment, and the same elements."""
 from __future__ import annotations
 
-from typing import List
-
-from reporting.faults import Wrong
-from reporting.grammar import Head
-from reporting.history import History
-from reporting.reported_queue import ElementWords, ReportedQueue
+from histories.faults import Wrong
+from histories.grammar import Head
+from histories.history import History
+from histories.reported_queue import ElementWords, ReportedQueue
 
 
 class Continuation:
@@ -30,7 +28,8 @@ class Continuation:
 
     def keep(self, words: ElementWords) -> None:
         """Follows a `keep` line. There are as many as elements in the queue, by the `open` line."""
-        here, there = [word.decode() for word in words if word], self._words(next(self._rows))
+        here = [word.decode() for word in words if word]
+        there = list(map(str, self._history.elements.element(next(self._rows))))
         if not self._tells_first:
             there.pop(3)
             if len(here) > len(there):
@@ -38,9 +37,3 @@ class Continuation:
         if here != there:
             raise Wrong(f"it does not continue {self._before}: it keeps {' '.join(here)}, and {' '.join(there)} would"
                         " follow")
-
-    def _words(self, row: int) -> List[str]:
-        elements = self._history.elements
-        numbers = (elements.ids[row], elements.expiries[row], elements.origins[row], elements.firsts[row],
-                   elements.attempts[row])
-        return [*map(str, numbers), elements.payload(row)]

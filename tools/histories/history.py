@@ -11,6 +11,8 @@ from bisect import bisect_left, bisect_right
 from dataclasses import dataclass, field
 from typing import Dict, List, Optional
 
+from histories.element import Element
+
 # Takes the place of a row or an event if there is none.
 NONE = -1
 
@@ -36,6 +38,10 @@ class Elements:
     def payload(self, row: int) -> str:
         start = self.payload_ends[row - 1] if row else 0
         return self.payloads[start:self.payload_ends[row]].decode("ascii")
+
+    def element(self, row: int) -> Element:
+        return Element(self.ids[row], self.expiries[row], self.origins[row], self.firsts[row], self.attempts[row],
+                       self.payload(row))
 
 
 @dataclass

@@ -3,26 +3,28 @@ from __future__ import annotations
 
 import os
 from contextlib import ExitStack, contextmanager
-from typing import BinaryIO, Iterator, NamedTuple, Sequence, Tuple
+from typing import BinaryIO, Callable, Iterator, NamedTuple, Sequence, Tuple
 
-from reporting.faults import Damaged
-from reporting.grammar import Head
-from reporting.history import History
-from reporting.progress import Progress
-from reporting.reader import Reader, read_head
+from histories.faults import Damaged
+from histories.history import History
+from histories.reader import Reader
+from histories.text import Text
+
+# Is called now and then with the path of the file that is read, the file, and its size, or 0 if that is not known.
+Look = Callable[[str, BinaryIO, int], None]
 
 
 class Source(NamedTuple):
-    """A file whose first lines have been read."""
+    """A file of which the head has been read."""
 
     path: str
     file: BinaryIO
-    head: Head
+    text: Text
 
     @property
     def order(self) -> Tuple[int, int]:
         """Ids and moments rise from run to run, so the openings tell the order."""
-        return self.head.next_id, self.head.opened_at
+        return self.text.head.next_id, self.text.head.opened_at
 
 
 @contextmanager
@@ -35,7 +37,7 @@ def _named(path: str) -> Iterator[None]:
         raise
 
 
-def read_series(paths: Sequence[str], progress: Progress) -> History:
+def read_series(paths: Sequence[str], look: Look) -> History:
     """The history of all runs. Files that are named in another order than that of the runs are put into it."""
     reader = Reader()
     with ExitStack() as files:
@@ -43,9 +45,9 @@ def read_series(paths: Sequence[str], progress: Progress) -> History:
         for path in paths:
             opened = files.enter_context(open(path, "rb"))
             with _named(path):
-                sources.append(Source(path, opened, read_head(opened)))
-        for path, file, head in sorted(sources, key=lambda it: it.order):
+                sources.append(Source(path, opened, Text(opened)))
+        for path, file, text in sorted(sources, key=lambda it: it.order):
             size = os.fstat(file.fileno()).st_size
             with _named(path):
-                reader.read(path, file, head, lambda: progress.say_read(path, file, size))
+                reader.read(path, text, lambda: look(path, file, size))
     return reader.history

@@ -3,8 +3,8 @@ from __future__ import annotations
 
 from typing import Iterator, Optional, Tuple
 
-from reporting.faults import Wrong
-from reporting.history import NONE, History
+from histories.faults import Wrong
+from histories.history import NONE, History
 
 # Id, expiry, origin, first expiry or nothing, attempt and payload, as a line has them.
 ElementWords = Tuple[bytes, ...]

@@ -3,10 +3,10 @@ from __future__ import annotations
 
 import unittest
 
-from reporting import acts
-from reporting.faults import Damaged
-from reporting.history import NONE
-from reporting.tests.support import RUN, offer, read, text_of
+from histories import acts
+from histories.faults import Damaged
+from histories.history import NONE
+from histories.tests.support import RUN, offer, read, text_of
 
 GREATEST = 2**64 - 1
 

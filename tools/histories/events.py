@@ -3,11 +3,11 @@ from __future__ import annotations
 
 from typing import Callable, Dict, Match, Tuple
 
-from reporting import acts
-from reporting.faults import Wrong
-from reporting.grammar import GREATEST, OFFERED_GROUPS
-from reporting.history import NONE, History
-from reporting.reported_queue import ReportedQueue
+from histories import acts
+from histories.faults import Wrong
+from histories.grammar import GREATEST, OFFERED_GROUPS
+from histories.history import NONE, History
+from histories.reported_queue import ReportedQueue
 
 # The act of an event, and its subject.
 Told = Tuple[int, int]

@@ -1,0 +1,16 @@
+"""The reading of histories, by all tools that do. docs/HISTORY.md describes the texts.
+
+    grammar.py, text.py      the lines of a text, one after the other, each of which must be of its form
+    acts.py, given.py        what an event may be, and what it gave
+    element.py               an element as a text tells of it
+    history.py, reader.py, events.py, reported_queue.py  a history in columns, with the queue that it describes
+    series.py, continuation.py                           the histories of runs that follow one another, in one
+    next_run.py              how the run begins that continues a history, without reading all of it
+    faults.py                why a history can't be read
+
+tools/report and tools/export take the columns, in which all must be as a queue does it. tools/verify and the tests
+take the lines, which may say what no queue does. The columns are `array`s, so that 1,000,000 events take tens of
+megabytes and no object each.
+
+The tests are below tests/; `tools/run_tests histories` runs them.
+"""
