@@ -1,4 +1,8 @@
-"""The program under test, and its runs as a command."""
+"""The program under test, and its runs as a command.
+
+A run is given its input in pieces, by a thread, and may leave processes of its own behind. So none is started by
+serving.server, which starts servers of this repository's program.
+"""
 from __future__ import annotations
 
 import contextlib

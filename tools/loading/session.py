@@ -1,4 +1,8 @@
-"""One session with the server."""
+"""One session with the server.
+
+It is not made of serving.session, as the clients of tests are: a hundred of these take turns in one thread, each reply
+is timed, and users have this tool without those.
+"""
 from __future__ import annotations
 
 import asyncio

@@ -17,7 +17,7 @@ from typing import Iterator, List, Tuple
 
 sys.path.insert(0, os.path.dirname(os.path.dirname(os.path.dirname(os.path.realpath(__file__)))))
 
-from watching import tests  # noqa: E402
+from common.testing import tool  # noqa: E402
 from watching.screen import HOME  # noqa: E402
 from watching.tests.support import WatchTest  # noqa: E402
 from watching.tests.terminal import Terminal  # noqa: E402
@@ -42,20 +42,20 @@ class Picture(WatchTest):
         unread = self.stops_reading(server)
         time.sleep(SECONDS / 2)
         self.connect(server)
-        words = [tests.WATCH, str(server.port), "--every", "1", "--silent", "5"]
+        words = [*tool("watch"), str(server.port), "--every", "1", "--silent", "5"]
         terminal = Terminal(words, COLUMNS, ROWS)
         self.addCleanup(terminal.close)
         terminal.lines(lambda lines: any("none left in" in it for it in lines))
         for client in (taking, leaving):
-            client.sendall(b"TAKE\n")
+            client.send("TAKE")
         time.sleep(0.5)
-        leaving.close()
+        leaving.hang_up()
         end = time.monotonic() + SECONDS / 2
         terminal.lines(lambda lines: time.monotonic() > end and any("does not read" in it for it in lines))
         with open(self.path, "w", encoding="utf-8") as file:
             file.write(svg(terminal.written.split(HOME)[-2]))
         for client in (working, taking, unread):
-            client.close()
+            client.hang_up()
 
 
 def pieces(line: str) -> Iterator[Tuple[str, str]]:

@@ -2,73 +2,52 @@
 from __future__ import annotations
 
 import json
-import os
 import signal
-import socket
 import subprocess
-import sys
-import tempfile
 import time
-import unittest
 from typing import Any, Callable, Dict, List, Optional
 
-from serving.server import Server
-from watching import tests
+from common.testing import tool
+from serving.server import Server, started
+from serving.session import Session
+from serving.testing import ServingTest
 
 PATIENCE = 30  # seconds after which something that has to happen has not
 
 Told = Dict[str, Any]
 
 
-class WatchTest(unittest.TestCase):
-    """A test with a folder of its own, and with servers that are ended behind it."""
+class WatchTest(ServingTest):
+    """A test with servers that have clients of every kind, and with the tool."""
 
-    def setUp(self) -> None:
-        room = tempfile.TemporaryDirectory(prefix="rb-watch-")
-        self.addCleanup(room.cleanup)
-        self.room = room.name
-
-    def serve(self, *options: object) -> Server:
-        server = Server([*map(str, options)], tests.PROGRAM)
-        self.addCleanup(server.process.communicate)
-        self.addCleanup(server.process.kill)
-        return server
-
-    def connect(self, server: Server, *requests: str, receive_buffer: int = 0) -> socket.socket:
+    def connect(self, server: Server, *requests: str, receive_buffer: int = 0) -> Session:
         """A client that has sent these requests and reads no reply."""
-        client = socket.socket()
-        self.addCleanup(client.close)
-        if receive_buffer:
-            client.setsockopt(socket.SOL_SOCKET, socket.SO_RCVBUF, receive_buffer)
-        client.settimeout(PATIENCE)
-        client.connect(("127.0.0.1", server.port))
-        client.setsockopt(socket.IPPROTO_TCP, socket.TCP_NODELAY, 1)
-        client.sendall("".join(f"{it}\n" for it in requests).encode())
+        client = Session(server.port, receive_buffer=receive_buffer)
+        self.addCleanup(client.hang_up)
+        client.send(*requests)
         return client
 
-    def ask(self, server: Server, *requests: str) -> socket.socket:
+    def ask(self, server: Server, *requests: str) -> Session:
         """A client that has sent these requests, each after the reply to the one before."""
         client = self.connect(server)
         for request in requests:
-            client.sendall(f"{request}\n".encode())
-            self.assertTrue(client.recv(1000).endswith(b"\n"))
+            client.send(request)
+            client.reply()
         return client
 
-    def stops_reading(self, server: Server) -> socket.socket:
+    def leave(self, server: Server) -> None:
+        """A client that leaves at once, in good order."""
+        self.connect(server, "QUIT").rest()
+
+    def stops_reading(self, server: Server) -> Session:
         """A client whose replies fill everything on their way, since it reads none."""
         client = self.connect(server, receive_buffer=4096)
-        client.settimeout(1)
-        try:
-            for _ in range(10_000):
-                client.sendall(b"x\n" * 10_000)
-        except socket.timeout:
-            return client
-        raise AssertionError("the server reads on, though its replies are not read")
+        client.fill()
+        return client
 
     def watch(self, *words: object) -> subprocess.Popen[str]:
         """The tool, with a pipe for its output."""
-        command = [sys.executable, "-B", tests.WATCH, *map(str, words)]
-        process = subprocess.Popen(command, stdout=subprocess.PIPE, stderr=subprocess.PIPE, encoding="utf-8")
+        process = started([*tool("watch"), *map(str, words)])
         self.addCleanup(process.communicate)
         self.addCleanup(process.kill)
         return process
@@ -92,11 +71,7 @@ class WatchTest(unittest.TestCase):
         self.assertEqual(process.returncode, 128 + number, said)
         return said
 
-    def file(self, name: str) -> str:
-        return os.path.join(self.room, name)
 
-
-def state_of(look: Told, client: socket.socket) -> Optional[str]:
+def state_of(look: Told, client: Session) -> Optional[str]:
     """What a look says about a client."""
-    port = client.getsockname()[1]
-    return next((str(it["state"]) for it in look["clients"] if it["port"] == port), None)
+    return next((str(it["state"]) for it in look["clients"] if it["port"] == client.own_port), None)

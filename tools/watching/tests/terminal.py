@@ -9,7 +9,6 @@ import re
 import select
 import struct
 import subprocess
-import sys
 import termios
 import time
 from typing import Callable, List
@@ -27,7 +26,7 @@ class Terminal:
         self._master, slave = pty.openpty()
         self.resize(columns, rows)
         environment = {**os.environ, "TERM": "xterm", "COLUMNS": "", "LINES": ""}
-        self.process = subprocess.Popen([sys.executable, "-B", *words], stdin=slave, stdout=slave, stderr=slave,
+        self.process = subprocess.Popen(words, stdin=slave, stdout=slave, stderr=slave,
                                         env=environment, preexec_fn=_take_terminal)
         os.close(slave)
         self.written = ""

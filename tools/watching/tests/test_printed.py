@@ -5,19 +5,32 @@ import dataclasses
 import json
 import os
 import re
+import shutil
 import subprocess
 import time
 import unittest
 from unittest import mock
 
+import watching  # noqa: F401  # which says where the client package is
+from common.program import TOP
 from rb_broker_client import Item
-from watching import prometheus, tests
+from watching import prometheus
 from watching.look import ACTIVE, IN_CALL, NOT_READING, SILENT, WAITING, Client, Head, Look, Supply
 from watching.screen import frame
 from watching.sockets import Connection, Program
 from watching.tests.support import WatchTest
 from watching.text import plain_line
 from watching.values import json_line
+
+
+PROMTOOL = shutil.which("promtool")
+
+
+def promtool(what: str, *paths: str, given: str = "") -> "tuple[int, str, str]":
+    """What promtool says of something that it checks."""
+    ran = subprocess.run([str(PROMTOOL), "check", what, *paths], input=given, capture_output=True, encoding="utf-8",
+                         check=False)
+    return ran.returncode, ran.stdout, ran.stderr
 
 
 def client(port: int, state: str, seconds: float, send_queue: int = 0, pid: int = 0) -> Client:
@@ -141,15 +154,13 @@ class LineTest(unittest.TestCase):
 class PrometheusTest(WatchTest):
     def written(self, look: "Look | None") -> "dict[str, float]":
         """The metrics of a file, which promtool takes if it is there."""
-        path = self.file("rb.prom")
+        path = self.path("rb.prom")
         prometheus.write(path, 7011, look)
         self.assertEqual(os.listdir(self.room), ["rb.prom"])
         with open(path, encoding="ascii") as file:
             text = file.read()
-        if tests.PROMTOOL:
-            ran = subprocess.run([tests.PROMTOOL, "check", "metrics"], input=text, capture_output=True,
-                                 encoding="utf-8", check=False)
-            self.assertEqual((ran.returncode, ran.stdout, ran.stderr), (0, "", ""))
+        if PROMTOOL:
+            self.assertEqual(promtool("metrics", given=text), (0, "", ""))
         return {name: float(value) for name, value in re.findall(r'^(\w+)\{port="7011"\} (\S+)$', text, re.M)}
 
     def test_all_metrics(self) -> None:
@@ -180,16 +191,19 @@ class PrometheusTest(WatchTest):
 
     def test_the_alerts_of_the_page(self) -> None:
         """Each metric that an alert of docs/OPERATING.md names is one that is written."""
-        with open(f"{tests.TOP}/docs/OPERATING.md", encoding="utf-8") as file:
+        with open(f"{TOP}/docs/OPERATING.md", encoding="utf-8") as file:
             rules = re.search(r"^    groups:\n(?:    .*\n|\n)+", file.read(), re.M)
         assert rules is not None
         text = re.sub(r"^    ", "", rules[0], flags=re.M)
         named = set(re.findall(r"\brb_broker_\w+", text))
         self.assertTrue(named and named <= self.written(LOOK).keys(), named)
-        if not tests.PROMTOOL:
+        if not PROMTOOL:
             self.skipTest("there is no promtool")
-        with open(self.file("rules.yml"), "w", encoding="ascii") as file:
-            file.write(text)
-        ran = subprocess.run([tests.PROMTOOL, "check", "rules", self.file("rules.yml")], capture_output=True,
-                             encoding="utf-8", check=False)
-        self.assertEqual((ran.returncode, ran.stderr), (0, ""), ran.stdout)
+        status, said, errors = promtool("rules", self.file("rules.yml", text))
+        self.assertEqual((status, errors), (0, ""), said)
+
+    def test_that_promtool_has_checked_the_metrics(self) -> None:
+        """It does so wherever metrics are written here; this test says whether it is there."""
+        if not PROMTOOL:
+            self.skipTest("there is no promtool")
+        self.assertNotEqual(promtool("metrics", given="no metric\n")[0], 0)

@@ -3,12 +3,11 @@ from __future__ import annotations
 
 import os
 import subprocess
-import sys
 import tempfile
 import unittest
 
+from common.testing import tool
 from watching.sockets import Program, sockets_in
-from watching.tests import WATCH
 
 # A listener with two connections that no worker has accepted yet, a client that does not read and one in a TAKE. Each
 # has its second line behind it, as without --oneline. The last is of another machine's port of the same number.
@@ -63,8 +62,8 @@ class SocketsTest(unittest.TestCase):
                 with open(f"{room}/ss", "w", encoding="ascii") as file:
                     file.write(script)
                 os.chmod(f"{room}/ss", 0o755)
-            ran = subprocess.run([sys.executable, "-B", WATCH, "25999"], env={"PATH": room}, capture_output=True,
-                                 encoding="utf-8", check=False)
+            ran = subprocess.run([*tool("watch"), "25999"], env={"PATH": room}, capture_output=True, encoding="utf-8",
+                                 check=False)
         return ran.returncode, ran.stdout, ran.stderr
 
     def test_where_ss_is_missing_or_fails(self) -> None:

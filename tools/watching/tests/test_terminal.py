@@ -4,18 +4,16 @@ from __future__ import annotations
 import os
 import re
 import signal
-import subprocess
-import sys
 
+from common.testing import run_tool, tool
 from serving.server import Server
-from watching import tests
 from watching.tests.support import PATIENCE, WatchTest
 from watching.tests.terminal import Terminal
 
 
 class TerminalTest(WatchTest):
     def terminal(self, server: Server, *words: object, columns: int = 110, rows: int = 24) -> Terminal:
-        terminal = Terminal([tests.WATCH, str(server.port), "--every", "0.2", *map(str, words)], columns, rows)
+        terminal = Terminal([*tool("watch"), str(server.port), "--every", "0.2", *map(str, words)], columns, rows)
         self.addCleanup(terminal.close)
         return terminal
 
@@ -28,8 +26,8 @@ class TerminalTest(WatchTest):
         self.assertEqual(lines[2], "clients    1 served by 3 workers, 0 waiting for a worker")
         self.assertEqual(lines[3], "ill        1 not reading, 0 hung up while their request waits")
         self.assertEqual(lines[5], "queue      0 elements")
-        self.assertRegex("\n".join(lines), rf"\n  {unread.getsockname()[1]}   python3 {os.getpid()} +does not read ")
-        unread.close()
+        self.assertRegex("\n".join(lines), rf"\n  {unread.own_port}   python3 {os.getpid()} +does not read ")
+        unread.hang_up()
         lines = terminal.lines(lambda lines: "  no client" in lines)
         self.assertEqual([it for it in lines[11:] if it], [], "what was longer is cleared")
         self.assertEqual(terminal.written.count("\x1b[2J"), 1)
@@ -68,25 +66,25 @@ class TerminalTest(WatchTest):
 class EndingTest(WatchTest):
     def test_a_port_with_nobody(self) -> None:
         server = self.serve("--sessions", 1)
-        self.connect(server, "QUIT").recv(10)
+        self.leave(server)
         server.end()
-        process = self.watch(server.port, "--prometheus", self.file("rb.prom"))
+        process = self.watch(server.port, "--prometheus", self.path("rb.prom"))
         out, said = process.communicate(timeout=PATIENCE)
         self.assertEqual((process.returncode, out), (1, ""))
         self.assertEqual(said, f"watch: nobody listens at 127.0.0.1:{server.port}\n")
-        with open(self.file("rb.prom"), encoding="ascii") as file:
+        with open(self.path("rb.prom"), encoding="ascii") as file:
             self.assertIn(f'rb_broker_up{{port="{server.port}"}} 0\n', file.read())
 
     def test_a_server_that_is_killed(self) -> None:
         server = self.serve("--workers", 3, "--sessions", 1)
-        process = self.watch(server.port, "--every", 0.2, "--prometheus", self.file("rb.prom"))
+        process = self.watch(server.port, "--every", 0.2, "--prometheus", self.path("rb.prom"))
         assert process.stdout is not None
         process.stdout.readline()
         server.process.kill()
         _, said = process.communicate(timeout=PATIENCE)
         self.assertEqual(process.returncode, 0)
         self.assertRegex(said, r"^watch: the server has ended; \d+ looks?, which cost \d+ calls and 1 session\n$")
-        with open(self.file("rb.prom"), encoding="ascii") as file:
+        with open(self.path("rb.prom"), encoding="ascii") as file:
             self.assertIn(f'rb_broker_up{{port="{server.port}"}} 0\n', file.read())
 
     def test_sigterm(self) -> None:
@@ -102,34 +100,28 @@ class EndingTest(WatchTest):
     def test_the_next_server(self) -> None:
         """With --follow the tool goes on, at first without a server, and then from one to the next."""
         first = self.serve("--sessions", 1)
-        self.connect(first, "QUIT").recv(10)
+        self.leave(first)
         first.end()
-        words = ("--every", 0.1, "--follow", "--no-session", "--prometheus", self.file("rb.prom"))
+        words = ("--every", 0.1, "--follow", "--no-session", "--prometheus", self.path("rb.prom"))
         process = self.watch(first.port, *words)
         assert process.stdout is not None
         nobody = f"nobody listens at 127.0.0.1:{first.port}\n"
         self.assertEqual(process.stdout.readline(), nobody)
         for _ in range(2):
-            server = subprocess.Popen([tests.PROGRAM, "serve", "--port", str(first.port), "--sessions", "1"],
-                                      stdout=subprocess.PIPE, encoding="utf-8")
-            self.addCleanup(server.communicate)
-            self.addCleanup(server.kill)
-            assert server.stdout is not None
-            server.stdout.readline()
+            server = self.serve("--sessions", 1, port=first.port)
             while " served 0 " not in process.stdout.readline():
                 pass
-            first.process.poll()
-            self.connect(first, "QUIT").recv(10)
-            server.wait(timeout=PATIENCE)
+            self.leave(server)
+            server.end()
             while process.stdout.readline() != nobody:
                 pass
-        with open(self.file("rb.prom"), encoding="ascii") as file:
+        with open(self.path("rb.prom"), encoding="ascii") as file:
             self.assertIn(f'rb_broker_up{{port="{first.port}"}} 0\n', file.read())
         self.assertRegex(self.stop(process), r"^watch: stopped; \d+ looks?, which cost the server nothing\n$")
 
     def test_a_file_that_can_not_be_written(self) -> None:
         server = self.serve("--workers", 2, "--sessions", 1)
-        path = self.file("none/rb.prom")
+        path = self.path("none/rb.prom")
         process = self.watch(server.port, "--prometheus", path)
         _, said = process.communicate(timeout=PATIENCE)
         self.assertEqual((process.returncode, said), (2, f"watch: {path}.new: No such file or directory\n"))
@@ -153,7 +145,6 @@ class EndingTest(WatchTest):
             (("7011", "--prometheus", "x"), "the collector reads no file whose name does not end in .prom"),
             (("7011", "--js"), "unrecognized arguments: --js"),
         ]:
-            ran = subprocess.run([sys.executable, "-B", tests.WATCH, *words], capture_output=True, encoding="utf-8",
-                                 check=False)
+            ran = run_tool("watch", *words)
             self.assertEqual((ran.returncode, ran.stdout), (2, ""), words)
             self.assertTrue(re.search(re.escape(says) + r"\n$", ran.stderr), ran.stderr)

@@ -18,7 +18,7 @@ class WatchedTest(WatchTest):
         silent = self.connect(server)
         working = self.ask(server, "OFFER 0 a", "OFFER 0 b", "TAKE", "TAKE")
         taking = self.ask(server, "SIZE")
-        taking.sendall(b"TAKE\n")
+        taking.send("TAKE")
         unread = self.stops_reading(server)
         process = self.watch(server.port, "--json", "--every", 0.3, "--silent", 1)
 
@@ -35,7 +35,7 @@ class WatchedTest(WatchTest):
                                 "pid": server.process.pid, "port": server.port})
         self.assertTrue(1 <= look["longest_silence_seconds"] < 30, look)
         queues = {it["port"]: it["send_queue_bytes"] for it in look["clients"]}
-        self.assertGreater(queues[unread.getsockname()[1]], 10_000)
+        self.assertGreater(queues[unread.own_port], 10_000)
         self.assertEqual({it["pid"] for it in look["clients"]}, {os.getpid()})
         self.stop(process)
 
@@ -49,7 +49,7 @@ class WatchedTest(WatchTest):
         told = (look["served"], look["waiting"], look["elements"], look["watch"]["calls"], look["watch"]["sessions"])
         self.assertEqual(told, (2, 2, None, 0, 1), "the tool waits too, in one session")
         for client in [*served, *waiting]:
-            client.close()
+            client.hang_up()
         look = self.looks(process, lambda look: look["elements"] is not None)[-1]
         self.assertEqual(look["elements"], 0)
         self.stop(process)
@@ -58,7 +58,7 @@ class WatchedTest(WatchTest):
         server = self.serve("--workers", 2, "--sessions", 3)
         client = self.connect(server, "TAKE")
         time.sleep(0.3)
-        client.close()
+        client.hang_up()
         process = self.watch(server.port, "--json", "--every", 0.2)
         look = self.looks(process, lambda look: bool(look["clients"]))[-1]
         self.assertEqual([it["state"] for it in look["clients"]], ["has hung up"])
@@ -72,7 +72,7 @@ class WatchedTest(WatchTest):
         began = time.monotonic()
         client = self.ask(server, "SIZE")
         self.assertLess(time.monotonic() - began, 3)
-        client.close()
+        client.hang_up()
         looks = self.looks(process, lambda look: look["watch"]["sessions"] > 1 and look["elements"] is not None)
         self.assertEqual(looks[-1]["elements"], 0)
         self.stop(process)
@@ -86,7 +86,7 @@ class WatchedTest(WatchTest):
                 look = self.looks(process, lambda look: look["elements"] is not None)[-1]
                 self.assertEqual((look["head"]["payload"], look["head"]["attempt"]), ("later", 1))
                 self.assertTrue(-3600 <= look["head"]["late_seconds"] < -3590, look)
-                client.sendall(b"OFFER 0 now\n")
+                client.send("OFFER 0 now")
                 offered = time.monotonic()
                 look = self.looks(process, lambda look: bool(look["elements"] == 2))[-1]
                 latest = time.monotonic() - offered
@@ -97,12 +97,12 @@ class WatchedTest(WatchTest):
         """However long the history is, the moments begin once it is read. No id of this run was seen."""
         last, elements = 5_000_000_000_000, 20_000
         late = last - 3_000_000_000
-        with open(self.file("before.txt"), "w", encoding="ascii") as file:
+        with open(self.path("before.txt"), "w", encoding="ascii") as file:
             file.write(f"history 3\nopen {elements} {last} {elements}\n")
             file.writelines(f"keep {it} {late + it} {it} {late + it} 1 old\n" for it in range(elements))
             file.write("end 0\n")
-        os.utime(self.file("before.txt"), (1, 1))
-        server = self.serve("--workers", 3, "--sessions", 20, "--from", self.file("before.txt"))
+        os.utime(self.path("before.txt"), (1, 1))
+        server = self.serve("--workers", 3, "--sessions", 20, "--from", self.path("before.txt"))
         began = time.monotonic()
         process = self.watch(server.port, "--json", "--every", 0.2)
         look = self.looks(process, lambda look: look["head"] is not None)[-1]
@@ -145,7 +145,7 @@ class WatchedTest(WatchTest):
         process = self.watch(server.port, "--json", "--every", 0.1, "--no-session")
         look = self.looks(process, lambda look: bool(look["watch"]["looks"] == 3))[-1]
         self.assertEqual((look["elements"], look["calls"], look["watch"]["calls"]), (None, None, 0))
-        self.connect(server, "QUIT").recv(10)
+        self.leave(server)
         self.assertEqual(json.loads(server.end()[1][1])["calls"], 0)
         _, said = process.communicate(timeout=30)
         self.assertEqual(process.returncode, 0)
@@ -159,8 +159,7 @@ class WatchedTest(WatchTest):
         told = (look["calls"]["used"], look["calls"]["is_least"], look["calls"]["limit"])
         self.assertEqual(told, (101 + 4, False, 1000))
         for _ in range(100):
-            client.sendall(b"OFFER 0 a\n")
-            client.recv(1000)
+            client.ask("OFFER 0 a")
         look = self.looks(process, lambda look: look["calls"] is not None and bool(look["calls"]["lasts_seconds"]))[-1]
         calls = look["calls"]
         self.assertEqual(calls["used"], 201 + look["watch"]["calls"])
@@ -189,7 +188,7 @@ class WatchedTest(WatchTest):
         process = self.watch(server.port, "--json", "--every", 0.1, "--no-session")
         look = self.looks(process, lambda look: True)[-1]
         self.assertEqual((look["sessions"]["used"], look["sessions"]["limit"]), (2, 50))
-        clients[0].close()
+        clients[0].hang_up()
         late = self.ask(server, "SIZE")
         look = self.looks(process, lambda look: bool(look["sessions"]["used"] == 3))[-1]
         self.assertEqual(state_of(look, late), "active")
@@ -205,15 +204,15 @@ class WatchedTest(WatchTest):
 
     def test_a_server_that_ends_though_it_is_watched(self) -> None:
         """Its sessions are used up while the tool has one: others that connect make it leave."""
-        server = self.serve("--workers", 2, "--sessions", 2, "--history", self.file("run.txt"))
+        server = self.serve("--workers", 2, "--sessions", 2, "--history", self.path("run.txt"))
         process = self.watch(server.port, "--json", "--every", 0.2)
         self.looks(process, lambda look: look["elements"] is not None)
         self.ask(server, "QUIT")
         waiting = self.connect(server)
         self.assertEqual(server.end()[0], 0)
-        waiting.close()
+        waiting.hang_up()
         _, said = process.communicate(timeout=30)
         self.assertEqual(process.returncode, 0, said)
         self.assertRegex(said, r"^watch: the server has ended; \d+ looks, which cost \d+ calls and \d sessions?\n$")
-        with open(self.file("run.txt"), encoding="ascii") as file:
+        with open(self.path("run.txt"), encoding="ascii") as file:
             self.assertRegex(file.read(), r"\nend \d+\n$")

@@ -1,8 +1,7 @@
 """A program that speaks the protocol almost correctly: python3 wrong_broker.py FLAW PROGRAM WORD ..
 
 It runs `PROGRAM WORD ..` on its own standard input and passes on its output and its exit status, changed as the
-flaw says. tools/conforming/test_conform.py must find each flaw except `no flaw`. Exit status: the program's, or 2 if a
-word is wrong.
+flaw says. tools/conform must find each flaw except `no flaw`. Exit status: the program's, or 2 if a word is wrong.
 """
 from __future__ import annotations
 

@@ -1,0 +1,74 @@
+"""Ports with no broker, and words with which nothing is begun."""
+from __future__ import annotations
+
+import json
+import socket
+import threading
+import unittest
+
+from common.testing import RoomTest
+from loading.tests.support import load
+
+
+class StrangeServerTest(RoomTest):
+    def listen(self, answer: bytes | None) -> int:
+        """A port at which the first request gets this answer and the end of the connection, or no answer at all."""
+        listener = socket.create_server(("127.0.0.1", 0))
+        self.addCleanup(listener.close)
+
+        def serve() -> None:
+            connection, _ = listener.accept()
+            self.addCleanup(connection.close)
+            connection.recv(1000)
+            if answer is not None:
+                connection.sendall(answer)
+                connection.close()
+
+        threading.Thread(target=serve, daemon=True).start()
+        return listener.getsockname()[1]
+
+    def test_a_port_with_nobody(self):
+        with socket.create_server(("127.0.0.1", 0)) as it:
+            port = it.getsockname()[1]
+        status, lines, errors = load("--port", port, "--seconds", 1)
+        self.assertEqual((status, lines, errors), (1, [], f"load: nobody listens at 127.0.0.1:{port}\n"))
+
+    def test_servers_that_are_no_broker(self):
+        for answer, told in [
+            (b"HTTP/1.1 400 Bad Request\r\n", "errors 1: 1 of 'HTTP/1.1 400 Bad Request\\r' answers OFFER"),
+            (b"OFFERED soon\n", "errors 1: 1 of 'OFFERED soon' has no number"),
+            (b"", "errors 1: 1 of the server closed the connection"),
+            (b"x" * 100_000, "errors 1: 1 of a reply line has no end"),
+            (None, "errors 1: 1 of no reply at the end"),
+        ]:
+            with self.subTest(answer=answer):
+                status, lines, errors = load("--port", self.listen(answer), "--clients", 1, "--seconds", 0.2)
+                self.assertEqual((status, errors), (1, ""))
+                self.assertEqual(lines[-1], told)
+
+    def test_a_record_of_a_request_without_a_reply(self):
+        path = self.path("load.jsonl")
+        load("--port", self.listen(None), "--clients", 1, "--seconds", 0.2, "--record", path)
+        with open(path, encoding="ascii") as file:
+            told = [json.loads(line) for line in file]
+        told = [(it["request"], it["received"], it["reply"]) for it in told]
+        self.assertEqual(told, [("OFFER 0 load-0-0", None, [])])
+
+    def test_a_record_that_can_not_be_written(self):
+        status, lines, errors = load("--port", self.listen(None), "--record", self.path("none/load.jsonl"))
+        self.assertEqual((status, lines), (1, []))
+        self.assertRegex(errors, r"^load: .*No such file or directory.*\n$")
+
+
+class WordsTest(unittest.TestCase):
+    def test_words_that_are_refused(self):
+        for words in [
+            (), ("--port", 0), ("--port", 65_536), ("--port", "x"), ("--port", 1, "--clients", 0),
+            ("--port", 1, "--rate", 0), ("--port", 1, "--rate", "nan"), ("--port", 1, "--delay", -1),
+            ("--port", 1, "--delay", 2**64), ("--port", 1, "--fail", 1.5), ("--port", 1, "--seconds", 0),
+            ("--port", 1, "more"),
+        ]:
+            with self.subTest(words=words):
+                status, lines, errors = load(*words)
+                self.assertEqual((status, lines), (2, []))
+                self.assertIn("tools/load: error: ", errors)
