@@ -1,9 +1,8 @@
-"""The parts of tools/package and tools/check_package: the table of options, the completions, the package."""
-import os
+"""The parts of tools/package: the table of options, the completions and the package. Those of tools/check_package are
+below tests/."""
+from common.program import TOP
 
-TOP = os.path.dirname(os.path.dirname(os.path.dirname(os.path.realpath(__file__))))
 SOURCES = f"{TOP}/packaging"
-PROGRAM = f"{TOP}/crates/rb_broker/out/rb_broker"
 
 
 class Fault(Exception):

@@ -5,7 +5,8 @@ import email.utils
 import re
 import textwrap
 
-from packaging import TOP, Fault
+from common.program import TOP
+from packaging import Fault
 from packaging.version import Version
 
 CHANGES = f"{TOP}/CHANGELOG.md"

@@ -6,7 +6,8 @@ import subprocess
 import time
 from dataclasses import dataclass
 
-from packaging import TOP, Fault
+from common.program import TOP
+from packaging import Fault
 
 
 @dataclass(frozen=True)

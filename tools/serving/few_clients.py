@@ -15,8 +15,9 @@ import tempfile
 import threading
 import time
 
+from common.checking import Tally
 from serving.clients import Client
-from serving.server import Server, Tally
+from serving.server import Server
 
 SECOND, MILLISECOND = 10**9, 10**6  # in nanoseconds, as the server counts
 

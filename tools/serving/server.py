@@ -10,8 +10,7 @@ import time
 from types import TracebackType
 from typing import List, NamedTuple, Optional, Sequence
 
-from common.checking import Tally  # noqa: F401
-from common.program import PROGRAM, TOP, tested_program  # noqa: F401
+from common.program import tested_program
 from serving import HOST, PATIENCE
 
 PORTS = range(20_000, 32_000)  # below those that the system gives to clients

@@ -6,11 +6,12 @@ import re
 import threading
 from contextlib import ExitStack
 
-from packaging.cutting import TWO
-from packaging.running import Told, fault_unless, run
-from packaging.service import ONE, Serving
+from common.checking import Tally
+from histories.text import Text
+from packaging.tests.cutting import TWO
+from packaging.tests.running import Told, fault_unless, run
+from packaging.tests.service import ONE, Serving
 from serving.cuts import kernel_that_closes_nothing
-from serving.server import Tally
 from serving.session import Session
 
 HOUR = 3_600_000_000_000  # nanoseconds
@@ -84,7 +85,7 @@ def try_a_stop_with_cuts(tally: Tally, root: str, state: str) -> None:
             thread.join()
     said = f"stop_server: the server at port {server.port} has ended; open sessions that were cut: 5\n"
     tally.count("a stop with open sessions", fault_unless(told == Told(0, said, ""), told))
-    counts, audit = [*ended.said.splitlines(), "", "{}"][:2]
+    counts, audit = [*ended.lines, "", "{}"][:2]
     jobs = [*later, *held, "deaf"]
     is_right = re.fullmatch(r"sessions 10000 faults \d+ lost 0", counts) and json.loads(audit).get("left") == len(jobs)
     tally.count("the end of its server", fault_unless(bool(is_right) and ended.status == 0, ended))
@@ -94,8 +95,8 @@ def try_a_stop_with_cuts(tally: Tally, root: str, state: str) -> None:
 def jobs_of_next_run(root: str, state: str, wanted: list[str]) -> str:
     """What the next run begins with, if that is not these jobs, each once, by the opening that it writes."""
     with Serving(root, state, ONE) as server:
-        server.talk("QUIT\n")
+        server.talk("QUIT")
         server.end()
-    with open(f"{state}/history.txt", encoding="ascii") as it:
-        found = re.findall(r"^keep \d+ \d+ \d+ \d+ \d+ (\S+)$", it.read(), re.M)
+    with open(f"{state}/history.txt", "rb") as it:
+        found = [keep["keep"].decode() for _, keep in Text(it).kept()]
     return "" if sorted(found) == sorted(wanted) else f"it begins with {found}"

@@ -3,9 +3,10 @@ from __future__ import annotations
 
 import os
 
-from packaging import SOURCES, TOP
-from packaging.running import fault_unless, run
-from serving.server import Tally
+from common.checking import Tally
+from common.program import TOP
+from packaging import SOURCES
+from packaging.tests.running import fault_unless, run
 
 
 def check_refusals(tally: Tally, program: str, folder: str) -> None:

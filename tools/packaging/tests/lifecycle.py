@@ -1,22 +1,23 @@
-"""Tests a package: it is made, installed into an empty root, used from there, and removed."""
+"""The package is made, installed into an empty root, used from there, and removed."""
 from __future__ import annotations
 
 import os
 import shutil
 
-from packaging import TOP, Fault
-from packaging.booted import try_units
-from packaging.cutting import try_cuts
-from packaging.installed import try_installed
-from packaging.page import check_layout
-from packaging.running import Told, fault_unless, run
-from packaging.service import try_service
-from packaging.shells import check_bash, check_zsh
-from packaging.stopping import try_stops
+from common.checking import Tally
+from common.program import TOP
+from packaging import Fault
 from packaging.table import Table
-from packaging.unit import check_by_systemd
+from packaging.tests.booted import try_units
+from packaging.tests.cutting import try_cuts
+from packaging.tests.installed import try_installed
+from packaging.tests.page import check_layout
+from packaging.tests.running import Told, fault_unless, run
+from packaging.tests.service import try_service
+from packaging.tests.shells import check_bash, check_zsh
+from packaging.tests.stopping import try_stops
+from packaging.tests.unit import check_by_systemd
 from serving.cuts import reason_not_to_cut
-from serving.server import Tally
 
 
 def try_package(tally: Tally, program: str, table: Table, folder: str) -> None:

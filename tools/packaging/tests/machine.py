@@ -9,8 +9,8 @@ import time
 from types import TracebackType
 from typing import Optional
 
-from packaging import TOP
-from packaging.running import Told, run
+from common.program import TOP
+from packaging.tests.running import Told, run
 
 SYSTEMD = "/lib/systemd/systemd"
 UNITS = (
@@ -61,7 +61,7 @@ class Machine:
         os.mkdir(self.cgroup)
         # Each of the three ends when the one before has ended, whatever becomes of this one.
         words = ["setpriv", "--pdeathsig", "KILL", "unshare", *NAMESPACES, "--fork", "--kill-child"]
-        words += [f"{TOP}/tools/packaging/boot_systemd", folder, *UNITS]
+        words += [f"{TOP}/tools/packaging/tests/boot_systemd", folder, *UNITS]
         enter = f'echo $$ > "{self.cgroup}/cgroup.procs"; exec "$@"'
         with open(f"{folder}/console", "w", encoding="utf-8") as console:
             self.process = subprocess.Popen(

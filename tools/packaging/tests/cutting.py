@@ -9,12 +9,13 @@ import threading
 import time
 from contextlib import ExitStack
 
+from common.checking import Tally
 from packaging import Fault
-from packaging.commands import Unit
-from packaging.running import Told, fault_unless, run
-from packaging.service import Serving
+from packaging.tests.commands import Unit
+from packaging.tests.running import Told, fault_unless, run
+from packaging.tests.service import Serving
+from serving import HOST
 from serving.cuts import kernel_that_closes_nothing
-from serving.server import Tally
 from serving.session import Session
 
 # A failed job is back at once.
@@ -34,8 +35,8 @@ def alike_ports() -> tuple[int, int]:
         second = 10 * first + random.randrange(10)
         with socket.socket() as one, socket.socket() as other:
             try:
-                one.bind(("127.0.0.1", first))
-                other.bind(("127.0.0.1", second))
+                one.bind((HOST, first))
+                other.bind((HOST, second))
                 return first, second
             except OSError:
                 pass
@@ -117,8 +118,8 @@ def try_its_own_alone(tally: Tally, root: str, folder: str) -> None:
         are_cut = [it.is_cut() for it in served]
         tally.count("a cut of a server's sessions", fault_unless(told == Told(0, "2\n", ""), told))
         tally.count("the sessions that were cut", fault_unless(are_cut == [True, True], (are_cut, replies)))
-        reply = waiting.replies.readline().decode()
-        is_right = re.fullmatch(r"ITEM 1 \d+ 2 job\n", reply) is not None
+        reply = waiting.heard()
+        is_right = re.fullmatch(r"ITEM 1 \d+ 2 job", reply) is not None
         tally.count("a client that waited has the job of a cut session", fault_unless(is_right, reply))
         with Session(port) as late:
             tally.count("a client after the cut", fault_unless(late.ask("SIZE") == "SIZE 0", "it is not served"))
@@ -148,7 +149,7 @@ def visit(port: int, over: threading.Event) -> None:
     for _ in range(2_000):
         if over.is_set():
             return
-        with socket.create_connection(("127.0.0.1", port)):
+        with socket.create_connection((HOST, port)):
             pass
 
 
@@ -203,5 +204,5 @@ def try_silent_everywhere(tally: Tally, root: str, folder: str) -> None:
         said = f"cut_silent: port {server.port}: sessions that were cut after 1 s of silence: 2\n"
         is_right = told == Told(0, said, "") and all(it.is_cut() for it in silent)
         tally.count("silent sessions everywhere", fault_unless(is_right, told))
-        reply = waiting.replies.readline().decode()
-        tally.count("a client behind silent ones", fault_unless(reply == "SIZE 0\n", reply))
+        reply = waiting.heard()
+        tally.count("a client behind silent ones", fault_unless(reply == "SIZE 0", reply))

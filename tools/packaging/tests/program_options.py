@@ -5,9 +5,9 @@ import re
 from dataclasses import replace
 from typing import Optional
 
-from packaging.running import fault_unless, run
+from common.checking import Tally
 from packaging.table import HELP_COMMAND, HELP_OPTIONS, Command, Option, Table
-from serving.server import Tally
+from packaging.tests.running import fault_unless, run
 
 ROW = re.compile(r"^ +(?:-h, )?(--[a-z-]+)(?: <([A-Z]+)>)? +(.*)$", re.M)
 NOWHERE = "/nowhere/rb_broker"  # a missing file: if the words are accepted, it can't be read

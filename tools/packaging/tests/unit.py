@@ -5,12 +5,12 @@ import re
 import shlex
 import shutil
 
+from common.checking import Tally
 from packaging import SOURCES
-from packaging.page import PAGE, options_in, plain
-from packaging.running import fault_unless, run
 from packaging.table import Command, Option, Table
-from packaging.told import accepts
-from serving.server import Tally
+from packaging.tests.page import PAGE, options_in, plain
+from packaging.tests.program_options import accepts
+from packaging.tests.running import fault_unless, run
 
 SECOND = 1_000_000_000  # nanoseconds
 
@@ -91,7 +91,7 @@ def check_advice(tally: Tally, options: str) -> None:
 def check_by_systemd(tally: Tally, root: str, folder: str) -> None:
     """systemd reads the unit that is installed below a root: a copy of it in a folder, whose commands are there too."""
     if not shutil.which("systemd-analyze"):
-        print("systemd-analyze is not installed: the unit is not tried by it")
+        tally.pass_over("systemd-analyze verify", "it is not installed")
         return
     for name in UNITS:
         unit = text_of(f"{root}/usr/lib/systemd/system/{name}")

@@ -10,12 +10,12 @@ import signal
 import subprocess
 import sys
 
-from packaging import TOP
+from common.checking import Tally
+from common.program import TOP
 from packaging.pages import PAGES
-from packaging.running import PATIENCE, Told, fault_unless, run
-from packaging.service import ONE, Serving
+from packaging.tests.running import PATIENCE, Told, fault_unless, run
+from packaging.tests.service import ONE, Serving
 from packaging.tree import COMMANDS, DOCUMENTS, PYTHON
-from serving.server import Tally
 
 OF_A_CHECKOUT = {"package", "conform"}  # beside the checks
 
@@ -97,7 +97,7 @@ def try_load(tally: Tally, root: str, state: str) -> None:
         told = run(f"{root}/usr/bin/rb_broker_load", *words)
         ended = server.end()
     tally.count("rb_broker_load", fault_unless(told.status == 0 and "\nerrors 0\n" in told.said, told))
-    calls = json.loads(ended.said.splitlines()[-1])["calls"]
+    calls = json.loads(ended.lines[-1])["calls"]
     told = run(f"{root}/usr/bin/rb_broker_report", f"{state}/history.txt")
     is_right = told.status == 0 and f" {calls} events, 4 seats" in told.said
     tally.count("rb_broker_report", fault_unless(is_right, (calls, told)))
@@ -116,7 +116,7 @@ def try_examples(tally: Tally, root: str, folder: str) -> None:
     assert script.stdout
     line = script.stdout.readline()
     tally.count("the rollover script's run", fault_unless(line.startswith("rollover: run 1 serves"), line))
-    replies = free.talk("OFFER 0 one\nQUIT\n")
+    replies = free.talk("OFFER 0 one", "QUIT")
     if shutil.which("perl"):
         words = ["perl", f"{examples}/worker.pl", str(free.port), "true"]
         worker = subprocess.Popen(words, stdout=pipe, encoding="utf-8")

@@ -5,10 +5,10 @@ import re
 import shutil
 import time
 
-from packaging.machine import Machine, reason_not_to_boot
-from packaging.running import Told, fault_unless
-from packaging.service import free_port
-from serving.server import Tally
+from common.checking import Tally
+from packaging.tests.machine import Machine, reason_not_to_boot
+from packaging.tests.running import Told, fault_unless
+from serving.server import free_port
 from serving.session import Session
 
 # A client with a unit of its own, which leaves ten seconds after it is stopped.
