@@ -10,8 +10,9 @@ from . import requests
 from .age import Age
 from .async_broker import AsyncBroker
 from .async_connection import Wakeup
-from .limits import MOST_HELD, SECOND
+from .limits import SECOND
 from .pauses import Pauses
+from .presence import Presence
 from .record import Record, RecordTarget
 from .replies import Item
 from .report import Report
@@ -42,11 +43,9 @@ class AsyncWorker:
                  record: Union[RecordTarget, Record, None] = None) -> None:
         """Connects to nothing yet. The options are those of `Worker`; `handler` and `on_dead` are coroutine
         functions."""
-        if not 1 <= concurrency <= MOST_HELD:
-            raise ValueError(f"from 1 to {MOST_HELD} jobs can run at the same time")
+        self._terms = Terms(concurrency, wait, f"{host}:{port}")
         self._handler, self._on_dead = handler, on_dead
         self._port, self._host, self._record = port, host, Record.of(record)
-        self._terms = Terms(concurrency, wait, f"{host}:{port}")
         self._patience, self._session = patience, Age.checked(session)
         self._pauses = pauses or Pauses()
         self._tasks: Set[asyncio.Task[None]] = set()
@@ -54,7 +53,7 @@ class AsyncWorker:
         self._wakeup = Wakeup()
         self._loop: Optional[asyncio.AbstractEventLoop] = None
         self._is_stopping = False
-        self._is_away = False  # whether the last session was lost, or none could be had
+        self._presence = Presence(log, self._terms.place)
         self.report = Report()
 
     def stop(self, *_: object) -> None:
@@ -88,7 +87,7 @@ class AsyncWorker:
         try:
             await broker.connect()
         except OSError as fault:
-            self._away("no server at %s: %s", fault)
+            self._presence.lost("no server at %s: %s", fault)
             return False
         async with broker:
             broker.call_when_ready(self._wakeup.wake)
@@ -102,7 +101,7 @@ class AsyncWorker:
                     work.lost()
                 await broker.quit()
             except OSError as fault:
-                self._away("the session at %s was lost: %s", fault)
+                self._presence.lost("the session at %s was lost: %s", fault)
                 return False
         return not work.is_used_up
 
@@ -115,9 +114,7 @@ class AsyncWorker:
                 return False
             if not broker.receive_ready():
                 await self._wakeup.wait(None)
-        if self._is_away:
-            log.info("served again at %s", self._terms.place)
-            self._is_away = False
+        self._presence.served()
         return True
 
     async def _work_off(self, broker: AsyncBroker, work: Work) -> None:
@@ -214,8 +211,3 @@ class AsyncWorker:
     def _raise_fault(self) -> None:
         if self._faults:
             raise self._faults.pop(0)
-
-    def _away(self, text: str, fault: OSError) -> None:
-        """There is no session, for this reason. It is told once, until the next is served."""
-        log.log(logging.DEBUG if self._is_away else logging.WARNING, text, self._terms.place, fault)
-        self._is_away = True

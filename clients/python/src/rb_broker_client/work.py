@@ -14,7 +14,7 @@ from typing import Any, Callable, Deque, Dict, List, Optional
 from . import requests
 from .age import Age
 from .errors import Full, HeldTooMany, OutOfMemory, Refused, Stopped
-from .limits import SECOND
+from .limits import MOST_HELD, SECOND
 from .pauses import Pauses
 from .replies import Again, Item
 from .report import Report
@@ -40,6 +40,10 @@ class Terms:
     """How many nanoseconds a wait for a job lasts while none runs."""
     place: str
     """What the log calls the server."""
+
+    def __post_init__(self) -> None:
+        if not 1 <= self.concurrency <= MOST_HELD:
+            raise ValueError(f"from 1 to {MOST_HELD} jobs can run at the same time")
 
 
 class Work:

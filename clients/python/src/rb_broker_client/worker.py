@@ -11,8 +11,9 @@ from . import requests
 from .age import Age
 from .broker import Broker
 from .errors import SyntaxRefused
-from .limits import MOST_HELD, SECOND
+from .limits import SECOND
 from .pauses import Pauses
+from .presence import Presence
 from .record import Record, RecordTarget
 from .replies import Item
 from .report import Report
@@ -58,17 +59,15 @@ class Worker:
         It isn't called for a job whose last attempt ended with its session, of which no reply tells. An `Exception`
         that it raises is logged. `record` is a path or an open text file to which a line is added for each request.
         """
-        if not 1 <= concurrency <= MOST_HELD:
-            raise ValueError(f"from 1 to {MOST_HELD} jobs can run at the same time")
+        self._terms = Terms(concurrency, wait, f"{host}:{port}")
         self._handler, self._on_dead = handler, on_dead
         self._port, self._host, self._record = port, host, Record.of(record)
-        self._terms = Terms(concurrency, wait, f"{host}:{port}")
         self._patience, self._session = patience, Age.checked(session)
         self._pauses = pauses or Pauses()
         self._stop = Stop()
         self._tasks: Tasks = TasksHere()
         self._ends: Deque[Tuple[Work, Item, bool]] = deque()  # jobs whose handlers have ended
-        self._is_away = False  # whether the last session was lost, or none could be had
+        self._presence = Presence(log, self._terms.place)
         self.report = Report()
 
     def stop(self, *_: object) -> None:
@@ -96,7 +95,7 @@ class Worker:
         try:
             broker = Broker(self._port, self._host, self._patience, record=self._record)
         except OSError as fault:
-            self._away("no server at %s: %s", fault)
+            self._presence.lost("no server at %s: %s", fault)
             return False
         with broker:
             try:
@@ -109,7 +108,7 @@ class Worker:
                     work.lost()
                 broker.quit()
             except OSError as fault:
-                self._away("the session at %s was lost: %s", fault)
+                self._presence.lost("the session at %s was lost: %s", fault)
                 return False
         return not work.is_used_up
 
@@ -126,9 +125,7 @@ class Worker:
             broker.receive()
         except SyntaxRefused:
             pass
-        if self._is_away:
-            log.info("served again at %s", self._terms.place)
-            self._is_away = False
+        self._presence.served()
         return True
 
     def _work_off(self, broker: Broker, work: Work) -> None:
@@ -210,8 +207,3 @@ class Worker:
             with Waiting(self._stop, self._tasks.fileno()) as waiting:
                 waiting.wait(None, heeds_stop=False)
             self._tasks.settle()
-
-    def _away(self, text: str, fault: OSError) -> None:
-        """There is no session, for this reason. It is told once, until the next is served."""
-        log.log(logging.DEBUG if self._is_away else logging.WARNING, text, self._terms.place, fault)
-        self._is_away = True
