@@ -66,48 +66,47 @@ class Account:
     def answer(self, request, replies):
         words, asked = replies[0].split(" "), request.decode("ascii", "replace").split(" ")
         numbers = words[1:]
-        match words[0]:
-            case "OFFERED":
-                delay = int(asked[1]) if asked[0] == "OFFER" else None
-                expiry = asked[1] if asked[0] == "OFFERAT" else numbers[1]
-                self.expected.append(Expected("offer", *numbers, numbers[0], expiry, 1, asked[2], delay=delay))
-            case "ITEM":
-                waited = [None, asked[1]] if asked[0] == "POLLFOR" else []
-                self.expected.append(Expected(asked[0].lower(), *waited, self.gets(replies[0])))
-            case "NONE":
-                waited = [None, asked[1]] if asked[0] == "POLLFOR" else []
-                self.expected.append(Expected(asked[0].lower(), *waited, "none"))
-            case "HEAD":
-                self.expected.append(Expected("peek", self.item(replies[0])))
-            case "DRAINED":
-                most = min(int(asked[1]), MOST_HELD - len(self.held))
-                self.expected.append(Expected("drain", most, *[self.gets(it) for it in replies[1:]]))
-            case "REMOVED":
-                self.expected.append(Expected("remove", asked[1], words[1]))
-            case "CLEARED":
-                self.expected.append(Expected("clear"))
-            case "SIZE":
-                self.expected.append(Expected("size", words[1]))
-            case "AGAIN":
-                self.fails(int(asked[1]), *numbers)
-            case "DONE" if words == asked:
-                del self.held[int(asked[1])]
-            case "DEAD" if asked == ["FAIL", words[1]] and self.held[int(words[1])].attempt == ATTEMPTS:
-                del self.held[int(words[1])]
-            case _ if not self.may_be_so(replies[0], asked):
-                raise AssertionError(f"{request!r} was answered {replies[0]!r}")
+        word = words[0]
+        if word == "OFFERED":
+            delay = int(asked[1]) if asked[0] == "OFFER" else None
+            expiry = asked[1] if asked[0] == "OFFERAT" else numbers[1]
+            self.expected.append(Expected("offer", *numbers, numbers[0], expiry, 1, asked[2], delay=delay))
+        elif word == "ITEM":
+            waited = [None, asked[1]] if asked[0] == "POLLFOR" else []
+            self.expected.append(Expected(asked[0].lower(), *waited, self.gets(replies[0])))
+        elif word == "NONE":
+            waited = [None, asked[1]] if asked[0] == "POLLFOR" else []
+            self.expected.append(Expected(asked[0].lower(), *waited, "none"))
+        elif word == "HEAD":
+            self.expected.append(Expected("peek", self.item(replies[0])))
+        elif word == "DRAINED":
+            most = min(int(asked[1]), MOST_HELD - len(self.held))
+            self.expected.append(Expected("drain", most, *[self.gets(it) for it in replies[1:]]))
+        elif word == "REMOVED":
+            self.expected.append(Expected("remove", asked[1], words[1]))
+        elif word == "CLEARED":
+            self.expected.append(Expected("clear"))
+        elif word == "SIZE":
+            self.expected.append(Expected("size", words[1]))
+        elif word == "AGAIN":
+            self.fails(int(asked[1]), *numbers)
+        elif word == "DONE" and words == asked:
+            del self.held[int(asked[1])]
+        elif word == "DEAD" and asked == ["FAIL", words[1]] and self.held[int(words[1])].attempt == ATTEMPTS:
+            del self.held[int(words[1])]
+        elif not self.may_be_so(replies[0], asked):
+            raise AssertionError(f"{request!r} was answered {replies[0]!r}")
 
     def may_be_so(self, reply, asked):
         """Whether a reply without an event may be given."""
-        match reply:
-            case "STOPPED":
-                return asked[0] in ("TAKE", "POLLFOR")
-            case "BYE":
-                return asked == ["QUIT"]
-            case "ERR 5 not-held":
-                return int(asked[1]) not in self.held
-            case "ERR 9 held":
-                return len(self.held) == MOST_HELD
+        if reply == "STOPPED":
+            return asked[0] in ("TAKE", "POLLFOR")
+        if reply == "BYE":
+            return asked == ["QUIT"]
+        if reply == "ERR 5 not-held":
+            return int(asked[1]) not in self.held
+        if reply == "ERR 9 held":
+            return len(self.held) == MOST_HELD
         return reply in ("ERR 1 syntax", "ERR 8 line")
 
     def end(self):
@@ -120,14 +119,12 @@ class Account:
 def may_answer(request, event):
     """Whether an event may be that of a request whose reply was not seen."""
     words, act = request.decode("ascii", "replace").split(" "), event.act
-    match words[0]:
-        case "OFFER":
-            return act[0] == "offer" and act[5:] == ["1", words[2]]
-        case "REMOVE":
-            return act[0] == "remove" and act[1] == words[1]
-        case "TAKE" | "POLL" | "SIZE" | "POLLFOR" | "PEEK" | "DRAIN" | "CLEAR":
-            return act[0] == words[0].lower()
-    return False
+    if words[0] == "OFFER":
+        return act[0] == "offer" and act[5:] == ["1", words[2]]
+    if words[0] == "REMOVE":
+        return act[0] == "remove" and act[1] == words[1]
+    plain = ("TAKE", "POLL", "SIZE", "POLLFOR", "PEEK", "DRAIN", "CLEAR")
+    return words[0] in plain and act[0] == words[0].lower()
 
 
 def unexplained(events, requests):
