@@ -48,7 +48,7 @@ def python(root: str, *words: str) -> Told:
 
 def try_installed(tally: Tally, root: str, folder: str) -> None:
     """Runs each of the installed commands once, and follows the links of the installed pages."""
-    told = run(f"{TOP}/tools/check_links", f"{root}/{DOCUMENTS}")
+    told = run(f"{TOP}/tools/check_docs", "links", "--folder", f"{root}/{DOCUMENTS}")
     tally.count("the links of the installed pages", fault_unless(told.status == 0, told))
     check_commands(tally, root)
     check_changelog(tally, root, folder)
