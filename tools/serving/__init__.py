@@ -2,7 +2,6 @@
 
     server.py, session.py, cuts.py   the program as a server, a client's session, and cuts of sessions from outside
     clients.py, accounts.py          the clients of check_server, and what their replies say about the history
-    few_clients.py                   servers with a few clients, which tools/check_program tries
 """
 
 HOST = "127.0.0.1"
