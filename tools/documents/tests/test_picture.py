@@ -36,7 +36,8 @@ class Picture(DocumentsTest):
         self.assertEqual((0, "", ""), (ran.returncode, ran.stdout, ran.stderr))
 
     def words_drawn(self) -> list[str]:
-        return re.findall(r"<text [^>]*>([^<]*)</text>", (self.top / "docs" / "request.svg").read_text(encoding="utf-8"))
+        drawn = (self.top / "docs" / "request.svg").read_text(encoding="utf-8")
+        return re.findall(r"<text [^>]*>([^<]*)</text>", drawn)
 
     def test_the_picture_that_was_drawn(self) -> None:
         self.expect(0, "1 as they must be, 0 not")

@@ -61,7 +61,8 @@ class Uncited(DocumentsTest):
     def test_a_lemma_that_only_a_comment_names(self) -> None:
         source = SOURCE.replace("#[tactic(auto, using(", "// ")
         self.write("crates/rb_desk/src/lib.rt", source)
-        self.expect(1, "2 as they must be, 1 not", "crates/rb_desk/proofs/Failures.antt:7: fails_again is cited nowhere")
+        fault = "crates/rb_desk/proofs/Failures.antt:7: fails_again is cited nowhere"
+        self.expect(1, "2 as they must be, 1 not", fault)
 
     def test_a_lemma_that_names_only_itself(self) -> None:
         text = "\n  falls : ℕ → ℕ\n  falls zero = zero\n  falls (suc n) = falls n\n"
@@ -75,12 +76,14 @@ class Uncited(DocumentsTest):
 
     def test_a_lemma_that_is_named_by_its_module(self) -> None:
         self.write("crates/rb_desk/specs/Fails.antt", SPECS + "\nabbrev pub Stays : ℕ → Type 0\nStays n = n ≡ n\n")
-        use, clause = "ghost use Rattle.rb_desk.specs.Fails as fails;\n", "    ensures stays { fails.Stays result }\n"
+        use = "ghost use Rattle.rb_desk.specs.Fails as fails;\n"
+        clause = "    ensures stays { fails.Stays result }\n"
         self.write("crates/rb_desk/src/lib.rt", use + SOURCE.replace("{\n    desk", f"{clause}{{\n    desk"))
         self.expect(0, "4 as they must be, 0 not")
 
     def test_an_answer_that_the_checker_looks_up(self) -> None:
-        answer = "\npub fail-returns-clause-fails : goal.returns-clause-fails\nfail-returns-clause-fails = fails_again\n"
+        name = "fail-returns-clause-fails"
+        answer = f"\npub {name} : goal.returns-clause-fails\n{name} = fails_again\n"
         self.write("crates/rb_desk/proofs/fail/Answers.antt", answer)
         self.expect(0, WHOLE)
 
