@@ -1,20 +1,19 @@
 -- Passes of workers that are folded into the first, one after the other.
-use Rattle.std.proofs.Common.{Bool, ◌≡◌, ℕ, ◌-◌, ◌<◌, List, [], ◌∷◌, ◌++◌, Option, refl, sym, ap, ap₂, ◌∙◌, arith, length-append, append_assoc}
+use Rattle.std.proofs.Common.{◌≡◌, ℕ, ◌-◌, ◌<◌, List, [], ◌∷◌, ◌++◌, refl, sym, ap, ap₂, ◌∙◌, arith}
+use Rattle.std.proofs.Common.{length-append, append_assoc}
 use Rattle.std.proofs.lemmas.List.{append-nil}
 use Rattle.rb_lock.specs.Passes.{Seen, Learns, record_of, folded_with}
 use Rattle.rb_lock.specs.declared.record.Record.{Record}
-use Rattle.rb_retry.specs.declared.policy.Policy.{Policy}
-use Rattle.rb_session.specs.declared.delivery.Delivery.{Delivery}
+use Rattle.rb_serving.specs.Terms.{Terms}
 use Rattle.rb_serving.specs.Serving.{FoldsWorkers, IsDone}
 use Rattle.rb_serving.specs.VisitCounts.{no_visit, both_counts}
 use Rattle.rb_serving.specs.Visits.{all_visits, counts_of}
-use Rattle.rb_serving.specs.declared.visit.Visit.{Visit}
 use Rattle.rb_serving.specs.declared.visit_counts.VisitCounts.{VisitCounts}
 use Rattle.rb_serving.proofs.ServedVisits.{counts_both, all_visits-more, workers_more}
 
-module _ {I O G C : Type 0} (lets_in : Visit I O G → Type 0) (turns_away : Type 0) (remaining : I → Option (List ℕ)) (contents : O → Option (List ℕ)) (gives : C → ℕ → Type 0) (answers : G → ℕ → Bool → Type 0) (policy : Policy) (delivery : Delivery) (clock : C) where
+module _ {I O G C : Type 0} (terms : Terms I O G C) where
   -- no worker leaves the pass as it is
-  pub folds_none : (count : ℕ) (pass : Seen) → count ≡ 0 → FoldsWorkers lets_in turns_away remaining contents gives answers policy delivery clock count pass pass no_visit
+  pub folds_none : (count : ℕ) (pass : Seen) → count ≡ 0 → FoldsWorkers terms count pass pass no_visit
   folds_none count pass none = record {
     records = [];
     many = sym none;
@@ -29,20 +28,23 @@ module _ {I O G C : Type 0} (lets_in : Visit I O G → Type 0) (turns_away : Typ
   }
 
   -- one worker more is folded in last
-  pub folds_one_more : (count : ℕ) (old cut rest done new : Seen) (counts more : VisitCounts) → 0 < count → Learns old cut → cut.mine ≡ old.mine
-      → FoldsWorkers lets_in turns_away remaining contents gives answers policy delivery clock (count - 1) cut rest more → IsDone lets_in turns_away remaining contents gives answers policy delivery clock done counts → new ≡ folded_with rest done
-      → FoldsWorkers lets_in turns_away remaining contents gives answers policy delivery clock count old new (both_counts more counts)
-  folds_one_more count old cut rest done new counts more some learns mine others worked is = record {
-    records = others.records ++ record_of done ∷ [];
-    many = omega (arith, some, others.many, length-append others.records (record_of done ∷ []));
-    visits = others.visits ++ worked.visits ∷ [];
-    served = workers_more lets_in turns_away remaining contents gives answers policy delivery clock others.visits others.records worked.visits done others.served worked.worker;
-    counted = ap₂ both_counts others.counted worked.counted ∙ counts_both (all_visits others.visits) worked.visits ∙ ap counts_of (sym (all_visits-more others.visits worked.visits));
-    folded = ap (λ (pass : Seen). pass.folded) is
-        ∙ ap₂ (λ (front back : List Record). front ++ record_of done ∷ back) (others.folded ∙ ap (λ (front : List Record). front ++ others.records) learns.folded) worked.alone
-        ∙ append_assoc old.folded others.records (record_of done ∷ []);
-    table = ap (λ (pass : Seen). pass.table) is ∙ others.table ∙ learns.table;
-    capacity = ap (λ (pass : Seen). pass.capacity) is ∙ others.capacity ∙ learns.capacity;
-    opening = ap (λ (pass : Seen). pass.opening) is ∙ others.opening ∙ learns.opening;
-    mine = ap (λ (pass : Seen). pass.mine) is ∙ others.mine ∙ mine;
-  }
+  pub folds_one_more : (count : ℕ) (old cut rest done new : Seen) (counts more : VisitCounts) → 0 < count
+      → Learns old cut → cut.mine ≡ old.mine → FoldsWorkers terms (count - 1) cut rest more → IsDone terms done counts
+      → new ≡ folded_with rest done → FoldsWorkers terms count old new (both_counts more counts)
+  folds_one_more count old cut rest done new counts more some learns mine others worked is =
+      let last : List Record = record_of done ∷ [] in record {
+        records = others.records ++ last;
+        many = omega (arith, some, others.many, length-append others.records last);
+        visits = others.visits ++ worked.visits ∷ [];
+        served = workers_more terms others.visits others.records worked.visits done others.served worked.worker;
+        counted = ap₂ both_counts others.counted worked.counted ∙ counts_both (all_visits others.visits) worked.visits
+            ∙ ap counts_of (sym (all_visits-more others.visits worked.visits));
+        folded = ap (λ (pass : Seen). pass.folded) is
+            ∙ ap₂ (λ (front back : List Record). front ++ record_of done ∷ back)
+            (others.folded ∙ ap (λ (front : List Record). front ++ others.records) learns.folded) worked.alone
+            ∙ append_assoc old.folded others.records last;
+        table = ap (λ (pass : Seen). pass.table) is ∙ others.table ∙ learns.table;
+        capacity = ap (λ (pass : Seen). pass.capacity) is ∙ others.capacity ∙ learns.capacity;
+        opening = ap (λ (pass : Seen). pass.opening) is ∙ others.opening ∙ learns.opening;
+        mine = ap (λ (pass : Seen). pass.mine) is ∙ others.mine ∙ mine;
+      }

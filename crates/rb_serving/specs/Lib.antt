@@ -6,6 +6,7 @@ pub use Rattle.rb_session.specs.Gathered
 pub use Rattle.rb_ending.specs.AuditText
 pub use Rattle.rb_ending.specs.Recording
 pub mod ServeText
+pub mod Terms
 pub mod VisitCounts
 pub mod Visits
 pub mod Serving

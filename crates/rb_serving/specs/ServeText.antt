@@ -1,14 +1,12 @@
 -- What a server prints, and what it leaves at its end.
 use Rattle.std.specs.Prelude.{◌≡◌, ℕ, List, ◌++◌, Option, Result, Ok, Err, codes, decimal}
 use Rattle.std.specs.Io.KnownBytes.{Appends, Keeps}
-use Rattle.rb_queue.specs.declared.audit.Audit.{Audit}
-use Rattle.rb_kept.specs.Log.{Log}
 use Rattle.rb_history.specs.declared.history_fault.HistoryFault.{HistoryFault}
 use Rattle.rb_ending.specs.AuditText.{audit_text}
 use Rattle.rb_ending.specs.BrokerFault.{fault_of_history}
-use Rattle.rb_ending.specs.Recording.{RecordsRun}
 use Rattle.rb_ending.specs.declared.broker_fault.BrokerFault.{BrokerFault}
 use Rattle.rb_ending.specs.declared.broker_fault.BrokerFault.TheVariants.{Memory, Write}
+use Rattle.rb_serving.specs.declared.serve_report.ServeReport.{ServeReport}
 
 -- the line that says where clients are served
 abbrev pub listening_text : ℕ → List ℕ
@@ -17,11 +15,12 @@ listening_text port = codes "listening 127.0.0.1:" ++ (decimal port ++ codes "\n
 -- the line that counts the visits
 abbrev pub visits_text : ℕ → ℕ → ℕ → List ℕ
 visits_text sessions faults lost =
-    codes "sessions " ++ (decimal sessions ++ (codes " faults " ++ (decimal faults ++ (codes " lost " ++ (decimal lost ++ codes "\n")))))
+    codes "sessions " ++ (decimal sessions ++ (codes " faults " ++ (decimal faults
+    ++ (codes " lost " ++ (decimal lost ++ codes "\n")))))
 
 -- the line that counts the visits, and then the audit line
-abbrev pub report_text : ℕ → ℕ → ℕ → Audit → List ℕ
-report_text sessions faults lost audit = visits_text sessions faults lost ++ audit_text audit
+abbrev pub report_text : {T : Type 0} → ServeReport T → List ℕ
+report_text report = visits_text report.sessions report.faults report.lost ++ audit_text report.audit
 
 -- The text was printed; or nothing, for want of memory; or a first part of it.
 abbrev pub Prints : Result (Unit {0}) BrokerFault → Option (List ℕ) → List ℕ → Option (List ℕ) → Type 0
@@ -35,8 +34,11 @@ abbrev pub first_fault : Result (Unit {0}) HistoryFault → Result (Unit {0}) Br
 first_fault (Ok done) printed = printed
 first_fault (Err fault) printed = Err (fault_of_history fault)
 
--- The history was written, where something is to have it, and the text printed, whatever came of that.
-abbrev pub EndsServer : {H : Type 0} → (H → Option (List ℕ)) → Log → List ℕ → Option (List ℕ) → Result (Unit {0}) BrokerFault → Option (List ℕ) → Option H → Option H → Type 0
-EndsServer contents log text got result got' device left =
-    (wrote : Result (Unit {0}) HistoryFault) × (printed : Result (Unit {0}) BrokerFault)
-    × RecordsRun contents log wrote device left × Prints printed got text got' × (result ≡ first_fault wrote printed)
+-- The history was written, where something is to have it, and the report printed, whatever came of that.
+pub record EndsServer (Records : Result (Unit {0}) HistoryFault → Type 0)
+    (PrintsReport : Result (Unit {0}) BrokerFault → Type 0) (result : Result (Unit {0}) BrokerFault) : Type 0 where
+  pub wrote : Result (Unit {0}) HistoryFault
+  pub records : Records wrote
+  pub printed : Result (Unit {0}) BrokerFault
+  pub prints : PrintsReport printed
+  pub answers : result ≡ first_fault wrote printed

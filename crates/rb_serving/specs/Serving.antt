@@ -1,18 +1,17 @@
 -- What serving visits leaves of the passes, and what a server gives.
-use Rattle.std.specs.Prelude.{Bool, ◌≡◌, ℕ, List, [], ◌∷◌, ◌++◌, length, Option}
+use Rattle.std.specs.Prelude.{◌≡◌, ℕ, List, [], ◌∷◌, ◌++◌, length, Option}
 use Rattle.rb_queue.specs.Counts.{audit_of}
-use Rattle.rb_queue.specs.declared.audit.Audit.{Audit}
 use Rattle.rb_queue.specs.declared.opening.Opening.{Opening}
-use Rattle.rb_kept.specs.Log.{Log}
 use Rattle.rb_lock.specs.Passes.{Seen, all_records}
 use Rattle.rb_lock.specs.ClosedQueues.{HasCallsOf}
 use Rattle.rb_lock.specs.declared.record.Record.{Record}
-use Rattle.rb_retry.specs.declared.policy.Policy.{Policy}
-use Rattle.rb_session.specs.declared.delivery.Delivery.{Delivery}
+use Rattle.rb_arguments.specs.declared.run_options.RunOptions.{RunOptions}
 use Rattle.rb_ending.specs.declared.broker_fault.BrokerFault.{BrokerFault}
 use Rattle.rb_ending.specs.declared.broker_fault.BrokerFault.TheVariants as Broker
+use Rattle.rb_serving.specs.Terms.{Terms}
+use Rattle.rb_serving.specs.VisitCounts.{counts_in}
 use Rattle.rb_serving.specs.Visits.{Served, AreVisits, IsWorker, AreWorkers, counts_of, all_visits}
-use Rattle.rb_serving.specs.declared.visit.Visit.{Visit}
+use Rattle.rb_serving.specs.declared.serve_report.ServeReport.{ServeReport}
 use Rattle.rb_serving.specs.declared.visit_counts.VisitCounts.{VisitCounts}
 
 -- The pass called for visitors: it is of the same queue, has the same name, and nothing was folded into it.
@@ -21,20 +20,20 @@ pub record IsWorked (old new : Seen) : Type 0 where
   pub name : new.name ≡ old.name
   pub folded : new.folded ≡ old.folded
 
--- The sharing ended: the queue that comes back is the pass's, with exactly the calls of the pass and of those that
--- were folded into it, the audit is that of its history, and the counts are these.
-pub record IsReport (pass : Seen) (visits : VisitCounts) (kept : Log) (audit : Audit) (counts : VisitCounts) : Type 0 where
-  pub opening : kept.opening ≡ pass.opening
-  pub capacity : kept.capacity ≡ pass.capacity
-  pub audited : audit ≡ audit_of kept.opening kept.history
-  pub holds : HasCallsOf kept (all_records pass)
-  pub counted : counts ≡ visits
+-- The sharing ended. The report has the pass's queue, with exactly the calls of the pass and of those that were
+-- folded into it, the audit of its history, and the counts of the visits.
+pub record IsReport {T : Type 0} (pass : Seen) (visits : VisitCounts) (report : ServeReport T) : Type 0 where
+  pub opening : report.kept.opening ≡ pass.opening
+  pub capacity : report.kept.capacity ≡ pass.capacity
+  pub audited : report.audit ≡ audit_of report.kept.opening report.kept.history
+  pub holds : HasCallsOf report.kept (all_records pass)
+  pub counted : counts_in report ≡ visits
 
-module _ {I O G C : Type 0} (lets_in : Visit I O G → Type 0) (turns_away : Type 0) (remaining : I → Option (List ℕ)) (contents : O → Option (List ℕ)) (gives : C → ℕ → Type 0) (answers : G → ℕ → Bool → Type 0) (policy : Policy) (delivery : Delivery) (clock : C) where
+module _ {I O G C : Type 0} (terms : Terms I O G C) where
   -- what a pass did that served visits until there were no more, and their counts
   pub record WorksOff (old new : Seen) (counts : VisitCounts) : Type 0 where
     pub visits : List (Option Served)
-    pub served : AreVisits lets_in turns_away remaining contents gives answers policy delivery clock old visits new
+    pub served : AreVisits terms old visits new
     pub counted : counts ≡ counts_of visits
 
   -- what a worker's thread gives: a pass with nothing folded into it, and the counts of the visits that it
@@ -42,7 +41,7 @@ module _ {I O G C : Type 0} (lets_in : Visit I O G → Type 0) (turns_away : Typ
   pub record IsDone (pass : Seen) (counts : VisitCounts) : Type 0 where
     pub alone : pass.folded ≡ []
     pub visits : List (Option Served)
-    pub worker : IsWorker lets_in turns_away remaining contents gives answers policy delivery clock visits pass
+    pub worker : IsWorker terms visits pass
     pub counted : counts ≡ counts_of visits
 
   -- The passes of so many workers were folded into the pass, which made no call itself. These are the counts of
@@ -51,7 +50,7 @@ module _ {I O G C : Type 0} (lets_in : Visit I O G → Type 0) (turns_away : Typ
     pub records : List Record
     pub many : length records ≡ workers
     pub visits : List (List (Option Served))
-    pub served : AreWorkers lets_in turns_away remaining contents gives answers policy delivery clock visits records
+    pub served : AreWorkers terms visits records
     pub counted : counts ≡ counts_of (all_visits visits)
     pub folded : new.folded ≡ old.folded ++ records
     pub table : new.table ≡ old.table
@@ -59,21 +58,21 @@ module _ {I O G C : Type 0} (lets_in : Visit I O G → Type 0) (turns_away : Typ
     pub opening : new.opening ≡ old.opening
     pub mine : new.mine ≡ old.mine
 
-  -- The queue that a server gives back began with this opening and had room for so many calls. Its history is
-  -- legal, and has the calls of so many workers and no other; the calls of each are those of the sessions that it
-  -- served, one after the other. The audit is that of this history, and the counts are those of all visits.
-  pub record IsServersRun (begun : Opening) (calls workers : ℕ) (kept : Log) (audit : Audit) (counts : VisitCounts) : Type 0 where
-    pub opening : kept.opening ≡ begun
-    pub capacity : kept.capacity ≡ calls
-    pub audited : audit ≡ audit_of kept.opening kept.history
+  -- The queue that a server gives back began with this opening and had room for so many calls as the options say. Its
+  -- history is legal, and has the calls of as many workers and no other; the calls of each are those of the sessions
+  -- that it served, one after the other. The audit is that of this history, and the counts are those of all visits.
+  pub record IsServersRun {T : Type 0} (begun : Opening) (options : RunOptions) (report : ServeReport T) : Type 0 where
+    pub opening : report.kept.opening ≡ begun
+    pub capacity : report.kept.capacity ≡ options.calls
+    pub audited : report.audit ≡ audit_of report.kept.opening report.kept.history
     pub first : Record
     pub idle : first.mine ≡ []
     pub records : List Record
-    pub many : length records ≡ workers
-    pub holds : HasCallsOf kept (first ∷ records)
+    pub many : length records ≡ options.workers
+    pub holds : HasCallsOf report.kept (first ∷ records)
     pub visits : List (List (Option Served))
-    pub served : AreWorkers lets_in turns_away remaining contents gives answers policy delivery clock visits records
-    pub counted : counts ≡ counts_of (all_visits visits)
+    pub served : AreWorkers terms visits records
+    pub counted : counts_in report ≡ counts_of (all_visits visits)
 
 -- the faults that may end a server
 abbrev pub EndsServing : BrokerFault → Type 0

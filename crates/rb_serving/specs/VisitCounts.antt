@@ -5,7 +5,12 @@ use Rattle.rb_session.specs.declared.ended.Ended.{Ended}
 use Rattle.rb_session.specs.declared.ended.Ended.TheVariants.{Quit, EndOfInput}
 use Rattle.rb_session.specs.declared.session_fault.SessionFault.{SessionFault}
 use Rattle.rb_session.specs.declared.session_fault.SessionFault.TheVariants.{Memory, Read, Write, ReadTurns}
+use Rattle.rb_serving.specs.declared.serve_report.ServeReport.{ServeReport}
 use Rattle.rb_serving.specs.declared.visit_counts.VisitCounts.{VisitCounts}
+
+-- the three counts of a report
+abbrev pub counts_in : {T : Type 0} → ServeReport T → VisitCounts
+counts_in report = record { sessions = report.sessions; faults = report.faults; lost = report.lost }
 
 abbrev pub no_visit : VisitCounts
 no_visit = record { sessions = 0; faults = 0; lost = 0 }

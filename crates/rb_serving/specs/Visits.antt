@@ -1,15 +1,14 @@
 -- What became of those who came to a door, and of the pass of the worker that served them.
-use Rattle.std.specs.Prelude.{Bool, ◌≡◌, ℕ, ◌+◌, min, List, [], ◌∷◌, ◌++◌, length, Option, None, Some, Result}
+use Rattle.std.specs.Prelude.{◌≡◌, ℕ, ◌+◌, min, List, [], ◌∷◌, ◌++◌, length, Option, None, Some, Result}
 use Rattle.std.specs.Io.KnownBytes.{Appends, Consumes, IsAtEnd}
 use Rattle.rb_ledger.specs.declared.totals.TheConstants.{GREATEST_COUNT}
 use Rattle.rb_lock.specs.Passes.{Seen, record_of}
 use Rattle.rb_lock.specs.declared.record.Record.{Record}
 use Rattle.rb_shared_desk.specs.SharedSteps.{SharedState, SharedSteps, SetsShared}
-use Rattle.rb_retry.specs.declared.policy.Policy.{Policy}
 use Rattle.rb_session.specs.declared.ended.Ended.{Ended}
 use Rattle.rb_session.specs.declared.session_fault.SessionFault.{SessionFault}
 use Rattle.rb_session.specs.Delivered.{RanDelivered}
-use Rattle.rb_session.specs.declared.delivery.Delivery.{Delivery}
+use Rattle.rb_serving.specs.Terms.{Terms}
 use Rattle.rb_serving.specs.VisitCounts.{lost_in, faults_in}
 use Rattle.rb_serving.specs.declared.visit.Visit.{Visit}
 use Rattle.rb_serving.specs.declared.visit_counts.VisitCounts.{VisitCounts}
@@ -52,32 +51,38 @@ pub record IsDeskOf {C G : Type 0} (clock : C) (gate : G) (pass : Seen) (desk : 
   pub gate_is : desk.gate ≡ gate
   pub before : desk.before ≡ length pass.mine
 
--- A session was run over what came of the visitor, at such a desk, and its replies were delivered so: from what
--- the pass had seen to what it has seen then.
-pub record RanVisit {C G : Type 0} (gives : C → ℕ → Type 0) (answers : G → ℕ → Bool → Type 0) (policy : Policy) (delivery : Delivery) (clock : C) (gate : G) (Over : Type 0) (old : Seen) (came sent : List ℕ) (ended : Result Ended SessionFault) (new : Seen) : Type 0 where
-  pub from : SharedState C G
-  pub begun : IsDeskOf clock gate old from
-  pub to : SharedState C G
-  pub ran : RanDelivered (λ desk moment. gives desk.clock moment) SetsShared (SharedSteps gives answers) policy delivery Over from came sent ended to
-  pub seen : to.pass ≡ new
+module _ {I O G C : Type 0} (terms : Terms I O G C) where
+  -- At a desk, a session was run over what came until it was over, and its replies were delivered as the rules say.
+  abbrev pub RanSession : Type 0 → SharedState C G → Served → SharedState C G → Type 0
+  RanSession Over from served to =
+      let rules = terms.rules in
+      RanDelivered (λ desk moment. rules.gives desk.clock moment) SetsShared (SharedSteps rules.gives terms.answers)
+      rules.policy rules.delivery Over from served.came served.sent served.ended to
 
-module _ {I O G C : Type 0} (lets_in : Visit I O G → Type 0) (turns_away : Type 0) (remaining : I → Option (List ℕ)) (contents : O → Option (List ℕ)) (gives : C → ℕ → Type 0) (answers : G → ℕ → Bool → Type 0) (policy : Policy) (delivery : Delivery) (clock : C) where
-  -- A visitor was let in, and the session of this visit was run: what came was read from its reader, what was sent
-  -- went to its writer, and its gate could end the waits.
+  -- The session of this visit was run at a new desk of the pass. What came was read from the visit's reader, what
+  -- was sent went to its writer, and its gate could end the waits. `left` has what is left of the two.
+  pub record RanVisit (visit left : Visit I O G) (old : Seen) (served : Served) (new : Seen) : Type 0 where
+    pub consumed : Consumes (terms.remaining visit.reader) (terms.remaining left.reader) served.came
+    pub appended : Appends (terms.contents visit.writer) (terms.contents left.writer) served.sent
+    pub from : SharedState C G
+    pub begun : IsDeskOf terms.rules.clock visit.gate old from
+    pub to : SharedState C G
+    pub ran : RanSession (IsAtEnd (terms.remaining left.reader)) from served to
+    pub seen : to.pass ≡ new
+
+  -- A visitor was let in, and the session of this visit was run.
   pub record IsVisit (old : Seen) (served : Served) (new : Seen) : Type 0 where
     pub visit : Visit I O G
-    pub let_in : lets_in visit
-    pub reader_left : I
-    pub writer_left : O
-    pub consumed : Consumes (remaining visit.reader) (remaining reader_left) served.came
-    pub appended : Appends (contents visit.writer) (contents writer_left) served.sent
-    pub ran : RanVisit gives answers policy delivery clock visit.gate (IsAtEnd (remaining reader_left)) old served.came served.sent served.ended new
+    pub let_in : terms.lets_in visit
+    pub left : Visit I O G
+    pub ran : RanVisit visit left old served new
 
   -- The pass served those who were let in, one after the other, and did nothing else.
   abbrev pub AreVisits : Seen → List (Option Served) → Seen → Type 0
   AreVisits old [] new = new ≡ old
-  AreVisits old (None ∷ visits) new = turns_away × AreVisits old visits new
-  AreVisits old (Some served ∷ visits) new = (between : Seen) × IsVisit old served between × AreVisits between visits new
+  AreVisits old (None ∷ visits) new = terms.turns_away × AreVisits old visits new
+  AreVisits old (Some served ∷ visits) new =
+      (between : Seen) × IsVisit old served between × AreVisits between visits new
 
   -- a worker's pass: it had made no call, and served these visits
   pub record IsWorker (visits : List (Option Served)) (pass : Seen) : Type 0 where
@@ -88,5 +93,6 @@ module _ {I O G C : Type 0} (lets_in : Visit I O G → Type 0) (turns_away : Typ
   -- each record is that of a worker that served these visits
   abbrev pub AreWorkers : List (List (Option Served)) → List Record → Type 0
   AreWorkers [] [] = Unit {0}
-  AreWorkers (visits ∷ others) (one ∷ records) = ((pass : Seen) × IsWorker visits pass × (one ≡ record_of pass)) × AreWorkers others records
+  AreWorkers (visits ∷ others) (one ∷ records) =
+      ((pass : Seen) × IsWorker visits pass × (one ≡ record_of pass)) × AreWorkers others records
   AreWorkers _ _ = ⊥

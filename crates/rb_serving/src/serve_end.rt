@@ -1,4 +1,5 @@
-ghost use Rattle.rb_serving.specs.ServeText.{EndsServer, report_text};
+ghost use Rattle.rb_ending.specs.Recording.{RecordsRun};
+ghost use Rattle.rb_serving.specs.ServeText.{EndsServer, Prints, report_text};
 
 use crate::serve_report::ServeReport;
 use crate::serve_text::print_report;
@@ -18,8 +19,10 @@ pub fn end_server<T: Timer, W: Write, H: Write>(
     writer: &mut W,
     history: &mut Option<H>,
 ) -> Result<(), BrokerFault>
-    ensures { EndsServer H.contents report.now.kept (report_text report.now.sessions report.now.faults report.now.lost report.now.audit)
-        (W.contents writer.old) result (W.contents writer.new) history.old history.new }
+    ensures { EndsServer
+        (λ wrote. RecordsRun H.contents report.now.kept wrote history.old history.new)
+        (λ printed. Prints printed (W.contents writer.old) (report_text report.now) (W.contents writer.new))
+        result }
 {
     let recorded = record(alloc, &report.kept, history);
     let printed = print_report(alloc, writer, report);

@@ -30,8 +30,7 @@ pub(crate) fn print_report<T: Timer, W: Write>(
     writer: &mut W,
     report: &ServeReport<T>,
 ) -> Result<(), BrokerFault>
-    ensures { Prints result (W.contents writer.old)
-        (report_text report.now.sessions report.now.faults report.now.lost report.now.audit) (W.contents writer.new) }
+    ensures { Prints result (W.contents writer.old) (report_text report.now) (W.contents writer.new) }
 {
     let text = report_lines(alloc, report)?;
     print(writer, &text)
@@ -46,8 +45,7 @@ fn listening_line(alloc: Global, port: u16) -> Result<String, AllocError>
 
 // The two lines.
 fn report_lines<T: Timer>(alloc: Global, report: &ServeReport<T>) -> Result<String, BrokerFault>
-    ensures text { IfOk result (λ text. string_bytes text
-        ≡ report_text report.now.sessions report.now.faults report.now.lost report.now.audit) }
+    ensures text { IfOk result (λ text. string_bytes text ≡ report_text report.now) }
     ensures fault { IfErr result (λ fault. fault ≡ BrokerFault.Memory) }
 {
     let mut text = visits_line(alloc, report.sessions, report.faults, report.lost)?;

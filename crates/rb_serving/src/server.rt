@@ -3,6 +3,7 @@ ghost use Rattle.rb_ledger.specs.Totals.{nothing};
 ghost use Rattle.rb_kept.specs.declared.kept.TheConstants.{MOST_CALLS};
 ghost use Rattle.rb_lock.specs.Passes.{first_pass};
 ghost use Rattle.rb_serving.specs.Serving.{EndsServing, IsReport, IsServersRun};
+ghost use Rattle.rb_serving.specs.Terms.{rules_of, terms_of};
 ghost use Rattle.rb_session.specs.declared.delivery.Delivery.TheVariants.{AtOnce, Gathered};
 ghost use Rattle.rb_session.specs.declared.hands_on.HandsOn.TheVariants.{BeforeReadsAndWaits};
 ghost use Rattle.rb_ending.specs.declared.broker_fault.BrokerFault.TheVariants.{Memory, NotGathered};
@@ -48,9 +49,9 @@ pub fn serve_door<
     opening: Opening,
 ) -> Result<ServeReport<T>, BrokerFault>
     ensures served { IfOk result (λ report. IsServersRun
-        (D.lets_in door.now) (D.turns_away door.now) D.Reader.remaining D.Writer.contents C.gives D.Gate.answers
-        options.now.policy AtOnce clock.now opening options.now.calls options.now.workers report.kept report.audit
-        (record { sessions = report.sessions; faults = report.faults; lost = report.lost })) }
+        (terms_of D.Door D.Reader.Read D.Writer.Write D.Gate.Gate door.now
+        (rules_of C.Clock clock.now options.now.policy AtOnce))
+        opening options.now report) }
     ensures fault { IfErr result EndsServing }
 {
     serve_delivering(rt, alloc, door, clock, options, Delivery::AtOnce, opening)
@@ -75,9 +76,9 @@ pub fn serve_door_gathered<
     opening: Opening,
 ) -> Result<ServeReport<T>, BrokerFault>
     ensures served { IfOk result (λ report. IsServersRun
-        (D.lets_in door.now) (D.turns_away door.now) D.Reader.remaining D.Writer.contents C.gives D.Gate.answers
-        options.now.policy (Gathered BeforeReadsAndWaits) clock.now opening options.now.calls options.now.workers report.kept report.audit
-        (record { sessions = report.sessions; faults = report.faults; lost = report.lost })) }
+        (terms_of D.Door D.Reader.Read D.Writer.Write D.Gate.Gate door.now
+        (rules_of C.Clock clock.now options.now.policy (Gathered BeforeReadsAndWaits)))
+        opening options.now report) }
     ensures fault { IfErr result EndsServing }
 {
     let delivery = Delivery::Gathered(HandsOn::BeforeReadsAndWaits);
@@ -100,9 +101,9 @@ fn serve_delivering<
     opening: Opening,
 ) -> Result<ServeReport<T>, BrokerFault>
     ensures served { IfOk result (λ report. IsServersRun
-        (D.lets_in door.now) (D.turns_away door.now) D.Reader.remaining D.Writer.contents C.gives D.Gate.answers
-        options.now.policy delivery clock.now opening options.now.calls options.now.workers report.kept report.audit
-        (record { sessions = report.sessions; faults = report.faults; lost = report.lost })) }
+        (terms_of D.Door D.Reader.Read D.Writer.Write D.Gate.Gate door.now
+        (rules_of C.Clock clock.now options.now.policy delivery))
+        opening options.now report) }
     ensures fault { IfErr result EndsServing }
 {
     let (kept, tally) = kept_from::<T>(alloc, options.calls, opening)?;
@@ -166,8 +167,7 @@ fn report_of<T: Timer, R: Wait>(
     visits: VisitCounts,
 ) -> Result<ServeReport<T>, BrokerFault>
     requires pass { pass.table ≡ shared }
-    ensures report { IfOk result (λ report. IsReport pass visits report.kept report.audit
-        (record { sessions = report.sessions; faults = report.faults; lost = report.lost })) }
+    ensures report { IfOk result (λ report. IsReport pass visits report) }
     ensures fault { IfErr result (λ fault. fault ≡ NotGathered) }
 {
     match shared.close(rt, pass) {

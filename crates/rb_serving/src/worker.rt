@@ -1,19 +1,17 @@
 ghost use Rattle.std.specs.Prelude.{◌≡◌};
-ghost use Rattle.std.specs.Io.KnownBytes.{IsAtEnd};
-ghost use Rattle.rb_session.specs.Exchange.{Exchanges};
 ghost use Rattle.rb_serving.specs.Serving.{IsWorked, WorksOff};
-ghost use Rattle.rb_serving.specs.Visits.{RanVisit};
+ghost use Rattle.rb_serving.specs.Terms.{service_terms};
+ghost use Rattle.rb_serving.specs.Visits.{Served, RanVisit};
 
 use crate::door::{Door, DoorFault};
 use crate::service::Service;
 use crate::visit::Visit;
 use crate::visit_counts::VisitCounts;
-use rb_blocking::{Clock, Gate};
+use rb_blocking::Clock;
 use rb_lock::Pass;
 use rb_session::{Ended, SessionFault, run_delivered};
 use rb_shared_desk::SharedDesk;
 use rb_timer::Timer;
-use std::io::{Read, Write};
 use std::sync::Wait;
 use std::time;
 
@@ -29,8 +27,8 @@ pub(crate) fn work<T: Timer, D: Door, C: Clock, R: Wait + time::Clock>(
     requires pass { pass.table ≡ service.now.shared.now }
     ensures worked { IsWorked pass result.0 }
     ensures visits { WorksOff
-        (D.lets_in service.now.door.now) (D.turns_away service.now.door.now) D.Reader.remaining D.Writer.contents
-        C.gives D.Gate.answers service.now.policy.now service.now.delivery service.now.clock.now pass result.0 result.1 }
+        (service_terms D.Door D.Reader.Read D.Writer.Write D.Gate.Gate C.Clock service.now)
+        pass result.0 result.1 }
 {
     let mut counts = VisitCounts::none();
     for _ in rt.forever() {
@@ -49,25 +47,17 @@ pub(crate) fn work<T: Timer, D: Door, C: Clock, R: Wait + time::Clock>(
 
 // Serves a visit to its end: one session at a desk of the pass, whose waits the visit's gate may end.
 // The reader and the writer come back with how it ended: what was sent went to this writer.
-fn serve_visit<
-    T: Timer,
-    D: Door,
-    C: Clock,
-    I: Read + Drop,
-    O: Write + Drop,
-    G: Gate + Drop,
-    R: Wait + time::Clock,
->(
+fn serve_visit<T: Timer, D: Door, C: Clock, R: Wait + time::Clock>(
     rt: &R,
     service: &Service<'_, T, D, C>,
     pass: &mut Pass<T>,
-    visit: Visit<I, O, G>,
-) -> (Result<Ended, SessionFault>, I, O)
+    visit: Visit<D::Reader, D::Writer, D::Gate>,
+) -> (Result<Ended, SessionFault>, D::Reader, D::Writer)
     requires pass { pass.old.table ≡ service.now.shared.now }
     ensures worked { IsWorked pass.old pass.new }
-    ensures ran { Exchanges (I.remaining visit.reader) (I.remaining result.1) (O.contents visit.writer) (O.contents result.2) (λ came sent.
-        RanVisit C.gives G.answers service.now.policy.now service.now.delivery service.now.clock.now visit.gate
-        (IsAtEnd (I.remaining result.1)) pass.old came sent result.0 pass.new) }
+    ensures ran { (served : Served) × (served.ended ≡ result.0) × RanVisit
+        (service_terms D.Door D.Reader.Read D.Writer.Write D.Gate.Gate C.Clock service.now)
+        visit (record visit { reader = result.1; writer = result.2 }) pass.old served pass.new }
 {
     let Visit {
         mut reader,

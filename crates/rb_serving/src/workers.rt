@@ -1,5 +1,6 @@
 ghost use Rattle.std.specs.Prelude.{◌≡◌, [], IfOk, IfErr};
 ghost use Rattle.rb_serving.specs.Serving.{FoldsWorkers, IsDone};
+ghost use Rattle.rb_serving.specs.Terms.{service_terms};
 ghost use Rattle.rb_ending.specs.declared.broker_fault.BrokerFault.TheVariants.{Worker};
 
 use crate::door::Door;
@@ -20,9 +21,9 @@ use std::{thread, time};
 struct OfService<'a, T: Timer, D: Door, C: Clock>(&'a Service<'a, T, D, C>);
 
 impl<'a, T: Timer, D: Door, C: Clock> Promise<(Pass<T>, VisitCounts)> for OfService<'a, T, D, C> {
-    ghost kept_by = { λ promise worked. (worked.0.table ≡ promise.0.now.shared.now)
-        × IsDone (D.lets_in promise.0.now.door.now) (D.turns_away promise.0.now.door.now) D.Reader.remaining D.Writer.contents
-        C.gives D.Gate.answers promise.0.now.policy.now promise.0.now.delivery promise.0.now.clock.now worked.0 worked.1 };
+    ghost kept_by = { λ promise worked. (worked.0.table ≡ promise.0.now.shared.now) × IsDone
+        (service_terms D.Door D.Reader.Read D.Writer.Write D.Gate.Gate C.Clock promise.0.now)
+        worked.0 worked.1 };
 }
 
 /// Runs this many workers at once, and folds the pass of each into this one.
@@ -42,8 +43,8 @@ pub(crate) fn serve_all<
 ) -> Result<(Pass<T>, VisitCounts), BrokerFault>
     requires pass { pass.table ≡ service.now.shared.now }
     ensures folds { IfOk result (λ served. FoldsWorkers
-        (D.lets_in service.now.door.now) (D.turns_away service.now.door.now) D.Reader.remaining D.Writer.contents
-        C.gives D.Gate.answers service.now.policy.now service.now.delivery service.now.clock.now count pass served.0 served.1) }
+        (service_terms D.Door D.Reader.Read D.Writer.Write D.Gate.Gate C.Clock service.now)
+        count pass served.0 served.1) }
     ensures fault { IfErr result (λ fault. fault ≡ Worker) }
 {
     thread::scope(
@@ -52,8 +53,7 @@ pub(crate) fn serve_all<
         move |scope| -> Result<(Pass<T>, VisitCounts), BrokerFault>
             requires { pass.table ≡ service.now.shared.now }
             ensures { IfOk result (λ served. FoldsWorkers
-                (D.lets_in service.entry.now.door.now) (D.turns_away service.entry.now.door.now) D.Reader.remaining D.Writer.contents
-                C.gives D.Gate.answers service.entry.now.policy.now service.entry.now.delivery service.entry.now.clock.now
+                (service_terms D.Door D.Reader.Read D.Writer.Write D.Gate.Gate C.Clock service.entry.now)
                 count pass served.0 served.1) × IfErr result (λ fault. fault ≡ Worker) }
         { start_all(rt, scope, service, pass, count) },
     )
@@ -77,8 +77,8 @@ fn start_all<
 ) -> Result<(Pass<T>, VisitCounts), BrokerFault>
     requires pass { pass.table ≡ service.now.shared.now }
     ensures folds { IfOk result (λ served. FoldsWorkers
-        (D.lets_in service.now.door.now) (D.turns_away service.now.door.now) D.Reader.remaining D.Writer.contents
-        C.gives D.Gate.answers service.now.policy.now service.now.delivery service.now.clock.now count pass served.0 served.1) }
+        (service_terms D.Door D.Reader.Read D.Writer.Write D.Gate.Gate C.Clock service.now)
+        count pass served.0 served.1) }
     ensures fault { IfErr result (λ fault. fault ≡ Worker) }
 {
     if count == 0 {
@@ -119,9 +119,8 @@ fn start<
         OfService(service),
         move || -> (Pass<T>, VisitCounts)
             requires { (pass.table ≡ service.now.shared.now) × (pass.folded ≡ []) × (pass.mine ≡ []) }
-            ensures { (result.0.table ≡ service.entry.now.shared.now)
-                × IsDone (D.lets_in service.entry.now.door.now) (D.turns_away service.entry.now.door.now) D.Reader.remaining D.Writer.contents
-                C.gives D.Gate.answers service.entry.now.policy.now service.entry.now.delivery service.entry.now.clock.now
+            ensures { (result.0.table ≡ service.entry.now.shared.now) × IsDone
+                (service_terms D.Door D.Reader.Read D.Writer.Write D.Gate.Gate C.Clock service.entry.now)
                 result.0 result.1 }
         { work(rt, service, pass) },
     ) {

@@ -1,24 +1,30 @@
 -- The session ran at a new desk over the worker's pass, which has seen what the desk did.
-use Rattle.std.proofs.Common.{Bool, rules, ◌≡◌, ◌∙◌, ap, ℕ, List, length, Result}
-use Rattle.std.specs.Io.KnownBytes.{IsAtEnd}
+use Rattle.std.proofs.Common.{rules, ◌≡◌, ◌∙◌, ap, ℕ, length, refl}
+use Rattle.std.specs.Io.KnownBytes.{Appends, Consumes, IsAtEnd}
 use Rattle.rb_lock.specs.Passes.{Seen}
-use Rattle.rb_shared_desk.specs.SharedSteps.{SharedState, SharedSteps, SetsShared, name_of}
-use Rattle.rb_retry.specs.declared.policy.Policy.{Policy}
-use Rattle.rb_session.specs.declared.ended.Ended.{Ended}
-use Rattle.rb_session.specs.declared.session_fault.SessionFault.{SessionFault}
-use Rattle.rb_session.specs.Delivered.{RanDelivered}
-use Rattle.rb_session.specs.declared.delivery.Delivery.{Delivery}
-use Rattle.rb_serving.specs.Visits.{RanVisit}
+use Rattle.rb_shared_desk.specs.SharedSteps.{SharedState, name_of}
+use Rattle.rb_serving.specs.Terms.{Terms, service_terms}
+use Rattle.rb_serving.specs.Visits.{Served, RanSession, RanVisit}
+use Rattle.rb_serving.specs.declared.visit.Visit.{Visit}
 use Rattle.rb_serving.proofs.worker.serve_visit.Goals as goal
 
 -- what a session at a new desk of the pass does
-ran_visit : {C G : Type 0} (gives : C → ℕ → Type 0) (answers : G → ℕ → Bool → Type 0) (policy : Policy) (delivery : Delivery) (clock : C) (gate : G) (Over : Type 0) (reference : ℕ) (old new : Seen)
-    (came sent : List ℕ) (ended : Result Ended SessionFault) (from to : SharedState C G)
-    → from ≡ record { reference = reference; pass = old; clock = clock; gate = gate; before = length old.mine }
-    → RanDelivered (λ desk moment. gives desk.clock moment) SetsShared (SharedSteps gives answers) policy delivery Over from came sent ended to
-    → to.pass ≡ new
-    → RanVisit gives answers policy delivery clock gate Over old came sent ended new
-ran_visit {C} {G} gives answers policy delivery clock gate Over reference old new came sent ended from to is ran seen = record {
+ran_visit : {I O G C : Type 0} (terms : Terms I O G C) (visit left : Visit I O G) (reference : ℕ) (old new : Seen)
+    (served : Served) (from to : SharedState C G)
+    → Consumes (terms.remaining visit.reader) (terms.remaining left.reader) served.came
+    → Appends (terms.contents visit.writer) (terms.contents left.writer) served.sent
+    → from ≡ record {
+      reference = reference;
+      pass = old;
+      clock = terms.rules.clock;
+      gate = visit.gate;
+      before = length old.mine;
+    }
+    → RanSession terms (IsAtEnd (terms.remaining left.reader)) from served to → to.pass ≡ new
+    → RanVisit terms visit left old served new
+ran_visit {G = G} {C = C} terms visit left reference old new served from to consumed appended is ran seen = record {
+  consumed = consumed;
+  appended = appended;
   from = from;
   begun = record {
     pass_is = ap (λ (desk : SharedState C G). desk.pass) is;
@@ -33,12 +39,15 @@ ran_visit {C} {G} gives answers policy delivery clock gate Over reference old ne
 
 pub returns-clause-ran : goal.returns-clause-ran
 returns-clause-ran g c =
+    let terms = service_terms g.D.Door g.D.Reader.Read g.D.Writer.Write g.D.Gate.Gate g.C.Clock c.args.service.now in
     let same = c.run_delivered-ended.ensures.name ∙ ap name_of c.new-desk.ensures.state in
-    let ran = c.run_delivered-ended.ensures.ran in record {
-      came = ran.came;
-      sent = ran.sent;
-      consumed = ran.consumed;
-      appended = ran.appended;
-      holds = ran_visit g.C.Clock.gives g.G.Gate.answers c.args.service.now.policy.now c.args.service.now.delivery c.args.service.now.clock.now c.args.visit.gate (IsAtEnd (g.I.Read.remaining c.run_delivered-ended.new.reader)) _ c.args.pass.now _ ran.came ran.sent c.run_delivered-ended.result _ _
-          c.new-desk.ensures.state ran.holds (search (rules, same));
-    }
+    let ran = c.run_delivered-ended.ensures.ran in
+    let new = c.run_delivered-ended.new in
+    let visit = c.args.visit in
+    let left = record visit { reader = new.reader; writer = new.writer } in
+    let served : Served = record { came = ran.came; sent = ran.sent; ended = c.run_delivered-ended.result } in (
+      served,
+      refl,
+      ran_visit terms visit left _ c.args.pass.now _ served _ _ ran.consumed ran.appended
+          c.new-desk.ensures.state ran.holds (search (rules, same)),
+    )
