@@ -1,13 +1,13 @@
 -- Passes of workers that are folded into the first, one after the other.
-use Rattle.std.proofs.Common.{◌≡◌, ℕ, ◌-◌, ◌<◌, List, [], ◌∷◌, ◌++◌, refl, sym, ap, ap₂, ◌∙◌, arith}
-use Rattle.std.proofs.Common.{length-append, append_assoc}
+use Rattle.std.proofs.Common.{◌≡◌, ℕ, ◌+◌, ◌-◌, ◌<◌, List, [], ◌∷◌, ◌++◌, length, refl, sym, subst, ap, ap₂, ◌∙◌}
+use Rattle.std.proofs.Common.{arith, length-append, append_assoc}
 use Rattle.std.proofs.lemmas.List.{append-nil}
 use Rattle.rb_lock.specs.Passes.{Seen, Learns, record_of, folded_with}
 use Rattle.rb_lock.specs.declared.record.Record.{Record}
 use Rattle.rb_serving.specs.Terms.{Terms}
 use Rattle.rb_serving.specs.Serving.{FoldsWorkers, IsDone}
 use Rattle.rb_serving.specs.VisitCounts.{no_visit, both_counts}
-use Rattle.rb_serving.specs.Visits.{all_visits, counts_of}
+use Rattle.rb_serving.specs.Visits.{IsWorker, all_visits, counts_of}
 use Rattle.rb_serving.specs.declared.visit_counts.VisitCounts.{VisitCounts}
 use Rattle.rb_serving.proofs.ServedVisits.{counts_both, all_visits-more, workers_more}
 
@@ -29,14 +29,17 @@ module _ {I O G C : Type 0} (terms : Terms I O G C) where
 
   -- one worker more is folded in last
   pub folds_one_more : (count : ℕ) (old cut rest done new : Seen) (counts more : VisitCounts) → 0 < count
-      → Learns old cut → cut.mine ≡ old.mine → FoldsWorkers terms (count - 1) cut rest more → IsDone terms done counts
-      → new ≡ folded_with rest done → FoldsWorkers terms count old new (both_counts more counts)
+      → Learns old cut → cut.mine ≡ old.mine → FoldsWorkers terms (count - 1) cut rest more
+      → IsDone terms (count - 1) done counts → new ≡ folded_with rest done
+      → FoldsWorkers terms count old new (both_counts more counts)
   folds_one_more count old cut rest done new counts more some learns mine others worked is =
-      let last : List Record = record_of done ∷ [] in record {
+      let last : List Record = record_of done ∷ [] in
+      let last_is : count - 1 ≡ 0 + length others.records = omega (arith, others.many) in record {
         records = others.records ++ last;
         many = omega (arith, some, others.many, length-append others.records last);
         visits = others.visits ++ worked.visits ∷ [];
-        served = workers_more terms others.visits others.records worked.visits done others.served worked.worker;
+        served = workers_more terms 0 others.visits others.records worked.visits done others.served
+            (subst (λ worker. IsWorker terms worker worked.visits done) last_is worked.works);
         counted = ap₂ both_counts others.counted worked.counted ∙ counts_both (all_visits others.visits) worked.visits
             ∙ ap counts_of (sym (all_visits-more others.visits worked.visits));
         folded = ap (λ (pass : Seen). pass.folded) is

@@ -1,5 +1,5 @@
 -- Visits that were served, one after the other, and their counts.
-use Rattle.std.proofs.Common.{◌≡◌, ℕ, ◌+◌, min, List, [], ◌∷◌, ◌++◌, Option, None, Some, Result, refl, sym, subst}
+use Rattle.std.proofs.Common.{◌≡◌, ℕ, suc, ◌+◌, min, List, [], ◌∷◌, ◌++◌, Option, None, Some, Result, refl, sym, subst}
 use Rattle.std.proofs.Common.{ap, ap₂, ◌∙◌, arith, length, length-append, append_assoc}
 use Rattle.std.proofs.lemmas.List.{append-nil}
 use Rattle.rb_ledger.specs.Totals.{capped_sum}
@@ -12,7 +12,7 @@ use Rattle.rb_serving.specs.Terms.{Terms}
 use Rattle.rb_serving.specs.VisitCounts.{both_counts, ended_visit, refused_visit, lost_in, faults_in}
 use Rattle.rb_serving.specs.Serving.{WorksOff}
 use Rattle.rb_serving.specs.Visits.{Served, RanVisit, AreVisits, IsVisit, IsWorker, AreWorkers}
-use Rattle.rb_serving.specs.Visits.{all_visits, counts_of, faults_of, lost_of}
+use Rattle.rb_serving.specs.Visits.{all_visits, counts_of, faults_of, lost_of, number_of}
 use Rattle.rb_serving.specs.declared.visit.Visit.{Visit}
 use Rattle.rb_serving.specs.declared.visit_counts.VisitCounts.{VisitCounts}
 
@@ -73,52 +73,111 @@ all_visits-more [] own = append-nil own
 all_visits-more (first ∷ visits) own =
     ap (λ v. first ++ v) (all_visits-more visits own) ∙ sym (append_assoc first (all_visits visits) own)
 
-module _ {I O G C : Type 0} (terms : Terms I O G C) where
+-- counting on behind one visit or worker more
+later : {A : Type 0} (earlier : ℕ) (rest : List A) → earlier + suc (length rest) ≡ (earlier + 1) + length rest
+later earlier rest = omega arith
+
+none_yet : (earlier : ℕ) → earlier + 0 ≡ earlier
+none_yet earlier = omega arith
+
+from_none : (earlier : ℕ) → earlier ≡ 0 + earlier
+from_none earlier = omega arith
+
+module _ {I O G C : Type 0} (terms : Terms I O G C) (worker : ℕ) where
   -- one visit more was served
-  pub visits_served : (old mid new : Seen) (visits : List (Option Served)) (visit : Served)
-      → AreVisits terms old visits mid → IsVisit terms mid visit new
-      → AreVisits terms old (visits ++ Some visit ∷ []) new
-  visits_served old mid new [] visit same one = (new, subst (λ pass. IsVisit terms pass visit new) same one, refl)
-  visits_served old mid new (None ∷ visits) visit (away, are) one =
-      (away, visits_served old mid new visits visit are one)
-  visits_served old mid new (Some first ∷ visits) visit (between, is, are) one =
-      (between, is, visits_served between mid new visits visit are one)
+  pub visits_served : (earlier : ℕ) (old mid new : Seen) (visits : List (Option Served)) (visit : Served)
+      → AreVisits terms worker earlier old visits mid
+      → IsVisit terms (number_of worker (earlier + length visits)) mid visit new
+      → AreVisits terms worker earlier old (visits ++ Some visit ∷ []) new
+  visits_served earlier old mid new [] visit same one =
+      let here = subst (λ count. IsVisit terms (number_of worker count) mid visit new) (none_yet earlier) one in
+      (new, subst (λ pass. IsVisit terms (number_of worker earlier) pass visit new) same here, refl)
+  visits_served earlier old mid new (None ∷ visits) visit (away, are) one =
+      let next = subst (λ count. IsVisit terms (number_of worker count) mid visit new) (later earlier visits) one in
+      (away, visits_served (earlier + 1) old mid new visits visit are next)
+  visits_served earlier old mid new (Some first ∷ visits) visit (between, is, are) one =
+      let next = subst (λ count. IsVisit terms (number_of worker count) mid visit new) (later earlier visits) one in
+      (between, is, visits_served (earlier + 1) between mid new visits visit are next)
 
   -- one visitor more was refused
-  pub visits_refused : (old new : Seen) (visits : List (Option Served))
-      → AreVisits terms old visits new → terms.turns_away → AreVisits terms old (visits ++ None ∷ []) new
-  visits_refused old new [] same refused = (refused, same)
-  visits_refused old new (None ∷ visits) (away, are) refused = (away, visits_refused old new visits are refused)
-  visits_refused old new (Some first ∷ visits) (between, is, are) refused =
-      (between, is, visits_refused between new visits are refused)
+  pub visits_refused : (earlier : ℕ) (old new : Seen) (visits : List (Option Served))
+      → AreVisits terms worker earlier old visits new
+      → terms.turns_away (number_of worker (earlier + length visits))
+      → AreVisits terms worker earlier old (visits ++ None ∷ []) new
+  visits_refused earlier old new [] same away =
+      (subst (λ count. terms.turns_away (number_of worker count)) (none_yet earlier) away, same)
+  visits_refused earlier old new (None ∷ visits) (first, are) away =
+      let next = subst (λ count. terms.turns_away (number_of worker count)) (later earlier visits) away in
+      (first, visits_refused (earlier + 1) old new visits are next)
+  visits_refused earlier old new (Some first ∷ visits) (between, is, are) away =
+      let next = subst (λ count. terms.turns_away (number_of worker count)) (later earlier visits) away in
+      (between, is, visits_refused (earlier + 1) between new visits are next)
 
+module _ {I O G C : Type 0} (terms : Terms I O G C) where
   -- one worker more
-  pub workers_more : (visits : List (List (Option Served))) (records : List Record) (own : List (Option Served))
-      (pass : Seen) → AreWorkers terms visits records → IsWorker terms own pass
-      → AreWorkers terms (visits ++ own ∷ []) (records ++ record_of pass ∷ [])
-  workers_more [] [] own pass are worker = ((pass, worker, refl), tt)
-  workers_more [] (one ∷ records) own pass are worker = absurd are
-  workers_more (first ∷ visits) [] own pass are worker = absurd are
-  workers_more (first ∷ visits) (one ∷ records) own pass (is, are) worker =
-      (is, workers_more visits records own pass are worker)
+  pub workers_more : (from : ℕ) (visits : List (List (Option Served))) (records : List Record)
+      (own : List (Option Served)) (pass : Seen) → AreWorkers terms from visits records
+      → IsWorker terms (from + length records) own pass
+      → AreWorkers terms from (visits ++ own ∷ []) (records ++ record_of pass ∷ [])
+  workers_more from [] [] own pass are last =
+      ((pass, subst (λ worker. IsWorker terms worker own pass) (none_yet from) last, refl), tt)
+  workers_more from [] (one ∷ records) own pass are last = absurd are
+  workers_more from (first ∷ visits) [] own pass are last = absurd are
+  workers_more from (first ∷ visits) (one ∷ records) own pass (is, are) last =
+      let next = subst (λ worker. IsWorker terms worker own pass) (later from records) last in
+      (is, workers_more (from + 1) visits records own pass are next)
 
-  -- one visitor more was refused, and is counted
-  pub works_refused : (old new : Seen) (counts visit next : VisitCounts) → WorksOff terms old new counts
-      → terms.turns_away → visit ≡ refused_visit → next ≡ both_counts counts visit → WorksOff terms old new next
-  works_refused old new counts visit next works away refused is = record {
-    visits = works.visits ++ None ∷ [];
-    served = visits_refused old new works.visits works.served away;
-    counted = is ∙ ap₂ both_counts works.counted refused ∙ counts_refused works.visits;
-  }
+  -- What a worker has done so far: its pass served these visits, and they are counted.
+  pub record HasServed (worker : ℕ) (old new : Seen) (counts : VisitCounts) : Type 0 where
+    pub visits : List (Option Served)
+    pub served : AreVisits terms worker 0 old visits new
+    pub counted : counts ≡ counts_of visits
 
-  -- one visit more was served, and is counted
-  pub works_served : (old mid new : Seen) (counts more next : VisitCounts) (ended : Result Ended SessionFault)
-      (visit left : Visit I O G) → WorksOff terms old mid counts → terms.lets_in visit
-      → ((served : Served) × (served.ended ≡ ended) × RanVisit terms visit left mid served new)
-      → more ≡ ended_visit ended → next ≡ both_counts counts more → WorksOff terms old new next
-  works_served old mid new counts more next ended visit left works let_in (served, how, ran) ends is = record {
-    visits = works.visits ++ Some served ∷ [];
-    served = visits_served old mid new works.visits served works.served
-        (record { visit = visit; let_in = let_in; left = left; ran = ran });
-    counted = is ∙ ap₂ both_counts works.counted (ends ∙ ap ended_visit (sym how)) ∙ counts_served works.visits served;
-  }
+  module _ (worker : ℕ) where
+    -- the number under which it asks next
+    next_number : (old new : Seen) (counts : VisitCounts) (works : HasServed worker old new counts)
+        → record { worker = worker; earlier = counts.sessions } ≡ number_of worker (length works.visits)
+    next_number old new counts works =
+        ap (λ (visits : VisitCounts). record { worker = worker; earlier = visits.sessions }) works.counted
+
+    -- the door had no more
+    pub works_off : (old new : Seen) (counts : VisitCounts) → HasServed worker old new counts
+        → terms.has_no_more (record { worker = worker; earlier = counts.sessions })
+        → WorksOff terms worker old new counts
+    works_off old new counts works none = record {
+      visits = works.visits;
+      served = works.served;
+      no_more = subst terms.has_no_more (next_number old new counts works) none;
+      counted = works.counted;
+    }
+
+    -- one visitor more was refused, and is counted
+    pub works_refused : (old new : Seen) (counts visit next : VisitCounts) → HasServed worker old new counts
+        → terms.turns_away (record { worker = worker; earlier = counts.sessions }) → visit ≡ refused_visit
+        → next ≡ both_counts counts visit → HasServed worker old new next
+    works_refused old new counts visit next works away refused is = record {
+      visits = works.visits ++ None ∷ [];
+      served = visits_refused terms worker 0 old new works.visits works.served
+          (subst (λ count. terms.turns_away (number_of worker count)) (from_none (length works.visits))
+          (subst terms.turns_away (next_number old new counts works) away));
+      counted = is ∙ ap₂ both_counts works.counted refused ∙ counts_refused works.visits;
+    }
+
+    -- one visit more was served, and is counted
+    pub works_served : (old mid new : Seen) (counts more next : VisitCounts) (ended : Result Ended SessionFault)
+        (visit left : Visit I O G) → HasServed worker old mid counts
+        → terms.lets_in (record { worker = worker; earlier = counts.sessions }) visit
+        → ((served : Served) × (served.ended ≡ ended) × RanVisit terms visit left mid served new)
+        → more ≡ ended_visit ended → next ≡ both_counts counts more → HasServed worker old new next
+    works_served old mid new counts more next ended visit left works let_in (served, how, ran) ends is = record {
+      visits = works.visits ++ Some served ∷ [];
+      served = visits_served terms worker 0 old mid new works.visits served works.served (record {
+        visit = visit;
+        let_in = subst (λ count. terms.lets_in (number_of worker count) visit) (from_none (length works.visits))
+            (subst (λ number. terms.lets_in number visit) (next_number old mid counts works) let_in);
+        left = left;
+        ran = ran;
+      });
+      counted =
+          is ∙ ap₂ both_counts works.counted (ends ∙ ap ended_visit (sym how)) ∙ counts_served works.visits served;
+    }

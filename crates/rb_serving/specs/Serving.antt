@@ -10,7 +10,7 @@ use Rattle.rb_ending.specs.declared.broker_fault.BrokerFault.{BrokerFault}
 use Rattle.rb_ending.specs.declared.broker_fault.BrokerFault.TheVariants as Broker
 use Rattle.rb_serving.specs.Terms.{Terms}
 use Rattle.rb_serving.specs.VisitCounts.{counts_in}
-use Rattle.rb_serving.specs.Visits.{Served, AreVisits, IsWorker, AreWorkers, counts_of, all_visits}
+use Rattle.rb_serving.specs.Visits.{Served, AreVisits, IsWorker, AreWorkers, counts_of, all_visits, number_of}
 use Rattle.rb_serving.specs.declared.serve_report.ServeReport.{ServeReport}
 use Rattle.rb_serving.specs.declared.visit_counts.VisitCounts.{VisitCounts}
 
@@ -30,18 +30,19 @@ pub record IsReport {T : Type 0} (pass : Seen) (visits : VisitCounts) (report : 
   pub counted : counts_in report ≡ visits
 
 module _ {I O G C : Type 0} (terms : Terms I O G C) where
-  -- what a pass did that served visits until there were no more, and their counts
-  pub record WorksOff (old new : Seen) (counts : VisitCounts) : Type 0 where
+  -- what a worker's pass did that served visits until the door had no more, and their counts
+  pub record WorksOff (worker : ℕ) (old new : Seen) (counts : VisitCounts) : Type 0 where
     pub visits : List (Option Served)
-    pub served : AreVisits terms old visits new
+    pub served : AreVisits terms worker 0 old visits new
+    pub no_more : terms.has_no_more (number_of worker (length visits))
     pub counted : counts ≡ counts_of visits
 
   -- what a worker's thread gives: a pass with nothing folded into it, and the counts of the visits that it
   -- served
-  pub record IsDone (pass : Seen) (counts : VisitCounts) : Type 0 where
+  pub record IsDone (worker : ℕ) (pass : Seen) (counts : VisitCounts) : Type 0 where
     pub alone : pass.folded ≡ []
     pub visits : List (Option Served)
-    pub worker : IsWorker terms visits pass
+    pub works : IsWorker terms worker visits pass
     pub counted : counts ≡ counts_of visits
 
   -- The passes of so many workers were folded into the pass, which made no call itself. These are the counts of
@@ -50,7 +51,7 @@ module _ {I O G C : Type 0} (terms : Terms I O G C) where
     pub records : List Record
     pub many : length records ≡ workers
     pub visits : List (List (Option Served))
-    pub served : AreWorkers terms visits records
+    pub served : AreWorkers terms 0 visits records
     pub counted : counts ≡ counts_of (all_visits visits)
     pub folded : new.folded ≡ old.folded ++ records
     pub table : new.table ≡ old.table
@@ -60,7 +61,8 @@ module _ {I O G C : Type 0} (terms : Terms I O G C) where
 
   -- The queue that a server gives back began with this opening and had room for so many calls as the options say. Its
   -- history is legal, and has the calls of as many workers and no other; the calls of each are those of the sessions
-  -- that it served, one after the other. The audit is that of this history, and the counts are those of all visits.
+  -- that it served, one after the other, until the door had no more. The audit is that of this history, and the counts
+  -- are those of all visits, for each of which the door was asked under another number.
   pub record IsServersRun {T : Type 0} (begun : Opening) (options : RunOptions) (report : ServeReport T) : Type 0 where
     pub opening : report.kept.opening ≡ begun
     pub capacity : report.kept.capacity ≡ options.calls
@@ -71,7 +73,7 @@ module _ {I O G C : Type 0} (terms : Terms I O G C) where
     pub many : length records ≡ options.workers
     pub holds : HasCallsOf report.kept (first ∷ records)
     pub visits : List (List (Option Served))
-    pub served : AreWorkers terms visits records
+    pub served : AreWorkers terms 0 visits records
     pub counted : counts_in report ≡ counts_of (all_visits visits)
 
 -- the faults that may end a server

@@ -12,6 +12,7 @@ use Rattle.rb_serving.specs.Terms.{Terms}
 use Rattle.rb_serving.specs.VisitCounts.{lost_in, faults_in}
 use Rattle.rb_serving.specs.declared.visit.Visit.{Visit}
 use Rattle.rb_serving.specs.declared.visit_counts.VisitCounts.{VisitCounts}
+use Rattle.rb_serving.specs.declared.visit_number.VisitNumber.{VisitNumber}
 
 -- A visit that was served: what came of the client, what it was sent, and how the session ended.
 pub record Served : Type 0 where
@@ -44,6 +45,10 @@ abbrev pub all_visits : List (List (Option Served)) → List (Option Served)
 all_visits [] = []
 all_visits (visits ∷ others) = visits ++ all_visits others
 
+-- The number under which a worker asks for the visit after so many others. It counts no further than the greatest.
+abbrev pub number_of : ℕ → ℕ → VisitNumber
+number_of worker earlier = record { worker = worker; earlier = min earlier GREATEST_COUNT }
+
 -- a desk of the pass, with this clock and gate, through which nothing was made yet
 pub record IsDeskOf {C G : Type 0} (clock : C) (gate : G) (pass : Seen) (desk : SharedState C G) : Type 0 where
   pub pass_is : desk.pass ≡ pass
@@ -70,29 +75,33 @@ module _ {I O G C : Type 0} (terms : Terms I O G C) where
     pub ran : RanSession (IsAtEnd (terms.remaining left.reader)) from served to
     pub seen : to.pass ≡ new
 
-  -- A visitor was let in, and the session of this visit was run.
-  pub record IsVisit (old : Seen) (served : Served) (new : Seen) : Type 0 where
+  -- A visitor was let in under this number, and the session of this visit was run.
+  pub record IsVisit (number : VisitNumber) (old : Seen) (served : Served) (new : Seen) : Type 0 where
     pub visit : Visit I O G
-    pub let_in : terms.lets_in visit
+    pub let_in : terms.lets_in number visit
     pub left : Visit I O G
     pub ran : RanVisit visit left old served new
 
-  -- The pass served those who were let in, one after the other, and did nothing else.
-  abbrev pub AreVisits : Seen → List (Option Served) → Seen → Type 0
-  AreVisits old [] new = new ≡ old
-  AreVisits old (None ∷ visits) new = terms.turns_away × AreVisits old visits new
-  AreVisits old (Some served ∷ visits) new =
-      (between : Seen) × IsVisit old served between × AreVisits between visits new
+  -- Behind so many earlier visits, the worker asked for these, each under a number of its own. Its pass served those
+  -- who were let in, one after the other, and did nothing else.
+  abbrev pub AreVisits : ℕ → ℕ → Seen → List (Option Served) → Seen → Type 0
+  AreVisits worker earlier old [] new = new ≡ old
+  AreVisits worker earlier old (None ∷ visits) new =
+      terms.turns_away (number_of worker earlier) × AreVisits worker (earlier + 1) old visits new
+  AreVisits worker earlier old (Some served ∷ visits) new =
+      (between : Seen) × IsVisit (number_of worker earlier) old served between
+      × AreVisits worker (earlier + 1) between visits new
 
-  -- a worker's pass: it had made no call, and served these visits
-  pub record IsWorker (visits : List (Option Served)) (pass : Seen) : Type 0 where
+  -- A worker's pass: it had made no call, and served these visits, behind which the door had no more.
+  pub record IsWorker (worker : ℕ) (visits : List (Option Served)) (pass : Seen) : Type 0 where
     pub first : Seen
     pub idle : first.mine ≡ []
-    pub served : AreVisits first visits pass
+    pub served : AreVisits worker 0 first visits pass
+    pub no_more : terms.has_no_more (number_of worker (length visits))
 
-  -- each record is that of a worker that served these visits
-  abbrev pub AreWorkers : List (List (Option Served)) → List Record → Type 0
-  AreWorkers [] [] = Unit {0}
-  AreWorkers (visits ∷ others) (one ∷ records) =
-      ((pass : Seen) × IsWorker visits pass × (one ≡ record_of pass)) × AreWorkers others records
-  AreWorkers _ _ = ⊥
+  -- each record is that of a worker that served these visits, from this worker on
+  abbrev pub AreWorkers : ℕ → List (List (Option Served)) → List Record → Type 0
+  AreWorkers worker [] [] = Unit {0}
+  AreWorkers worker (visits ∷ others) (one ∷ records) =
+      ((pass : Seen) × IsWorker worker visits pass × (one ≡ record_of pass)) × AreWorkers (worker + 1) others records
+  AreWorkers _ _ _ = ⊥

@@ -1,7 +1,9 @@
-ghost use Rattle.std.specs.Prelude.{OnErr, IfOk, IfSome};
+ghost use Rattle.std.specs.Prelude.{OnErr, IfNone, IfOk, IfSome};
 ghost use Rattle.rb_serving.specs.declared.visit.Visit.{Visit};
+ghost use Rattle.rb_serving.specs.declared.visit_number.VisitNumber.{VisitNumber};
 
 use crate::visit::Visit;
+use crate::visit_number::VisitNumber;
 use rb_blocking::Gate;
 use std::io::{Read, Write};
 use std::sync::Wait;
@@ -15,9 +17,9 @@ pub struct DoorFault;
 
 /// Where visits come from.
 ///
-/// `lets_in` tells which visits the door may let in, and `turns_away` that it may refuse a visitor. Code over
-/// any door learns them in no other way than by asking for the next visit: so where a contract says one of
-/// them, the door answered so.
+/// `lets_in` tells which visits the door may let in under a number, `turns_away` that it may refuse a visitor under
+/// it, and `has_no_more` that it may answer that there are no more. Code over any door learns them in no other way
+/// than by asking under that number: so where a contract says one of them, the door answered so.
 pub trait Door {
     /// What a visitor's requests are read from.
     type Reader: Read + Drop + Send;
@@ -28,16 +30,23 @@ pub trait Door {
     /// What may end a visitor's waits.
     type Gate: Gate + Drop + Send;
 
-    ghost lets_in: { Self → Visit Self.Reader Self.Writer Self.Gate → Type 0 };
+    ghost lets_in: { Self → VisitNumber → Visit Self.Reader Self.Writer Self.Gate → Type 0 };
 
-    ghost turns_away: { Self → Type 0 };
+    ghost turns_away: { Self → VisitNumber → Type 0 };
+
+    ghost has_no_more: { Self → VisitNumber → Type 0 };
 
     /// The next visit, which no other caller gets, or `None` if there are no more. It may wait for
     /// one, and after a visitor that could not be let in.
+    ///
+    /// The number says who asks. A door need not look at it: it is there for contracts, which tell
+    /// the answers to two calls apart by it.
     fn next<R: Wait + time::Clock>(
         &self,
         rt: &R,
+        number: VisitNumber,
     ) -> Option<Result<Visit<Self::Reader, Self::Writer, Self::Gate>, DoorFault>>
-        ensures let_in { IfSome result (λ visit. IfOk visit (lets_in self.now)) }
-        ensures turned_away { IfSome result (λ visit. OnErr visit (turns_away self.now)) };
+        ensures let_in { IfSome result (λ visit. IfOk visit (lets_in self.now number)) }
+        ensures turned_away { IfSome result (λ visit. OnErr visit (turns_away self.now number)) }
+        ensures no_more { IfNone result (has_no_more self.now number) };
 }

@@ -15,6 +15,7 @@ mod service;
 mod tcp_door;
 mod visit;
 mod visit_counts;
+mod visit_number;
 mod worker;
 mod workers;
 
@@ -27,3 +28,4 @@ pub use serve_text::print_listening;
 pub use server::{serve_door, serve_door_gathered};
 pub use tcp_door::TcpDoor;
 pub use visit::Visit;
+pub use visit_number::VisitNumber;

@@ -32,9 +32,10 @@ use std::time;
 ///
 /// All waits read the same clock. Each reply is written when its request is served; after a write
 /// that failed, no further line of that visit is served. The history that comes back is legal and
-/// has exactly the workers' calls, which are the calls of the sessions that each served; the counts
-/// are those of all visits. Memory is taken for the history at the start, then for each session as
-/// it begins, and for what is offered and drained.
+/// has exactly the workers' calls, which are the calls of the sessions that each served until the
+/// door had no more; the counts are those of their visits, none counted twice. Memory is taken for
+/// the history at the start, then for each session as it begins, and for what is offered and
+/// drained.
 pub fn serve_door<
     T: Timer + Send,
     D: Door + Sync,

@@ -1,7 +1,8 @@
-ghost use Rattle.std.specs.Prelude.{◌≡◌, Some, Ok, Err, OnErr, IfOk};
+ghost use Rattle.std.specs.Prelude.{◌≡◌, ◌<◌, ◌≤◌, Some, Ok, Err, OnErr, OnSome, IfNone, IfOk, IfSome};
 
 use crate::door::{Door, DoorFault};
 use crate::visit::Visit;
+use crate::visit_number::VisitNumber;
 use rb_blocking::TurnGate;
 use std::fmt::{self, Debug, Formatter};
 use std::net::{TcpListener, TcpStream};
@@ -56,6 +57,26 @@ impl TcpDoor {
             gate,
         })
     }
+
+    // The answer to a worker before whom a client was asked for this often: none exactly if the sessions are used up.
+    fn answer<R: time::Clock>(
+        &self,
+        rt: &R,
+        asked: u64,
+    ) -> Option<Result<Visit<TcpStream, TcpStream, TurnGate>, DoorFault>>
+        ensures used_up { IfNone result (self.now.sessions ≤ asked) }
+        ensures left { OnSome result (asked < self.now.sessions) }
+        ensures turns { IfSome result (λ visit. IfOk visit (λ visit. visit.gate.limit ≡ self.now.turns)) }
+    {
+        if asked >= self.sessions {
+            return None;
+        }
+        let accepted = self.accept();
+        if accepted.is_err() {
+            thread::sleep(rt, Duration::from_millis(PAUSE));
+        }
+        answer_of(accepted)
+    }
 }
 
 impl Debug for TcpDoor {
@@ -75,22 +96,19 @@ impl Door for TcpDoor {
     type Gate = TurnGate;
 
     // A client's waits end after the door's turns.
-    ghost lets_in = { λ door visit. visit.gate.limit ≡ door.turns };
+    ghost lets_in = { λ door number visit. visit.gate.limit ≡ door.turns };
 
-    ghost turns_away = { λ door. Unit {0} };
+    ghost turns_away = { λ door number. Unit {0} };
+
+    ghost has_no_more = { λ door number. Unit {0} };
 
     fn next<R: Wait + time::Clock>(
         &self,
         rt: &R,
+        _number: VisitNumber,
     ) -> Option<Result<Visit<TcpStream, TcpStream, TurnGate>, DoorFault>> {
-        if self.asked.fetch_add(1, Ordering::SeqCst) >= self.sessions {
-            return None;
-        }
-        let accepted = self.accept();
-        if accepted.is_err() {
-            thread::sleep(rt, Duration::from_millis(PAUSE));
-        }
-        answer_of(accepted)
+        let asked = self.asked.fetch_add(1, Ordering::SeqCst);
+        self.answer(rt, asked)
     }
 }
 

@@ -7,6 +7,7 @@ use crate::door::{Door, DoorFault};
 use crate::service::Service;
 use crate::visit::Visit;
 use crate::visit_counts::VisitCounts;
+use crate::visit_number::VisitNumber;
 use rb_blocking::Clock;
 use rb_lock::Pass;
 use rb_session::{Ended, SessionFault, run_delivered};
@@ -15,24 +16,29 @@ use rb_timer::Timer;
 use std::sync::Wait;
 use std::time;
 
-/// Serves one visit after the other, until the door has no more.
+/// Serves one visit after the other as the worker of this number, until the door has no more.
 ///
 /// The pass makes all their calls and no others, and folded passes are kept. It waits for
 /// visits, and while another pass calls.
 pub(crate) fn work<T: Timer, D: Door, C: Clock, R: Wait + time::Clock>(
     rt: &R,
     service: &Service<'_, T, D, C>,
+    worker: u64,
     mut pass: Pass<T>,
 ) -> (Pass<T>, VisitCounts)
     requires pass { pass.table ≡ service.now.shared.now }
     ensures worked { IsWorked pass result.0 }
     ensures visits { WorksOff
         (service_terms D.Door D.Reader.Read D.Writer.Write D.Gate.Gate C.Clock service.now)
-        pass result.0 result.1 }
+        worker pass result.0 result.1 }
 {
     let mut counts = VisitCounts::none();
     for _ in rt.forever() {
-        let visit = match service.door.next(rt) {
+        let number = VisitNumber {
+            worker,
+            earlier: counts.sessions,
+        };
+        let visit = match service.door.next(rt, number) {
             None => break,
             Some(Err(DoorFault)) => VisitCounts::of_refusal(),
             Some(Ok(visit)) => {

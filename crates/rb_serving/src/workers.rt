@@ -15,15 +15,18 @@ use std::sync::Wait;
 use std::thread::{Promise, PromisedHandle, Scope, Threads};
 use std::{thread, time};
 
-// What a worker's thread gives: its pass, which served visits of this service and nothing else, and their
-// counts.
+// What a worker's thread gives: its pass, which served visits of this service as this worker and nothing else,
+// and their counts.
 #[derive(Drop)]
-struct OfService<'a, T: Timer, D: Door, C: Clock>(&'a Service<'a, T, D, C>);
+struct OfWorker<'a, T: Timer, D: Door, C: Clock> {
+    service: &'a Service<'a, T, D, C>,
+    worker: u64,
+}
 
-impl<'a, T: Timer, D: Door, C: Clock> Promise<(Pass<T>, VisitCounts)> for OfService<'a, T, D, C> {
-    ghost kept_by = { λ promise worked. (worked.0.table ≡ promise.0.now.shared.now) × IsDone
-        (service_terms D.Door D.Reader.Read D.Writer.Write D.Gate.Gate C.Clock promise.0.now)
-        worked.0 worked.1 };
+impl<'a, T: Timer, D: Door, C: Clock> Promise<(Pass<T>, VisitCounts)> for OfWorker<'a, T, D, C> {
+    ghost kept_by = { λ promise worked. (worked.0.table ≡ promise.service.now.shared.now) × IsDone
+        (service_terms D.Door D.Reader.Read D.Writer.Write D.Gate.Gate C.Clock promise.service.now)
+        promise.worker worked.0 worked.1 };
 }
 
 /// Runs this many workers at once, and folds the pass of each into this one.
@@ -87,7 +90,7 @@ fn start_all<
     let Ok(child) = service.shared.split(rt, &mut pass) else {
         return Err(BrokerFault::Worker);
     };
-    let worker = start(rt, scope, service, child)?;
+    let worker = start(rt, scope, service, count - 1, child)?;
     let others = start_all(rt, scope, service, pass, count - 1);
     let (done, counts) = worker.join(rt);
     let (mut pass, more) = others?;
@@ -95,7 +98,7 @@ fn start_all<
     Ok((pass, more.with(counts)))
 }
 
-// Starts one worker with this pass.
+// Starts the worker of this number, with this pass.
 fn start<
     's,
     E,
@@ -107,22 +110,24 @@ fn start<
     rt: &'s R,
     scope: &'s Scope<'s, E>,
     service: &'s Service<'s, T, D, C>,
+    worker: u64,
     pass: Pass<T>,
-) -> Result<PromisedHandle<(Pass<T>, VisitCounts), OfService<'s, T, D, C>>, BrokerFault>
+) -> Result<PromisedHandle<(Pass<T>, VisitCounts), OfWorker<'s, T, D, C>>, BrokerFault>
     requires pass { pass.table ≡ service.now.shared.now }
     requires alone { pass.folded ≡ [] }
     requires idle { pass.mine ≡ [] }
-    ensures of { IfOk result (λ worker. worker.promise.0.now ≡ service.now) }
+    ensures service { IfOk result (λ started. started.promise.service.now ≡ service.now) }
+    ensures worker { IfOk result (λ started. started.promise.worker ≡ worker) }
     ensures fault { IfErr result (λ fault. fault ≡ Worker) }
 {
     match scope.spawn_with(
-        OfService(service),
+        OfWorker { service, worker },
         move || -> (Pass<T>, VisitCounts)
             requires { (pass.table ≡ service.now.shared.now) × (pass.folded ≡ []) × (pass.mine ≡ []) }
             ensures { (result.0.table ≡ service.entry.now.shared.now) × IsDone
                 (service_terms D.Door D.Reader.Read D.Writer.Write D.Gate.Gate C.Clock service.entry.now)
-                result.0 result.1 }
-        { work(rt, service, pass) },
+                worker result.0 result.1 }
+        { work(rt, service, worker, pass) },
     ) {
         Ok(worker) => Ok(worker),
         Err(_) => Err(BrokerFault::Worker),

@@ -8,7 +8,9 @@ use rb_ending::{BrokerFault, audit_line};
 use rb_queue::{Audit, Opening};
 use rb_replay::check;
 use rb_retry::Policy;
-use rb_serving::{Door, DoorFault, ServeReport, Visit, serve_door, serve_door_gathered};
+use rb_serving::{
+    Door, DoorFault, ServeReport, Visit, VisitNumber, serve_door, serve_door_gathered,
+};
 use rb_timer::ListTimer;
 use std::alloc::Global;
 use std::io::{Read, Write};
@@ -195,13 +197,16 @@ impl<'a, R: Wait + time::Clock + Sync> Door for PlannedDoor<'a, R> {
 
     type Gate = NotedGate<'a>;
 
-    ghost lets_in = { λ door visit. Unit {0} };
+    ghost lets_in = { λ door number visit. Unit {0} };
 
-    ghost turns_away = { λ door. Unit {0} };
+    ghost turns_away = { λ door number. Unit {0} };
+
+    ghost has_no_more = { λ door number. Unit {0} };
 
     fn next<H: Wait + time::Clock>(
         &self,
         _rt: &H,
+        _number: VisitNumber,
     ) -> Option<Result<Visit<Sender<'a, R>, Receiver<'a, R>, NotedGate<'a>>, DoorFault>> {
         let taken = self.taken.fetch_add(1, Ordering::SeqCst);
         let plan = self.plans.get(usize::try_from(taken).ok()?)?;

@@ -1,12 +1,13 @@
 -- The pass has served those who came so far, and these are counted.
-use Rattle.rb_serving.specs.Serving.{IsWorked, WorksOff}
+use Rattle.rb_serving.specs.Serving.{IsWorked}
 use Rattle.rb_serving.specs.Terms.{service_terms}
+use Rattle.rb_serving.proofs.ServedVisits.{HasServed}
 use Rattle.rb_serving.proofs.worker.work.Given as goal
 
 abbrev pub invariant-loop : goal.invariant-loop
 invariant-loop g l = record {
   worked : IsWorked l.initial.pass l.pass;
-  visits : WorksOff
+  visits : HasServed
       (service_terms g.D.Door g.D.Reader.Read g.D.Writer.Write g.D.Gate.Gate g.C.Clock l.service)
-      l.initial.pass l.pass l.counts;
+      l.worker l.initial.pass l.pass l.counts;
 }

@@ -12,8 +12,11 @@ returns-clause-folds g t c =
     let of = terms c.args.service.now in
     let some : 0 < c.args.count = grind (arith, nat_tests, c.if-count-eq0.false) in
     let done = c.join-done.result in
-    let worked =
-    subst (λ service. IsDone (terms service) done.0 done.1) c.in_ok-worker.ensures.of c.join-done.ensures.1 in
+    let promise = c.in_ok-worker.worker.promise in
+    let started = c.in_ok-worker.ensures in
+    let as_promised =
+    subst (λ service. IsDone (terms service) promise.worker done.0 done.1) started.service c.join-done.ensures.1 in
+    let worked = subst (λ worker. IsDone of worker done.0 done.1) started.worker as_promised in
     subst (FoldsWorkers of c.args.count c.args.pass c.fold.new.pass) (sym c.with.ensures)
     (folds_one_more of c.args.count c.args.pass c.split.new.pass c.in_ok-pass.pass done.0 c.fold.new.pass done.1
     c.in_ok-pass.more some c.in-Ok.ensures.learns c.in-Ok.ensures.mine c.in_ok-pass.ensures.folds worked

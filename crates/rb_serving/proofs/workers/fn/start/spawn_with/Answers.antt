@@ -4,12 +4,18 @@ use Rattle.rb_serving.proofs.workers.fn.start.spawn_with.Goals as goal
 
 pub returns : goal.returns
 returns g c =
-    let done = c.work.ensures in (
+    let done = c.work.ensures in
+    let visits = done.visits in (
       done.worked.table ∙ c.requires.0,
       record {
         alone = done.worked.folded ∙ c.requires.1;
-        visits = done.visits.visits;
-        worker = record { first = c.captures.pass; idle = c.requires.2; served = done.visits.served };
-        counted = done.visits.counted;
+        visits = visits.visits;
+        works = record {
+          first = c.captures.pass;
+          idle = c.requires.2;
+          served = visits.served;
+          no_more = visits.no_more;
+        };
+        counted = visits.counted;
       },
     )
