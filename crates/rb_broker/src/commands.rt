@@ -34,7 +34,7 @@ pub fn script(
         opening,
         &mut rt.stdin(),
         &mut rt.stdout(),
-        &mut device,
+        device.as_mut(),
     )
 }
 
@@ -92,7 +92,7 @@ fn serve_over<T: Timer + Send, R: Threads + Wait + time::Clock + Sync>(
     let alloc = rt.alloc();
     let clock = ServeClock::new(handle, opening.last_at);
     let report: ServeReport<T> = serve_door_gathered(handle, alloc, door, &clock, run, opening)?;
-    end_server(alloc, &report, &mut rt.stdout(), history)
+    end_server(alloc, &report, &mut rt.stdout(), history.as_mut())
 }
 
 // Where a run begins: where the history in a file ends, if one is named.

@@ -120,7 +120,7 @@ fn run(
                 opening,
                 &mut reader,
                 &mut writer,
-                &mut recorder,
+                recorder.as_mut(),
             )
         }
         Err(fault) => Err(fault),

@@ -1,18 +1,41 @@
 -- What becomes of the history of a run.
-use Rattle.std.specs.Prelude.{◌≡◌, ℕ, List, Option, None, Some, Result, Ok}
+use Rattle.std.specs.Prelude.{◌≡◌, ◌≤◌, ℕ, List, length, Option, None, Some, OnOk, ◌⊎◌, Result, Ok}
+use Rattle.std.proofs.Common.{inl, inr}
+use Rattle.std.specs.Borrow.{MutBor}
+use Rattle.rb_queue.specs.History.{IsLegal}
 use Rattle.rb_kept.specs.Log.{Log}
+use Rattle.rb_kept.specs.declared.kept.TheConstants.{MOST_CALLS}
 use Rattle.rb_history.specs.HistoryText.{history_text}
+use Rattle.rb_history.specs.Ranges.{IsRightOpening, AreRightEvents}
 use Rattle.rb_history.specs.Written.{Writes}
 use Rattle.rb_history.specs.declared.history_fault.HistoryFault.{HistoryFault}
 
--- there was nothing and is nothing, or what there was has become something in this relation to it
-abbrev pub Becomes : {H : Type 0} → (H → H → Type 0) → Option H → Option H → Type 0
-Becomes stands None None = Unit {0}
-Becomes stands (Some old) (Some new) = stands old new
-Becomes stands _ _ = ⊥
+-- the log's history is one whose text is read again: legal, not too long, and with all values in their ranges
+pub record IsReadable (log : Log) : Type 0 where
+  pub opening : IsRightOpening log.opening
+  pub events : AreRightEvents log.history
+  pub legal : IsLegal log.opening log.history
+  pub few : length log.history ≤ MOST_CALLS
 
--- A device that there was has got the text of the log's history, or a first part of it, or nothing, as
--- the result of writing it says.
+-- A device has got the text of the log's history, or a first part of it, or nothing, as the result of writing it
+-- says. From what it had got to what it has got.
+pub record RecordsLog (log : Log) (wrote : Result (Unit {0}) HistoryFault) (got got' : Option (List ℕ)) : Type 0 where
+  pub writes : Writes wrote got (history_text log.opening log.history) got'
+  pub readable : OnOk wrote (IsReadable log)
+
+-- a device that was lent, if there was one
+abbrev pub lent : {H : Type 0} → Option (MutBor H) → Option H
+lent None = None
+lent (Some device) = Some device.now
+
+-- and as it is given back: what a function leaves of an option of a reference tells its variants in order
+abbrev pub given_back : {H : Type 0} → Unit {0} ⊎ ((MutBor H × Unit {0}) ⊎ ⊥) → Option H
+given_back (inl nothing) = None
+given_back (inr (inl device)) = Some device.0.now
+given_back (inr (inr never)) = None
+
+-- the history was written to the device, if there was one; otherwise nothing was to be done
 abbrev pub RecordsRun : {H : Type 0} → (H → Option (List ℕ)) → Log → Result (Unit {0}) HistoryFault → Option H → Option H → Type 0
-RecordsRun contents log wrote device left = (device ≡ None → wrote ≡ Ok tt) × Becomes (λ old new.
-    Writes wrote (contents old) (history_text log.opening log.history) (contents new)) device left
+RecordsRun contents log wrote None None = wrote ≡ Ok tt
+RecordsRun contents log wrote (Some old) (Some new) = RecordsLog log wrote (contents old) (contents new)
+RecordsRun contents log wrote _ _ = ⊥

@@ -1,4 +1,4 @@
-ghost use Rattle.rb_ending.specs.Recording.{RecordsRun};
+ghost use Rattle.rb_ending.specs.Recording.{RecordsLog};
 
 use rb_history::{HistoryFault, write_history};
 use rb_kept::Kept;
@@ -6,19 +6,18 @@ use rb_timer::Timer;
 use std::alloc::Global;
 use std::io::Write;
 
-/// Writes the history of the kept queue, if there is a device for it. The faults are those of
-/// `write_history`.
+/// Writes the history of the kept queue to a device. The faults are those of `write_history`.
+///
+/// What was written whole is legal and has its values in the ranges that texts have, so it is read
+/// again as just this history.
 pub fn record<T: Timer, H: Write>(
     alloc: Global,
     kept: &Kept<T>,
-    history: &mut Option<H>,
+    device: &mut H,
 ) -> Result<(), HistoryFault>
-    ensures { RecordsRun H.contents kept.now result history.old history.new }
+    ensures { RecordsLog kept.now result (H.contents device.old) (H.contents device.new) }
 {
     // The proof learns here how long the history may get.
     let _ = kept.capacity();
-    match history {
-        Some(device) => write_history(alloc, kept.opening(), kept.history(), device),
-        None => Ok(()),
-    }
+    write_history(alloc, kept.opening(), kept.history(), device)
 }

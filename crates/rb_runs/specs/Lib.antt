@@ -18,3 +18,5 @@ pub mod Verdict
 pub mod Beginning
 pub mod FileText
 pub mod Script
+pub mod ScriptRun
+pub mod WrittenRuns

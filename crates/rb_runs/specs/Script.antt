@@ -1,19 +1,21 @@
 -- What a run of a script is: one session at a desk over the queue of an opening, and then its history.
-use Rattle.std.specs.Prelude.{◌≡◌, ◌≢◌, ℕ, List, [], Option, Result, Ok, Err}
+use Rattle.std.specs.Prelude.{◌≡◌, ◌≢◌, ℕ, List, [], Option, None, IsSome, Result, Ok, Err}
 use Rattle.rb_ledger.specs.Totals.{nothing}
 use Rattle.rb_queue.specs.declared.opening.Opening.{Opening}
 use Rattle.rb_kept.specs.Log.{Log}
-use Rattle.rb_history.specs.declared.history_fault.HistoryFault.{HistoryFault}
 use Rattle.rb_retry.specs.KeptSteps.{KeptState, KeptSteps, SetsKept}
 use Rattle.rb_retry.specs.declared.policy.Policy.{Policy}
+use Rattle.rb_session.specs.Delivered.{RanDelivered}
+use Rattle.rb_session.specs.declared.delivery.Delivery.{Delivery}
 use Rattle.rb_session.specs.declared.ended.Ended.{Ended}
 use Rattle.rb_session.specs.declared.session_fault.SessionFault.{SessionFault}
 use Rattle.rb_session.specs.declared.session_fault.SessionFault.TheVariants.{Memory}
 use Rattle.rb_ending.specs.BrokerFault.{fault_of_session, fault_of_history}
 use Rattle.rb_ending.specs.Recording.{RecordsRun}
-use Rattle.rb_session.specs.Delivered.{RanDelivered}
-use Rattle.rb_session.specs.declared.delivery.Delivery.{Delivery}
 use Rattle.rb_ending.specs.declared.broker_fault.BrokerFault.{BrokerFault}
+use Rattle.rb_runs.specs.declared.recording.Recording.{Recording}
+use Rattle.rb_runs.specs.declared.recording.Recording.TheVariants.{NotAsked, NotBegun, Written, Failed}
+use Rattle.rb_runs.specs.declared.script_report.ScriptReport.{ScriptReport}
 
 -- a log that begins with this opening, with no call yet and room for this many
 pub record IsFresh (log : Log) (opening : Opening) (calls : ℕ) : Type 0 where
@@ -28,30 +30,37 @@ pub record IsNew (desk : KeptState) (opening : Opening) (calls : ℕ) : Type 0 w
   pub moment : desk.moment ≡ opening.last_at
   pub before : desk.before ≡ 0
 
--- if its session came to its end, the run ends as the writing of its history does
-abbrev pub ends_as : Ended → Result (Unit {0}) HistoryFault → Result Ended BrokerFault
-ends_as ended (Ok done) = Ok ended
-ends_as ended (Err fault) = Err (fault_of_history fault)
-
--- After a session that ended with a fault its history is written too, whatever comes of that. If memory was
--- missing, the session was not begun, and nothing is written.
-pub record RecordsBroken {H : Type 0} (contents : H → Option (List ℕ)) (log : Log) (fault : SessionFault) (device left : Option H) : Type 0 where
-  pub unbegun : fault ≡ Memory → left ≡ device
-  pub begun : fault ≢ Memory → (wrote : Result (Unit {0}) HistoryFault) × RecordsRun contents log wrote device left
-
--- The session's fault is answered, if it has one, and otherwise that of writing the history.
-abbrev pub Finishes : {H : Type 0} → (H → Option (List ℕ)) → Log → Result Ended SessionFault → Result Ended BrokerFault → Option H → Option H → Type 0
-Finishes contents log (Err fault) result device left =
-    (result ≡ Err (fault_of_session fault)) × RecordsBroken contents log fault device left
-Finishes contents log (Ok ended) result device left =
-    (wrote : Result (Unit {0}) HistoryFault) × RecordsRun contents log wrote device left × (result ≡ ends_as ended wrote)
-
--- The run went from a new desk to some other, whose log has its history. What came and what was sent are
--- those of a session on this way, whose replies were delivered so.
-pub record RanScript {H : Type 0} (contents : H → Option (List ℕ)) (policy : Policy) (calls : ℕ) (delivery : Delivery) (Over : Type 0) (opening : Opening) (came sent : List ℕ) (result : Result Ended BrokerFault) (device left : Option H) : Type 0 where
+-- The session went from a new desk to some other, and ended so. What came and what was sent are those of a
+-- session on this way, whose replies were delivered so.
+pub record RanSession (policy : Policy) (calls : ℕ) (delivery : Delivery) (Over : Type 0) (opening : Opening) (came sent : List ℕ) (session : Result Ended SessionFault) (to : KeptState) : Type 0 where
   pub from : KeptState
   pub new : IsNew from opening calls
+  pub ran : RanDelivered (λ desk moment. moment ≡ desk.moment) SetsKept KeptSteps policy delivery Over from came sent session to
+
+-- What became of the history: there is no device for it; or the session found no memory and was not begun, and
+-- the device is as it was; or the text was written to the device, whole or not.
+abbrev pub IsRecording : {H : Type 0} → (H → Option (List ℕ)) → Log → Result Ended SessionFault → Recording → Option H → Option H → Type 0
+IsRecording contents log session NotAsked device left = (device ≡ None) × (left ≡ None)
+IsRecording contents log session NotBegun device left = IsSome device × (session ≡ Err Memory) × (left ≡ device)
+IsRecording contents log session Written device left =
+    IsSome device × (session ≢ Err Memory) × RecordsRun contents log (Ok tt) device left
+IsRecording contents log session (Failed fault) device left =
+    (session ≢ Err Memory) × RecordsRun contents log (Err fault) device left
+
+-- The session was such a one, and this became of the history of the log that it led to.
+pub record RanScript {H : Type 0} (contents : H → Option (List ℕ)) (policy : Policy) (calls : ℕ) (delivery : Delivery) (Over : Type 0) (opening : Opening) (came sent : List ℕ) (report : ScriptReport) (device left : Option H) : Type 0 where
   pub to : KeptState
-  pub ended : Result Ended SessionFault
-  pub ran : RanDelivered (λ desk moment. moment ≡ desk.moment) SetsKept KeptSteps policy delivery Over from came sent ended to
-  pub finishes : Finishes contents to.log ended result device left
+  pub session : RanSession policy calls delivery Over opening came sent report.session to
+  pub recorded : IsRecording contents to.log report.session report.recording device left
+
+-- the session's fault is answered, if it has one, and otherwise that of writing the history
+abbrev pub result_of : Result Ended SessionFault → Recording → Result Ended BrokerFault
+result_of (Err fault) recording = Err (fault_of_session fault)
+result_of (Ok ended) (Failed fault) = Err (fault_of_history fault)
+result_of (Ok ended) _ = Ok ended
+
+-- a script ran, and this is answered
+abbrev pub EndsScript : {H : Type 0} → (H → Option (List ℕ)) → Policy → ℕ → Delivery → Type 0 → Opening → List ℕ → List ℕ → Result Ended BrokerFault → Option H → Option H → Type 0
+EndsScript contents policy calls delivery Over opening came sent result device left =
+    (report : ScriptReport) × RanScript contents policy calls delivery Over opening came sent report device left
+    × (result ≡ result_of report.session report.recording)

@@ -2,14 +2,21 @@
 //! opening that a history leads to.
 #![tactic(auto)]
 
+mod laws;
 mod opening;
 mod over_timer;
 mod reading;
+mod recording;
 mod replay;
 mod script;
+mod script_report;
+mod script_run;
 mod verdict;
 
+pub use laws::{recorded_is_read, script_is_read};
 pub use opening::opening_in;
 pub use reading::read_all;
+pub use recording::Recording;
 pub use replay::run_replay;
-pub use script::{run_script, run_script_gathered};
+pub use script::{run_script, run_script_delivered, run_script_gathered};
+pub use script_report::ScriptReport;

@@ -7,4 +7,5 @@ mod history_files;
 mod memory_refusals;
 mod reading_devices;
 mod replies_at_once;
+mod reports;
 mod writing_devices;

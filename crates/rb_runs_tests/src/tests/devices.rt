@@ -335,7 +335,14 @@ pub fn recorded(
     let (mut source, mut sink) = (source, sink);
     let options = options(rt, timer, calls);
     let opening = Opening::empty(alloc);
-    let ended = run_script_gathered(alloc, &options, opening, &mut source, &mut sink, history);
+    let ended = run_script_gathered(
+        alloc,
+        &options,
+        opening,
+        &mut source,
+        &mut sink,
+        history.as_mut(),
+    );
     outcome_of(ended, source, sink)
 }
 
@@ -351,7 +358,14 @@ pub fn replied_at_once(
     let (mut source, mut sink) = (source, sink);
     let options = options(rt, TimerKind::Heap, 100);
     let opening = Opening::empty(alloc);
-    let ended = run_script(alloc, &options, opening, &mut source, &mut sink, history);
+    let ended = run_script(
+        alloc,
+        &options,
+        opening,
+        &mut source,
+        &mut sink,
+        history.as_mut(),
+    );
     outcome_of(ended, source, sink)
 }
 

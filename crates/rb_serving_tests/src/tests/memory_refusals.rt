@@ -224,7 +224,7 @@ fn ended_into(
     mut printed: Vec<u8>,
     mut history: Option<Vec<u8>>,
 ) -> End {
-    let outcome = end_server(alloc, report, &mut printed, &mut history);
+    let outcome = end_server(alloc, report, &mut printed, history.as_mut());
     End {
         outcome,
         printed,

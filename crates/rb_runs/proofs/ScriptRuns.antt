@@ -1,0 +1,102 @@
+-- Sessions at new desks over an opening.
+use Rattle.std.proofs.Common.{◌≡◌, ℕ, List, [], Option, None, Some, Result, Err, refl, sym, subst, ap, length}
+use Rattle.rb_ledger.specs.Totals.{nothing}
+use Rattle.rb_ledger.specs.declared.totals.Totals.{Totals}
+use Rattle.rb_queue.specs.declared.opening.Opening.{Opening}
+use Rattle.rb_kept.specs.Log.{Log}
+use Rattle.rb_retry.specs.KeptSteps.{KeptState, KeptSteps, SetsKept}
+use Rattle.rb_retry.specs.declared.policy.Policy.{Policy}
+use Rattle.rb_session.specs.Delivered.{RanDelivered}
+use Rattle.rb_session.specs.declared.delivery.Delivery.{Delivery}
+use Rattle.rb_session.specs.declared.delivery.Delivery.TheVariants.{AtOnce, Gathered}
+use Rattle.rb_session.specs.declared.ended.Ended.{Ended}
+use Rattle.rb_session.specs.declared.session_fault.SessionFault.{SessionFault}
+use Rattle.rb_session.specs.declared.session_fault.SessionFault.TheVariants.{Memory}
+use Rattle.rb_runs.specs.Script.{IsFresh, IsNew, IsRecording, RanScript, RanSession}
+use Rattle.rb_runs.specs.ScriptRun.{RanUnrecorded}
+use Rattle.rb_runs.specs.declared.recording.Recording.{Recording}
+use Rattle.rb_runs.specs.declared.recording.Recording.TheVariants.{NotAsked, NotBegun}
+use Rattle.rb_runs.specs.declared.script_report.ScriptReport.{ScriptReport}
+
+-- a desk that nothing has happened at
+pub new_desk : Opening → ℕ → KeptState
+new_desk opening calls = record {
+  name = 0;
+  log = record { opening = opening; history = []; capacity = calls };
+  share = nothing;
+  moment = opening.last_at;
+  before = 0;
+}
+
+is_new : (opening : Opening) (calls : ℕ) → IsNew (new_desk opening calls) opening calls
+unfolding new_desk
+is_new opening calls = record {
+  log = record { opening_is = refl; history = refl; capacity = refl };
+  share = refl;
+  moment = refl;
+  before = refl;
+}
+
+-- the desk over a log that nothing has happened to
+pub desk_over : (name calls : ℕ) (opening : Opening) (log : Log) (share : Totals) → IsFresh log opening calls → share ≡ nothing
+    → IsNew (record { name = name; log = log; share = share; moment = log.opening.last_at; before = length log.history }) opening calls
+desk_over name calls opening log share fresh none = record {
+  log = fresh;
+  share = none;
+  moment = ap (λ (o : Opening). o.last_at) fresh.opening_is;
+  before = ap length fresh.history;
+}
+
+-- a session that found no memory did nothing, whichever way its replies go
+unbegun_at : (policy : Policy) (delivery : Delivery) (Over : Type 0) (desk : KeptState)
+    → RanDelivered (λ desk moment. moment ≡ desk.moment) SetsKept KeptSteps policy delivery Over desk [] [] (Err Memory) desk
+unbegun_at policy AtOnce Over desk = (refl, refl, refl)
+unbegun_at policy (Gathered _) Over desk = (refl, refl, refl)
+
+pub unbegun : (policy : Policy) (calls : ℕ) (delivery : Delivery) (Over : Type 0) (opening : Opening)
+    → RanSession policy calls delivery Over opening [] [] (Err Memory) (new_desk opening calls)
+unbegun policy calls delivery Over opening = record {
+  from = new_desk opening calls;
+  new = is_new opening calls;
+  ran = unbegun_at policy delivery Over (new_desk opening calls);
+}
+
+-- where nothing came and was sent
+unbegun_so : (policy : Policy) (calls : ℕ) (delivery : Delivery) (Over : Type 0) (opening : Opening) (came sent : List ℕ) → came ≡ [] → sent ≡ []
+    → RanSession policy calls delivery Over opening came sent (Err Memory) (new_desk opening calls)
+unbegun_so policy calls delivery Over opening came sent nothing silent =
+    subst (λ c. RanSession policy calls delivery Over opening c sent (Err Memory) (new_desk opening calls)) (sym nothing)
+    (subst (λ s. RanSession policy calls delivery Over opening [] s (Err Memory) (new_desk opening calls)) (sym silent) (unbegun policy calls delivery Over opening))
+
+module _ (policy : Policy) (calls : ℕ) (delivery : Delivery) (Over : Type 0) (opening : Opening) (came sent : List ℕ) where
+  -- a session ran, and this became of its history
+  pub recorded_behind : {H : Type 0} (contents : H → Option (List ℕ)) (kept : Log) (session : Result Ended SessionFault) (recording : Recording) (device left : Option H)
+      → (to : KeptState) × RanSession policy calls delivery Over opening came sent session to × (kept ≡ to.log) → IsRecording contents kept session recording device left
+      → RanScript contents policy calls delivery Over opening came sent (record { session = session; recording = recording }) device left
+  recorded_behind contents kept session recording device left (to, ran, is) recorded = record {
+    to = to;
+    session = ran;
+    recorded = subst (λ log. IsRecording contents log session recording device left) is recorded;
+  }
+
+  -- there was no memory for a queue
+  pub recorded_unbegun : {H : Type 0} (contents : H → Option (List ℕ)) (device : H) → (came ≡ []) × (sent ≡ [])
+      → RanScript contents policy calls delivery Over opening came sent (record { session = Err Memory; recording = NotBegun }) (Some device) (Some device)
+  recorded_unbegun contents device (nothing, silent) = record {
+    to = new_desk opening calls;
+    session = unbegun_so policy calls delivery Over opening came sent nothing silent;
+    recorded = (refl, refl, refl);
+  }
+
+  -- there was no device
+  pub unrecorded_unbegun : (came ≡ []) × (sent ≡ []) → RanUnrecorded policy calls delivery Over opening came sent (record { session = Err Memory; recording = NotAsked })
+  unrecorded_unbegun (nothing, silent) = (new_desk opening calls, unbegun_so policy calls delivery Over opening came sent nothing silent, refl)
+
+-- a script that had no device for its history is one whose history nobody asked for
+pub unrecorded : {H : Type 0} (contents : H → Option (List ℕ)) (policy : Policy) (calls : ℕ) (delivery : Delivery) (Over : Type 0) (opening : Opening) (came sent : List ℕ) (report : ScriptReport)
+    → RanUnrecorded policy calls delivery Over opening came sent report → RanScript contents policy calls delivery Over opening came sent report None None
+unrecorded contents policy calls delivery Over opening came sent report (to, session, is) = record {
+  to = to;
+  session = session;
+  recorded = subst (λ recording. IsRecording contents to.log report.session recording None None) (sym is) (refl, refl);
+}

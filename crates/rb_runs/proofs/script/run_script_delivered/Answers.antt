@@ -1,0 +1,17 @@
+-- With a device the script was recorded to it, and without one it was not recorded.
+use Rattle.rb_runs.proofs.ScriptRuns.{unrecorded}
+use Rattle.rb_runs.proofs.script.run_script_delivered.Goals as goal
+
+pub returns-in-Some : goal.returns-in-Some
+returns-in-Some g c = rw c.in-Some.is c.run_recorded.ensures
+
+pub returns-in-None : goal.returns-in-None
+returns-in-None g c =
+    let ran = c.run_unrecorded.ensures in
+    rw c.in-None.is (record {
+      came = ran.came;
+      sent = ran.sent;
+      consumed = ran.consumed;
+      appended = ran.appended;
+      holds = unrecorded g.H.Write.contents _ _ _ _ _ _ _ _ ran.holds;
+    })

@@ -1,0 +1,160 @@
+ghost use Rattle.std.specs.Prelude.{◌≤◌};
+ghost use Rattle.std.specs.Io.KnownBytes.{IsAtEnd};
+ghost use Rattle.rb_kept.specs.declared.kept.TheConstants.{MOST_CALLS};
+ghost use Rattle.rb_session.specs.Exchange.{Exchanges};
+ghost use Rattle.rb_runs.specs.Script.{IsRecording, RanScript};
+ghost use Rattle.rb_runs.specs.ScriptRun.{RanOver, RanUnrecorded};
+
+use crate::over_timer;
+use crate::recording::Recording;
+use crate::script_report::ScriptReport;
+use rb_arguments::ScriptOptions;
+use rb_ending::record;
+use rb_kept::Kept;
+use rb_queue::Opening;
+use rb_retry::{KeptDesk, Policy};
+use rb_session::{Delivery, Ended, SessionFault, run_delivered};
+use rb_timer::Timer;
+use std::alloc::{AllocError, Global};
+use std::io::{Read, Write};
+
+/// Runs a script over the timer that the options name, and writes its history to a device.
+pub(crate) fn run_recorded<R: Read, W: Write, H: Write>(
+    alloc: Global,
+    options: &ScriptOptions,
+    delivery: Delivery,
+    opening: Opening,
+    reader: &mut R,
+    writer: &mut W,
+    device: &mut H,
+) -> ScriptReport
+    ensures { Exchanges (R.remaining reader.old) (R.remaining reader.new) (W.contents writer.old) (W.contents writer.new) (λ came sent.
+        RanScript H.contents options.now.policy options.now.calls delivery (IsAtEnd (R.remaining reader.new))
+        opening came sent result (Some device.old) (Some device.new)) }
+{
+    let calls = options.calls;
+    let policy = &options.policy;
+    over_timer!(
+        options.timer,
+        recorded_over::<_, R, W, H>(
+            alloc, calls, policy, delivery, opening, reader, writer, device
+        )
+    )
+}
+
+/// Runs a script over the timer that the options name. There is no device for its history.
+pub(crate) fn run_unrecorded<R: Read, W: Write>(
+    alloc: Global,
+    options: &ScriptOptions,
+    delivery: Delivery,
+    opening: Opening,
+    reader: &mut R,
+    writer: &mut W,
+) -> ScriptReport
+    ensures { Exchanges (R.remaining reader.old) (R.remaining reader.new) (W.contents writer.old) (W.contents writer.new) (λ came sent.
+        RanUnrecorded options.now.policy options.now.calls delivery (IsAtEnd (R.remaining reader.new)) opening came sent result) }
+{
+    let calls = options.calls;
+    let policy = &options.policy;
+    over_timer!(
+        options.timer,
+        unrecorded_over::<_, R, W>(alloc, calls, policy, delivery, opening, reader, writer)
+    )
+}
+
+fn recorded_over<T: Timer, R: Read, W: Write, H: Write>(
+    alloc: Global,
+    calls: u64,
+    policy: &Policy,
+    delivery: Delivery,
+    opening: Opening,
+    reader: &mut R,
+    writer: &mut W,
+    device: &mut H,
+) -> ScriptReport
+    requires from_one { 1 ≤ calls }
+    requires in_range { calls ≤ MOST_CALLS }
+    ensures { Exchanges (R.remaining reader.old) (R.remaining reader.new) (W.contents writer.old) (W.contents writer.new) (λ came sent.
+        RanScript H.contents policy.now calls delivery (IsAtEnd (R.remaining reader.new))
+        opening came sent result (Some device.old) (Some device.new)) }
+{
+    let Ok((kept, session)) = run_over::<T, R, W>(
+        alloc, calls, policy, delivery, opening, reader, writer,
+    ) else {
+        return ScriptReport {
+            session: Err(SessionFault::Memory),
+            recording: Recording::NotBegun,
+        };
+    };
+    let recording = recorded(alloc, &kept, session, device);
+    ScriptReport { session, recording }
+}
+
+fn unrecorded_over<T: Timer, R: Read, W: Write>(
+    alloc: Global,
+    calls: u64,
+    policy: &Policy,
+    delivery: Delivery,
+    opening: Opening,
+    reader: &mut R,
+    writer: &mut W,
+) -> ScriptReport
+    requires from_one { 1 ≤ calls }
+    requires in_range { calls ≤ MOST_CALLS }
+    ensures { Exchanges (R.remaining reader.old) (R.remaining reader.new) (W.contents writer.old) (W.contents writer.new) (λ came sent.
+        RanUnrecorded policy.now calls delivery (IsAtEnd (R.remaining reader.new)) opening came sent result) }
+{
+    let recording = Recording::NotAsked;
+    let Ok((_, session)) = run_over::<T, R, W>(
+        alloc, calls, policy, delivery, opening, reader, writer,
+    ) else {
+        return ScriptReport {
+            session: Err(SessionFault::Memory),
+            recording,
+        };
+    };
+    ScriptReport { session, recording }
+}
+
+// Runs the session over a new queue, and returns this with how the session ended. If there is no
+// memory for the queue, the session is not begun.
+fn run_over<T: Timer, R: Read, W: Write>(
+    alloc: Global,
+    calls: u64,
+    policy: &Policy,
+    delivery: Delivery,
+    opening: Opening,
+    reader: &mut R,
+    writer: &mut W,
+) -> Result<(Kept<T>, Result<Ended, SessionFault>), AllocError>
+    requires from_one { 1 ≤ calls }
+    requires in_range { calls ≤ MOST_CALLS }
+    ensures { Exchanges (R.remaining reader.old) (R.remaining reader.new) (W.contents writer.old) (W.contents writer.new) (λ came sent.
+        RanOver policy.now calls delivery (IsAtEnd (R.remaining reader.new)) opening came sent result) }
+{
+    // The number of calls is in range, so only memory can be missing.
+    let Ok((mut kept, mut tally)) = Kept::<T>::new_from(alloc, calls, opening) else {
+        return Err(AllocError);
+    };
+    let mut desk = KeptDesk::new(&mut kept, &mut tally);
+    let ended = run_delivered(alloc, reader, writer, &mut desk, policy, delivery);
+    Ok((kept, ended))
+}
+
+// Writes the history to the device, unless the session was not begun.
+fn recorded<T: Timer, H: Write>(
+    alloc: Global,
+    kept: &Kept<T>,
+    session: Result<Ended, SessionFault>,
+    device: &mut H,
+) -> Recording
+    ensures { IsRecording H.contents kept.now session result (Some device.old) (Some device.new) }
+{
+    if let Err(SessionFault::Memory) = session {
+        return Recording::NotBegun;
+    }
+    match record(alloc, kept, device) {
+        Ok(()) => Recording::Written,
+        Err(fault) => Recording::Failed(fault),
+    }
+}
