@@ -1,7 +1,8 @@
 -- An answered try of a kept queue is one event more with its reply, and a refused one is none. No
 -- public clause cites this module.
-use Rattle.std.proofs.Common.{◌≡◌, ℕ, ◌≤◌, List, [], ◌∷◌, ◌++◌, ap, ap₂, subst, ◌∙◌, Option, Some, Result, Ok, Err, length, take, drop}
+use Rattle.std.proofs.Common.{◌≡◌, ℕ, ◌≤◌, List, [], ◌∷◌, ◌++◌, ap, ap₂, sym, subst, ◌∙◌, Option, Some, Result, Ok, Err, length, take, drop}
 use Rattle.std.proofs.lemmas.List.{take-append-drop, take-append-le, drop-append-le}
+use Rattle.rb_queue.specs.History.{IsLegal}
 use Rattle.rb_queue.specs.Replies.{reply_of}
 use Rattle.rb_queue.specs.declared.ask.Ask.{Ask}
 use Rattle.rb_queue.specs.declared.ask.Ask.TheVariants.{Take, PollFor}
@@ -14,9 +15,10 @@ use Rattle.rb_kept.specs.declared.outcome.Outcome.{Outcome}
 use Rattle.rb_kept.specs.declared.outcome.Outcome.TheVariants.{Done, Later}
 use Rattle.rb_kept.specs.declared.fault.CallFault.{CallFault}
 use Rattle.rb_kept.specs.declared.fault.CallFault.TheVariants as refusals
-use Rattle.rb_retry.specs.Made.{made_after}
+use Rattle.rb_retry.specs.Made.{made_after, GivesOnce}
 use Rattle.rb_retry.specs.Asked.{MayGet, IsMomentOf, IsReplyTo, Makes}
 use Rattle.rb_retry.specs.RecordLaws.{recorded_reply, may_wait, made_after-more}
+use Rattle.rb_retry.specs.GivenLaws.{later_gives_once}
 use Rattle.rb_retry.specs.KeptSteps.{KeptState, KeptSteps, SetsKept, made_at, asked_at, answer_of}
 use Rattle.rb_retry.specs.declared.desk_fault.DeskFault.{DeskFault}
 use Rattle.rb_retry.specs.declared.desk_fault.DeskFault.TheVariants.{Full, Memory, Stopped}
@@ -60,6 +62,19 @@ module _ (old new : KeptState) (handed : ℕ) (ask : Ask) where
         where
           reply_is : Ok answer ≡ answer_of (Ok (Done reply)) → reply ≡ answer
           reply_is same = cc
+      of_outcome (Ok (Later next)) same step = absurd (cc)
+      of_outcome (Err refusals.Full) same step = absurd (cc)
+      of_outcome (Err refusals.Memory) same step = absurd (cc)
+
+  pub kept_gives_once : (answer : Reply) → KeptSteps old handed ask (Ok answer) new → GivesOnce (made_at new)
+  kept_gives_once answer steps = of_outcome steps.outcome steps.answers steps.steps
+    where
+      of_outcome : (outcome : Result Outcome CallFault) → Ok answer ≡ answer_of outcome
+          → StepsTo old.log (record { seat = 0; asked = asked_at old.moment ask handed; ask = ask }) outcome new.log → GivesOnce (made_at new)
+      of_outcome (Ok (Done reply)) same (room, (event, is, records)) =
+          let history : List Event = old.log.history ++ event ∷ [] in
+          let legal : IsLegal old.log.opening (take old.before history ++ drop old.before history) = subst (IsLegal old.log.opening) (sym (take-append-drop old.before history)) records.legal in
+          subst GivesOnce (sym (made_of_log (Ok answer) steps (with_event old.log event) is)) (later_gives_once old.log.opening (take old.before history) (drop old.before history) legal)
       of_outcome (Ok (Later next)) same step = absurd (cc)
       of_outcome (Err refusals.Full) same step = absurd (cc)
       of_outcome (Err refusals.Memory) same step = absurd (cc)

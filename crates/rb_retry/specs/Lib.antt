@@ -2,6 +2,7 @@ pub use Rattle.rb_delayed.specs.Moment
 pub use Rattle.rb_queue.specs.Draft
 pub use Rattle.rb_queue.specs.History
 pub use Rattle.rb_queue.specs.Replies
+pub use Rattle.rb_queue.specs.Leaving
 pub use Rattle.rb_kept.specs.Log
 pub use Rattle.rb_kept.specs.Tries
 pub use Rattle.rb_kept.specs.Shares
@@ -9,6 +10,7 @@ pub mod Retry
 pub mod Made
 pub mod Asked
 pub mod RecordLaws
+pub mod GivenLaws
 pub mod KeptSteps
 pub mod KeptLaws
 pub mod Jobs

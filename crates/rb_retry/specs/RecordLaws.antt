@@ -26,7 +26,7 @@ use Rattle.rb_retry.specs.Made.{made_after}
 use Rattle.rb_retry.specs.Asked.{MayWait, IsReplyTo}
 
 -- the last event of a history
-last_of : (history : List Event) (event : Event) → slice_get (history ++ event ∷ []) (length (history ++ event ∷ []) - 1) ≡ Some event
+pub last_of : (history : List Event) (event : Event) → slice_get (history ++ event ∷ []) (length (history ++ event ∷ []) - 1) ≡ Some event
 last_of history event =
     let len : length (history ++ event ∷ []) ≡ length history + 1 = length-append history (event ∷ []) in
     let at : length (history ++ event ∷ []) - 1 ≡ length history = omega (arith, len) in

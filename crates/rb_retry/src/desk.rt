@@ -2,7 +2,7 @@ ghost use Rattle.std.specs.Prelude.{◌≡◌, ℕ, ◌≤◌, List, length, Opt
 ghost use Rattle.rb_queue.specs.declared.ask.Ask.{Ask};
 ghost use Rattle.rb_queue.specs.declared.reply.Reply.{Reply};
 ghost use Rattle.rb_kept.specs.declared.kept.TheConstants.{MOST_CALLS};
-ghost use Rattle.rb_retry.specs.Made.{Made};
+ghost use Rattle.rb_retry.specs.Made.{Made, GivesOnce};
 ghost use Rattle.rb_retry.specs.Asked.{Makes, MayGet};
 ghost use Rattle.rb_retry.specs.declared.desk_fault.DeskFault.{DeskFault};
 
@@ -12,7 +12,8 @@ use rb_queue::{Ask, Reply};
 /// A caller's way to a delay queue, with a clock of its own.
 ///
 /// All desks have in common that a call which gets a reply makes exactly one event, with this
-/// reply, and that a refused one makes none. What else a call does is each desk's own relation.
+/// reply, that a refused one makes none, and that none gives an id which one before it gave. What
+/// else a call does is each desk's own relation.
 pub trait Desk {
     /// What a contract sees of a desk.
     ghost State: { Type 0 };
@@ -62,6 +63,10 @@ pub trait Desk {
     /// A call that gets a reply makes exactly one event, which has this reply.
     ghost makes: { (old new : State) (asked : ℕ) (ask : Ask) (reply : Reply) → Steps old asked ask (Ok reply) new
         → Makes (gives old) asked ask reply (mine old) (mine new) };
+
+    /// No id is given twice.
+    ghost gives_once: { (old new : State) (asked : ℕ) (ask : Ask) (reply : Reply) → Steps old asked ask (Ok reply) new
+        → GivesOnce (mine new) };
 
     /// A refused call makes no event.
     ghost refuses: { (old new : State) (asked : ℕ) (ask : Ask) (fault : DeskFault) → Steps old asked ask (Err fault) new

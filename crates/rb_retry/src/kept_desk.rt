@@ -1,7 +1,7 @@
 ghost use Rattle.std.specs.Prelude.{◌≡◌, ℕ, ◌≤◌, length};
 ghost use Rattle.rb_kept.specs.declared.kept.TheConstants.{MOST_CALLS};
 ghost use Rattle.rb_retry.specs.KeptSteps.{KeptState, KeptSteps, SetsKept, made_at, answer_of, asked_at};
-ghost use Rattle.rb_retry.specs.KeptLaws.{kept_makes, kept_refuses, kept_stays};
+ghost use Rattle.rb_retry.specs.KeptLaws.{kept_makes, kept_gives_once, kept_refuses, kept_stays};
 
 use crate::desk::Desk;
 use crate::desk_fault::DeskFault;
@@ -81,6 +81,8 @@ impl<'a, T: Timer> Desk for KeptDesk<'a, T> {
     }
 
     ghost makes = { kept_makes };
+
+    ghost gives_once = { kept_gives_once };
 
     ghost refuses = { kept_refuses };
 

@@ -14,9 +14,10 @@ use Rattle.rb_lock.specs.Passes.{Seen, IsSoundPass, Learns, log_at}
 use Rattle.rb_lock.specs.SharedCalls.{Replied}
 use Rattle.rb_blocking.specs.WaitingCalls.{try_of}
 use Rattle.rb_blocking.specs.WaitLaws.{stopped_unmade}
-use Rattle.rb_retry.specs.Made.{Made, made_after, made_by}
+use Rattle.rb_retry.specs.Made.{Made, made_after, made_by, GivesOnce}
 use Rattle.rb_retry.specs.Asked.{MayGet, IsMomentOf, Makes}
 use Rattle.rb_retry.specs.RecordLaws.{recorded_reply, may_wait, made_after-more}
+use Rattle.rb_retry.specs.GivenLaws.{times_given-drop, times_given-filter, legal_gives_once}
 use Rattle.rb_shared_desk.specs.SharedSteps.{SharedState, SharedSteps, SetsShared, made_through}
 use Rattle.rb_retry.specs.declared.desk_fault.DeskFault.{DeskFault}
 use Rattle.rb_retry.specs.declared.desk_fault.DeskFault.TheVariants.{Full, Memory, Stopped}
@@ -129,6 +130,18 @@ module _ {C G : Type 0} (gives : C → ℕ → Type 0) (answers : G → ℕ → 
         asked = subst (IsMomentOf (gives old.clock) ask handed) (sym replied.records.asked) steps.ends.1;
         answered = recorded_reply (log_at old.pass replied.before) (try_of old.pass asked ask) answer replied.event replied.records;
       }
+
+  -- what the pass has seen is legal, and the desk made a part of it
+  pub shared_gives_once : (answer : Reply) → SharedSteps gives answers old handed ask (Ok answer) new → GivesOnce (made_through new)
+  shared_gives_once answer steps id =
+      let seen : List Made = made_after new.pass.opening [] new.pass.seen in
+      let own : Made → Bool = λ (made : Made). made.event.seat == new.pass.name in
+      omega (
+        arith,
+        times_given-drop id new.before (filter own seen),
+        times_given-filter id own seen,
+        legal_gives_once new.pass.opening new.pass.seen steps.learns.sound.legal id,
+      )
 
   pub shared_refuses : (fault : DeskFault) → SharedSteps gives answers old handed ask (Err fault) new → MayGet ask fault × (made_through new ≡ made_through old)
   shared_refuses Full steps = (tt, none_more (Err Full) steps steps.ends.mine)

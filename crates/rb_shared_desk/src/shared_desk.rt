@@ -1,7 +1,7 @@
 ghost use Rattle.std.specs.Prelude.{◌≡◌, ◌≤◌, length};
 ghost use Rattle.rb_kept.specs.declared.kept.TheConstants.{MOST_CALLS};
 ghost use Rattle.rb_shared_desk.specs.SharedSteps.{SharedState, SharedName, SharedSteps, SetsShared, fault_of_wait, made_through, name_of};
-ghost use Rattle.rb_shared_desk.specs.SharedLaws.{shared_makes, shared_refuses, shared_stays};
+ghost use Rattle.rb_shared_desk.specs.SharedLaws.{shared_makes, shared_gives_once, shared_refuses, shared_stays};
 
 use rb_blocking::{Bell, Clock, Gate, WaitFault, call_and_ring, call_and_wait};
 use rb_kept::Outcome;
@@ -131,6 +131,8 @@ impl<'a, T: Timer, C: Clock, G: Gate, R: Wait + time::Clock> Desk for SharedDesk
     }
 
     ghost makes = { shared_makes C.gives G.answers };
+
+    ghost gives_once = { shared_gives_once C.gives G.answers };
 
     ghost refuses = { shared_refuses C.gives G.answers };
 

@@ -1,4 +1,4 @@
-ghost use Rattle.rb_retry.specs.KeptLaws.{kept_makes, kept_refuses, kept_stays};
+ghost use Rattle.rb_retry.specs.KeptLaws.{kept_makes, kept_gives_once, kept_refuses, kept_stays};
 ghost use Rattle.rb_retry.specs.KeptSteps.{KeptState, KeptSteps, SetsKept, made_at};
 ghost use Rattle.std.specs.Prelude.{◌≡◌, ℕ};
 
@@ -52,6 +52,8 @@ impl<'a, T: Timer> Desk for CountingDesk<'a, T> {
     }
 
     ghost makes = { kept_makes };
+
+    ghost gives_once = { kept_gives_once };
 
     ghost refuses = { kept_refuses };
 
