@@ -34,12 +34,12 @@ use Rattle.rb_session.specs.Events.{IsNextOf, Asks, TellsOf, TellsOfNone, AreOfL
 use Rattle.rb_session.specs.declared.held_jobs.TheConstants.{MOST_HELD}
 
 -- one of two cases
-of_bool : (test : Bool) (One Other Goal : Type 0) → (One → Goal) → (Other → Goal) → MatchBool test One Other → Goal
+pub of_bool : (test : Bool) (One Other Goal : Type 0) → (One → Goal) → (Other → Goal) → MatchBool test One Other → Goal
 of_bool true One Other Goal first second holds = first holds
 of_bool false One Other Goal first second holds = second holds
 
 -- nothing, or something at a place
-of_place : (place : Option ℕ) (None' : Type 0) (At : ℕ → Type 0) (Goal : Type 0) → (None' → Goal) → ((p : ℕ) → At p → Goal) → MatchOption place None' At → Goal
+pub of_place : (place : Option ℕ) (None' : Type 0) (At : ℕ → Type 0) (Goal : Type 0) → (None' → Goal) → ((p : ℕ) → At p → Goal) → MatchOption place None' At → Goal
 of_place None None' At Goal first second holds = first holds
 of_place (Some p) None' At Goal first second holds = second p holds
 

@@ -1,5 +1,5 @@
--- The lemmas of this crate, by subject: how lines are read and served, how replies are sent, and devices that tell
--- their bytes.
+-- The lemmas of this crate, by subject: how lines are read and served, how replies are sent, devices that tell their
+-- bytes, and the jobs that are held.
 pub mod LongerExchanges
 pub mod Buffers
 pub mod LineFeeds
@@ -13,3 +13,5 @@ pub mod Gatherings
 pub mod KnownDevices
 pub mod Events
 pub mod KeptEvents
+pub mod JobMaps
+pub mod GivenJobs

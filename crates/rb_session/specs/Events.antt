@@ -16,6 +16,7 @@ use Rattle.rb_protocol.specs.declared.request.Request.TheVariants as requests
 use Rattle.rb_protocol.specs.declared.line_fault.LineFault.{LineFault}
 use Rattle.rb_protocol.specs.declared.line_reply.LineReply.{LineReply}
 use Rattle.rb_protocol.specs.declared.line_reply.LineReply.TheVariants as lines
+use Rattle.rb_session.specs.Held.{AreHeldOnce}
 use Rattle.rb_session.specs.Turn.{Point, IsFirstDraft, lines_for}
 use Rattle.rb_session.specs.Session.{Turn, Serves}
 use Rattle.rb_session.specs.Closing.{Closes}
@@ -108,6 +109,12 @@ module _ {S : Type 0} (gives : S → ℕ → Type 0) (Sets : S → ℕ → Optio
   abbrev pub MakesByClosing : Type 0
   MakesByClosing = (policy : Policy) (from to : S) (held : List Element) (lost : ℕ) → Closes gives Steps policy from held lost to
       → (made : List Made) × (mine to ≡ mine from ++ made) × AreOfClosing held made
+
+module _ {S : Type 0} (gives : S → ℕ → Type 0) (Sets : S → ℕ → Option ℕ → S → Type 0)
+    (Steps : S → ℕ → Ask → Result Reply DeskFault → S → Type 0) where
+  -- the law of what is held: a session that begins with nothing never holds two jobs of one id
+  abbrev pub HoldsOnce : Type 0
+  HoldsOnce = (policy : Policy) (from to : Point S) (turns : List Turn) → from.held ≡ [] → Serves gives Sets Steps policy from turns to → AreHeldOnce to.held
 
 -- the events of what was made
 abbrev pub events_of : List Made → List Event

@@ -4,8 +4,10 @@ pub use Rattle.rb_protocol.specs.ReplyText
 pub use Rattle.rb_retry.specs.Retry
 pub use Rattle.rb_retry.specs.Asked
 pub use Rattle.rb_retry.specs.Jobs
+pub use Rattle.rb_retry.specs.Made
 pub mod Lines
 pub mod Held
+pub mod JobMap
 pub mod Turn
 pub mod Session
 pub mod Exchange

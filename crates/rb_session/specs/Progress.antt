@@ -1,10 +1,13 @@
 -- How far a session has come. No public clause cites this module.
-use Rattle.std.specs.Prelude.{◌≡◌, ℕ, ◌-◌, ◌<◌, ◌⊎◌, List, [], ◌∷◌, ◌++◌, length, map, drop, Option, Some, None, Result, Ok, Err}
+use Rattle.std.specs.Prelude.{◌≡◌, ℕ, ◌-◌, ◌<◌, ◌⊎◌, List, [], ◌∷◌, ◌++◌, length, map, drop, Option, Some, None, Result, Ok, Err, slice_get}
 use Rattle.rb_delayed.specs.declared.element.Element.{Element}
 use Rattle.rb_queue.specs.declared.ask.Ask.{Ask}
 use Rattle.rb_queue.specs.declared.reply.Reply.{Reply}
+use Rattle.rb_kept.specs.declared.fault.CallFault.{CallFault}
+use Rattle.rb_retry.specs.Jobs.{FailsTo}
 use Rattle.rb_retry.specs.declared.desk_fault.DeskFault.{DeskFault}
 use Rattle.rb_retry.specs.declared.policy.Policy.{Policy}
+use Rattle.rb_retry.specs.declared.verdict.Verdict.{Verdict}
 use Rattle.rb_protocol.specs.declared.line_reply.LineReply.{LineReply}
 use Rattle.rb_protocol.specs.declared.line_reply.LineReply.TheVariants as lines
 use Rattle.rb_protocol.specs.Line.{HasNoLineFeed}
@@ -12,7 +15,7 @@ use Rattle.rb_session.specs.Buffer.{IsUnserved}
 use Rattle.rb_protocol.specs.declared.format.TheConstants.{LINE_FEED}
 use Rattle.rb_protocol.specs.declared.request.Request.{Request}
 use Rattle.rb_protocol.specs.declared.line_fault.LineFault.{LineFault}
-use Rattle.rb_session.specs.Turn.{Point, IsTurn, fault_line, reply_line, lines_for, fetched_by}
+use Rattle.rb_session.specs.Turn.{Point, IsTurn, fault_line, reply_line, lines_for, fetched_by, held_after}
 use Rattle.rb_session.specs.Session.{Turn, IsLine, Serves, ServesToEnd, ServesToQuit, bytes_of, answers_of, texts_of, rest_text}
 use Rattle.rb_session.specs.Ran.{BreaksOff}
 use Rattle.rb_session.specs.Outlet.{FailsToSend}
@@ -38,6 +41,22 @@ replies_of reply held = reply ∷ []
 pub record IsHolding (old : List Element) (answer : Result Reply DeskFault) (reply : LineReply) (new : List Element) : Type 0 where
   pub lines : replies_of reply new ≡ lines_for answer
   pub held : new ≡ old ++ fetched_by answer
+
+-- the verdict of a failure, or why its next attempt was refused
+abbrev pub told : Result Verdict (Element × CallFault) → Result Verdict CallFault
+told (Ok verdict) = Ok verdict
+told (Err (back, fault)) = Err fault
+
+-- The element at this place of what is held fails, and this is told. Only one whose next attempt was refused
+-- is held on.
+pub record FailsAt {S : Type 0} (Steps : S → ℕ → Ask → Result Reply DeskFault → S → Type 0) (policy : Policy)
+    (held : List Element) (place now : ℕ) (old : S) (verdict : Option (Result Verdict CallFault)) (left : List Element) (new : S) : Type 0 where
+  pub element : Element
+  pub there : slice_get held place ≡ Some element
+  pub result : Result Verdict (Element × CallFault)
+  pub is_told : verdict ≡ Some (told result)
+  pub fails : FailsTo Steps policy element now old result new
+  pub held_on : left ≡ held_after result held place
 
 -- the end of the input is answered, or its answer could not be sent whole
 abbrev pub AnswersEnd : Stop → List ℕ → List ℕ → Type 0

@@ -1,5 +1,6 @@
 ghost use Rattle.std.specs.Prelude.{◌≡◌, ℕ, ◌<◌, ◌≤◌, ◌++◌, [], ◌∷◌, List, length, Option, Result};
 ghost use Rattle.rb_queue.specs.declared.reply.Reply.{Reply};
+ghost use Rattle.rb_session.specs.Held.{AreGiven};
 ghost use Rattle.rb_session.specs.Turn.{word_for, point, moment_line, AsksToWait, IsTurn, IsServed};
 ghost use Rattle.rb_session.specs.Progress.{replies_of};
 
@@ -24,7 +25,8 @@ pub(crate) fn answer<O: Outlet, D: Desk>(
     policy: &Policy,
     reading: Result<Request, LineFault>,
 ) -> LineReply
-    requires { AsksToWait reading → O.IsClearForWait _outlet.now }
+    requires clear { AsksToWait reading → O.IsClearForWait _outlet.now }
+    requires given { AreGiven (D.mine (D.state desk.old)) held.old }
     ensures turn { IsTurn D.gives D.Sets D.Steps policy.now
         (point (D.state desk.old) held.old) reading (replies_of result held.new) (point (D.state desk.new) held.new) }
     ensures name { D.name (D.state desk.new) ≡ D.name (D.state desk.old) }
@@ -45,6 +47,7 @@ fn serve<D: Desk>(
     now: u64,
     request: Request,
 ) -> LineReply
+    requires given { AreGiven (D.mine (D.state desk.old)) held.old }
     ensures served { IsServed D.gives D.Sets D.Steps policy.now
         (point (D.state desk.old) held.old) now request (replies_of result held.new) (point (D.state desk.new) held.new) }
     ensures name { D.name (D.state desk.new) ≡ D.name (D.state desk.old) }

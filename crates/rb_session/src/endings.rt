@@ -17,9 +17,9 @@ pub(crate) fn finish_job(held: &mut HeldJobs, id: u64) -> LineReply
         ((result ≡ lines.Error words.NotHeld) × (held.new ≡ held.old))
         (λ place. (result ≡ lines.Done id) × (held.new ≡ remove held.old place)) }
 {
-    match held.place_of(id) {
-        Some(place) => {
-            done(held.take_out(place));
+    match held.take_out(id) {
+        Some(job) => {
+            done(job);
             LineReply::Done(id)
         }
         None => LineReply::Error(ErrorWord::NotHeld),
@@ -42,20 +42,16 @@ pub(crate) fn fail_job<D: Desk>(
         (point (D.state desk.old) held.old) now place (replies_of result held.new) (point (D.state desk.new) held.new)) }
     ensures name { D.name (D.state desk.new) ≡ D.name (D.state desk.old) }
 {
-    let Some(place) = held.place_of(id) else {
+    let Some(failed) = held.fail(desk, policy, now, id) else {
         return LineReply::Error(ErrorWord::NotHeld);
     };
-    let job = held.take_out(place);
-    match fail(desk, policy, job, now) {
+    match failed {
         Ok(Verdict::Again(again)) => LineReply::Again {
             id: again.id,
             expiry: again.expiry,
         },
         Ok(Verdict::Dead(dead)) => LineReply::Dead(dead.id),
-        Err((job, fault)) => {
-            held.put_back(place, job);
-            LineReply::Error(refusal_word(fault))
-        }
+        Err(fault) => LineReply::Error(refusal_word(fault)),
     }
 }
 

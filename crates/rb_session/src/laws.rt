@@ -1,6 +1,6 @@
 ghost use Rattle.std.specs.Prelude.{◌≡◌};
 ghost use Rattle.rb_session.specs.Exchange.{CameFirst, SentLast};
-ghost use Rattle.rb_session.specs.Events.{MakesByLines, MakesByClosing, RecordsByLines, RecordsByClosing};
+ghost use Rattle.rb_session.specs.Events.{MakesByLines, MakesByClosing, HoldsOnce, RecordsByLines, RecordsByClosing};
 ghost use Rattle.rb_session.specs.declared.gathering.TheConstants.{GATHERED_BYTES};
 ghost use Rattle.rb_session.specs.declared.held_jobs.TheConstants.{MOST_HELD};
 
@@ -23,6 +23,11 @@ pub fn sent_last()
 pub fn events_of_session<D: Desk>()
     ensures lines { MakesByLines D.gives D.Sets D.Steps D.mine }
     ensures closing { MakesByClosing D.gives D.Sets D.Steps D.mine }
+{}
+
+/// A session at a desk of any kind never holds two jobs of one id.
+pub fn each_id_held_once<D: Desk>()
+    ensures { HoldsOnce D.gives D.Sets D.Steps }
 {}
 
 /// The history of a kept queue grows by what a session at its desk makes, in order, and by nothing else. The

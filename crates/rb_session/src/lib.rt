@@ -16,6 +16,7 @@ mod gathered;
 mod gathering;
 mod hands_on;
 mod held_jobs;
+mod job_map;
 mod laws;
 mod line_buffer;
 mod outlet;
@@ -31,7 +32,8 @@ pub use ended::Ended;
 pub use hands_on::HandsOn;
 pub use held_jobs::MOST_HELD;
 pub use laws::{
-    came_first, events_of_session, history_of_session, sent_last, session_limits_have_their_values,
+    came_first, each_id_held_once, events_of_session, history_of_session, sent_last,
+    session_limits_have_their_values,
 };
 pub use run::run_session;
 pub use session_fault::SessionFault;

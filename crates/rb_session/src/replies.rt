@@ -3,6 +3,7 @@ ghost use Rattle.rb_protocol.specs.ReplyText.{text_of};
 ghost use Rattle.rb_protocol.specs.declared.line_reply.LineReply.TheVariants as lines;
 ghost use Rattle.rb_session.specs.Session.{texts_of};
 ghost use Rattle.rb_protocol.specs.Sending.{Sends};
+ghost use Rattle.rb_session.specs.JobMap.{present};
 ghost use Rattle.rb_session.specs.Progress.{replies_of};
 
 use crate::held_jobs::HeldJobs;
@@ -42,13 +43,15 @@ fn send_lines<O: Outlet>(
     }
 }
 
-// Sends a line for each job.
-fn send_items<O: Outlet>(outlet: &mut O, jobs: &[Job]) -> Result<(), WriteFault>
-    ensures sent { Sends result (O.contents outlet.old) (texts_of (map lines.Item jobs.now)) (O.contents outlet.new) }
+// Sends a line for each job of these entries.
+fn send_items<O: Outlet>(outlet: &mut O, entries: &[Option<Job>]) -> Result<(), WriteFault>
+    ensures sent { Sends result (O.contents outlet.old) (texts_of (map lines.Item (present entries.now))) (O.contents outlet.new) }
     ensures becomes { O.Becomes outlet.old outlet.new }
 {
-    for job in jobs {
-        send_reply(outlet, &LineReply::Item(*job.element()))?;
+    for entry in entries {
+        if let Some(job) = entry {
+            send_reply(outlet, &LineReply::Item(*job.element()))?;
+        }
     }
     Ok(())
 }

@@ -1,7 +1,8 @@
-ghost use Rattle.std.specs.Prelude.{◌≡◌, ◌↔◌, ℕ, List, [], Ok, IfOk, OnOk, OnErr, IsTrue};
+ghost use Rattle.std.specs.Prelude.{◌≡◌, ◌↔◌, ℕ, List, [], Ok, IfOk, IfNone, OnOk, OnErr, IsTrue};
 ghost use Rattle.std.specs.Io.KnownBytes.{Appends, IsAtEnd, Keeps};
 ghost use Rattle.rb_protocol.specs.declared.request.Request.TheVariants.{Quit};
 ghost use Rattle.rb_session.specs.Buffer.{IsUnserved};
+ghost use Rattle.rb_session.specs.Held.{AreGiven};
 ghost use Rattle.rb_session.specs.Turn.{point, AsksToWait};
 ghost use Rattle.rb_session.specs.Exchange.{Exchanges};
 ghost use Rattle.rb_session.specs.Progress.{ServesLines, AnswersEnd, Stops, IsClearAt, IsClearAtRead};
@@ -47,6 +48,7 @@ impl Session {
         policy: &Policy,
     ) -> Stop
         requires fresh { IsUnserved self.old.buffer [] }
+        requires given { AreGiven (D.mine (D.state desk.old)) self.old.held }
         ensures stops { Exchanges
             (R.remaining reader.old.inner.now) (R.remaining reader.new.inner.now)
             (O.contents outlet.old) (O.contents outlet.new)
@@ -77,6 +79,7 @@ impl Session {
         policy: &Policy,
     ) -> Stop
         requires fresh { IsUnserved self.old.buffer [] }
+        requires given { AreGiven (D.mine (D.state desk.old)) self.old.held }
         ensures stops { Exchanges
             (R.remaining reader.old.inner.now) (R.remaining reader.new.inner.now)
             (O.contents outlet.old) (O.contents outlet.new)
@@ -112,10 +115,12 @@ impl Session {
         desk: &mut D,
         policy: &Policy,
     ) -> Option<Stop>
+        requires given { AreGiven (D.mine (D.state desk.old)) self.old.held }
         ensures served { (bytes : List ℕ) → IsUnserved self.old.buffer bytes
             → (sent : List ℕ) × Appends (O.contents outlet.old) (O.contents outlet.new) sent
             × ServesLines D.gives D.Sets D.Steps policy.now O.HoldsBack (point (D.state desk.old) self.old.held)
             bytes sent result self.new.buffer (point (D.state desk.new) self.new.held) }
+        ensures given { IfNone result (AreGiven (D.mine (D.state desk.new)) self.new.held) }
         ensures becomes { O.Becomes outlet.old outlet.new }
         ensures name { D.name (D.state desk.new) ≡ D.name (D.state desk.old) }
     {

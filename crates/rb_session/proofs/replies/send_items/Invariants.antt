@@ -1,12 +1,13 @@
--- The lines of the jobs so far are sent.
+-- The lines of the jobs in the entries so far are sent.
 use Rattle.std.proofs.Common.{map, take}
 use Rattle.std.specs.Io.KnownBytes.{Appends}
 use Rattle.rb_protocol.specs.declared.line_reply.LineReply.TheVariants as lines
+use Rattle.rb_session.specs.JobMap.{present}
 use Rattle.rb_session.specs.Session.{texts_of}
 use Rattle.rb_session.proofs.replies.send_items.Given as goal
 
-abbrev pub invariant-loop-job : goal.invariant-loop-job
-invariant-loop-job g l = record {
-  sent : Appends (g.O.Outlet.contents l.fn.outlet) (g.O.Outlet.contents l.outlet) (texts_of (map lines.Item (take l.job-index l.jobs)));
+abbrev pub invariant-loop-entry : goal.invariant-loop-entry
+invariant-loop-entry g l = record {
+  sent : Appends (g.O.Outlet.contents l.fn.outlet) (g.O.Outlet.contents l.outlet) (texts_of (map lines.Item (present (take l.entry-index l.entries))));
   becomes : g.O.Outlet.Becomes l.fn.outlet l.outlet;
 }

@@ -6,6 +6,7 @@ use Rattle.rb_session.specs.Progress.{replies_of}
 use Rattle.rb_session.specs.Turn.{point}
 use Rattle.rb_protocol.proofs.Sending.{sends_failed, sends_done}
 use Rattle.rb_session.proofs.Turns.{IsNextTurn, stands_first, goes_on, quits, fails}
+use Rattle.rb_session.proofs.GivenJobs.{still_given}
 use Rattle.rb_session.proofs.Outlets.{failed}
 use Rattle.rb_session.proofs.session.Session.serve_lines.Given.{Over}
 use Rattle.rb_session.proofs.session.Session.serve_lines.Goals as goal
@@ -38,6 +39,7 @@ unfolding stands_first
 loop-reading-init g c = record {
   stands = λ bytes unserved.
       ([], Appends-nil _, stands_first g.D.Desk.gives g.D.Desk.Sets g.D.Desk.Steps c.args.policy.now (point (g.D.Desk.state c.args.desk.now) c.args.self.now.held) bytes, unserved);
+  given = c.requires.given;
   becomes = g.met.O.Outlet.stays c.args.outlet.now;
   name = refl;
 }
@@ -71,6 +73,10 @@ loop-reading-preserved g c = record {
       goes_on _ _ _ _ (next_turn g (goal.at.loop-reading-preserved g c).After-answer-reply bytes unserved) (g.O.Outlet.contents c.send_replies.new.outlet)
       (sends_done c.send_replies.result _ _ _ (sym c.is_err-in-Some.ensures.value ∙ c.if-is_err-2.false) c.send_replies.ensures.sent)
       (λ quit. let clash : true ≡ false = sym (c.is_quit-quits.ensures.1 quit) ∙ c.if-quits.false in absurd (cc));
+  given =
+      still_given g.D.Desk.gives g.D.Desk.Sets g.D.Desk.Steps g.D.Desk.mine g.met.D.Desk.makes g.met.D.Desk.gives_once g.met.D.Desk.refuses g.met.D.Desk.stays c.args.policy.now c.in-Some.reading
+      (point (g.D.Desk.state c.loop-reading.desk) c.loop-reading.self.held) (point (g.D.Desk.state c.answer-reply.new.desk) c.answer-reply.new.held)
+      (replies_of c.answer-reply.result c.answer-reply.new.held) c.answer-reply.ensures.turn c.loop-reading.invariant.given;
   becomes = g.met.O.Outlet.goes_on _ _ _ (g.met.O.Outlet.goes_on _ _ _ c.loop-reading.invariant.becomes c.clear_for_wait.ensures.becomes) c.send_replies.ensures.becomes;
   name = c.answer-reply.ensures.name ∙ c.loop-reading.invariant.name;
 }

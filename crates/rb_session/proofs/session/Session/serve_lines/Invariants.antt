@@ -2,6 +2,7 @@
 use Rattle.std.proofs.Common.{◌≡◌, ℕ, ◌-◌, List}
 use Rattle.std.specs.Io.KnownBytes.{Appends}
 use Rattle.rb_session.specs.Buffer.{IsUnserved}
+use Rattle.rb_session.specs.Held.{AreGiven}
 use Rattle.rb_session.specs.Turn.{point}
 use Rattle.rb_session.specs.Progress.{Stands}
 use Rattle.rb_session.proofs.session.Session.serve_lines.Given as goal
@@ -11,6 +12,7 @@ invariant-loop-reading g l = record {
   stands : (bytes : List ℕ) → IsUnserved l.fn.self.buffer bytes → (sent : List ℕ) × Appends (g.O.Outlet.contents l.fn.outlet) (g.O.Outlet.contents l.outlet) sent
       × (stands : Stands g.D.Desk.gives g.D.Desk.Sets g.D.Desk.Steps l.policy (point (g.D.Desk.state l.fn.desk) l.fn.self.held) bytes sent (point (g.D.Desk.state l.desk) l.self.held))
       × IsUnserved l.self.buffer stands.rest;
+  given : AreGiven (g.D.Desk.mine (g.D.Desk.state l.desk)) l.self.held;
   becomes : g.O.Outlet.Becomes l.fn.outlet l.outlet;
   name : g.D.Desk.name (g.D.Desk.state l.desk) ≡ g.D.Desk.name (g.D.Desk.state l.fn.desk);
 }

@@ -49,6 +49,7 @@ loop-outlet-init g c = record {
     appended = Appends-nil _;
     holds = (stands_first g.D.Desk.gives g.D.Desk.Sets g.D.Desk.Steps c.args.policy.now (point (g.D.Desk.state c.args.desk.now) c.args.self.now.held) [], no_feed-nil, c.requires.fresh);
   };
+  given = c.requires.given;
   same_reference = refl;
   becomes = g.met.O.Outlet.stays c.args.outlet.now;
   name = refl;
@@ -113,6 +114,7 @@ loop-outlet-preserved-in-Err g c = record {
       let unread = read_took g (goal.at.loop-outlet-preserved-in-Err g c).After-read_from _ c.in-Err.is in
       let at = c.loop-outlet.invariant.stands.holds in
       exchanges_same c.loop-outlet.invariant.stands _ c.hand_on.ensures.kept unread.0 (at.0, at.1, unread.1);
+  given = c.loop-outlet.invariant.given;
   same_reference = c.read_from.ensures.same_reference ∙ c.loop-outlet.invariant.same_reference;
   becomes = g.met.O.Outlet.goes_on _ _ _ c.loop-outlet.invariant.becomes c.hand_on.ensures.becomes;
   name = c.loop-outlet.invariant.name;
@@ -144,6 +146,7 @@ loop-outlet-preserved g c = record {
       let stands = stands_on g.D.Desk.gives g.D.Desk.Sets g.D.Desk.Steps c.args.policy.now _ (point (g.D.Desk.state c.loop-outlet.desk) c.loop-outlet.self.held) s.came s.sent s.holds.0 more.0 on.0
       (point (g.D.Desk.state c.serve_lines.new.desk) c.serve_lines.new.self.held) on.2.0 in
       exchanges_more s _ c.hand_on.ensures.kept more.0 on.0 _ more.1 on.1 (stands, on.2.1, on.2.2);
+  given = c.in_default.ensures.given;
   same_reference = c.read_from.ensures.same_reference ∙ c.loop-outlet.invariant.same_reference;
   becomes = g.met.O.Outlet.goes_on _ _ _ (g.met.O.Outlet.goes_on _ _ _ c.loop-outlet.invariant.becomes c.hand_on.ensures.becomes) c.serve_lines.ensures.becomes;
   name = c.serve_lines.ensures.name ∙ c.loop-outlet.invariant.name;

@@ -2,6 +2,7 @@
 use Rattle.std.proofs.Common.{◌≡◌}
 use Rattle.rb_session.specs.Exchange.{Exchanges}
 use Rattle.rb_session.specs.Buffer.{IsUnserved}
+use Rattle.rb_session.specs.Held.{AreGiven}
 use Rattle.rb_protocol.specs.Line.{HasNoLineFeed}
 use Rattle.rb_session.specs.Turn.{point}
 use Rattle.rb_session.specs.Progress.{Stands}
@@ -12,6 +13,7 @@ invariant-loop-outlet g l = record {
   stands : Exchanges (g.R.Read.remaining l.fn.reader.inner.now) (g.R.Read.remaining l.reader.inner.now) (g.O.Outlet.contents l.fn.outlet) (g.O.Outlet.contents l.outlet) (λ came sent.
       (stands : Stands g.D.Desk.gives g.D.Desk.Sets g.D.Desk.Steps l.policy (point (g.D.Desk.state l.fn.desk) l.fn.self.held) came sent (point (g.D.Desk.state l.desk) l.self.held))
       × HasNoLineFeed stands.rest × IsUnserved l.self.buffer stands.rest);
+  given : AreGiven (g.D.Desk.mine (g.D.Desk.state l.desk)) l.self.held;
   same_reference : l.reader.inner.ghost_name ≡ l.fn.reader.inner.ghost_name;
   becomes : g.O.Outlet.Becomes l.fn.outlet l.outlet;
   name : g.D.Desk.name (g.D.Desk.state l.desk) ≡ g.D.Desk.name (g.D.Desk.state l.fn.desk);

@@ -1,0 +1,200 @@
+use crate::tests::devices::{
+    Dialogue, NEVER, Sheet, expect_bytes, expect_end, push_line, run_by,
+};
+use crate::tests::refusing_timer::RefusingTimer;
+use rb_binary::BinaryTimer;
+use rb_kept::Kept;
+use rb_queue::{Act, Event};
+use rb_retry::Policy;
+use rb_session::{Ended, SessionFault};
+use rb_timer::Timer;
+use std::alloc::{AllocError, Global};
+use std::process::Abort;
+use std::test::Fail;
+
+// How a session came out, and the origins of the elements that the last events offered.
+#[derive(Drop)]
+struct Outcome {
+    ended: Result<Ended, SessionFault>,
+    text: Vec<u8>,
+    origins: Vec<u64>,
+}
+
+fn origin_of(event: &Event) -> u64 {
+    match &event.act {
+        Act::Offer(element) => element.origin,
+        _ => u64::MAX,
+    }
+}
+
+fn last_origins(alloc: Global, events: &[Event], count: usize) -> Result<Vec<u64>, AllocError> {
+    let mut origins = Vec::new(alloc);
+    for event in &events[events.len().saturating_sub(count)..] {
+        origins.push(origin_of(event))?;
+    }
+    Ok(origins)
+}
+
+fn ran<T: Timer>(
+    rt: &impl Abort,
+    alloc: Global,
+    script: &[u8],
+    held: usize,
+) -> Result<Outcome, Fail> {
+    let (mut kept, mut tally) = Kept::<T>::new(alloc, 4_000)?;
+    let (mut reader, mut writer) = (script, Sheet::new(alloc, NEVER));
+    let policy = Policy::fixed(1_000, 3).expect(rt, "a policy");
+    let ended = run_by(
+        alloc,
+        &mut kept,
+        &mut tally,
+        &mut reader,
+        &mut writer,
+        &policy,
+    );
+    Ok(Outcome {
+        ended,
+        text: writer.bytes,
+        origins: last_origins(alloc, kept.history(), held)?,
+    })
+}
+
+fn expect_origins(rt: &impl Abort, origins: &[u64], wanted: &[u64]) {
+    assert_eq!(rt; origins, wanted);
+}
+
+// What is held at the end fails in the order of the fetches.
+fn expect_order<T: Timer>(
+    rt: &impl Abort,
+    alloc: Global,
+    dialogue: &Dialogue,
+    held: &[u64],
+) -> Result<(), Fail> {
+    let outcome = ran::<T>(rt, alloc, &dialogue.script, held.len())?;
+    expect_end(rt, outcome.ended, Ok(Ended::EndOfInput { lost: 0 }), 0);
+    expect_bytes(rt, &outcome.text, &dialogue.replies, 0);
+    expect_origins(rt, &outcome.origins, held);
+    Ok(())
+}
+
+// The element of this id, which has expired.
+fn push_offer(dialogue: &mut Dialogue, id: u64) -> Result<(), AllocError> {
+    push_line(&mut dialogue.script, b"OFFERAT ", id, b" j\n")?;
+    push_line(&mut dialogue.replies, b"OFFERED ", id, b" ")?;
+    push_line(&mut dialogue.replies, b"", id, b"\n")
+}
+
+fn push_item(dialogue: &mut Dialogue, id: u64) -> Result<(), AllocError> {
+    push_line(&mut dialogue.replies, b"ITEM ", id, b" ")?;
+    push_line(&mut dialogue.replies, b"", id, b" 1 j\n")
+}
+
+fn push_fetch(dialogue: &mut Dialogue, id: u64) -> Result<(), AllocError> {
+    push_offer(dialogue, id)?;
+    dialogue.push(b"POLL\n", b"")?;
+    push_item(dialogue, id)
+}
+
+fn push_done(dialogue: &mut Dialogue, id: u64) -> Result<(), AllocError> {
+    push_line(&mut dialogue.script, b"DONE ", id, b"\n")?;
+    push_line(&mut dialogue.replies, b"DONE ", id, b"\n")
+}
+
+// Two jobs are fetched, of which the later one is done, and then the other, unless it is held on.
+fn push_pair(dialogue: &mut Dialogue, first: u64) -> Result<(), AllocError> {
+    push_fetch(dialogue, first)?;
+    push_fetch(dialogue, first.saturating_add(1))?;
+    push_done(dialogue, first.saturating_add(1))?;
+    if first % 16 != 0 {
+        push_done(dialogue, first)?;
+    }
+    Ok(())
+}
+
+fn pairs(alloc: Global) -> Result<Dialogue, AllocError> {
+    let mut dialogue = Dialogue::new(alloc);
+    dialogue.push(b"AT 100000\n", b"NOW 100000\n")?;
+    for pair in 0..300_u64 {
+        push_pair(&mut dialogue, pair.saturating_mul(2))?;
+    }
+    dialogue.push(
+        b"FAIL 160\nDONE 160\nDONE 161\n",
+        b"AGAIN 600 101000\nERR 5 not-held\nERR 5 not-held\n",
+    )?;
+    Ok(dialogue)
+}
+
+// Every sixteenth of 600 jobs, but for the one that failed.
+fn held_on(alloc: Global) -> Result<Vec<u64>, AllocError> {
+    let mut held = Vec::new(alloc);
+    for id in 0..600_u64 {
+        if id % 16 == 0 && id != 160 {
+            held.push(id)?;
+        }
+    }
+    Ok(held)
+}
+
+#[test]
+fn jobs_stay_in_order_while_hundreds_end(rt: HostRuntime) -> Result<(), Fail> {
+    let alloc = rt.alloc();
+    let (dialogue, held) = (pairs(alloc)?, held_on(alloc)?);
+    expect_order::<BinaryTimer>(&rt, alloc, &dialogue, &held)
+}
+
+// So many jobs are offered, fetched by one request, and done, the last of them first.
+fn push_drain(dialogue: &mut Dialogue, first: u64) -> Result<(), AllocError> {
+    let end = first.saturating_add(54);
+    for id in first..end {
+        push_offer(dialogue, id)?;
+    }
+    dialogue.push(b"DRAIN 99\n", b"DRAINED 54\n")?;
+    for id in first..end {
+        push_item(dialogue, id)?;
+    }
+    for back in 0..54_u64 {
+        push_done(dialogue, end.saturating_sub(back).saturating_sub(1))?;
+    }
+    Ok(())
+}
+
+// Ten jobs are held on, and beside them as many as may be, again and again.
+fn drains(alloc: Global) -> Result<Dialogue, AllocError> {
+    let mut dialogue = Dialogue::new(alloc);
+    dialogue.push(b"AT 100000\n", b"NOW 100000\n")?;
+    for id in 0..10 {
+        push_fetch(&mut dialogue, id)?;
+    }
+    for round in 0..20_u64 {
+        push_drain(&mut dialogue, round.saturating_mul(54).saturating_add(10))?;
+    }
+    Ok(dialogue)
+}
+
+#[test]
+fn jobs_stay_in_order_beside_drains(rt: HostRuntime) -> Result<(), Fail> {
+    let alloc = rt.alloc();
+    let dialogue = drains(alloc)?;
+    expect_order::<BinaryTimer>(&rt, alloc, &dialogue, &[0, 1, 2, 3, 4, 5, 6, 7, 8, 9])
+}
+
+// Three jobs are held, eight elements stand, and the timer has no room for a ninth, once.
+fn refusals(alloc: Global) -> Result<Dialogue, AllocError> {
+    let mut dialogue = Dialogue::new(alloc);
+    dialogue.push(b"AT 100000\n", b"NOW 100000\n")?;
+    for id in 0..3 {
+        push_fetch(&mut dialogue, id)?;
+    }
+    for id in 3..11 {
+        push_offer(&mut dialogue, id)?;
+    }
+    dialogue.push(b"FAIL 1\n", b"ERR 7 memory\n")?;
+    Ok(dialogue)
+}
+
+#[test]
+fn a_job_whose_failure_was_refused_keeps_its_place(rt: HostRuntime) -> Result<(), Fail> {
+    let alloc = rt.alloc();
+    let dialogue = refusals(alloc)?;
+    expect_order::<RefusingTimer<BinaryTimer, 8>>(&rt, alloc, &dialogue, &[0, 1, 2])
+}
