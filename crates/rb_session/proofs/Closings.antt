@@ -1,7 +1,6 @@
--- Jobs that fail: one that is held on at its place, and those that a session ends with.
-use Rattle.std.proofs.Common.{◌≡◌, ℕ, zero, suc, ◌+◌, List, [], ◌∷◌, ◌++◌, Some, Result, Ok, Err, refl, sym, ap, subst, arith}
-use Rattle.std.proofs.lemmas.Option.{same_Some}
-use Rattle.std.specs.Prelude.{slice_get, insert, remove, true, false, is_err}
+-- Jobs that fail as a session ends with them.
+use Rattle.std.proofs.Common.{◌≡◌, ℕ, ◌+◌, List, [], ◌∷◌, ◌++◌, Result, Ok, Err, refl, subst, arith}
+use Rattle.std.specs.Prelude.{true, false, is_err}
 use Rattle.rb_delayed.specs.declared.element.Element.{Element}
 use Rattle.rb_queue.specs.declared.ask.Ask.{Ask}
 use Rattle.rb_queue.specs.declared.reply.Reply.{Reply}
@@ -11,12 +10,6 @@ use Rattle.rb_retry.specs.declared.desk_fault.DeskFault.{DeskFault}
 use Rattle.rb_retry.specs.declared.policy.Policy.{Policy}
 use Rattle.rb_retry.specs.declared.verdict.Verdict.{Verdict}
 use Rattle.rb_session.specs.Closing.{Closes, lost_by}
-
--- what was taken out and is put back stands where it stood
-pub insert_removed : (held : List Element) (place : ℕ) (element : Element) → slice_get held place ≡ Some element → insert (remove held place) place element ≡ held
-insert_removed [] place element at = absurd (cc)
-insert_removed (first ∷ held) zero element at = ap (λ e. e ∷ held) (sym (same_Some first element at))
-insert_removed (first ∷ held) (suc place) element at = ap (λ l. first ∷ l) (insert_removed held place element at)
 
 -- a refused retry is one that is lost
 pub lost_one : (result : Result Verdict (Element × CallFault)) → is_err result ≡ true → lost_by result ≡ 1
