@@ -6,7 +6,7 @@ use Rattle.rb_delayed.specs.declared.element.TheConstants.{GREATEST_ATTEMPT}
 use Rattle.rb_kept.specs.declared.kept.TheConstants.{MOST_CALLS}
 use Rattle.rb_arguments.specs.CommandLine.{HasNumberWithin, HasPace}
 use Rattle.rb_arguments.specs.TimerKind.{timer_name}
-use Rattle.rb_arguments.specs.declared.run_options.TheConstants.{MOST_WORKERS}
+use Rattle.rb_arguments.specs.declared.server_run_options.TheConstants.{MOST_WORKERS}
 use Rattle.rb_arguments.specs.declared.serve_options.TheConstants.{GREATEST_PORT, MOST_SESSIONS, MOST_TURNS}
 use Rattle.rb_arguments.specs.declared.timer_kind.TimerKind.{TimerKind}
 

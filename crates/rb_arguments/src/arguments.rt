@@ -3,8 +3,8 @@ ghost use Rattle.std.specs.Borrow.{Bor};
 ghost use Rattle.clap.specs.Words.{rule_of};
 ghost use Rattle.rb_arguments.specs.Arguments.{AreTimerNames, attempts_option, calls_option, chains_flag, delay_option, file_argument, from_option, history_option, port_option, rate_option, sessions_option, timer_option, turns_option, workers_option};
 
-use crate::run_options::MOST_WORKERS;
 use crate::serve_options::{GREATEST_PORT, MOST_SESSIONS, MOST_TURNS};
+use crate::server_run_options::MOST_WORKERS;
 use crate::timer_kind::TimerKind;
 use clap::builder::ValueParser;
 use clap::{Arg, ArgAction};

@@ -13,9 +13,9 @@ use crate::arguments::{
     workers_option,
 };
 use crate::given_words::asked_by;
-use crate::run_options::MOST_WORKERS;
 use crate::script_options::ScriptOptions;
 use crate::serve_options::{MOST_SESSIONS, MOST_TURNS, ServeOptions};
+use crate::server_run_options::MOST_WORKERS;
 use crate::words::Words;
 use clap::error::ErrorKind;
 use clap::{Arg, Command, Error};

@@ -5,12 +5,12 @@ ghost use Rattle.rb_kept.specs.declared.kept.TheConstants.{MOST_CALLS};
 ghost use Rattle.rb_arguments.specs.CommandLine.{HasNumberWithin, HasPace, IsAskedBy, number_in, pace_in};
 ghost use Rattle.rb_arguments.specs.RightValues.{AreServerValues};
 ghost use Rattle.rb_arguments.specs.TimerKind.{timer_name};
-ghost use Rattle.rb_arguments.specs.declared.run_options.TheConstants.{MOST_WORKERS};
+ghost use Rattle.rb_arguments.specs.declared.server_run_options.TheConstants.{MOST_WORKERS};
 ghost use Rattle.rb_arguments.specs.declared.serve_options.TheConstants.{GREATEST_PORT, MOST_SESSIONS, MOST_TURNS};
 
 use crate::given_words::{given_policy, number, text};
-use crate::run_options::{MOST_WORKERS, RunOptions};
 use crate::serve_options::{GREATEST_PORT, MOST_SESSIONS, MOST_TURNS, ServeOptions};
+use crate::server_run_options::{MOST_WORKERS, ServerRunOptions};
 use crate::timer_kind::TimerKind;
 use crate::words::Words;
 use clap::ArgMatches;
@@ -77,7 +77,7 @@ fn serve_options(given: &ArgMatches<'_>) -> Option<ServeOptions>
 }
 
 // The options of the run.
-fn run_options(given: &ArgMatches<'_>) -> Option<RunOptions>
+fn run_options(given: &ArgMatches<'_>) -> Option<ServerRunOptions>
     ensures workers { IfSome result (λ options. number_in (one_text (found_of given.now) (codes "workers"))
         ≡ Some options.workers) }
     ensures calls { IfSome result (λ options. number_in (one_text (found_of given.now) (codes "calls"))
@@ -95,7 +95,7 @@ fn run_options(given: &ArgMatches<'_>) -> Option<RunOptions>
     let workers = number_within(given, "workers", 1, MOST_WORKERS)?;
     let calls = number_within(given, "calls", 1, MOST_CALLS)?;
     let policy = given_policy(given)?;
-    Some(RunOptions {
+    Some(ServerRunOptions {
         workers,
         calls,
         policy,

@@ -1,5 +1,5 @@
 ghost use Rattle.std.specs.Prelude.{◌≡◌};
-ghost use Rattle.rb_arguments.specs.declared.run_options.TheConstants.{MOST_WORKERS};
+ghost use Rattle.rb_arguments.specs.declared.server_run_options.TheConstants.{MOST_WORKERS};
 ghost use Rattle.rb_arguments.specs.declared.serve_options.TheConstants.{GREATEST_PORT, MOST_SESSIONS, MOST_TURNS};
 
 /// The greatest numbers that the options of a server take are these. Every other clause names the constants.

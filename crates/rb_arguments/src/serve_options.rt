@@ -1,7 +1,7 @@
 ghost use Rattle.std.specs.Prelude.{◌≤◌};
 ghost use Rattle.rb_arguments.specs.declared.serve_options.TheConstants.{MOST_SESSIONS, MOST_TURNS};
 
-use crate::run_options::RunOptions;
+use crate::server_run_options::ServerRunOptions;
 use crate::timer_kind::TimerKind;
 
 /// The greatest TCP port.
@@ -25,7 +25,7 @@ pub struct ServeOptions {
     /// After how many turns a take or a timed poll is given up, 0 to 1,000,000.
     pub turns: u64,
     /// The options of its run.
-    pub run: RunOptions,
+    pub run: ServerRunOptions,
     pub ghost port_from_one: { 1 ≤ port },
     pub ghost sessions_from_one: { 1 ≤ sessions },
     pub ghost sessions_in_range: { sessions ≤ MOST_SESSIONS },

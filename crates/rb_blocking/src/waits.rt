@@ -115,7 +115,7 @@ fn try_often<T: Timer, C: Clock, G: Gate, R: Wait + time::Clock>(
     ensures waited { Waited (C.gives clock.now) (G.answers gate.old) pass.old pass.new ask.now result }
     ensures gate { (turns : ℕ) (goes_on : Bool) → G.answers gate.new turns goes_on ↔ G.answers gate.old turns goes_on }
 {
-    // The proof reads here that the pass has seen a legal history.
+    // For the proof: the pass has seen a legal history.
     let _ = pass.name();
     let mut turns: u64 = 0;
     for _ in rt.forever() {

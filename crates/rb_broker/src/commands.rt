@@ -1,5 +1,5 @@
 use crate::files::{check_output, device_for, make_room_for, text_of};
-use rb_arguments::{ReplayOptions, RunOptions, ScriptOptions, ServeOptions};
+use rb_arguments::{ReplayOptions, ScriptOptions, ServeOptions, ServerRunOptions};
 use rb_ending::BrokerFault;
 use rb_queue::Opening;
 use rb_runs::{opening_in, over_timer, run_replay, run_script_gathered};
@@ -85,7 +85,7 @@ fn serve_over<T: Timer + Send, R: Threads + Wait + time::Clock + Sync>(
     rt: &HostRuntime,
     handle: &R,
     door: &TcpDoor,
-    run: &RunOptions,
+    run: &ServerRunOptions,
     opening: Opening,
     history: &mut Option<File>,
 ) -> Result<(), BrokerFault> {

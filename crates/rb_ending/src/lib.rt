@@ -9,4 +9,4 @@ mod recording;
 
 pub use audit::audit_line;
 pub use broker_fault::BrokerFault;
-pub use recording::record;
+pub use recording::write_recording;

@@ -10,14 +10,14 @@ use std::io::Write;
 ///
 /// What was written whole is legal and has its values in the ranges that texts have, so it is read
 /// again as just this history.
-pub fn record<T: Timer, H: Write>(
+pub fn write_recording<T: Timer, H: Write>(
     alloc: Global,
     kept: &Kept<T>,
     device: &mut H,
 ) -> Result<(), HistoryFault>
     ensures { RecordsLog kept.now result (H.contents device.old) (H.contents device.new) }
 {
-    // The proof learns here how long the history may get.
+    // For the proof: how long the history may get.
     let _ = kept.capacity();
     write_history(alloc, kept.opening(), kept.history(), device)
 }

@@ -169,7 +169,7 @@ impl<T: Timer> Kept<T> {
         ensures err { OnErr result (self.new ≡ self.old) }
         ensures err_tally { OnErr result (tally.new ≡ tally.old) }
     {
-        // The proof learns here that the history is legal.
+        // For the proof: the history is legal.
         let _ = &self.history;
         let mut steps = Vec::with_capacity(self.alloc, tries.len())?;
         for one in &tries {
@@ -208,7 +208,7 @@ impl<T: Timer> Kept<T> {
         ensures counts { result ≡ audit_of self.now.opening self.now.history }
         ensures balanced { result.offered + result.opening ≡ result.given + result.removed + result.cleared + result.left }
     {
-        // The proof learns here the law for every legal history.
+        // For the proof: the law for every legal history.
         each_element_counted();
         Audit {
             calls: self.history.len() as u64,

@@ -13,7 +13,7 @@ use Rattle.rb_ledger.specs.declared.totals.TheConstants.{GREATEST_COUNT}
 use Rattle.rb_lock.specs.Records.{bit, times_in, names_of, calls_of, AreDifferent, AreRecords}
 use Rattle.rb_lock.specs.Passes.{capped}
 use Rattle.rb_lock.specs.ClosedQueues.{AreCounts}
-use Rattle.rb_lock.specs.declared.record.Record.{Record}
+use Rattle.rb_lock.specs.declared.pass_record.PassRecord.{PassRecord}
 use Rattle.rb_lock.proofs.CallTotals.{same_totals}
 
 -- the weight of an event whose seat stands so often among some, where it is not among them
@@ -92,7 +92,7 @@ module _ (f : Event → ℕ) where
       by_times (suc (suc often)) is few rest = absurd (omega arith)
 
   -- records weigh what their seats do
-  over_records : (history : List Event) (records : List Record) → AreRecords history records → over history (names_of records) ≡ weigh (calls_of records)
+  over_records : (history : List Event) (records : List PassRecord) → AreRecords history records → over history (names_of records) ≡ weigh (calls_of records)
   over_records history [] none = refl
   over_records history (one ∷ records) (first, rest) =
       let here : weigh (events_of history one.name) ≡ weigh one.mine = ap weigh first.all in
@@ -126,7 +126,7 @@ offers_of event = length (inserted (effect_of event.act))
 abbrev gives_of : Event → ℕ
 gives_of event = length (given (effect_of event.act))
 
-module _ (history : List Event) (records : List Record) (all : AreRecords history records) (different : AreDifferent (names_of records)) where
+module _ (history : List Event) (records : List PassRecord) (all : AreRecords history records) (different : AreDifferent (names_of records)) where
   split_weight : (f : Event → ℕ) → weigh f (calls_of records) + left_out f history (names_of records) ≡ weigh f history
   split_weight f = omega (arith, over_records f history records all, shares f history (names_of records) different)
 
@@ -147,7 +147,7 @@ module _ (history : List Event) (records : List Record) (all : AreRecords histor
 capped_same : (totals : Totals) → AreCounts totals → capped totals ≡ totals
 capped_same totals fits = same_totals (capped totals) totals (omega (arith, fits.calls)) (omega (arith, fits.offered)) (omega (arith, fits.given))
 
-module _ (history : List Event) (records : List Record) (all : AreRecords history records) (different : AreDifferent (names_of records)) (fits : AreCounts (totals_of history)) where
+module _ (history : List Event) (records : List PassRecord) (all : AreRecords history records) (different : AreDifferent (names_of records)) (fits : AreCounts (totals_of history)) where
   -- where the share comes to the books, no call is outside
   pub all_counted : capped (totals_of (calls_of records)) ≡ totals_of history → length history ≡ length (calls_of records)
   all_counted same =

@@ -11,12 +11,12 @@ use Rattle.rb_lock.specs.Passes.{Seen, all_records, capped, tally_of, folded_wit
 use Rattle.rb_lock.specs.Views.{idle, pass_of, folding, nobody}
 use Rattle.rb_lock.specs.Rule.{Locked}
 use Rattle.rb_lock.specs.LockSteps.{LockSeat, AtRest, IsPass}
-use Rattle.rb_lock.specs.declared.record.Record.{Record}
+use Rattle.rb_lock.specs.declared.pass_record.PassRecord.{PassRecord}
 use Rattle.rb_lock.proofs.CallTotals.{capped-append}
 use Rattle.rb_lock.proofs.Sharings.{folds}
 use Rattle.rb_lock.proofs.RestingPasses.{is_pass}
 
-calls_of-append : (xs ys : List Record) → calls_of (xs ++ ys) ≡ calls_of xs ++ calls_of ys
+calls_of-append : (xs ys : List PassRecord) → calls_of (xs ++ ys) ≡ calls_of xs ++ calls_of ys
 calls_of-append [] ys = refl
 calls_of-append (x ∷ xs) ys = ap (λ (es : List Event). x.mine ++ es) (calls_of-append xs ys) ∙ sym (append_assoc x.mine (calls_of xs) (calls_of ys))
 

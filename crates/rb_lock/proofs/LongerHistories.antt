@@ -7,7 +7,7 @@ use Rattle.rb_queue.specs.Counts.{events_of}
 use Rattle.rb_queue.specs.declared.event.Event.{Event}
 use Rattle.rb_lock.specs.Records.{bit, times_in, names_of, AreRecords}
 use Rattle.rb_lock.specs.LockSteps.{Grown}
-use Rattle.rb_lock.specs.declared.record.Record.{Record}
+use Rattle.rb_lock.specs.declared.pass_record.PassRecord.{PassRecord}
 use Rattle.rb_lock.proofs.Sums.{bit_other}
 use Rattle.rb_lock.proofs.Beginnings.{prefix_more, append_same, append_none}
 
@@ -48,7 +48,7 @@ module _ (name : ℕ) (found new : List Event) (grown : Grown name found new) wh
   begins_stay xs p = subst (λ (h : List Event). IsPrefix xs h) (sym grown.is) (prefix_more xs found grown.more p)
 
   -- records of other names are records still
-  pub records_stay : (records : List Record) → times_in name (names_of records) ≡ 0 → AreRecords found records → AreRecords new records
+  pub records_stay : (records : List PassRecord) → times_in name (names_of records) ≡ 0 → AreRecords found records → AreRecords new records
   records_stay [] none all = tt
   records_stay (one ∷ records) none (first, rest) =
       let apart : bit (one.name == name) ≡ 0 = omega arith in (

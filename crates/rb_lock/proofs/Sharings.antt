@@ -7,7 +7,7 @@ use Rattle.rb_lock.specs.Records.{times_in, names_of, AreRecords}
 use Rattle.rb_lock.specs.Passes.{Seen, all_records}
 use Rattle.rb_lock.specs.Views.{idle, rested, cut_off, folding, nobody}
 use Rattle.rb_lock.specs.Rule.{Fits, Locked}
-use Rattle.rb_lock.specs.declared.record.Record.{Record}
+use Rattle.rb_lock.specs.declared.pass_record.PassRecord.{PassRecord}
 use Rattle.rb_lock.specs.declared.stage.Stage.TheVariants.{Drew}
 use Rattle.rb_lock.specs.declared.view.View.{View}
 use Rattle.rb_lock.proofs.Sums.{times_in-append}
@@ -35,11 +35,11 @@ cuts id pass name s law at =
       stage = tt;
     })
 
-names_of-append : (xs ys : List Record) → names_of (xs ++ ys) ≡ names_of xs ++ names_of ys
+names_of-append : (xs ys : List PassRecord) → names_of (xs ++ ys) ≡ names_of xs ++ names_of ys
 names_of-append [] ys = refl
 names_of-append (x ∷ xs) ys = ap (λ (l : List ℕ). x.name ∷ l) (names_of-append xs ys)
 
-AreRecords-append : (history : List Event) (xs ys : List Record) → AreRecords history xs → AreRecords history ys → AreRecords history (xs ++ ys)
+AreRecords-append : (history : List Event) (xs ys : List PassRecord) → AreRecords history xs → AreRecords history ys → AreRecords history (xs ++ ys)
 AreRecords-append history [] ys none all = all
 AreRecords-append history (x ∷ xs) ys (one, rest) all = (one, AreRecords-append history xs ys rest all)
 

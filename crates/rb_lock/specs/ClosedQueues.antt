@@ -7,13 +7,13 @@ use Rattle.rb_kept.specs.Log.{Log}
 use Rattle.rb_kept.specs.Shares.{totals_of}
 use Rattle.rb_lock.specs.Records.{AreRecords, AreDifferent, names_of, calls_of}
 use Rattle.rb_lock.specs.Passes.{Seen, tally_of}
-use Rattle.rb_lock.specs.declared.record.Record.{Record}
+use Rattle.rb_lock.specs.declared.pass_record.PassRecord.{PassRecord}
 use Rattle.rb_lock.specs.declared.fault.CloseFault.{CloseFault}
 use Rattle.rb_lock.specs.declared.fault.CloseFault.TheVariants.{NotAll}
 
 -- The history is legal and has each record's calls under its name, no name stands twice, and there is no
 -- other call: the history is as long as all these calls together.
-pub record HasCallsOf (log : Log) (records : List Record) : Type 0 where
+pub record HasCallsOf (log : Log) (records : List PassRecord) : Type 0 where
   pub legal : IsLegal log.opening log.history
   pub are_records : AreRecords log.history records
   pub different : AreDifferent (names_of records)

@@ -15,8 +15,8 @@ use Rattle.rb_kept.specs.Log.{Log}
 use Rattle.rb_kept.specs.Shares.{totals_of}
 use Rattle.rb_kept.specs.declared.kept.TheConstants.{MOST_CALLS}
 use Rattle.rb_lock.specs.Records.{calls_of}
-use Rattle.rb_lock.specs.declared.record.Record.{Record}
-use Rattle.rb_lock.specs.contracts.record.Record as entry
+use Rattle.rb_lock.specs.declared.pass_record.PassRecord.{PassRecord}
+use Rattle.rb_lock.specs.contracts.pass_record.PassRecord as entry
 
 pub record Seen : Type 0 where
   -- which shared queue it is of
@@ -31,13 +31,13 @@ pub record Seen : Type 0 where
   -- the events of its own calls
   pub mine : List Event
   -- the passes that were folded into it, directly or through others
-  pub folded : List Record
+  pub folded : List PassRecord
 
 -- it is stored as the tuple of its fields
 abbrev pub seen_code : Coded Seen
 seen_code =
     code_by
-    (TableId × (ℕ × (ℕ × (Opening × (ℕ × (List Event × (List Event × List Record)))))))
+    (TableId × (ℕ × (ℕ × (Opening × (ℕ × (List Event × (List Event × List PassRecord)))))))
     (coded× table_id_coded (coded× coded_ℕ (coded× coded_ℕ (coded× opening.the_row.coded (coded× coded_ℕ
     (coded× (coded_list event.the_row.coded) (coded× (coded_list event.the_row.coded) (coded_list entry.the_row.coded))))))))
     (λ pass. (pass.table, (pass.name, (pass.capacity, (pass.opening, (pass.noted, (pass.seen, (pass.mine, pass.folded))))))))
@@ -62,11 +62,11 @@ abbrev pub log_of : Seen → Log
 log_of pass = log_at pass pass.seen
 
 -- the pass's own record
-abbrev pub record_of : Seen → Record
+abbrev pub record_of : Seen → PassRecord
 record_of pass = record { name = pass.name; seen = pass.seen; mine = pass.mine }
 
 -- its own record, and those of all that were folded into it
-abbrev pub all_records : Seen → List Record
+abbrev pub all_records : Seen → List PassRecord
 all_records pass = record_of pass ∷ pass.folded
 
 -- each total, or the greatest count where that is less

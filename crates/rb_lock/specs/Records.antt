@@ -3,7 +3,7 @@ use Rattle.std.specs.Prelude.{◌≡◌, ℕ, ◌+◌, ◌≤◌, ◌==◌, Bool
 use mathlib.Core.List.{IsPrefix}
 use Rattle.rb_queue.specs.Counts.{events_of}
 use Rattle.rb_queue.specs.declared.event.Event.{Event}
-use Rattle.rb_lock.specs.declared.record.Record.{Record}
+use Rattle.rb_lock.specs.declared.pass_record.PassRecord.{PassRecord}
 
 -- 1 for true, and 0 for false
 abbrev pub bit : Bool → ℕ
@@ -20,23 +20,23 @@ abbrev pub AreDifferent : List ℕ → Type 0
 AreDifferent numbers = (number : ℕ) → times_in number numbers ≤ 1
 
 -- the names, in the order of the records
-abbrev pub names_of : List Record → List ℕ
+abbrev pub names_of : List PassRecord → List ℕ
 names_of [] = []
 names_of (one ∷ records) = one.name ∷ names_of records
 
 -- the calls of all of them, one record after the other
-abbrev pub calls_of : List Record → List Event
+abbrev pub calls_of : List PassRecord → List Event
 calls_of [] = []
 calls_of (one ∷ records) = one.mine ++ calls_of records
 
 -- The history begins with what was seen, and has under the name exactly the record's calls, all of which
 -- were seen.
-pub record IsRecord (history : List Event) (one : Record) : Type 0 where
+pub record IsRecord (history : List Event) (one : PassRecord) : Type 0 where
   pub begins : IsPrefix one.seen history
   pub known : events_of one.seen one.name ≡ one.mine
   pub all : events_of history one.name ≡ one.mine
 
 -- each of them is a record of the history
-abbrev pub AreRecords : List Event → List Record → Type 0
+abbrev pub AreRecords : List Event → List PassRecord → Type 0
 AreRecords history [] = Unit {0}
 AreRecords history (one ∷ records) = IsRecord history one × AreRecords history records

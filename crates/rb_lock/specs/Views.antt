@@ -9,7 +9,7 @@ use Rattle.rb_queue.specs.Opening.{IsOpening}
 use Rattle.rb_kept.specs.Log.{Log}
 use Rattle.rb_lock.specs.Records.{times_in, names_of}
 use Rattle.rb_lock.specs.Passes.{Seen}
-use Rattle.rb_lock.specs.declared.record.Record.{Record}
+use Rattle.rb_lock.specs.declared.pass_record.PassRecord.{PassRecord}
 use Rattle.rb_lock.specs.declared.stage.Stage.{Stage}
 use Rattle.rb_lock.specs.declared.stage.Stage.TheVariants.{Idle, Holds, Drew, Meets, Gone}
 use Rattle.rb_lock.specs.declared.view.View.{View}
@@ -42,12 +42,12 @@ pass_of table v = record {
 }
 
 -- the own record of a live view
-abbrev pub own_if : Bool → Record → List Record
+abbrev pub own_if : Bool → PassRecord → List PassRecord
 own_if true own = own ∷ []
 own_if false own = []
 
 -- all records of a view: its own, if it has one, and those of the folded passes
-abbrev pub records_of : View → List Record
+abbrev pub records_of : View → List PassRecord
 records_of v = own_if v.live (record { name = v.name; seen = v.seen; mine = v.mine }) ++ v.folded
 
 -- a name that was drawn and not yet given

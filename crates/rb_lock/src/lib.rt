@@ -9,7 +9,7 @@ mod laws;
 mod lock;
 mod pair;
 mod pass;
-mod record;
+mod pass_record;
 mod rule;
 mod shared;
 mod stage;

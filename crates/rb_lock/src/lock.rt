@@ -141,7 +141,7 @@ fn act_on<T: Timer>(
     ensures { ActsOn (record { seat = name; asked = asked; ask = ask }) result tally.old tally.new slot.old slot.new }
 {
     let Some(pair) = slot else { unreachable!() };
-    // The proof reads here that the history is legal.
+    // For the proof: the history is legal.
     let _ = pair.kept.history();
     pair.kept.act(tally, name, asked, ask)
 }
@@ -194,7 +194,7 @@ pub(crate) fn take_out<T: Timer>(table: &LockTable<T>, seat: &mut PassSeat<T>) -
     ensures fits { length result.kept.history ≤ result.kept.capacity }
 {
     let pair = table.exchange(seat, 0, None).unwrap();
-    // The proof reads here that the history is legal and has room.
+    // For the proof: the history is legal and has room.
     let _ = pair.kept.history();
     let _ = pair.kept.capacity();
     pair

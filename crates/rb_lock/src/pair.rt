@@ -23,7 +23,7 @@ impl<T: Timer> Pair<T> {
         ensures legal { IsLegal self.old.kept.opening self.old.kept.history }
         ensures fits { length self.old.kept.history ≤ self.old.kept.capacity }
     {
-        // The proof reads here that the history is legal and has room.
+        // For the proof: the history is legal and has room.
         let _ = self.kept.history();
         let _ = self.kept.capacity();
         if self.names >= MOST_NAMES {

@@ -64,7 +64,7 @@ impl<T: Timer> Shared<T> {
         ensures handed_back { IfErr result (λ refused. refused.1 ≡ tally) }
     {
         let start = Snapshot::of(&kept);
-        // The proof reads here how long a history may be.
+        // For the proof: how long a history may be.
         let _ = kept.capacity();
         let Ok(mut slots) = Vec::with_capacity(alloc, 1) else {
             return Err((kept, tally, OpenFault::Memory));

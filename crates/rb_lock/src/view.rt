@@ -1,4 +1,4 @@
-use crate::record::Record;
+use crate::pass_record::PassRecord;
 use crate::stage::Stage;
 use rb_queue::{Event, Opening};
 use std::collections::LinkedList;
@@ -15,6 +15,6 @@ pub(crate) struct View {
     pub(crate) seen: LinkedList<Event>,
     pub(crate) mine: LinkedList<Event>,
     /// The passes that were folded into it, directly or through others.
-    pub(crate) folded: LinkedList<Record>,
+    pub(crate) folded: LinkedList<PassRecord>,
     pub(crate) stage: Stage,
 }

@@ -36,7 +36,7 @@ impl<'a, T: Timer> KeptDesk<'a, T> {
             ≡ record { name = kept.entry.ghost_name; log = kept.old; share = tally.old; moment = kept.old.opening.last_at; before = length kept.old.history } }
         ensures few { length (made_at (⟦<KeptDesk<'a, T> as Desk>⟧.state result)) ≤ MOST_CALLS }
     {
-        // The proof learns here how long the history may get.
+        // For the proof: how long the history may get.
         let _ = kept.capacity();
         let moment = kept.opening().last_at;
         let before = kept.history().len();

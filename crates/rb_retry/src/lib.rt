@@ -7,9 +7,9 @@
 
 mod desk;
 mod desk_fault;
-mod endings;
 mod fetches;
 mod job;
+mod job_ends;
 mod kept_desk;
 mod policy;
 mod verdict;
@@ -18,9 +18,9 @@ mod worker;
 
 pub use desk::Desk;
 pub use desk_fault::DeskFault;
-pub use endings::{done, fail};
 pub use fetches::{drain, poll, poll_for, take};
 pub use job::Job;
+pub use job_ends::{done, fail};
 pub use kept_desk::KeptDesk;
 pub use policy::{Pace, Policy};
 pub use verdict::Verdict;

@@ -6,9 +6,9 @@ ghost use Rattle.rb_retry.specs.declared.desk_fault.DeskFault.{DeskFault};
 ghost use Rattle.rb_retry.specs.WorkRuns.{WorkRun, RunEnd, EndsRun, RunsAlong, IsSum, no_runs, counted, report_after};
 
 use crate::desk::Desk;
-use crate::endings::{done, fail};
 use crate::fetches::take;
 use crate::job::Job;
+use crate::job_ends::{done, fail};
 use crate::policy::Policy;
 use crate::verdict::Verdict;
 use crate::work_report::WorkReport;

@@ -13,15 +13,15 @@ use Rattle.rb_replay.specs.declared.replay_fault.ReplayFault.TheVariants as chec
 use Rattle.rb_ending.specs.AuditText.{audit_text}
 use Rattle.rb_ending.specs.Recording.{IsReadable, RecordsLog}
 use Rattle.rb_runs.specs.Script.{IsRecording, RanSession, result_of}
-use Rattle.rb_runs.specs.Verdict.{IsVerdictOn, Tells}
+use Rattle.rb_runs.specs.TextVerdict.{IsVerdictOn, Tells}
 use Rattle.rb_runs.specs.WrittenRuns.{IsReplayed, RecordedIsRead, ScriptIsRead}
 use Rattle.rb_runs.specs.declared.recording.Recording.{Recording}
 use Rattle.rb_runs.specs.declared.recording.Recording.TheVariants.{NotAsked, NotBegun, Written, Failed}
-use Rattle.rb_runs.specs.declared.verdict.Verdict.{Verdict}
-use Rattle.rb_runs.specs.declared.verdict.Verdict.TheVariants.{Unreadable, Refused, Unchained, Accepted}
+use Rattle.rb_runs.specs.declared.text_verdict.TextVerdict.{TextVerdict}
+use Rattle.rb_runs.specs.declared.text_verdict.TextVerdict.TheVariants.{Unreadable, Refused, Unchained, Accepted}
 
 -- the verdict on a run that is read again is its audit
-told : (log : Log) → IsReadAgain log.opening log.history → (verdict : Verdict) (line : List ℕ) (status : ℕ)
+told : (log : Log) → IsReadAgain log.opening log.history → (verdict : TextVerdict) (line : List ℕ) (status : ℕ)
     → IsVerdictOn None log.opening log.history verdict → Tells verdict line status
     → (line ≡ audit_text (audit_of log.opening log.history)) × (status ≡ 0)
 told log again (Unreadable number reason) line status on tells = absurd on

@@ -14,7 +14,7 @@ pub use Rattle.rb_replay.specs.Chaining
 pub use Rattle.rb_history.specs.Readings
 pub use Rattle.rb_replay.specs.Opens
 pub use Rattle.rb_history.specs.Written
-pub mod Verdict
+pub mod TextVerdict
 pub mod Beginning
 pub mod FileText
 pub mod Script

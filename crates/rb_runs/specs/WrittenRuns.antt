@@ -13,14 +13,14 @@ use Rattle.rb_replay.specs.WrittenHistories.{IsReadAgain}
 use Rattle.rb_ending.specs.AuditText.{audit_text}
 use Rattle.rb_ending.specs.Recording.{RecordsLog}
 use Rattle.rb_runs.specs.Script.{EndsScript, RanSession}
-use Rattle.rb_runs.specs.Verdict.{IsVerdictOn, Tells}
-use Rattle.rb_runs.specs.declared.verdict.Verdict.{Verdict}
+use Rattle.rb_runs.specs.TextVerdict.{IsVerdictOn, Tells}
+use Rattle.rb_runs.specs.declared.text_verdict.TextVerdict.{TextVerdict}
 
 -- Whatever is read of the text of the log's history is that history, and what `replay` says of it is its audit
 -- line, with status 0.
 pub record IsReplayed (log : Log) : Type 0 where
   pub again : IsReadAgain log.opening log.history
-  pub told : (verdict : Verdict) (line : List ℕ) (status : ℕ) → IsVerdictOn None log.opening log.history verdict
+  pub told : (verdict : TextVerdict) (line : List ℕ) (status : ℕ) → IsVerdictOn None log.opening log.history verdict
       → Tells verdict line status → (line ≡ audit_text (audit_of log.opening log.history)) × (status ≡ 0)
 
 -- a device that tells its bytes has got the text of the log's history behind what it had got

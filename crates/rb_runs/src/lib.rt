@@ -11,7 +11,7 @@ mod replay;
 mod script;
 mod script_report;
 mod script_run;
-mod verdict;
+mod text_verdict;
 
 pub use laws::{recorded_is_read, script_is_read};
 pub use opening::opening_in;

@@ -3,10 +3,10 @@ ghost use Rattle.rb_queue.specs.declared.event.Event.{Event};
 ghost use Rattle.rb_queue.specs.declared.opening.Opening.{Opening};
 ghost use Rattle.rb_history.specs.Ranges.{IsRightOpening, AreRightEvents};
 ghost use Rattle.rb_history.specs.Readings.{IsTextOf};
-ghost use Rattle.rb_runs.specs.Verdict.{IsVerdictOf, IsVerdictOn, Tells};
-ghost use Rattle.rb_runs.specs.declared.verdict.Verdict.{Verdict};
+ghost use Rattle.rb_runs.specs.TextVerdict.{IsVerdictOf, IsVerdictOn, Tells};
+ghost use Rattle.rb_runs.specs.declared.text_verdict.TextVerdict.{TextVerdict};
 
-use crate::verdict::Verdict;
+use crate::text_verdict::TextVerdict;
 use rb_arguments::ReplayOptions;
 use rb_ending::BrokerFault;
 use rb_replay::{ChainFault, History, ReplayFault, TextFault, chains, check, read_history};
@@ -22,10 +22,10 @@ pub fn run_replay(
     options: &ReplayOptions,
     text: &[u8],
 ) -> Result<(String, u8), BrokerFault>
-    ensures line { IfOk result (λ told. (verdict : Verdict) × IsVerdictOf options.now.chains text.now verdict × Tells verdict (string_bytes told.0) told.1) }
+    ensures line { IfOk result (λ told. (verdict : TextVerdict) × IsVerdictOf options.now.chains text.now verdict × Tells verdict (string_bytes told.0) told.1) }
     ensures each { (opening : Opening) (events : List Event) → IsRightOpening opening → AreRightEvents events
         → IsTextOf opening events text.now → IfOk result (λ told.
-        (verdict : Verdict) × IsVerdictOn options.now.chains opening events verdict × Tells verdict (string_bytes told.0) told.1) }
+        (verdict : TextVerdict) × IsVerdictOn options.now.chains opening events verdict × Tells verdict (string_bytes told.0) told.1) }
     ensures fault { IfErr result (λ fault. fault ≡ BrokerFault.Memory) }
 {
     let verdict = verdict_of(alloc, options, text)?;
@@ -33,7 +33,11 @@ pub fn run_replay(
 }
 
 // The verdict on the text.
-fn verdict_of(alloc: Global, options: &ReplayOptions, text: &[u8]) -> Result<Verdict, BrokerFault>
+fn verdict_of(
+    alloc: Global,
+    options: &ReplayOptions,
+    text: &[u8],
+) -> Result<TextVerdict, BrokerFault>
     ensures verdict { IfOk result (IsVerdictOf options.now.chains text.now) }
     ensures each { (opening : Opening) (events : List Event) → IsRightOpening opening → AreRightEvents events
         → IsTextOf opening events text.now → IfOk result (IsVerdictOn options.now.chains opening events) }
@@ -41,27 +45,31 @@ fn verdict_of(alloc: Global, options: &ReplayOptions, text: &[u8]) -> Result<Ver
 {
     match read_history(alloc, text) {
         Ok(history) => judged(alloc, options, &history),
-        Err(TextFault::At { line, reason }) => Ok(Verdict::Unreadable { line, reason }),
+        Err(TextFault::At { line, reason }) => Ok(TextVerdict::Unreadable { line, reason }),
         Err(TextFault::Memory) => Err(BrokerFault::Memory),
     }
 }
 
 // The verdict on the history.
-fn judged(alloc: Global, options: &ReplayOptions, history: &History) -> Result<Verdict, BrokerFault>
+fn judged(
+    alloc: Global,
+    options: &ReplayOptions,
+    history: &History,
+) -> Result<TextVerdict, BrokerFault>
     ensures verdict { IfOk result (IsVerdictOn options.now.chains history.now.opening history.now.events) }
     ensures fault { IfErr result (λ fault. fault ≡ BrokerFault.Memory) }
 {
     let audit = match check(alloc, history.opening(), history.events()) {
         Ok(audit) => audit,
-        Err(ReplayFault::At { index, reason }) => return Ok(Verdict::Refused { index, reason }),
+        Err(ReplayFault::At { index, reason }) => return Ok(TextVerdict::Refused { index, reason }),
         Err(ReplayFault::Memory) => return Err(BrokerFault::Memory),
     };
     let Some(policy) = &options.chains else {
-        return Ok(Verdict::Accepted(audit));
+        return Ok(TextVerdict::Accepted(audit));
     };
     match chains(alloc, history.opening(), history.events(), policy) {
-        Ok(()) => Ok(Verdict::Accepted(audit)),
-        Err(ChainFault::At { index, reason }) => Ok(Verdict::Unchained { index, reason }),
+        Ok(()) => Ok(TextVerdict::Accepted(audit)),
+        Err(ChainFault::At { index, reason }) => Ok(TextVerdict::Unchained { index, reason }),
         Err(ChainFault::Memory) => Err(BrokerFault::Memory),
     }
 }

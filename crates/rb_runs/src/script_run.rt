@@ -9,7 +9,7 @@ use crate::over_timer;
 use crate::recording::Recording;
 use crate::script_report::ScriptReport;
 use rb_arguments::ScriptOptions;
-use rb_ending::record;
+use rb_ending::write_recording;
 use rb_kept::Kept;
 use rb_queue::Opening;
 use rb_retry::{KeptDesk, Policy};
@@ -153,7 +153,7 @@ fn recorded<T: Timer, H: Write>(
     if let Err(SessionFault::Memory) = session {
         return Recording::NotBegun;
     }
-    match record(alloc, kept, device) {
+    match write_recording(alloc, kept, device) {
         Ok(()) => Recording::Written,
         Err(fault) => Recording::Failed(fault),
     }

@@ -3,9 +3,9 @@ use Rattle.std.proofs.Common.{◌≡◌, ℕ, ◌+◌, ◌-◌, ◌<◌, List, [
 use Rattle.std.proofs.Common.{arith, length-append, append_assoc}
 use Rattle.std.proofs.lemmas.List.{append-nil}
 use Rattle.rb_lock.specs.Passes.{Seen, Learns, record_of, folded_with}
-use Rattle.rb_lock.specs.declared.record.Record.{Record}
+use Rattle.rb_lock.specs.declared.pass_record.PassRecord.{PassRecord}
 use Rattle.rb_serving.specs.Terms.{Terms}
-use Rattle.rb_serving.specs.Serving.{FoldsWorkers, IsDone}
+use Rattle.rb_serving.specs.Serving.{FoldsWorkers, IsWorkerResult}
 use Rattle.rb_serving.specs.VisitCounts.{no_visit, both_counts}
 use Rattle.rb_serving.specs.Visits.{IsWorker, all_visits, counts_of}
 use Rattle.rb_serving.specs.declared.visit_counts.VisitCounts.{VisitCounts}
@@ -30,10 +30,10 @@ module _ {I O G C : Type 0} (terms : Terms I O G C) where
   -- one worker more is folded in last
   pub folds_one_more : (count : ℕ) (old cut rest done new : Seen) (counts more : VisitCounts) → 0 < count
       → Learns old cut → cut.mine ≡ old.mine → FoldsWorkers terms (count - 1) cut rest more
-      → IsDone terms (count - 1) done counts → new ≡ folded_with rest done
+      → IsWorkerResult terms (count - 1) done counts → new ≡ folded_with rest done
       → FoldsWorkers terms count old new (both_counts more counts)
   folds_one_more count old cut rest done new counts more some learns mine others worked is =
-      let last : List Record = record_of done ∷ [] in
+      let last : List PassRecord = record_of done ∷ [] in
       let last_is : count - 1 ≡ 0 + length others.records = omega (arith, others.many) in record {
         records = others.records ++ last;
         many = omega (arith, some, others.many, length-append others.records last);
@@ -43,8 +43,8 @@ module _ {I O G C : Type 0} (terms : Terms I O G C) where
         counted = ap₂ both_counts others.counted worked.counted ∙ counts_both (all_visits others.visits) worked.visits
             ∙ ap counts_of (sym (all_visits-more others.visits worked.visits));
         folded = ap (λ (pass : Seen). pass.folded) is
-            ∙ ap₂ (λ (front back : List Record). front ++ record_of done ∷ back)
-            (others.folded ∙ ap (λ (front : List Record). front ++ others.records) learns.folded) worked.alone
+            ∙ ap₂ (λ (front back : List PassRecord). front ++ record_of done ∷ back)
+            (others.folded ∙ ap (λ (front : List PassRecord). front ++ others.records) learns.folded) worked.alone
             ∙ append_assoc old.folded others.records last;
         table = ap (λ (pass : Seen). pass.table) is ∙ others.table ∙ learns.table;
         capacity = ap (λ (pass : Seen). pass.capacity) is ∙ others.capacity ∙ learns.capacity;

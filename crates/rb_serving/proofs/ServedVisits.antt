@@ -5,7 +5,7 @@ use Rattle.std.proofs.lemmas.List.{append-nil}
 use Rattle.rb_ledger.specs.Totals.{capped_sum}
 use Rattle.rb_ledger.specs.declared.totals.TheConstants.{GREATEST_COUNT}
 use Rattle.rb_lock.specs.Passes.{Seen, record_of}
-use Rattle.rb_lock.specs.declared.record.Record.{Record}
+use Rattle.rb_lock.specs.declared.pass_record.PassRecord.{PassRecord}
 use Rattle.rb_session.specs.declared.ended.Ended.{Ended}
 use Rattle.rb_session.specs.declared.session_fault.SessionFault.{SessionFault}
 use Rattle.rb_serving.specs.Terms.{Terms}
@@ -115,7 +115,7 @@ module _ {I O G C : Type 0} (terms : Terms I O G C) (worker : ℕ) where
 
 module _ {I O G C : Type 0} (terms : Terms I O G C) where
   -- one worker more
-  pub workers_more : (from : ℕ) (visits : List (List (Option Served))) (records : List Record)
+  pub workers_more : (from : ℕ) (visits : List (List (Option Served))) (records : List PassRecord)
       (own : List (Option Served)) (pass : Seen) → AreWorkers terms from visits records
       → IsWorker terms (from + length records) own pass
       → AreWorkers terms from (visits ++ own ∷ []) (records ++ record_of pass ∷ [])

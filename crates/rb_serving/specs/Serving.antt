@@ -4,8 +4,8 @@ use Rattle.rb_queue.specs.Counts.{audit_of}
 use Rattle.rb_queue.specs.declared.opening.Opening.{Opening}
 use Rattle.rb_lock.specs.Passes.{Seen, all_records}
 use Rattle.rb_lock.specs.ClosedQueues.{HasCallsOf}
-use Rattle.rb_lock.specs.declared.record.Record.{Record}
-use Rattle.rb_arguments.specs.declared.run_options.RunOptions.{RunOptions}
+use Rattle.rb_lock.specs.declared.pass_record.PassRecord.{PassRecord}
+use Rattle.rb_arguments.specs.declared.server_run_options.ServerRunOptions.{ServerRunOptions}
 use Rattle.rb_ending.specs.declared.broker_fault.BrokerFault.{BrokerFault}
 use Rattle.rb_ending.specs.declared.broker_fault.BrokerFault.TheVariants as Broker
 use Rattle.rb_serving.specs.Terms.{Terms}
@@ -39,7 +39,7 @@ module _ {I O G C : Type 0} (terms : Terms I O G C) where
 
   -- what a worker's thread gives: a pass with nothing folded into it, and the counts of the visits that it
   -- served
-  pub record IsDone (worker : ℕ) (pass : Seen) (counts : VisitCounts) : Type 0 where
+  pub record IsWorkerResult (worker : ℕ) (pass : Seen) (counts : VisitCounts) : Type 0 where
     pub alone : pass.folded ≡ []
     pub visits : List (Option Served)
     pub works : IsWorker terms worker visits pass
@@ -48,7 +48,7 @@ module _ {I O G C : Type 0} (terms : Terms I O G C) where
   -- The passes of so many workers were folded into the pass, which made no call itself. These are the counts of
   -- all visits.
   pub record FoldsWorkers (workers : ℕ) (old new : Seen) (counts : VisitCounts) : Type 0 where
-    pub records : List Record
+    pub records : List PassRecord
     pub many : length records ≡ workers
     pub visits : List (List (Option Served))
     pub served : AreWorkers terms 0 visits records
@@ -63,13 +63,13 @@ module _ {I O G C : Type 0} (terms : Terms I O G C) where
   -- history is legal, and has the calls of as many workers and no other; the calls of each are those of the sessions
   -- that it served, one after the other, until the door had no more. The audit is that of this history, and the counts
   -- are those of all visits, for each of which the door was asked under another number.
-  pub record IsServersRun {T : Type 0} (begun : Opening) (options : RunOptions) (report : ServeReport T) : Type 0 where
+  pub record IsServersRun {T : Type 0} (begun : Opening) (options : ServerRunOptions) (report : ServeReport T) : Type 0 where
     pub opening : report.kept.opening ≡ begun
     pub capacity : report.kept.capacity ≡ options.calls
     pub audited : report.audit ≡ audit_of report.kept.opening report.kept.history
-    pub first : Record
+    pub first : PassRecord
     pub idle : first.mine ≡ []
-    pub records : List Record
+    pub records : List PassRecord
     pub many : length records ≡ options.workers
     pub holds : HasCallsOf report.kept (first ∷ records)
     pub visits : List (List (Option Served))

@@ -3,7 +3,7 @@ use Rattle.std.specs.Prelude.{◌≡◌, ℕ, ◌+◌, min, List, [], ◌∷◌,
 use Rattle.std.specs.Io.KnownBytes.{Appends, Consumes, IsAtEnd}
 use Rattle.rb_ledger.specs.declared.totals.TheConstants.{GREATEST_COUNT}
 use Rattle.rb_lock.specs.Passes.{Seen, record_of}
-use Rattle.rb_lock.specs.declared.record.Record.{Record}
+use Rattle.rb_lock.specs.declared.pass_record.PassRecord.{PassRecord}
 use Rattle.rb_shared_desk.specs.SharedSteps.{SharedState, SharedSteps, SetsShared}
 use Rattle.rb_session.specs.declared.ended.Ended.{Ended}
 use Rattle.rb_session.specs.declared.session_fault.SessionFault.{SessionFault}
@@ -100,7 +100,7 @@ module _ {I O G C : Type 0} (terms : Terms I O G C) where
     pub no_more : terms.has_no_more (number_of worker (length visits))
 
   -- each record is that of a worker that served these visits, from this worker on
-  abbrev pub AreWorkers : ℕ → List (List (Option Served)) → List Record → Type 0
+  abbrev pub AreWorkers : ℕ → List (List (Option Served)) → List PassRecord → Type 0
   AreWorkers worker [] [] = Unit {0}
   AreWorkers worker (visits ∷ others) (one ∷ records) =
       ((pass : Seen) × IsWorker worker visits pass × (one ≡ record_of pass)) × AreWorkers (worker + 1) others records

@@ -3,7 +3,7 @@ ghost use Rattle.rb_serving.specs.ServeText.{EndsServer, Prints, PrintsAfter, re
 
 use crate::serve_report::ServeReport;
 use crate::serve_text::print_report;
-use rb_ending::{BrokerFault, record};
+use rb_ending::{BrokerFault, write_recording};
 use rb_history::HistoryFault;
 use rb_timer::Timer;
 use std::alloc::Global;
@@ -27,7 +27,7 @@ pub fn end_server<T: Timer, W: Write, H: Write>(
 {
     match history {
         Some(device) => {
-            let recorded = record(alloc, &report.kept, device);
+            let recorded = write_recording(alloc, &report.kept, device);
             print_after(alloc, report, writer, recorded)
         }
         None => print_after(alloc, report, writer, Ok(())),

@@ -13,7 +13,7 @@ use crate::serve_report::ServeReport;
 use crate::service::Service;
 use crate::visit_counts::VisitCounts;
 use crate::workers::serve_all;
-use rb_arguments::RunOptions;
+use rb_arguments::ServerRunOptions;
 use rb_blocking::{Bell, Clock};
 use rb_ending::BrokerFault;
 use rb_kept::Kept;
@@ -46,7 +46,7 @@ pub fn serve_door<
     alloc: Global,
     door: &D,
     clock: &C,
-    options: &RunOptions,
+    options: &ServerRunOptions,
     opening: Opening,
 ) -> Result<ServeReport<T>, BrokerFault>
     ensures served { IfOk result (λ report. IsServersRun
@@ -73,7 +73,7 @@ pub fn serve_door_gathered<
     alloc: Global,
     door: &D,
     clock: &C,
-    options: &RunOptions,
+    options: &ServerRunOptions,
     opening: Opening,
 ) -> Result<ServeReport<T>, BrokerFault>
     ensures served { IfOk result (λ report. IsServersRun
@@ -97,7 +97,7 @@ fn serve_delivering<
     alloc: Global,
     door: &D,
     clock: &C,
-    options: &RunOptions,
+    options: &ServerRunOptions,
     delivery: Delivery,
     opening: Opening,
 ) -> Result<ServeReport<T>, BrokerFault>

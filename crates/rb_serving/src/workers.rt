@@ -1,5 +1,5 @@
 ghost use Rattle.std.specs.Prelude.{◌≡◌, [], IfOk, IfErr};
-ghost use Rattle.rb_serving.specs.Serving.{FoldsWorkers, IsDone};
+ghost use Rattle.rb_serving.specs.Serving.{FoldsWorkers, IsWorkerResult};
 ghost use Rattle.rb_serving.specs.Terms.{service_terms};
 ghost use Rattle.rb_ending.specs.declared.broker_fault.BrokerFault.TheVariants.{Worker};
 
@@ -24,7 +24,7 @@ struct OfWorker<'a, T: Timer, D: Door, C: Clock> {
 }
 
 impl<'a, T: Timer, D: Door, C: Clock> Promise<(Pass<T>, VisitCounts)> for OfWorker<'a, T, D, C> {
-    ghost kept_by = { λ promise worked. (worked.0.table ≡ promise.service.now.shared.now) × IsDone
+    ghost kept_by = { λ promise worked. (worked.0.table ≡ promise.service.now.shared.now) × IsWorkerResult
         (service_terms D.Door D.Reader.Read D.Writer.Write D.Gate.Gate C.Clock promise.service.now)
         promise.worker worked.0 worked.1 };
 }
@@ -124,7 +124,7 @@ fn start<
         OfWorker { service, worker },
         move || -> (Pass<T>, VisitCounts)
             requires { (pass.table ≡ service.now.shared.now) × (pass.folded ≡ []) × (pass.mine ≡ []) }
-            ensures { (result.0.table ≡ service.entry.now.shared.now) × IsDone
+            ensures { (result.0.table ≡ service.entry.now.shared.now) × IsWorkerResult
                 (service_terms D.Door D.Reader.Read D.Writer.Write D.Gate.Gate C.Clock service.entry.now)
                 worker result.0 result.1 }
         { work(rt, service, worker, pass) },

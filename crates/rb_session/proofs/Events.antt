@@ -30,7 +30,7 @@ use Rattle.rb_protocol.specs.declared.line_reply.LineReply.TheVariants as lines
 use Rattle.rb_protocol.specs.declared.error_word.ErrorWord.TheVariants as words
 use Rattle.rb_session.specs.Held.{place_of}
 use Rattle.rb_session.specs.Turn.{Point, IsTurn, IsServed, IsCall, IsFetch, IsFailure, AnswersAlone, fault_line, lines_for, moment_line, refusal_word, word_for}
-use Rattle.rb_session.specs.Events.{IsNextOf, Asks, TellsOf, TellsOfNone, AreOfLine, AreOfClosing, moment_after, MakesByLines, MakesByClosing}
+use Rattle.rb_session.specs.Events.{IsNextOf, IsAskOf, TellsOf, TellsOfNone, AreOfLine, AreOfClosing, moment_after, MakesByLines, MakesByClosing}
 use Rattle.rb_session.specs.declared.held_jobs.TheConstants.{MOST_HELD}
 
 -- one of two cases
@@ -80,7 +80,7 @@ module _ {S : Type 0} (gives : S → ℕ → Type 0) (Sets : S → ℕ → Optio
     pub request : Request
     pub read : reading ≡ Ok request
     pub ask : Ask
-    pub asks : Asks request ask
+    pub asks : IsAskOf request ask
     pub handed : ℕ
     pub answer : Result Reply DeskFault
     pub steps : Steps old handed ask answer new
@@ -105,7 +105,7 @@ module _ {S : Type 0} (gives : S → ℕ → Type 0) (Sets : S → ℕ → Optio
   alone reading line none stands old new replies (is, same) =
       inl (record { line = line; is = is; none = none; same = ap (λ (p : Point S). p.desk) same; stands = stands })
 
-  call : (request : Request) (ask : Ask) → Asks request ask → ((reply : Reply) → TellsOf request reply (lines_for (Ok reply)))
+  call : (request : Request) (ask : Ask) → IsAskOf request ask → ((reply : Reply) → TellsOf request reply (lines_for (Ok reply)))
       → ((moment : ℕ) → moment_after moment (Ok request) ≡ moment)
       → (old new : Point S) (handed : ℕ) (replies : List LineReply) → IsCall Steps old handed ask replies new → Way (Ok request) replies old.desk new.desk
   call request ask asked tells stands old new handed replies (answer, steps, are, held) = inr (inl (record {
@@ -121,7 +121,7 @@ module _ {S : Type 0} (gives : S → ℕ → Type 0) (Sets : S → ℕ → Optio
     stands = stands;
   }))
 
-  fetch : (request : Request) (ask : Ask) → Asks request ask → ((reply : Reply) → TellsOf request reply (lines_for (Ok reply)))
+  fetch : (request : Request) (ask : Ask) → IsAskOf request ask → ((reply : Reply) → TellsOf request reply (lines_for (Ok reply)))
       → ((moment : ℕ) → moment_after moment (Ok request) ≡ moment)
       → (old new : Point S) (handed : ℕ) (replies : List LineReply) → IsFetch Steps old handed ask replies new → Way (Ok request) replies old.desk new.desk
   fetch request ask asked tells stands old new handed replies =

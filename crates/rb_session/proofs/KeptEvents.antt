@@ -22,7 +22,7 @@ use Rattle.rb_protocol.specs.declared.line_reply.LineReply.{LineReply}
 use Rattle.rb_session.specs.Turn.{Point}
 use Rattle.rb_session.specs.Session.{Turn, Serves}
 use Rattle.rb_session.specs.Closing.{Closes}
-use Rattle.rb_session.specs.Events.{moment_after, latest, events_of, RecordsByLines, RecordsByClosing}
+use Rattle.rb_session.specs.Events.{moment_after, latest, made_events, RecordsByLines, RecordsByClosing}
 use Rattle.rb_session.proofs.Events.{Way, way_of, makes_by_lines, makes_by_closing}
 
 -- the desk as if it had been made before the first event
@@ -41,7 +41,7 @@ steps_whole old new handed ask result steps = record {
 }
 
 -- the events of what was made are the events that it was made of
-events_in : (opening : Opening) (before events : List Event) → events_of (made_after opening before events) ≡ events
+events_in : (opening : Opening) (before events : List Event) → made_events (made_after opening before events) ≡ events
 events_in opening before [] = refl
 events_in opening before (event ∷ events) = ap (λ (rest : List Event). event ∷ rest) (events_in opening (before ++ event ∷ []) events)
 
@@ -64,11 +64,11 @@ stays_whole : (old new : KeptState) (moment : ℕ) (result : Option ℕ) → Set
 stays_whole old new moment result sets = ap whole_mine sets.1
 
 -- what was made makes the history grow
-history_grows : (from to : KeptState) (made : List Made) → whole_mine to ≡ whole_mine from ++ made → to.log.history ≡ from.log.history ++ events_of made
+history_grows : (from to : KeptState) (made : List Made) → whole_mine to ≡ whole_mine from ++ made → to.log.history ≡ from.log.history ++ made_events made
 history_grows from to made is =
-    sym (events_in to.log.opening [] to.log.history) ∙ ap events_of is
+    sym (events_in to.log.opening [] to.log.history) ∙ ap made_events is
     ∙ map-append (λ (m : Made). m.event) (whole_mine from) made
-    ∙ ap (λ (events : List Event). events ++ events_of made) (events_in from.log.opening [] from.log.history)
+    ∙ ap (λ (events : List Event). events ++ made_events made) (events_in from.log.opening [] from.log.history)
 
 -- the moment after one line
 moment_of : (reading : Result Request LineFault) (replies : List LineReply) (old new : KeptState)

@@ -22,19 +22,19 @@ use Rattle.rb_session.specs.Session.{Turn, Serves}
 use Rattle.rb_session.specs.Closing.{Closes}
 
 -- the ask is one that the request makes
-abbrev pub Asks : Request → Ask → Type 0
-Asks (requests.Offer delay payload) (asks.Offer draft) = (expiry : ℕ) × IsFirstDraft draft expiry payload
-Asks (requests.OfferAt expiry payload) (asks.Offer draft) = IsFirstDraft draft expiry payload
-Asks requests.Poll asks.Poll = Unit {0}
-Asks (requests.PollFor timeout) (asks.PollFor start within) = within ≡ timeout
-Asks requests.Take asks.Take = Unit {0}
-Asks requests.Peek asks.Peek = Unit {0}
-Asks (requests.Remove id) (asks.Remove removed) = removed ≡ id
-Asks (requests.Drain most) (asks.Drain drained) = drained ≤ most
-Asks requests.Clear asks.Clear = Unit {0}
-Asks requests.Size asks.Size = Unit {0}
-Asks (requests.Fail id) (asks.Offer draft) = (origin : ℕ) × (draft.origin ≡ Some origin)
-Asks _ _ = ⊥
+abbrev pub IsAskOf : Request → Ask → Type 0
+IsAskOf (requests.Offer delay payload) (asks.Offer draft) = (expiry : ℕ) × IsFirstDraft draft expiry payload
+IsAskOf (requests.OfferAt expiry payload) (asks.Offer draft) = IsFirstDraft draft expiry payload
+IsAskOf requests.Poll asks.Poll = Unit {0}
+IsAskOf (requests.PollFor timeout) (asks.PollFor start within) = within ≡ timeout
+IsAskOf requests.Take asks.Take = Unit {0}
+IsAskOf requests.Peek asks.Peek = Unit {0}
+IsAskOf (requests.Remove id) (asks.Remove removed) = removed ≡ id
+IsAskOf (requests.Drain most) (asks.Drain drained) = drained ≤ most
+IsAskOf requests.Clear asks.Clear = Unit {0}
+IsAskOf requests.Size asks.Size = Unit {0}
+IsAskOf (requests.Fail id) (asks.Offer draft) = (origin : ℕ) × (draft.origin ≡ Some origin)
+IsAskOf _ _ = ⊥
 
 -- the lines that a request got tell of an event with this reply
 abbrev pub TellsOf : Request → Reply → List LineReply → Type 0
@@ -57,7 +57,7 @@ pub record IsOfLine (reading : Result Request LineFault) (replies : List LineRep
   pub request : Request
   pub read : reading ≡ Ok request
   pub ask : Ask
-  pub asks : Asks request ask
+  pub asks : IsAskOf request ask
   pub act : IsActOf ask made.event.act
   pub reply : Reply
   pub replied : made.reply ≡ Some reply
@@ -117,18 +117,18 @@ module _ {S : Type 0} (gives : S → ℕ → Type 0) (Sets : S → ℕ → Optio
   HoldsOnce = (policy : Policy) (from to : Point S) (turns : List Turn) → from.held ≡ [] → Serves gives Sets Steps policy from turns to → AreHeldOnce to.held
 
 -- the events of what was made
-abbrev pub events_of : List Made → List Event
-events_of mades = map (λ (made : Made). made.event) mades
+abbrev pub made_events : List Made → List Event
+made_events mades = map (λ (made : Made). made.event) mades
 
 module _ (gives : KeptState → ℕ → Type 0) (Sets : KeptState → ℕ → Option ℕ → KeptState → Type 0)
     (Steps : KeptState → ℕ → Ask → Result Reply DeskFault → KeptState → Type 0) where
   -- the law of lines at a kept desk: the history grows by what they made, and the clock stands at the latest moment
   abbrev pub RecordsByLines : Type 0
   RecordsByLines = (policy : Policy) (from to : Point KeptState) (turns : List Turn) → Serves gives Sets Steps policy from turns to
-      → (made : List Made) × (to.desk.log.history ≡ from.desk.log.history ++ events_of made) × AreOfLines turns made
+      → (made : List Made) × (to.desk.log.history ≡ from.desk.log.history ++ made_events made) × AreOfLines turns made
       × (to.desk.moment ≡ latest from.desk.moment turns)
 
   -- the law of jobs that are held at the end of a session at a kept desk
   abbrev pub RecordsByClosing : Type 0
   RecordsByClosing = (policy : Policy) (from to : KeptState) (held : List Element) (lost : ℕ) → Closes gives Steps policy from held lost to
-      → (made : List Made) × (to.log.history ≡ from.log.history ++ events_of made) × AreOfClosing held made × (to.moment ≡ from.moment)
+      → (made : List Made) × (to.log.history ≡ from.log.history ++ made_events made) × AreOfClosing held made × (to.moment ≡ from.moment)

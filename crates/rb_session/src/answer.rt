@@ -5,8 +5,8 @@ ghost use Rattle.rb_session.specs.Turn.{word_for, point, moment_line, AsksToWait
 ghost use Rattle.rb_session.specs.Progress.{replies_of};
 
 use crate::calls::{call, offer, offer_at};
-use crate::endings::{fail_job, finish_job};
 use crate::fetches::{drain_jobs, poll_job, poll_job_for, take_job};
+use crate::held_job_ends::{fail_job, finish_job};
 use crate::held_jobs::HeldJobs;
 use crate::outlet::Outlet;
 use rb_protocol::{ErrorWord, LineFault, LineReply, Request};

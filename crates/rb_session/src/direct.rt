@@ -26,7 +26,7 @@ impl<W: Write> Outlet for Direct<'_, W> {
         send_line(self.writer, line)
     }
 
-    fn flush(&mut self) -> Result<(), WriteFault> {
+    fn after_replies(&mut self) -> Result<(), WriteFault> {
         flush(self.writer)
     }
 

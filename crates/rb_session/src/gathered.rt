@@ -31,7 +31,7 @@ pub(crate) fn run_gathered<R: Read, W: Write, D: Desk>(
     };
     let mut outlet = Gathering::new(writer, room, hands_on);
     let ended = run_session_through(alloc, reader, &mut outlet, desk, policy);
-    // The proof reads here what the writer has got.
+    // For the proof: what the writer has got.
     let _ = &*outlet.into_writer();
     ended
 }

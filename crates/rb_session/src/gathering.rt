@@ -104,7 +104,7 @@ impl<W: Write> Outlet for Gathering<'_, W> {
     }
 
     /// More may come before the next read or wait.
-    fn flush(&mut self) -> Result<(), WriteFault> {
+    fn after_replies(&mut self) -> Result<(), WriteFault> {
         Ok(())
     }
 

@@ -7,8 +7,8 @@ use rb_protocol::WriteFault;
 /// Where the replies of a session go. An outlet may hold back what was sent to it until it is told
 /// to hand that on.
 ///
-/// A session sends each reply line in one piece and flushes after each request. What is held back
-/// has to be handed on at the session's end and before each read, so that no client waits for a
+/// A session sends each reply line in one piece, and says when those of a request have been sent.
+/// What is held back has to be handed on at the session's end and before each read, so that no client waits for a
 /// reply that is held back. Before it serves a request that may wait, the session says so, and the
 /// outlet decides what has to be handed on.
 pub(crate) trait Outlet {
@@ -36,7 +36,7 @@ pub(crate) trait Outlet {
 
     /// The replies to a request have been sent. The outlet decides what that means for what is held
     /// back.
-    fn flush(&mut self) -> Result<(), WriteFault>
+    fn after_replies(&mut self) -> Result<(), WriteFault>
         ensures kept { Keeps (contents self.old) (contents self.new) }
         ensures becomes { Becomes self.old self.new };
 

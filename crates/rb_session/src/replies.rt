@@ -11,8 +11,8 @@ use crate::outlet::Outlet;
 use rb_protocol::{LineReply, WriteFault};
 use rb_retry::Job;
 
-/// Sends the lines of a reply, each in one piece, and flushes. A drain's line is followed by those
-/// of the last jobs that are held.
+/// Sends the lines of a reply, each in one piece, and says when all have been sent. A drain's line is
+/// followed by those of the last jobs that are held.
 ///
 /// After an `Err` the outlet has taken the first bytes of the lines, perhaps none.
 pub(crate) fn send_replies<O: Outlet>(
@@ -24,7 +24,7 @@ pub(crate) fn send_replies<O: Outlet>(
     ensures becomes { O.Becomes outlet.old outlet.new }
 {
     send_lines(outlet, reply, held)?;
-    outlet.flush()
+    outlet.after_replies()
 }
 
 // Sends the lines of a reply.

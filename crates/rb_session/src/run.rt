@@ -7,7 +7,7 @@ ghost use Rattle.rb_session.specs.Progress.{end_of};
 
 use crate::direct::Direct;
 use crate::ended::Ended;
-use crate::endings::fail_all;
+use crate::held_job_ends::fail_all;
 use crate::outlet::Outlet;
 use crate::session::Session;
 use crate::session_fault::SessionFault;

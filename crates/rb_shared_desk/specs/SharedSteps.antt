@@ -8,7 +8,7 @@ use Rattle.rb_kept.specs.Log.{HasRoom}
 use Rattle.rb_kept.specs.Tries.{TakesMemory}
 use Rattle.rb_lock.specs.Passes.{Seen, IsSoundPass, Learns, log_of}
 use Rattle.rb_lock.specs.SharedCalls.{Replied}
-use Rattle.rb_lock.specs.declared.record.Record.{Record}
+use Rattle.rb_lock.specs.declared.pass_record.PassRecord.{PassRecord}
 use Rattle.rb_blocking.specs.WaitingCalls.{try_of, IsStopped, EndsFull}
 use Rattle.rb_blocking.specs.declared.fault.WaitFault.{WaitFault}
 use Rattle.rb_blocking.specs.declared.fault.WaitFault.TheVariants as waits
@@ -34,7 +34,7 @@ pub record SharedName : Type 0 where
   pub name : ℕ
   pub capacity : ℕ
   pub opening : Opening
-  pub folded : List Record
+  pub folded : List PassRecord
 
 -- the fault of a wait that was not answered
 abbrev pub fault_of_wait : WaitFault → DeskFault

@@ -47,7 +47,7 @@ impl<'a, T: Timer, C: Clock, G: Gate, R: Wait + time::Clock> SharedDesk<'a, T, C
             ≡ record { reference = pass.entry.ghost_name; pass = pass.old; clock = clock.now; gate = gate.old; before = length pass.old.mine } }
         ensures few { length (made_through (⟦<SharedDesk<'a, T, C, G, R> as Desk>⟧.state result)) ≤ MOST_CALLS }
     {
-        // The proof reads here that the pass has seen a legal history.
+        // For the proof: the pass has seen a legal history.
         let _ = pass.name();
         let start = Snapshot::of(&*pass);
         SharedDesk {
@@ -116,7 +116,7 @@ impl<'a, T: Timer, C: Clock, G: Gate, R: Wait + time::Clock> Desk for SharedDesk
 
     #[tactic(auto, using(crate::proofs::SharedEndings::few_through, crate::proofs::SharedEndings::ends_refused, crate::proofs::SharedEndings::ends_replied))]
     fn call(&mut self, asked: u64, ask: Ask) -> Result<Reply, DeskFault> {
-        // The proof learns here that the pass has seen a legal history.
+        // For the proof: the pass has seen a legal history.
         let _ = self.pass.name();
         let (rt, shared, clock, bell) = (self.rt, self.shared, self.clock, self.bell);
         if matches!(ask, Ask::Take | Ask::PollFor { .. }) {

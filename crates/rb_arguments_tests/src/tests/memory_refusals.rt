@@ -3,7 +3,7 @@
 use clap::Error;
 use clap::error::ErrorKind;
 use rb_arguments::{
-    ReplayOptions, RunOptions, ScriptOptions, ServeOptions, TimerKind, Words, read_words,
+    ReplayOptions, ScriptOptions, ServeOptions, ServerRunOptions, TimerKind, Words, read_words,
 };
 use rb_retry::Policy;
 use std::alloc::Global;
@@ -132,7 +132,7 @@ fn a_refused_allocation_is_answered(rt: HostRuntime) {
     let replay = ReplayOptions {
         chains: Some(rated),
     };
-    let run = RunOptions {
+    let run = ServerRunOptions {
         workers: 2,
         calls: 7,
         policy: rated,

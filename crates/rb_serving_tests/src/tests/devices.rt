@@ -2,7 +2,7 @@
 
 ghost use Rattle.std.specs.Prelude.{◌≡◌, ◌≤◌, ◌↔◌, ◌<◌, true};
 
-use rb_arguments::RunOptions;
+use rb_arguments::ServerRunOptions;
 use rb_blocking::{Clock, Gate};
 use rb_ending::{BrokerFault, audit_line};
 use rb_queue::{Audit, Opening};
@@ -225,11 +225,11 @@ impl<'a, R: Wait + time::Clock + Sync> Door for PlannedDoor<'a, R> {
 }
 
 /// Room for 100 calls, and three attempts a job.
-pub fn hundred_calls(rt: &impl Abort, workers: u64) -> RunOptions
+pub fn hundred_calls(rt: &impl Abort, workers: u64) -> ServerRunOptions
     requires some { 1 ≤ workers }
     requires few { workers ≤ 16 }
 {
-    RunOptions {
+    ServerRunOptions {
         workers,
         calls: 100,
         policy: Policy::fixed(1_000, 3).expect(rt, "a policy"),
@@ -241,7 +241,7 @@ pub fn served_so<R: Threads + Wait + time::Clock + Sync>(
     rt: &R,
     alloc: Global,
     plans: &[Plan<'_>],
-    options: &RunOptions,
+    options: &ServerRunOptions,
 ) -> Result<ServeReport<ListTimer>, BrokerFault> {
     let door = PlannedDoor {
         rt,
@@ -263,7 +263,7 @@ pub fn served_at_once<R: Threads + Wait + time::Clock + Sync>(
     rt: &R,
     alloc: Global,
     plans: &[Plan<'_>],
-    options: &RunOptions,
+    options: &ServerRunOptions,
 ) -> Result<ServeReport<ListTimer>, BrokerFault> {
     let door = PlannedDoor {
         rt,
@@ -294,7 +294,7 @@ pub fn counted<R: Threads + Wait + time::Clock + Abort + Sync>(
     rt: &R,
     alloc: Global,
     plans: &[Plan<'_>],
-    options: &RunOptions,
+    options: &ServerRunOptions,
 ) -> Counts {
     let report = served_so(rt, alloc, plans, options)
         .ok()
@@ -341,7 +341,7 @@ pub fn expect_counts(rt: &impl Abort, counts: Counts, sessions: u64, faults: u64
 
 /// The history is to be legal, and the audit that of the history.
 pub fn expect_legal(rt: &impl Abort, alloc: Global, report: &ServeReport<ListTimer>) {
-    // The proof reads here that there are few events.
+    // For the proof: there are few events.
     let _ = report.kept.capacity();
     let checked = check(alloc, report.kept.opening(), report.kept.history());
     assert_eq!(rt; checked, Ok(report.audit));

@@ -5,16 +5,16 @@ ghost use Rattle.std.specs.Prelude.{◌≤◌};
 use crate::tests::devices::{
     Received, at_once, counted, expect_counts, expect_number, expect_text, planned,
 };
-use rb_arguments::RunOptions;
+use rb_arguments::ServerRunOptions;
 use rb_retry::Policy;
 use std::process::Abort;
 use std::sync::atomic::AtomicU64;
 
-fn options(rt: &impl Abort, calls: u64, policy: Option<Policy>) -> RunOptions
+fn options(rt: &impl Abort, calls: u64, policy: Option<Policy>) -> ServerRunOptions
     requires some { 1 ≤ calls }
     requires few { calls ≤ 1000000 }
 {
-    RunOptions {
+    ServerRunOptions {
         workers: 1,
         calls,
         policy: policy.expect(rt, "a policy"),

@@ -1,6 +1,4 @@
-use crate::tests::devices::{
-    Dialogue, NEVER, Sheet, expect_bytes, expect_end, push_line, run_by,
-};
+use crate::tests::devices::{Dialogue, NEVER, Sheet, expect_bytes, expect_end, push_line, run_by};
 use crate::tests::refusing_timer::RefusingTimer;
 use rb_binary::BinaryTimer;
 use rb_kept::Kept;

@@ -2,7 +2,7 @@
 use Rattle.std.proofs.Common.{Err, subst}
 use Rattle.std.proofs.lemmas.Result.{IfOk-weaker}
 use Rattle.rb_history.specs.Readings.{IsReadAs}
-use Rattle.rb_runs.proofs.Verdicts.{verdict_of_text, verdict_same}
+use Rattle.rb_runs.proofs.TextVerdicts.{verdict_of_text, verdict_same}
 use Rattle.rb_runs.proofs.replay.verdict_of.Goals as goal
 
 pub returns-in-Ok-clause-verdict : goal.returns-in-Ok-clause-verdict

@@ -4,7 +4,7 @@ use Rattle.rb_serving.proofs.serve_end.end_server.Goals as goal
 
 pub returns-in-Some : goal.returns-in-Some
 returns-in-Some g c = rw c.in-Some.is
-    (record { wrote = c.record-recorded.result; records = c.record-recorded.ensures; ends = c.print_after.ensures })
+    (record { wrote = c.write_recording-recorded.result; records = c.write_recording-recorded.ensures; ends = c.print_after.ensures })
 
 pub returns-in-None : goal.returns-in-None
 returns-in-None g c = rw c.in-None.is

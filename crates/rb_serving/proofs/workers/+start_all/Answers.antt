@@ -1,7 +1,7 @@
 -- The last worker that ends is folded in behind the others, and its visits are counted with theirs.
 use Rattle.std.proofs.Common.{◌<◌, sym, subst, arith}
 use Rattle.std.proofs.lemmas.Bool.Decides.{nat_tests}
-use Rattle.rb_serving.specs.Serving.{FoldsWorkers, IsDone}
+use Rattle.rb_serving.specs.Serving.{FoldsWorkers, IsWorkerResult}
 use Rattle.rb_serving.specs.Terms.{service_terms}
 use Rattle.rb_serving.proofs.FoldedWorkers.{folds_one_more}
 use Rattle.rb_serving.proofs.workers.+start_all.Goals as goal
@@ -15,8 +15,8 @@ returns-clause-folds g t c =
     let promise = c.in_ok-worker.worker.promise in
     let started = c.in_ok-worker.ensures in
     let as_promised =
-    subst (λ service. IsDone (terms service) promise.worker done.0 done.1) started.service c.join-done.ensures.1 in
-    let worked = subst (λ worker. IsDone of worker done.0 done.1) started.worker as_promised in
+    subst (λ service. IsWorkerResult (terms service) promise.worker done.0 done.1) started.service c.join-done.ensures.1 in
+    let worked = subst (λ worker. IsWorkerResult of worker done.0 done.1) started.worker as_promised in
     subst (FoldsWorkers of c.args.count c.args.pass c.fold.new.pass) (sym c.with.ensures)
     (folds_one_more of c.args.count c.args.pass c.split.new.pass c.in_ok-pass.pass done.0 c.fold.new.pass done.1
     c.in_ok-pass.more some c.in-Ok.ensures.learns c.in-Ok.ensures.mine c.in_ok-pass.ensures.folds worked

@@ -7,7 +7,7 @@ use std::alloc::Global;
 
 /// The verdict on the text of a history.
 #[derive(Clone, Copy, Debug, PartialEq, Eq)]
-pub(crate) enum Verdict {
+pub(crate) enum TextVerdict {
     /// It is not a history: the line of this number, counted from 1, has the first fault.
     Unreadable { line: u64, reason: TextReason },
     /// The history is not legal: the event of this index, counted from 0, is the first that is not
@@ -20,8 +20,8 @@ pub(crate) enum Verdict {
     Accepted(Audit),
 }
 
-impl Verdict {
-    ghost use Rattle.rb_runs.specs.Verdict.{verdict_text, status_of_verdict};
+impl TextVerdict {
+    ghost use Rattle.rb_runs.specs.TextVerdict.{verdict_text, status_of_verdict};
 
     /// The line that `replay` prints. The only fault is `Memory`.
     pub(crate) fn line(&self, alloc: Global) -> Result<String, BrokerFault>
@@ -29,19 +29,19 @@ impl Verdict {
         ensures fault { IfErr result (λ fault. fault ≡ BrokerFault.Memory) }
     {
         match self {
-            Verdict::Unreadable { line, reason } => {
+            TextVerdict::Unreadable { line, reason } => {
                 let word = reason.as_str();
                 Ok(format!(in alloc; "unreadable {line} {word}\n")?)
             }
-            Verdict::Refused { index, reason } => {
+            TextVerdict::Refused { index, reason } => {
                 let word = reason.as_str();
                 Ok(format!(in alloc; "refused {index} {word}\n")?)
             }
-            Verdict::Unchained { index, reason } => {
+            TextVerdict::Unchained { index, reason } => {
                 let word = reason.as_str();
                 Ok(format!(in alloc; "unchained {index} {word}\n")?)
             }
-            Verdict::Accepted(audit) => audit_line(alloc, audit),
+            TextVerdict::Accepted(audit) => audit_line(alloc, audit),
         }
     }
 
@@ -50,7 +50,7 @@ impl Verdict {
         ensures { result ≡ status_of_verdict self.now }
     {
         match self {
-            Verdict::Accepted(_) => 0,
+            TextVerdict::Accepted(_) => 0,
             _ => 1,
         }
     }

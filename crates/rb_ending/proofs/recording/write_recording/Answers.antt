@@ -11,7 +11,7 @@ use Rattle.rb_history.specs.Written.{Writes}
 use Rattle.rb_history.specs.declared.history_fault.HistoryFault.{HistoryFault}
 use Rattle.rb_ending.specs.Recording.{IsReadable, RecordsLog}
 use Rattle.std.specs.Prelude.{◌≤◌, length}
-use Rattle.rb_ending.proofs.recording.record.Goals as goal
+use Rattle.rb_ending.proofs.recording.write_recording.Goals as goal
 
 -- all that was written is readable
 readable : (log : Log) (wrote : Result (Unit {0}) HistoryFault) → IsLegal log.opening log.history → length log.history ≤ MOST_CALLS

@@ -4,21 +4,21 @@ use Rattle.rb_queue.specs.declared.event.Event.{Event}
 use Rattle.rb_queue.specs.declared.opening.Opening.{Opening}
 use Rattle.rb_retry.specs.declared.policy.Policy.{Policy}
 use Rattle.rb_history.specs.Readings.{IsTextOf}
-use Rattle.rb_runs.specs.Verdict.{IsVerdictOf, IsVerdictOn}
+use Rattle.rb_runs.specs.TextVerdict.{IsVerdictOf, IsVerdictOn}
 use Rattle.rb_ending.specs.declared.broker_fault.BrokerFault.{BrokerFault}
-use Rattle.rb_runs.specs.declared.verdict.Verdict.{Verdict}
-use Rattle.rb_runs.specs.declared.verdict.Verdict.TheVariants.{Unreadable, Refused, Unchained, Accepted}
+use Rattle.rb_runs.specs.declared.text_verdict.TextVerdict.{TextVerdict}
+use Rattle.rb_runs.specs.declared.text_verdict.TextVerdict.TheVariants.{Unreadable, Refused, Unchained, Accepted}
 
 -- the verdict on a history is one on its text
 pub verdict_of_text : (checked : Option Policy) {opening : Opening} {events : List Event} {text : List ℕ} → IsTextOf opening events text
-    → (verdict : Verdict) → IsVerdictOn checked opening events verdict → IsVerdictOf checked text verdict
+    → (verdict : TextVerdict) → IsVerdictOn checked opening events verdict → IsVerdictOf checked text verdict
 verdict_of_text checked is (Unreadable line reason) on = absurd on
 verdict_of_text checked {opening = opening} {events = events} is (Refused index reason) on = (opening, events, is, on)
 verdict_of_text checked {opening = opening} {events = events} is (Unchained index reason) on = (opening, events, is, on)
 verdict_of_text checked {opening = opening} {events = events} is (Accepted audit) on = (opening, events, is, on)
 
 -- a verdict on a history is one on the same history
-pub verdict_same : (checked : Option Policy) {one other : Opening} {events others : List Event} (result : Result Verdict BrokerFault)
+pub verdict_same : (checked : Option Policy) {one other : Opening} {events others : List Event} (result : Result TextVerdict BrokerFault)
     → (one ≡ other) × (events ≡ others) → IfOk result (IsVerdictOn checked one events) → IfOk result (IsVerdictOn checked other others)
 verdict_same checked {one = one} {others = others} result (same, alike) on =
     subst (λ opening. IfOk result (IsVerdictOn checked opening others)) same

@@ -2,7 +2,7 @@ use rb_queue::Event;
 use std::collections::LinkedList;
 
 /// What is remembered of a pass. No value of it is made.
-pub(crate) struct Record {
+pub(crate) struct PassRecord {
     /// The seat of its events.
     pub(crate) name: u64,
     /// The history, as far as it had seen it.

@@ -16,8 +16,8 @@ use Rattle.rb_replay.specs.declared.chain_fault.ChainFault.TheVariants as chain
 use Rattle.rb_replay.specs.declared.chain_reason.ChainReason.{ChainReason}
 use Rattle.rb_replay.specs.declared.replay_fault.ReplayFault.TheVariants as check
 use Rattle.rb_ending.specs.AuditText.{audit_text}
-use Rattle.rb_runs.specs.declared.verdict.Verdict.{Verdict}
-use Rattle.rb_runs.specs.declared.verdict.Verdict.TheVariants.{Unreadable, Refused, Unchained, Accepted}
+use Rattle.rb_runs.specs.declared.text_verdict.TextVerdict.{TextVerdict}
+use Rattle.rb_runs.specs.declared.text_verdict.TextVerdict.TheVariants.{Unreadable, Refused, Unchained, Accepted}
 
 -- the answers of the check of retries: all are right, or this offer is the first that is not
 abbrev pub no_fault : Result (Unit {0}) ChainFault
@@ -37,7 +37,7 @@ BreaksChain checked opening events index reason =
 
 -- A history is refused for its first event that is not allowed. A legal one is unchained for its first
 -- offer that is not a right attempt, if that is checked, and otherwise accepted with its audit.
-abbrev pub IsVerdictOn : Option Policy → Opening → List Event → Verdict → Type 0
+abbrev pub IsVerdictOn : Option Policy → Opening → List Event → TextVerdict → Type 0
 IsVerdictOn checked opening events (Unreadable line reason) = ⊥
 IsVerdictOn checked opening events (Refused index reason) = Checks opening events (Err (check.At index reason))
 IsVerdictOn checked opening events (Unchained index reason) =
@@ -46,7 +46,7 @@ IsVerdictOn checked opening events (Accepted audit) =
     Checks opening events (Ok audit) × AreRetries checked opening events
 
 -- a text is unreadable for its first fault, and otherwise is a history's, with the verdict on that
-abbrev pub IsVerdictOf : Option Policy → List ℕ → Verdict → Type 0
+abbrev pub IsVerdictOf : Option Policy → List ℕ → TextVerdict → Type 0
 IsVerdictOf checked text (Unreadable line reason) = HasFault text line reason
 IsVerdictOf checked text verdict =
     (opening : Opening) × (events : List Event) × IsTextOf opening events text × IsVerdictOn checked opening events verdict
@@ -56,18 +56,18 @@ abbrev pub fault_text : List ℕ → ℕ → List ℕ → List ℕ
 fault_text word place reason = word ++ (codes " " ++ (decimal place ++ (codes " " ++ (reason ++ codes "\n"))))
 
 -- the line that tells a verdict
-abbrev pub verdict_text : Verdict → List ℕ
+abbrev pub verdict_text : TextVerdict → List ℕ
 verdict_text (Unreadable line reason) = fault_text (codes "unreadable") line (text_reason_text reason)
 verdict_text (Refused index reason) = fault_text (codes "refused") index (reason_text reason)
 verdict_text (Unchained index reason) = fault_text (codes "unchained") index (chain_reason_text reason)
 verdict_text (Accepted audit) = audit_text audit
 
 -- 0 if the history is accepted, 1 if it is not
-abbrev pub status_of_verdict : Verdict → ℕ
+abbrev pub status_of_verdict : TextVerdict → ℕ
 status_of_verdict (Accepted audit) = 0
 status_of_verdict _ = 1
 
 -- the verdict has this line, and this exit status
-pub record Tells (verdict : Verdict) (line : List ℕ) (status : ℕ) : Type 0 where
+pub record Tells (verdict : TextVerdict) (line : List ℕ) (status : ℕ) : Type 0 where
   pub line_is : line ≡ verdict_text verdict
   pub status_is : status ≡ status_of_verdict verdict

@@ -1,7 +1,7 @@
 -- The retry was computed from the element that the job is, so its draft is the job's next attempt.
 use Rattle.std.proofs.Common.{Some, refl, subst}
 use Rattle.rb_retry.specs.Retry.{IsRetry}
-use Rattle.rb_retry.proofs.endings.fail.Goals as goal
+use Rattle.rb_retry.proofs.job_ends.fail.Goals as goal
 
 pub returns-in-Ok-clause-fails : goal.returns-in-Ok-clause-fails
 returns-in-Ok-clause-fails g c =

@@ -2,9 +2,9 @@
 use Rattle.std.proofs.Common.{◌≡◌, ℕ, ◌+◌, ◌≤◌, [], ◌∷◌, ◌++◌, sym, ◌∙◌, arith, length, length-append}
 use Rattle.rb_session.specs.Closing.{Closes, lost_by}
 use Rattle.rb_session.proofs.Closings.{closes_more, lost_one, lost_none}
-use Rattle.rb_session.proofs.endings.fail_all.Given.{Over}
-use Rattle.rb_session.proofs.endings.fail_all.Goals as goal
-use Rattle.rb_session.proofs.endings.fail_all.Goals.{After-is_err}
+use Rattle.rb_session.proofs.held_job_ends.fail_all.Given.{Over}
+use Rattle.rb_session.proofs.held_job_ends.fail_all.Goals as goal
+use Rattle.rb_session.proofs.held_job_ends.fail_all.Goals.{After-is_err}
 
 one_more : (g : Over) (c : After-is_err g) (lost : ℕ) → c.loop-job.lost + lost_by c.fail.result ≡ lost → lost ≤ c.loop-job.lost + 1
     → Closes g.D.Desk.gives g.D.Desk.Steps c.args.policy.now (g.D.Desk.state c.args.desk.now) (c.loop-job.yielded ++ c.in-Some.job ∷ []) lost (g.D.Desk.state c.fail.new.desk)

@@ -14,7 +14,7 @@ use Rattle.rb_retry.specs.declared.verdict.Verdict.{Verdict}
 use Rattle.rb_retry.specs.declared.verdict.Verdict.TheVariants.{Again, Dead}
 use Rattle.rb_session.specs.Turn.{point, refusal_word, verdict_line, IsFailure}
 use Rattle.rb_session.specs.Progress.{replies_of, told, FailsAt}
-use Rattle.rb_session.proofs.endings.fail_job.Goals as goal
+use Rattle.rb_session.proofs.held_job_ends.fail_job.Goals as goal
 
 -- the line for what is told of a failure
 abbrev told_line : Result Verdict CallFault → LineReply

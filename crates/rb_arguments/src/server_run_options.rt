@@ -1,6 +1,6 @@
 ghost use Rattle.std.specs.Prelude.{◌≤◌};
 ghost use Rattle.rb_kept.specs.declared.kept.TheConstants.{MOST_CALLS};
-ghost use Rattle.rb_arguments.specs.declared.run_options.TheConstants.{MOST_WORKERS};
+ghost use Rattle.rb_arguments.specs.declared.server_run_options.TheConstants.{MOST_WORKERS};
 
 use rb_retry::Policy;
 
@@ -9,7 +9,7 @@ pub const MOST_WORKERS: u64 = 16;
 
 /// The options of a server's run.
 #[derive(Clone, Copy, Debug, PartialEq, Eq)]
-pub struct RunOptions {
+pub struct ServerRunOptions {
     /// How many sessions are served at once, 1 to 16.
     pub workers: u64,
     /// How many calls the run has room for, 1 to 1,000,000.
