@@ -4,7 +4,6 @@ use crate::bell_state::{BellState, PLACES};
 use crate::rested::Rested;
 use crossbeam_utils::CachePadded;
 use std::fmt::{self, Debug, Formatter};
-use std::sync::atomic::{AtomicU64, Ordering};
 use std::sync::{Condvar, CondvarTimeouts, Mutex, MutexGuard, Wait};
 use std::time::Duration;
 use std::{array, time};
@@ -30,9 +29,6 @@ pub struct Bell {
     state: CachePadded<Mutex<BellState>>,
     // Where threads sleep that rest for no element. A notification calls the system only where one sleeps.
     rung: Condvar,
-    // The count once more, for those who don't take the lock. Only a ringer writes it, under the lock. It lies beside
-    // `rung`, to which each ring writes too.
-    rings: AtomicU64,
     // Where waiting calls sleep, for each place one.
     woken: [Condvar; PLACES],
 }
@@ -43,7 +39,6 @@ impl Bell {
         Bell {
             state: CachePadded::new(Mutex::new(BellState::new())),
             rung: Condvar::new(),
-            rings: AtomicU64::new(0),
             woken: array::from_fn(|_| Condvar::new()),
         }
     }
@@ -52,7 +47,7 @@ impl Bell {
     /// another thread holds the count.
     pub fn ring<R: Wait>(&self, rt: &R) {
         let mut state = self.locked(rt);
-        self.raise(&mut state, 0);
+        state.rise(0);
         state.wake_all();
         drop(state);
         self.rung.notify_all();
@@ -64,12 +59,6 @@ impl Bell {
     /// How often it was rung, modulo 2^64. It waits while another thread holds the count.
     pub fn count<R: Wait>(&self, rt: &R) -> u64 {
         self.locked(rt).count
-    }
-
-    /// The count, without waiting for the lock. It is never ahead of the one under the lock, so who compares it there
-    /// before a rest misses no ring since this.
-    pub(crate) fn rings(&self) -> u64 {
-        self.rings.load(Ordering::SeqCst)
     }
 
     /// Waits until the count is not `seen`, for at most about 20 ms, and returns the count.
@@ -94,7 +83,7 @@ impl Bell {
     /// after it has expired.
     pub(crate) fn announce<R: Wait>(&self, rt: &R, expiry: u64) {
         let mut state = self.locked(rt);
-        self.raise(&mut state, expiry);
+        state.rise(expiry);
         let woken = state.wake_one(expiry);
         drop(state);
         self.rung.notify_all();
@@ -136,12 +125,6 @@ impl Bell {
             woken: state.leave(place),
             count: state.count,
         }
-    }
-
-    // Raises both counts, for an element that expires then.
-    fn raise(&self, state: &mut BellState, expiry: u64) {
-        state.rise(expiry);
-        self.rings.store(state.count, Ordering::SeqCst);
     }
 
     fn locked<R: Wait>(&self, rt: &R) -> MutexGuard<'_, BellState> {

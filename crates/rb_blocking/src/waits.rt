@@ -89,7 +89,7 @@ pub fn call_and_wait<T: Timer, C: Clock, G: Gate, R: Wait + time::Clock>(
     ensures waited { Waited (C.gives clock.now) (G.answers gate.old) pass.old pass.new ask.now result }
     ensures gate { (turns : ℕ) (goes_on : Bool) → G.answers gate.new turns goes_on ↔ G.answers gate.old turns goes_on }
 {
-    let mut rests = Rests::new(ask, bell.rings());
+    let mut rests = Rests::new(ask, bell.count(rt));
     let waited = try_often(rt, shared, pass, clock, gate, bell, ask, &mut rests);
     rests.hand_on(rt, bell, &waited);
     waited
