@@ -1,5 +1,5 @@
 -- Jobs in the entries of a map: how one is found by its id and taken out, and what comes last.
-use Rattle.std.proofs.Common.{◌≡◌, ◌≢◌, ℕ, zero, suc, ◌+◌, ◌-◌, ◌<◌, ◌≤◌, Bool, true, false, cond, not, eqb, nat_lt, lt-ltb, le-ltb, eq-eqb, ne_eqb, eqb-true, List, [], ◌∷◌, ◌++◌, map, length, length-append, append_assoc, get_or, take, drop, refl, sym, ap, subst, ◌∙◌, arith, add-one, inl, inr, ◌⊎◌, Option, Some, None, slice_get, position, insert, remove}
+use Rattle.std.proofs.Common.{◌≡◌, ◌≢◌, ℕ, zero, suc, ◌+◌, ◌-◌, ◌<◌, ◌≤◌, Bool, true, false, cond, not, eqb, nat_lt, lt-ltb, le-ltb, eq-eqb, eqb-true, List, [], ◌∷◌, ◌++◌, length, length-append, append_assoc, get_or, take, drop, refl, sym, ap, subst, ◌∙◌, arith, inl, inr, ◌⊎◌, Option, Some, None, slice_get, position, insert, remove}
 use Rattle.std.proofs.lemmas.Bool.{cases_lt}
 use Rattle.std.proofs.lemmas.Bool.Decides.{nat_tests}
 use Rattle.std.proofs.lemmas.List.{map-append, take-append-drop, drop-append-le, drop_all}
@@ -19,7 +19,7 @@ use Rattle.rb_queue.specs.Leaving.{times}
 use Rattle.rb_queue.specs.Opening.{ids_of}
 use Rattle.rb_queue.proofs.Effects.{bit, times_cons}
 use Rattle.rb_session.specs.Held.{place_of, AreNew}
-use Rattle.rb_session.specs.JobMap.{present, held_in, IsFiled, AreFiled, IsRoomy}
+use Rattle.rb_session.specs.JobMap.{present, held_in, AreFiled, IsRoomy}
 use Rattle.rb_session.specs.declared.job_map.JobMap.{JobMap}
 
 -- what holds where there is no place, and where there is one

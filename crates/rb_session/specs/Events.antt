@@ -114,7 +114,8 @@ module _ {S : Type 0} (gives : S → ℕ → Type 0) (Sets : S → ℕ → Optio
     (Steps : S → ℕ → Ask → Result Reply DeskFault → S → Type 0) where
   -- the law of what is held: a session that begins with nothing never holds two jobs of one id
   abbrev pub HoldsOnce : Type 0
-  HoldsOnce = (policy : Policy) (from to : Point S) (turns : List Turn) → from.held ≡ [] → Serves gives Sets Steps policy from turns to → AreHeldOnce to.held
+  HoldsOnce = (policy : Policy) (from to : Point S) (turns : List Turn) → from.held ≡ []
+      → Serves gives Sets Steps policy from turns to → AreHeldOnce to.held
 
 -- the events of what was made
 abbrev pub made_events : List Made → List Event

@@ -50,7 +50,8 @@ told (Err (back, fault)) = Err fault
 -- The element at this place of what is held fails, and this is told. Only one whose next attempt was refused
 -- is held on.
 pub record FailsAt {S : Type 0} (Steps : S → ℕ → Ask → Result Reply DeskFault → S → Type 0) (policy : Policy)
-    (held : List Element) (place now : ℕ) (old : S) (verdict : Option (Result Verdict CallFault)) (left : List Element) (new : S) : Type 0 where
+    (held : List Element) (place now : ℕ) (old : S) (verdict : Option (Result Verdict CallFault))
+    (left : List Element) (new : S) : Type 0 where
   pub element : Element
   pub there : slice_get held place ≡ Some element
   pub result : Result Verdict (Element × CallFault)

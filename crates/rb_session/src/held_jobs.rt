@@ -111,7 +111,8 @@ impl HeldJobs {
     ) -> Option<Result<Verdict, CallFault>>
         ensures failed { MatchOption (place_of self.old id)
             ((result ≡ None) × (self.new ≡ self.old) × (D.state desk.new ≡ D.state desk.old))
-            (λ place. FailsAt D.Steps policy.now self.old place now (D.state desk.old) result self.new (D.state desk.new)) }
+            (λ place. FailsAt D.Steps policy.now
+            self.old place now (D.state desk.old) result self.new (D.state desk.new)) }
         ensures name { D.name (D.state desk.new) ≡ D.name (D.state desk.old) }
     {
         let entry = self.jobs.entries.get_mut(&id)?;

@@ -123,7 +123,8 @@ impl JobMap {
 // The place at which the last `count` jobs begin, or 0 if there are no more.
 fn place_of_last(entries: &[Option<Job>], count: usize) -> usize
     ensures within { result ≤ length entries.now }
-    ensures last { present (drop result entries.now) ≡ drop (length (present entries.now) - count) (present entries.now) }
+    ensures last { present (drop result entries.now)
+        ≡ drop (length (present entries.now) - count) (present entries.now) }
 {
     let mut place = entries.len();
     let mut left = count;

@@ -1,5 +1,5 @@
 -- The way back ends at the first entry, or once enough jobs were passed.
-use Rattle.std.proofs.Common.{inl, inr, arith}
+use Rattle.std.proofs.Common.{inr, arith}
 use Rattle.rb_session.proofs.JobMaps.{last_jobs}
 use Rattle.rb_session.proofs.job_map.place_of_last.Goals as goal
 

@@ -1,5 +1,5 @@
 -- The job of the id fails out of its entry, and goes back to it if its next attempt is refused.
-use Rattle.std.proofs.Common.{◌≡◌, ℕ, refl, sym, ap, subst, ◌∙◌, arith, length, Some, None, Option, Ok, Err, Result, nat_eq}
+use Rattle.std.proofs.Common.{◌≡◌, ℕ, refl, sym, ap, ◌∙◌, arith, length, Some, None, Ok, Err, Result, nat_eq}
 use Rattle.std.specs.Map.{lookup}
 use Rattle.rb_delayed.specs.declared.element.Element.{Element}
 use Rattle.rb_kept.specs.declared.fault.CallFault.{CallFault}
@@ -8,8 +8,7 @@ use Rattle.rb_queue.specs.declared.reply.Reply.{Reply}
 use Rattle.rb_retry.specs.Jobs.{FailsTo}
 use Rattle.rb_retry.specs.declared.desk_fault.DeskFault.{DeskFault}
 use Rattle.rb_retry.specs.declared.policy.Policy.{Policy}
-use Rattle.rb_session.proofs.JobMaps.{jobs_of, at_no_place, at_place, is_not_held, writes_same, is_at, takes_out, IsAt, TakesOut}
-use Rattle.rb_session.specs.declared.job_map.JobMap.{JobMap}
+use Rattle.rb_session.proofs.JobMaps.{jobs_of, at_no_place, at_place, is_not_held, writes_same, is_at, takes_out, TakesOut}
 use Rattle.rb_session.proofs.held_jobs.HeldJobs.fail.Given.{Over}
 use Rattle.rb_session.proofs.held_jobs.HeldJobs.fail.Goals as goal
 use Rattle.rb_session.proofs.held_jobs.HeldJobs.fail.Goals.{After-take, After-fail}

@@ -1,8 +1,7 @@
 -- The entry of the id is emptied if it has a job, and is left as it is if not.
-use Rattle.std.proofs.Common.{◌≡◌, ℕ, refl, sym, ap, ◌∙◌, arith, length, Some, None, Option, nat_eq}
+use Rattle.std.proofs.Common.{◌≡◌, refl, sym, ap, ◌∙◌, arith, length, Some, None, nat_eq}
 use Rattle.std.specs.Map.{lookup}
 use Rattle.rb_session.proofs.JobMaps.{jobs_of, at_no_place, at_place, is_not_held, writes_same, takes_out, TakesOut}
-use Rattle.rb_session.specs.declared.job_map.JobMap.{JobMap}
 use Rattle.rb_session.proofs.held_jobs.HeldJobs.take_out.Goals as goal
 use Rattle.rb_session.proofs.held_jobs.HeldJobs.take_out.Goals.{After-take, In_ok-job}
 

@@ -1,7 +1,7 @@
 -- A new entry comes last, and so does one that was empty and is used again.
-use Rattle.std.proofs.Common.{◌≡◌, ℕ, ◌-◌, ◌∷◌, ◌++◌, [], List, Option, Some, None, Bool, false, Result, Ok, Err, IsOk, OnOk, is_some, refl, sym, ap, subst, ◌∙◌, arith, get_or, slice_get, nat_eq, eqb-true}
+use Rattle.std.proofs.Common.{◌≡◌, ℕ, ◌-◌, ◌∷◌, ◌++◌, [], List, Option, Some, None, false, Result, Ok, Err, IsOk, OnOk, is_some, refl, sym, ap, subst, ◌∙◌, arith, get_or, nat_eq, eqb-true}
 use Rattle.std.proofs.lemmas.List.Quantifiers.{position-Some}
-use Rattle.std.specs.Map.{keys_of, values_of, lookup}
+use Rattle.std.specs.Map.{keys_of, lookup}
 use Rattle.indexmap.proofs.CallerLemmas.{insert_entry-new, index_map_len-with_value_at}
 use Rattle.indexmap.specs.IndexMap.{move_index, set_value_at}
 use Rattle.rb_delayed.specs.declared.element.Element.{Element}

@@ -1,5 +1,5 @@
 -- The jobs that are left go behind those that are held, the last of them first.
-use Rattle.std.proofs.Common.{◌≡◌, ◌+◌, ◌≤◌, ◌++◌, length}
+use Rattle.std.proofs.Common.{◌≡◌, ◌+◌, ◌≤◌, ◌++◌}
 use Rattle.std.specs.Prelude.{reverse, vec_len, vec_capacity}
 use Rattle.indexmap.specs.IndexMap.{spare}
 use Rattle.rb_session.specs.Held.{AreNew}

@@ -1,5 +1,5 @@
 -- No id lies in the map twice, so the jobs that lie aside are new to the empty map.
-use Rattle.std.proofs.Common.{◌≡◌, ℕ, List, ◌++◌, Option, ap, ◌∙◌, arith}
+use Rattle.std.proofs.Common.{ℕ, List, ◌++◌, Option, ap, ◌∙◌, arith}
 use Rattle.rb_delayed.specs.declared.element.Element.{Element}
 use Rattle.rb_queue.specs.Leaving.{times}
 use Rattle.rb_queue.specs.Opening.{ids_of}

@@ -1,5 +1,5 @@
 -- The job of an entry goes behind those that were taken, and what is left is behind that entry.
-use Rattle.std.proofs.Common.{◌≡◌, ℕ, List, [], ◌∷◌, ◌++◌, Option, Some, None, sym, ap, ◌∙◌, arith, length, length-append, drop, slice_get, append-nil}
+use Rattle.std.proofs.Common.{◌≡◌, ℕ, List, [], ◌∷◌, ◌++◌, Option, Some, sym, ap, ◌∙◌, arith, length, length-append, drop, slice_get, append-nil}
 use Rattle.std.specs.Prelude.{vec_capacity}
 use Rattle.std.specs.Map.{values_of}
 use Rattle.indexmap.proofs.CallerLemmas.{index_map_len-with_value_at}
