@@ -207,7 +207,7 @@ module _ {S : Type 0} (gives : S → ℕ → Type 0) (Sets : S → ℕ → Optio
         → replies ≡ line ∷ [] → TellsOfNone line → mine new ≡ mine old → Adds reading replies old new
     adds_none reading replies old new line is none same = ([], same ∙ sym (append-nil (mine old)), (line, is, none))
 
-    of_way : (reading : Result Request LineFault) (replies : List LineReply) (old new : S) → Way reading replies old new → Adds reading replies old new
+    pub of_way : (reading : Result Request LineFault) (replies : List LineReply) (old new : S) → Way reading replies old new → Adds reading replies old new
     of_way reading replies old new (inl leaves) = adds_none reading replies old new leaves.line leaves.is leaves.none (ap mine leaves.same)
     of_way reading replies old new (inr (inl calls)) = of_answer calls.answer refl
       where

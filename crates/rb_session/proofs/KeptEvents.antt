@@ -26,7 +26,7 @@ use Rattle.rb_session.specs.Events.{moment_after, latest, made_events, RecordsBy
 use Rattle.rb_session.proofs.Events.{Way, way_of, makes_by_lines, makes_by_closing}
 
 -- the desk as if it had been made before the first event
-abbrev whole : KeptState → KeptState
+abbrev pub whole : KeptState → KeptState
 whole state = record state { before = 0 }
 
 steps_whole : (old new : KeptState) (handed : ℕ) (ask : Ask) (result : Result Reply DeskFault)
@@ -45,39 +45,39 @@ events_in : (opening : Opening) (before events : List Event) → made_events (ma
 events_in opening before [] = refl
 events_in opening before (event ∷ events) = ap (λ (rest : List Event). event ∷ rest) (events_in opening (before ++ event ∷ []) events)
 
-abbrev kept_gives : KeptState → ℕ → Type 0
+abbrev pub kept_gives : KeptState → ℕ → Type 0
 kept_gives state moment = moment ≡ state.moment
 
 -- all that was made at the desk's queue
-abbrev whole_mine : KeptState → List Made
+abbrev pub whole_mine : KeptState → List Made
 whole_mine state = made_at (whole state)
 
-makes_whole : (old new : KeptState) (asked : ℕ) (ask : Ask) (reply : Reply) → KeptSteps old asked ask (Ok reply) new
+pub makes_whole : (old new : KeptState) (asked : ℕ) (ask : Ask) (reply : Reply) → KeptSteps old asked ask (Ok reply) new
     → Makes (kept_gives old) asked ask reply (whole_mine old) (whole_mine new)
 makes_whole old new asked ask reply steps = kept_makes (whole old) (whole new) asked ask reply (steps_whole old new asked ask (Ok reply) steps)
 
-refuses_whole : (old new : KeptState) (asked : ℕ) (ask : Ask) (fault : DeskFault) → KeptSteps old asked ask (Err fault) new
+pub refuses_whole : (old new : KeptState) (asked : ℕ) (ask : Ask) (fault : DeskFault) → KeptSteps old asked ask (Err fault) new
     → MayGet ask fault × (whole_mine new ≡ whole_mine old)
 refuses_whole old new asked ask fault steps = kept_refuses (whole old) (whole new) asked ask fault (steps_whole old new asked ask (Err fault) steps)
 
-stays_whole : (old new : KeptState) (moment : ℕ) (result : Option ℕ) → SetsKept old moment result new → whole_mine new ≡ whole_mine old
+pub stays_whole : (old new : KeptState) (moment : ℕ) (result : Option ℕ) → SetsKept old moment result new → whole_mine new ≡ whole_mine old
 stays_whole old new moment result sets = ap whole_mine sets.1
 
 -- what was made makes the history grow
-history_grows : (from to : KeptState) (made : List Made) → whole_mine to ≡ whole_mine from ++ made → to.log.history ≡ from.log.history ++ made_events made
+pub history_grows : (from to : KeptState) (made : List Made) → whole_mine to ≡ whole_mine from ++ made → to.log.history ≡ from.log.history ++ made_events made
 history_grows from to made is =
     sym (events_in to.log.opening [] to.log.history) ∙ ap made_events is
     ∙ map-append (λ (m : Made). m.event) (whole_mine from) made
     ∙ ap (λ (events : List Event). events ++ made_events made) (events_in from.log.opening [] from.log.history)
 
 -- the moment after one line
-moment_of : (reading : Result Request LineFault) (replies : List LineReply) (old new : KeptState)
+pub moment_of : (reading : Result Request LineFault) (replies : List LineReply) (old new : KeptState)
     → Way kept_gives SetsKept KeptSteps reading replies old new → new.moment ≡ moment_after old.moment reading
 moment_of reading replies old new (inl leaves) = ap (λ (s : KeptState). s.moment) leaves.same ∙ sym (leaves.stands old.moment)
 moment_of reading replies old new (inr (inl calls)) = ap (λ (s : KeptState). s.moment) calls.steps.stays ∙ sym (calls.stands old.moment)
 moment_of reading replies old new (inr (inr sets)) = ap (λ (s : KeptState). s.moment) sets.sets.1 ∙ ap (moment_after old.moment) (sym sets.read)
 
-latest_moment : (policy : Policy) (from to : Point KeptState) (turns : List Turn)
+pub latest_moment : (policy : Policy) (from to : Point KeptState) (turns : List Turn)
     → Serves kept_gives SetsKept KeptSteps policy from turns to → to.desk.moment ≡ latest from.desk.moment turns
 latest_moment policy from to [] same = ap (λ (p : Point KeptState). p.desk.moment) same
 latest_moment policy from to (turn ∷ turns) (between, is_line, goes_on, is_turn, rest) =
@@ -97,7 +97,7 @@ same_moment policy element now old new (Ok (Again again)) (draft, retry, steps) 
 same_moment policy element now old new (Ok (Dead dead)) (retry, is_dead, same) = ap (λ (s : KeptState). s.moment) same
 same_moment policy element now old new (Err (back, fault)) (draft, retry, steps, is_back) = ap (λ (s : KeptState). s.moment) steps.stays
 
-closing_moment : (policy : Policy) (from to : KeptState) (held : List Element) (lost : ℕ)
+pub closing_moment : (policy : Policy) (from to : KeptState) (held : List Element) (lost : ℕ)
     → Closes kept_gives KeptSteps policy from held lost to → to.moment ≡ from.moment
 closing_moment policy from to [] lost (zero, same) = ap (λ (s : KeptState). s.moment) same
 closing_moment policy from to (element ∷ held) lost (now, is_now, result, between, fails, fewer, rest, sum) =

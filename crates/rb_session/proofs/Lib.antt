@@ -15,3 +15,5 @@ pub mod Events
 pub mod KeptEvents
 pub mod JobMaps
 pub mod GivenJobs
+pub mod HandedOut
+pub mod RunEvents

@@ -20,3 +20,4 @@ pub mod Progress
 pub mod Growth
 pub mod Gathered
 pub mod Delivered
+pub mod RunEvents

@@ -22,6 +22,7 @@ mod line_buffer;
 mod outlet;
 mod replies;
 mod run;
+mod run_laws;
 mod session;
 mod session_fault;
 mod stop;
@@ -36,4 +37,5 @@ pub use laws::{
     session_limits_have_their_values,
 };
 pub use run::run_session;
+pub use run_laws::{events_of_run, history_of_run};
 pub use session_fault::SessionFault;

@@ -1,0 +1,88 @@
+-- Which events a whole run of a session makes at its desk, however it ends.
+use Rattle.std.specs.Prelude.{◌≡◌, ℕ, ◌<◌, ◌⊎◌, List, [], ◌∷◌, ◌++◌, length, Option, Result, Err}
+use Rattle.std.specs.Io.KnownBytes.{IsAtEnd}
+use Rattle.rb_delayed.specs.declared.element.Element.{Element}
+use Rattle.rb_queue.specs.declared.ask.Ask.{Ask}
+use Rattle.rb_queue.specs.declared.reply.Reply.{Reply}
+use Rattle.rb_retry.specs.Made.{Made}
+use Rattle.rb_retry.specs.KeptSteps.{KeptState}
+use Rattle.rb_retry.specs.declared.desk_fault.DeskFault.{DeskFault}
+use Rattle.rb_retry.specs.declared.policy.Policy.{Policy}
+use Rattle.rb_protocol.specs.declared.format.TheConstants.{LINE_FEED}
+use Rattle.rb_protocol.specs.declared.line_fault.LineFault.TheVariants.{Line}
+use Rattle.rb_protocol.specs.declared.line_reply.LineReply.{LineReply}
+use Rattle.rb_protocol.specs.declared.line_reply.LineReply.TheVariants as lines
+use Rattle.rb_protocol.specs.Line.{HasNoLineFeed}
+use Rattle.rb_session.specs.Session.{Turn, IsLine, answers_of}
+use Rattle.rb_session.specs.Delivered.{RanDelivered}
+use Rattle.rb_session.specs.Events.{AreOfLines, AreOfClosing, made_events, latest}
+use Rattle.rb_session.specs.declared.delivery.Delivery.{Delivery}
+use Rattle.rb_session.specs.declared.ended.Ended.{Ended}
+use Rattle.rb_session.specs.declared.session_fault.SessionFault.{SessionFault}
+use Rattle.rb_session.specs.declared.session_fault.SessionFault.TheVariants.{Write}
+
+-- These lines stand first in the bytes, one after the other, and are read so. Once the input is over, a truncated
+-- line may be the last.
+abbrev pub StandFirst : Type 0 → List ℕ → List Turn → Type 0
+StandFirst Over bytes [] = Unit {0}
+StandFirst Over bytes (turn ∷ turns) =
+    ((rest : List ℕ) × (bytes ≡ turn.raw ++ LINE_FEED ∷ rest) × IsLine turn.raw turn.reading × StandFirst Over rest turns)
+    ⊎ (Over × (bytes ≡ turn.raw) × (0 < length bytes) × HasNoLineFeed bytes × (turn.reading ≡ Err Line) × (turns ≡ []))
+
+-- the elements that these replies hand out
+abbrev pub handed_by : List LineReply → List Element
+handed_by [] = []
+handed_by (lines.Item element ∷ replies) = element ∷ handed_by replies
+handed_by (_ ∷ replies) = handed_by replies
+
+-- the elements that these lines were handed out
+abbrev pub handed_out : List Turn → List Element
+handed_out [] = []
+handed_out (turn ∷ turns) = handed_by turn.replies ++ handed_out turns
+
+-- some of these elements, in their order
+abbrev pub AreSomeOf : List Element → List Element → Type 0
+AreSomeOf [] all = Unit {0}
+AreSomeOf (element ∷ elements) [] = ⊥
+AreSomeOf (element ∷ elements) (first ∷ all) = ((element ≡ first) × AreSomeOf elements all) ⊎ AreSomeOf (element ∷ elements) all
+
+-- nothing was left unsent, unless a write failed
+abbrev pub SendsAll : Result Ended SessionFault → List ℕ → Type 0
+SendsAll (Err (Write lost)) unsent = Unit {0}
+SendsAll ended unsent = unsent ≡ []
+
+-- Some lines were served, which stand first in what came, a QUIT and a truncated line among them. Their replies are
+-- what was sent and, after a failing write, what was not. Each line made one event, of which its replies tell, or
+-- none; then each job that was still held, of those that the replies handed out, made at most one, the offer of its
+-- next attempt. By these it grew.
+pub record MadeByRun (Over : Type 0) (came sent : List ℕ) (ended : Result Ended SessionFault) (Grows : List Made → Type 0) : Type 0 where
+  pub lines : List Turn
+  pub stand : StandFirst Over came lines
+  pub unsent : List ℕ
+  pub answers : answers_of lines ≡ sent ++ unsent
+  pub all_sent : SendsAll ended unsent
+  pub by_lines : List Made
+  pub of_lines : AreOfLines lines by_lines
+  pub held : List Element
+  pub handed : AreSomeOf held (handed_out lines)
+  pub by_closing : List Made
+  pub of_closing : AreOfClosing held by_closing
+  pub grows : Grows (by_lines ++ by_closing)
+
+module _ {S : Type 0} (gives : S → ℕ → Type 0) (Sets : S → ℕ → Option ℕ → S → Type 0)
+    (Steps : S → ℕ → Ask → Result Reply DeskFault → S → Type 0) (mine : S → List Made) where
+  -- the law of runs: what was made through the desk grows by just what the run made
+  abbrev pub MakesByRun : Type 0
+  MakesByRun = (policy : Policy) (delivery : Delivery) (rest : Option (List ℕ)) (from to : S) (came sent : List ℕ) (ended : Result Ended SessionFault)
+      → RanDelivered gives Sets Steps policy delivery (IsAtEnd rest) from came sent ended to
+      → MadeByRun (IsAtEnd rest) came sent ended (λ made. mine to ≡ mine from ++ made)
+
+module _ (gives : KeptState → ℕ → Type 0) (Sets : KeptState → ℕ → Option ℕ → KeptState → Type 0)
+    (Steps : KeptState → ℕ → Ask → Result Reply DeskFault → KeptState → Type 0) where
+  -- the law of runs at a kept desk: the history grows by just the events of what the run made, and the clock stands at
+  -- the latest moment
+  abbrev pub RecordsByRun : Type 0
+  RecordsByRun = (policy : Policy) (delivery : Delivery) (rest : Option (List ℕ)) (from to : KeptState) (came sent : List ℕ) (ended : Result Ended SessionFault)
+      → RanDelivered gives Sets Steps policy delivery (IsAtEnd rest) from came sent ended to
+      → (run : MadeByRun (IsAtEnd rest) came sent ended (λ made. to.log.history ≡ from.log.history ++ made_events made))
+      × (to.moment ≡ latest from.moment run.lines) × (to.log.opening ≡ from.log.opening)
