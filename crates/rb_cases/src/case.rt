@@ -74,9 +74,9 @@ impl Entry for Case {
     fn take(&mut self, alloc: Global, _number: usize, line: &str) -> Result<(), Flaw> {
         let (word, text) = line.split_once(' ').unwrap_or((line, ""));
         match word {
-            "args" => once(&mut self.args, text.to_string(alloc)?),
-            "ends" => once(&mut self.ends, ending(text)?.to_string(alloc)?),
-            "verdict" => once(&mut self.verdict, text.to_string(alloc)?),
+            "args" => set_text(&mut self.args, alloc, text),
+            "ends" => set_text(&mut self.ends, alloc, ending(text)?),
+            "verdict" => set_text(&mut self.verdict, alloc, text),
             "status" => once(&mut self.status, status_of(text)?),
             "timer" | "reads" | "reader" | "writer" | "recorder" => self.devices.take(word, text),
             _ => self.take_text(word, text),
@@ -159,6 +159,10 @@ impl Case {
     fn has_script_words(&self) -> bool {
         self.from.is_given || self.input.is_given || self.replies.is_given || self.devices.are_given
     }
+}
+
+fn set_text(place: &mut Option<String>, alloc: Global, text: &str) -> Result<(), Flaw> {
+    once(place, text.to_string(alloc)?)
 }
 
 // Sets a value that is not set yet.

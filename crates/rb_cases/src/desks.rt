@@ -60,14 +60,28 @@ fn set_up_of(lines: &[Line]) -> Result<SetUp, Malformed> {
 
 fn with_line(set_up: SetUp, line: &str) -> Result<SetUp, Flaw> {
     let (word, rest) = line.split_once(' ').unwrap_or((line, ""));
-    let mut wider = set_up;
-    match (word, rest) {
-        ("capacity", _) => wider.capacity = number(rest)? as u64,
-        ("clock", _) => wider.clock = number(rest)? as u64,
-        ("desk", "kept") => wider.is_kept = true,
-        _ => return Err(Flaw::SetUp),
+    match word {
+        "capacity" => Ok(SetUp {
+            capacity: number(rest)? as u64,
+            ..set_up
+        }),
+        "clock" => Ok(SetUp {
+            clock: number(rest)? as u64,
+            ..set_up
+        }),
+        "desk" => with_desk(set_up, rest),
+        _ => Err(Flaw::SetUp),
     }
-    Ok(wider)
+}
+
+fn with_desk(set_up: SetUp, name: &str) -> Result<SetUp, Flaw> {
+    match name {
+        "kept" => Ok(SetUp {
+            is_kept: true,
+            ..set_up
+        }),
+        _ => Err(Flaw::SetUp),
+    }
 }
 
 fn over_kept<T: Timer>(

@@ -68,15 +68,38 @@ impl Devices {
     /// Takes a line that begins with this word.
     pub fn take(&mut self, word: &str, text: &str) -> Result<(), Flaw> {
         self.are_given = true;
+        match word {
+            "timer" => set_once(&mut self.timer, timer_of(text)?),
+            "reads" => set_once(&mut self.size, size_of(text)?),
+            "reader" => self.take_reader(text),
+            "writer" => self.take_writer(text),
+            "recorder" => self.take_recorder(text),
+            _ => Err(Flaw::Device),
+        }
+    }
+
+    fn take_reader(&mut self, text: &str) -> Result<(), Flaw> {
         let (kind, rest) = text.split_once(' ').unwrap_or((text, ""));
-        match (word, kind) {
-            ("timer", _) => set_once(&mut self.timer, timer_of(text)?),
-            ("reads", _) => set_once(&mut self.size, size_of(text)?),
-            ("reader", "fails") => set_once(&mut self.reader_fails, number(rest)?),
-            ("writer", "fails") => set_once(&mut self.writer_fails, number(rest)?),
-            ("writer", "takes") => set_once(&mut self.writer_takes, number(rest)?),
-            ("recorder", "fails") => set_once(&mut self.recorder_fails, number(rest)?),
-            ("reader", "interrupted") => self.interrupt(),
+        match kind {
+            "fails" => set_once(&mut self.reader_fails, number(rest)?),
+            "interrupted" => self.interrupt(),
+            _ => Err(Flaw::Device),
+        }
+    }
+
+    fn take_writer(&mut self, text: &str) -> Result<(), Flaw> {
+        let (kind, rest) = text.split_once(' ').unwrap_or((text, ""));
+        match kind {
+            "fails" => set_once(&mut self.writer_fails, number(rest)?),
+            "takes" => set_once(&mut self.writer_takes, number(rest)?),
+            _ => Err(Flaw::Device),
+        }
+    }
+
+    fn take_recorder(&mut self, text: &str) -> Result<(), Flaw> {
+        let (kind, rest) = text.split_once(' ').unwrap_or((text, ""));
+        match kind {
+            "fails" => set_once(&mut self.recorder_fails, number(rest)?),
             _ => Err(Flaw::Device),
         }
     }

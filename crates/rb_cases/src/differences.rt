@@ -22,7 +22,7 @@ pub fn of_texts(
     if came == wanted {
         return Ok(None);
     }
-    Ok(Some(format!(in alloc; "{what}: {came:?} in place of {wanted:?}")?))
+    format!(in alloc; "{what}: {came:?} in place of {wanted:?}").map(Some)
 }
 
 /// The first line that came instead of another, if the texts differ.
@@ -39,7 +39,7 @@ pub fn of_bytes(
     let came = String::from_utf8_lossy(alloc, line_at(came, same))?;
     let wanted = String::from_utf8_lossy(alloc, line_at(wanted, same))?;
     let number = same.saturating_add(1);
-    Ok(Some(format!(in alloc; "{what}, line {number}: {came:?} in place of {wanted:?}")?))
+    format!(in alloc; "{what}, line {number}: {came:?} in place of {wanted:?}").map(Some)
 }
 
 // How many lines the texts have in common at their beginning.

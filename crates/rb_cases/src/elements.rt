@@ -39,14 +39,11 @@ pub fn first_draft(expiry: &str, payload: &str) -> Result<Draft, Flaw> {
     Ok(Draft::first(number(expiry)? as u64, payload_of(payload)?))
 }
 
-/// The draft of a later attempt: its words are those of the element but for the id.
-pub fn later_draft(
-    expiry: &str,
-    origin: &str,
-    first: &str,
-    attempt: &str,
-    payload: &str,
-) -> Result<Draft, Flaw> {
+/// The draft of a later attempt. Its words are those of the element but for the id.
+pub fn later_draft(words: &[&str]) -> Result<Draft, Flaw> {
+    let [expiry, origin, first, attempt, payload] = *words else {
+        return Err(Flaw::Command);
+    };
     let attempt = attempt_of(attempt)?;
     if !(1..=GREATEST_ATTEMPT).contains(&attempt) {
         return Err(Flaw::Number);

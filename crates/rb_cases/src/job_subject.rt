@@ -61,32 +61,55 @@ impl<D: Desk> JobSubject<D> {
 impl<D: Desk + Drop> Subject for JobSubject<D> {
     fn answer(&mut self, alloc: Global, command: &[u8]) -> Result<String, Flaw> {
         let words = words_in(alloc, command)?;
-        match *words.as_slice() {
-            ["now"] => Ok(self.desk.now().to_string(alloc)?),
-            ["set", moment] => self.set(alloc, number(moment)? as u64),
-            ["call", asked, ..] => self.call(alloc, number(asked)? as u64, &words),
-            ["given", place] => Ok(given_text(alloc, &self.given, number(place)?)?),
-            ["job"] => Ok(self.first_text(alloc)?),
-            ["done"] => Ok(self.end_first(alloc)?),
-            ["policy", pace, count, attempts] => self.set_policy(alloc, pace, count, attempts),
-            ["fail", moment] => self.fail_first(alloc, number(moment)? as u64),
-            ["retry", moment, ..] => self.retry(alloc, number(moment)? as u64, &words),
-            ["drain", asked, most] => self.drain(alloc, number(asked)? as u64, number(most)?),
-            _ => self.fetch(alloc, &words),
-        }
+        self.answer_to(alloc, &words)
     }
 }
 
 impl<D: Desk + Drop> JobSubject<D> {
-    fn set(&mut self, alloc: Global, moment: u64) -> Result<String, Flaw> {
-        let set = self.desk.set(moment);
-        Ok(moment_text(alloc, set)?)
+    fn answer_to(&mut self, alloc: Global, words: &[&str]) -> Result<String, Flaw> {
+        match *words {
+            ["call", asked, ..] => self.call(alloc, asked, words),
+            ["retry", moment, ..] => self.retry(alloc, moment, words),
+            [word] => self.answer_word(alloc, word),
+            [word, value] => self.answer_with(alloc, word, value),
+            ["drain", asked, most] => self.drain(alloc, asked, most),
+            ["pollfor", start, timeout] => self.poll_for(alloc, start, timeout),
+            ["policy", pace, count, attempts] => self.set_policy(alloc, pace, count, attempts),
+            _ => Err(Flaw::Command),
+        }
     }
 
-    fn call(&mut self, alloc: Global, asked: u64, words: &[&str]) -> Result<String, Flaw> {
+    fn answer_word(&mut self, alloc: Global, word: &str) -> Result<String, Flaw> {
+        match word {
+            "now" => self.desk.now().to_string(alloc).map_err(Flaw::from),
+            "job" => self.first_text(alloc).map_err(Flaw::from),
+            "done" => self.end_first(alloc).map_err(Flaw::from),
+            "take" => self.take(alloc),
+            _ => Err(Flaw::Command),
+        }
+    }
+
+    fn answer_with(&mut self, alloc: Global, word: &str, value: &str) -> Result<String, Flaw> {
+        match word {
+            "set" => self.set(alloc, value),
+            "given" => given_text(alloc, &self.given, value),
+            "fail" => self.fail_first(alloc, value),
+            "poll" => self.poll(alloc, value),
+            _ => Err(Flaw::Command),
+        }
+    }
+
+    fn set(&mut self, alloc: Global, moment: &str) -> Result<String, Flaw> {
+        let moment = number(moment)? as u64;
+        let set = self.desk.set(moment);
+        moment_text(alloc, set).map_err(Flaw::from)
+    }
+
+    fn call(&mut self, alloc: Global, asked: &str, words: &[&str]) -> Result<String, Flaw> {
+        let asked = number(asked)? as u64;
         let ask = ask_of(words.get(2..).unwrap_or(&[]))?;
         let answer = self.desk.call(asked, ask);
-        Ok(self.answer_text(alloc, answer)?)
+        self.answer_text(alloc, answer).map_err(Flaw::from)
     }
 
     fn answer_text(
@@ -95,27 +118,33 @@ impl<D: Desk + Drop> JobSubject<D> {
         answer: Result<Reply, DeskFault>,
     ) -> Result<String, AllocError> {
         match answer {
-            Ok(Reply::Drained(items)) => {
-                self.given = items;
-                let count = self.given.as_slice().len();
-                format!(in alloc; "drained {count}")
-            }
+            Ok(Reply::Drained(items)) => self.keep(alloc, items),
             Ok(reply) => reply_text(alloc, &reply),
             Err(fault) => fault.to_string(alloc),
         }
     }
 
-    fn fetch(&mut self, alloc: Global, words: &[&str]) -> Result<String, Flaw> {
-        let fetched = match *words {
-            ["poll", asked] => poll(&mut self.desk, number(asked)? as u64),
-            ["take"] => take(&mut self.desk).map(Some),
-            ["pollfor", start, timeout] => {
-                let (start, timeout) = (number(start)? as u64, number(timeout)? as u64);
-                poll_for(&mut self.desk, start, timeout)
-            }
-            _ => return Err(Flaw::Command),
-        };
-        Ok(self.fetched_text(alloc, fetched)?)
+    fn keep(&mut self, alloc: Global, items: Items) -> Result<String, AllocError> {
+        let count = items.as_slice().len();
+        self.given = items;
+        format!(in alloc; "drained {count}")
+    }
+
+    fn poll(&mut self, alloc: Global, asked: &str) -> Result<String, Flaw> {
+        let asked = number(asked)? as u64;
+        let fetched = poll(&mut self.desk, asked);
+        self.fetched_text(alloc, fetched).map_err(Flaw::from)
+    }
+
+    fn take(&mut self, alloc: Global) -> Result<String, Flaw> {
+        let fetched = take(&mut self.desk).map(Some);
+        self.fetched_text(alloc, fetched).map_err(Flaw::from)
+    }
+
+    fn poll_for(&mut self, alloc: Global, start: &str, timeout: &str) -> Result<String, Flaw> {
+        let (start, timeout) = (number(start)? as u64, number(timeout)? as u64);
+        let fetched = poll_for(&mut self.desk, start, timeout);
+        self.fetched_text(alloc, fetched).map_err(Flaw::from)
     }
 
     fn fetched_text(
@@ -136,11 +165,16 @@ impl<D: Desk + Drop> JobSubject<D> {
         Ok(told)
     }
 
-    fn drain(&mut self, alloc: Global, asked: u64, most: usize) -> Result<String, Flaw> {
+    fn drain(&mut self, alloc: Global, asked: &str, most: &str) -> Result<String, Flaw> {
+        let (asked, most) = (number(asked)? as u64, number(most)?);
+        self.drain_most(alloc, asked, most).map_err(Flaw::from)
+    }
+
+    fn drain_most(&mut self, alloc: Global, asked: u64, most: usize) -> Result<String, AllocError> {
         let mut jobs = Vec::with_capacity(alloc, most)?;
         match drain(&mut self.desk, asked, most as u64, &mut jobs) {
-            Ok(()) => Ok(self.hold_all(alloc, jobs)?),
-            Err(fault) => Ok(fault.to_string(alloc)?),
+            Ok(()) => self.hold_all(alloc, jobs),
+            Err(fault) => fault.to_string(alloc),
         }
     }
 
@@ -174,22 +208,26 @@ impl<D: Desk + Drop> JobSubject<D> {
         attempts: &str,
     ) -> Result<String, Flaw> {
         self.policy = policy_of(pace, number(count)? as u64, number(attempts)?)?;
-        let told = match self.policy {
-            Some(_) => "made",
-            None => "none",
-        };
-        Ok(told.to_string(alloc)?)
+        match self.policy {
+            Some(_) => "made".to_string(alloc).map_err(Flaw::from),
+            None => "none".to_string(alloc).map_err(Flaw::from),
+        }
     }
 
-    fn fail_first(&mut self, alloc: Global, now: u64) -> Result<String, Flaw> {
-        let Some(policy) = self.policy else {
-            return Err(Flaw::Early);
-        };
+    fn fail_first(&mut self, alloc: Global, now: &str) -> Result<String, Flaw> {
+        let now = number(now)? as u64;
+        match self.policy {
+            Some(policy) => self.fail_by(alloc, policy, now).map_err(Flaw::from),
+            None => Err(Flaw::Early),
+        }
+    }
+
+    fn fail_by(&mut self, alloc: Global, policy: Policy, now: u64) -> Result<String, AllocError> {
         let Some(job) = self.held.pop_front() else {
-            return Ok("none".to_string(alloc)?);
+            return "none".to_string(alloc);
         };
         let ended = fail(&mut self.desk, &policy, job, now);
-        Ok(self.ended_text(alloc, ended)?)
+        self.ended_text(alloc, ended)
     }
 
     fn ended_text(
@@ -216,12 +254,13 @@ impl<D: Desk + Drop> JobSubject<D> {
         format!(in alloc; "{fault} {element}")
     }
 
-    fn retry(&self, alloc: Global, now: u64, words: &[&str]) -> Result<String, Flaw> {
+    fn retry(&self, alloc: Global, now: &str, words: &[&str]) -> Result<String, Flaw> {
+        let now = number(now)? as u64;
         let Some(policy) = self.policy else {
             return Err(Flaw::Early);
         };
         let element = element_of(words.get(2..).unwrap_or(&[]))?;
-        Ok(draft_text(alloc, policy.retry_of(&element, now))?)
+        draft_text(alloc, policy.retry_of(&element, now)).map_err(Flaw::from)
     }
 }
 

@@ -25,28 +25,19 @@
 use crate::elements::{element_of, payload_text};
 use crate::flaw::Flaw;
 use crate::malformed::Malformed;
+use crate::numbered::Numbered;
 use crate::numbers::number;
 use crate::row::Line;
 use crate::subject::{FromSetUp, Subject, refuse_set_up, words_in};
-use rb_delayed::Payload;
+use rb_delayed::{Element, Payload};
 use rb_protocol::{
     ErrorWord, LINE_FEED, LineFault, LineReply, MOST_LINE_BYTES, MOST_REPLY_BYTES, REPLY_ROOM,
     Request, SPACE, cut_word, read_request, write_reply,
 };
 use std::alloc::{AllocError, Global};
 
-// The texts behind which a reply is written: how many bytes they have, and for how many more there
-// is room.
-const TEXTS: [(usize, usize); 8] = [
-    (0, 0),
-    (10, 0),
-    (1_000, 0),
-    (100_000, 0),
-    (0, REPLY_ROOM),
-    (10, REPLY_ROOM),
-    (1_000, REPLY_ROOM),
-    (100_000, REPLY_ROOM),
-];
+// How many bytes the texts have behind which a reply is written, without room for more and with room for a reply.
+const LENGTHS: [usize; 4] = [0, 10, 1_000, 100_000];
 
 #[derive(Drop)]
 pub struct LineSubject {
@@ -68,44 +59,77 @@ impl Subject for LineSubject {
         let (word, rest) = cut_word(command);
         let rest = rest.unwrap_or(&[]);
         match word {
-            b"request" => Ok(reading_text(alloc, rest)?),
-            b"reply" => Ok(self.append(alloc, &reply_in(alloc, rest)?)?),
-            b"behind" => Ok(behind_texts(alloc, &reply_in(alloc, rest)?)?),
-            b"length" => Ok(self.text.len().to_string(alloc)?),
+            b"request" => reading_text(alloc, rest).map_err(Flaw::from),
+            b"reply" => self.reply(alloc, rest),
+            b"behind" => behind(alloc, rest),
+            b"length" => self.text.len().to_string(alloc).map_err(Flaw::from),
             b"part" => self.part(alloc, rest),
-            b"constant" => Ok(constant(rest)?.to_string(alloc)?),
+            b"constant" => constant_text(alloc, rest),
             _ => Err(Flaw::Command),
         }
     }
 }
 
 impl LineSubject {
+    fn reply(&mut self, alloc: Global, words: &[u8]) -> Result<String, Flaw> {
+        let reply = reply_in(alloc, words)?;
+        self.append(alloc, &reply).map_err(Flaw::from)
+    }
+
     fn append(&mut self, alloc: Global, reply: &LineReply) -> Result<String, AllocError> {
         let before = self.text.len();
         write_reply(reply, &mut self.text)?;
         String::from_utf8_lossy(alloc, self.text.get(before..).unwrap_or(&[]))
     }
 
-    fn part(&self, alloc: Global, told: &[u8]) -> Result<String, Flaw> {
-        let words = words_in(alloc, told)?;
-        let [from, length] = *words.as_slice() else {
-            return Err(Flaw::Command);
-        };
-        let from = number(from)?;
-        let part = self.text.get(from..from.saturating_add(number(length)?));
-        Ok(String::from_utf8_lossy(alloc, part.unwrap_or(&[]))?)
+    fn part(&self, alloc: Global, range: &[u8]) -> Result<String, Flaw> {
+        let (from, length) = range_of(alloc, range)?;
+        let part = self.text.get(from..from.saturating_add(length));
+        String::from_utf8_lossy(alloc, part.unwrap_or(&[])).map_err(Flaw::from)
     }
+}
+
+fn range_of(alloc: Global, range: &[u8]) -> Result<(usize, usize), Flaw> {
+    let words = words_in(alloc, range)?;
+    pair_of(&words)
+}
+
+fn pair_of(words: &[&str]) -> Result<(usize, usize), Flaw> {
+    match *words {
+        [from, length] => Ok((number(from)?, number(length)?)),
+        _ => Err(Flaw::Command),
+    }
+}
+
+fn behind(alloc: Global, words: &[u8]) -> Result<String, Flaw> {
+    let reply = reply_in(alloc, words)?;
+    behind_texts(alloc, &reply).map_err(Flaw::from)
 }
 
 fn behind_texts(alloc: Global, reply: &LineReply) -> Result<String, AllocError> {
     let mut line = Vec::new(alloc);
     write_reply(reply, &mut line)?;
-    for (length, room) in TEXTS {
-        if !stands_behind(alloc, reply, &line, length, room)? {
+    for room in [0, REPLY_ROOM] {
+        if let Some(length) = length_not_so(alloc, reply, &line, room)? {
             return format!(in alloc; "not so behind {length} bytes, with room for {room}");
         }
     }
     String::from_utf8_lossy(alloc, &line)
+}
+
+// The length of the first text behind which the reply is not this line.
+fn length_not_so(
+    alloc: Global,
+    reply: &LineReply,
+    line: &[u8],
+    room: usize,
+) -> Result<Option<usize>, AllocError> {
+    for length in LENGTHS {
+        if !stands_behind(alloc, reply, line, length, room)? {
+            return Ok(Some(length));
+        }
+    }
+    Ok(None)
 }
 
 // Whether the reply is this line behind such a text, which does not grow if there is room.
@@ -116,13 +140,28 @@ fn stands_behind(
     length: usize,
     room: usize,
 ) -> Result<bool, AllocError> {
-    let most = length.saturating_add(room);
-    let mut text = Vec::with_capacity(alloc, most)?;
-    text.resize(length, b'x')?;
-    let is_exact = text.capacity() == most;
+    let mut text = text_with_room(alloc, length, room)?;
+    let before = text.capacity();
     write_reply(reply, &mut text)?;
-    let is_kept = room == 0 || text.capacity() == most;
-    Ok(is_exact && is_kept && text.get(length..) == Some(line))
+    let is_kept = room == 0 || text.capacity() == before;
+    let is_exact = before == length.saturating_add(room);
+    Ok(is_exact && is_kept && ends_with(&text, length, line))
+}
+
+fn text_with_room(alloc: Global, length: usize, room: usize) -> Result<Vec<u8>, AllocError> {
+    let mut text = Vec::with_capacity(alloc, length.saturating_add(room))?;
+    text.resize(length, b'x')?;
+    Ok(text)
+}
+
+// Whether the text has this line, and nothing else, behind so many bytes.
+fn ends_with(text: &[u8], length: usize, line: &[u8]) -> bool {
+    text.get(length..) == Some(line)
+}
+
+fn constant_text(alloc: Global, name: &[u8]) -> Result<String, Flaw> {
+    let constant = constant(name)?;
+    constant.to_string(alloc).map_err(Flaw::from)
 }
 
 fn constant(name: &[u8]) -> Result<usize, Flaw> {
@@ -175,21 +214,25 @@ fn offer_text(
     format!(in alloc; "{word} {number} {payload}")
 }
 
-fn reply_in(alloc: Global, told: &[u8]) -> Result<LineReply, Flaw> {
-    let words = words_in(alloc, told)?;
+fn reply_in(alloc: Global, reply: &[u8]) -> Result<LineReply, Flaw> {
+    let words = words_in(alloc, reply)?;
     reply_of(&words)
 }
 
 fn reply_of(words: &[&str]) -> Result<LineReply, Flaw> {
     match *words {
-        ["item", ..] => Ok(LineReply::Item(element_of(words.get(1..).unwrap_or(&[]))?)),
-        ["head", ..] => Ok(LineReply::Head(element_of(words.get(1..).unwrap_or(&[]))?)),
-        ["error", word] => Ok(LineReply::Error(error_of(word)?)),
+        ["item", ..] => Ok(LineReply::Item(element_behind(words)?)),
+        ["head", ..] => Ok(LineReply::Head(element_behind(words)?)),
         [word] => reply_alone(word),
         [word, value] => reply_of_one(word, value),
-        [word, id, expiry] => reply_of_two(word, number(id)? as u64, number(expiry)? as u64),
+        [word, id, expiry] => reply_of_two(word, id, expiry),
         _ => Err(Flaw::Command),
     }
+}
+
+// The element that is told behind the first word.
+fn element_behind(words: &[&str]) -> Result<Element, Flaw> {
+    element_of(words.get(1..).unwrap_or(&[]))
 }
 
 fn reply_alone(word: &str) -> Result<LineReply, Flaw> {
@@ -203,19 +246,23 @@ fn reply_alone(word: &str) -> Result<LineReply, Flaw> {
 }
 
 fn reply_of_one(word: &str, value: &str) -> Result<LineReply, Flaw> {
-    match (word, value) {
-        ("removed", "yes") => Ok(LineReply::Removed(true)),
-        ("removed", "no") => Ok(LineReply::Removed(false)),
-        ("drained", _) => Ok(LineReply::Drained(number(value)? as u64)),
-        ("size", _) => Ok(LineReply::Size(number(value)? as u64)),
-        ("done", _) => Ok(LineReply::Done(number(value)? as u64)),
-        ("dead", _) => Ok(LineReply::Dead(number(value)? as u64)),
-        ("now", _) => Ok(LineReply::Now(number(value)? as u64)),
+    match word {
+        "removed" => Ok(LineReply::Removed(yes_or_no(value)?)),
+        "error" => Ok(LineReply::Error(error_of(value)?)),
+        _ => Ok(Numbered::of(word)?.reply(number(value)? as u64)),
+    }
+}
+
+fn yes_or_no(word: &str) -> Result<bool, Flaw> {
+    match word {
+        "yes" => Ok(true),
+        "no" => Ok(false),
         _ => Err(Flaw::Command),
     }
 }
 
-fn reply_of_two(word: &str, id: u64, expiry: u64) -> Result<LineReply, Flaw> {
+fn reply_of_two(word: &str, id: &str, expiry: &str) -> Result<LineReply, Flaw> {
+    let (id, expiry) = (number(id)? as u64, number(expiry)? as u64);
     match word {
         "offered" => Ok(LineReply::Offered { id, expiry }),
         "again" => Ok(LineReply::Again { id, expiry }),

@@ -22,6 +22,7 @@ mod job_subject;
 mod kind;
 mod line_subject;
 mod malformed;
+mod numbered;
 mod numbers;
 mod outcome;
 mod queue_subject;

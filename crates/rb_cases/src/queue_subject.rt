@@ -39,9 +39,8 @@ use crate::numbers::number;
 use crate::row::Line;
 use crate::subject::{FromSetUp, Subject, words_in};
 use crate::text::Text;
-use crate::timer_subject::moment_text;
 use rb_delayed::Element;
-use rb_kept::{CallFault, Kept, NewFault, Outcome, Step, Try};
+use rb_kept::{Kept, NewFault, Outcome, Step, Try};
 use rb_ledger::Tally;
 use rb_queue::{Ask, Audit, Event, Items, Opening, Reply};
 use rb_replay::{MOST_EVENTS, write_history};
@@ -84,13 +83,7 @@ impl<T: Timer> FromSetUp for QueueSubject<T> {
 impl<T: Timer> Subject for QueueSubject<T> {
     fn answer(&mut self, alloc: Global, command: &[u8]) -> Result<String, Flaw> {
         let words = words_in(alloc, command)?;
-        match *words.as_slice() {
-            ["begin", capacity] => self.begin_run(alloc, number(capacity)? as u64),
-            _ => match &mut self.run {
-                Some(run) => run.answer(alloc, &words),
-                None => Err(Flaw::Early),
-            },
-        }
+        self.answer_to(alloc, &words)
     }
 }
 
@@ -111,20 +104,39 @@ fn opening_of(alloc: Global, from: &Text) -> Result<Opening, Flaw> {
 }
 
 impl<T: Timer> QueueSubject<T> {
-    fn begin_run(&mut self, alloc: Global, capacity: u64) -> Result<String, Flaw> {
-        let opening = match self.handed_back.take() {
-            Some(opening) => opening,
-            None => opening_of(alloc, &self.from)?,
-        };
+    fn answer_to(&mut self, alloc: Global, words: &[&str]) -> Result<String, Flaw> {
+        match *words {
+            ["begin", capacity] => self.begin_run(alloc, capacity),
+            _ => self.answer_in_run(alloc, words),
+        }
+    }
+
+    fn answer_in_run(&mut self, alloc: Global, words: &[&str]) -> Result<String, Flaw> {
+        match &mut self.run {
+            Some(run) => run.answer(alloc, words),
+            None => Err(Flaw::Early),
+        }
+    }
+
+    fn begin_run(&mut self, alloc: Global, capacity: &str) -> Result<String, Flaw> {
+        let capacity = number(capacity)? as u64;
+        let opening = self.next_opening(alloc)?;
         match begun(alloc, capacity, opening) {
             Ok(run) => {
                 self.run = Some(run);
-                Ok("begun".to_string(alloc)?)
+                "begun".to_string(alloc).map_err(Flaw::from)
             }
             Err((opening, fault)) => {
                 self.handed_back = Some(opening);
-                Ok(fault.to_string(alloc)?)
+                fault.to_string(alloc).map_err(Flaw::from)
             }
+        }
+    }
+
+    fn next_opening(&mut self, alloc: Global) -> Result<Opening, Flaw> {
+        match self.handed_back.take() {
+            Some(opening) => Ok(opening),
+            None => opening_of(alloc, &self.from),
         }
     }
 }
@@ -146,18 +158,30 @@ fn begun<T: Timer>(
 impl<T: Timer> Run<T> {
     fn answer(&mut self, alloc: Global, words: &[&str]) -> Result<String, Flaw> {
         match *words {
+            [word] => self.answer_word(alloc, word),
             ["no", "try"] => self.make_no_try(alloc),
-            ["audit"] => Ok(audit_text(alloc, self.kept.audit())?),
-            ["share"] => Ok(share_text(alloc, &self.share)?),
-            ["split"] => self.split(alloc),
             ["other", "share"] => self.other_share_text(alloc),
-            ["join"] => self.join(alloc),
-            ["capacity"] => Ok(self.kept.capacity().to_string(alloc)?),
-            ["events"] => Ok(self.kept.history().len().to_string(alloc)?),
-            ["last"] => last_text(alloc, self.kept.opening(), self.kept.history()),
-            ["line", line] => self.line_text(alloc, number(line)?),
-            ["given", place] => Ok(given_text(alloc, &self.given, number(place)?)?),
-            [seat, asked, ..] => self.make_try(alloc, try_of(seat, asked, words)?),
+            ["line", line] => self.line_text(alloc, line),
+            ["given", place] => given_text(alloc, &self.given, place),
+            [seat, asked, ..] => self.make_try(alloc, seat, asked, words),
+            _ => Err(Flaw::Command),
+        }
+    }
+
+    fn answer_word(&mut self, alloc: Global, word: &str) -> Result<String, Flaw> {
+        match word {
+            "audit" => audit_text(alloc, self.kept.audit()).map_err(Flaw::from),
+            "share" => share_text(alloc, &self.share).map_err(Flaw::from),
+            "split" => self.split(alloc),
+            "join" => self.join(alloc),
+            "capacity" => self.kept.capacity().to_string(alloc).map_err(Flaw::from),
+            "events" => self
+                .kept
+                .history()
+                .len()
+                .to_string(alloc)
+                .map_err(Flaw::from),
+            "last" => last_text(alloc, self.kept.opening(), self.kept.history()),
             _ => Err(Flaw::Command),
         }
     }
@@ -167,12 +191,25 @@ impl<T: Timer> Run<T> {
         Ok(steps.len().to_string(alloc)?)
     }
 
-    fn make_try(&mut self, alloc: Global, one: Try) -> Result<String, Flaw> {
-        let mut steps = self.run_try(one.seat > 0, vec![in alloc; one]?)?;
-        match steps.pop() {
+    fn make_try(
+        &mut self,
+        alloc: Global,
+        seat: &str,
+        asked: &str,
+        words: &[&str],
+    ) -> Result<String, Flaw> {
+        let one = try_of(seat, asked, words)?;
+        match self.step_of(alloc, one)? {
             Some(step) => self.step_text(alloc, step),
             None => Err(Flaw::Memory),
         }
+    }
+
+    // The step of a run of this one try.
+    fn step_of(&mut self, alloc: Global, one: Try) -> Result<Option<Step>, AllocError> {
+        let is_other = one.seat > 0;
+        let mut steps = self.run_try(is_other, vec![in alloc; one]?)?;
+        Ok(steps.pop())
     }
 
     // Counts the try in the other share, if there is one and `is_other` says so.
@@ -191,40 +228,43 @@ impl<T: Timer> Run<T> {
 
     fn step_text(&mut self, alloc: Global, step: Step) -> Result<String, Flaw> {
         match step {
-            Ok(Outcome::Done(Reply::Drained(items))) => {
-                self.given = items;
-                let count = self.given.as_slice().len();
-                Ok(format!(in alloc; "drained {count}")?)
-            }
-            Ok(Outcome::Done(reply)) => Ok(reply_text(alloc, &reply)?),
-            Ok(Outcome::Later(next)) => later_text(alloc, next),
-            Err(fault) => fault_text(alloc, fault),
+            Ok(Outcome::Done(Reply::Drained(items))) => self.keep(alloc, items),
+            Ok(Outcome::Done(reply)) => reply_text(alloc, &reply).map_err(Flaw::from),
+            Ok(Outcome::Later(next)) => later_text(alloc, next).map_err(Flaw::from),
+            Err(fault) => fault.to_string(alloc).map_err(Flaw::from),
         }
+    }
+
+    fn keep(&mut self, alloc: Global, items: Items) -> Result<String, Flaw> {
+        let count = items.as_slice().len();
+        self.given = items;
+        format!(in alloc; "drained {count}").map_err(Flaw::from)
     }
 
     fn split(&mut self, alloc: Global) -> Result<String, Flaw> {
         self.other_share = Some(self.share.split());
-        Ok("split".to_string(alloc)?)
+        "split".to_string(alloc).map_err(Flaw::from)
     }
 
     fn other_share_text(&self, alloc: Global) -> Result<String, Flaw> {
         match &self.other_share {
-            Some(other) => Ok(share_text(alloc, other)?),
+            Some(other) => share_text(alloc, other).map_err(Flaw::from),
             None => Err(Flaw::Early),
         }
     }
 
     fn join(&mut self, alloc: Global) -> Result<String, Flaw> {
-        match self.other_share.take() {
-            Some(other) => self.share.join(other),
-            None => return Err(Flaw::Early),
-        }
-        Ok("joined".to_string(alloc)?)
+        let Some(other) = self.other_share.take() else {
+            return Err(Flaw::Early);
+        };
+        self.share.join(other);
+        "joined".to_string(alloc).map_err(Flaw::from)
     }
 
-    fn line_text(&self, alloc: Global, line: usize) -> Result<String, Flaw> {
+    fn line_text(&self, alloc: Global, line: &str) -> Result<String, Flaw> {
+        let line = number(line)?;
         let text = history_text(alloc, self.kept.opening(), self.kept.history())?;
-        Ok(line_in(alloc, &text, line.saturating_sub(1))?)
+        line_in(alloc, &text, line.saturating_sub(1)).map_err(Flaw::from)
     }
 }
 
@@ -239,18 +279,23 @@ fn try_of(seat: &str, asked: &str, words: &[&str]) -> Result<Try, Flaw> {
 /// The ask of these words.
 pub fn ask_of(words: &[&str]) -> Result<Ask, Flaw> {
     match *words {
-        ["offer", expiry, payload] => Ok(Ask::Offer(first_draft(expiry, payload)?)),
-        ["offer", expiry, origin, first, attempt, payload] => {
-            Ok(Ask::Offer(later_draft(expiry, origin, first, attempt, payload)?))
-        }
-        ["poll"] => Ok(Ask::Poll),
-        ["take"] => Ok(Ask::Take),
-        ["pollfor", start, timeout] => timed_poll(start, timeout),
-        ["peek"] => Ok(Ask::Peek),
+        [word] => ask_alone(word),
         ["remove", id] => Ok(Ask::Remove(number(id)? as u64)),
         ["drain", max] => Ok(Ask::Drain(number(max)? as u64)),
-        ["clear"] => Ok(Ask::Clear),
-        ["size"] => Ok(Ask::Size),
+        ["pollfor", start, timeout] => timed_poll(start, timeout),
+        ["offer", expiry, payload] => Ok(Ask::Offer(first_draft(expiry, payload)?)),
+        ["offer", ..] => Ok(Ask::Offer(later_draft(words.get(1..).unwrap_or(&[]))?)),
+        _ => Err(Flaw::Command),
+    }
+}
+
+fn ask_alone(word: &str) -> Result<Ask, Flaw> {
+    match word {
+        "poll" => Ok(Ask::Poll),
+        "take" => Ok(Ask::Take),
+        "peek" => Ok(Ask::Peek),
+        "clear" => Ok(Ask::Clear),
+        "size" => Ok(Ask::Size),
         _ => Err(Flaw::Command),
     }
 }
@@ -262,13 +307,11 @@ fn timed_poll(start: &str, timeout: &str) -> Result<Ask, Flaw> {
     })
 }
 
-fn later_text(alloc: Global, next: Option<u64>) -> Result<String, Flaw> {
-    let next = moment_text(alloc, next)?;
-    Ok(format!(in alloc; "later {next}")?)
-}
-
-fn fault_text(alloc: Global, fault: CallFault) -> Result<String, Flaw> {
-    Ok(fault.to_string(alloc)?)
+fn later_text(alloc: Global, next: Option<u64>) -> Result<String, AllocError> {
+    match next {
+        Some(next) => format!(in alloc; "later {next}"),
+        None => "later none".to_string(alloc),
+    }
 }
 
 /// A reply, but to a drain.
@@ -286,10 +329,10 @@ pub fn reply_text(alloc: Global, reply: &Reply) -> Result<String, AllocError> {
 }
 
 /// The element at a place of what a drain gave.
-pub fn given_text(alloc: Global, given: &Items, place: usize) -> Result<String, AllocError> {
-    match given.as_slice().get(place) {
-        Some(element) => element_text(alloc, "", element),
-        None => "none".to_string(alloc),
+pub fn given_text(alloc: Global, given: &Items, place: &str) -> Result<String, Flaw> {
+    match given.as_slice().get(number(place)?) {
+        Some(element) => element_text(alloc, "", element).map_err(Flaw::from),
+        None => "none".to_string(alloc).map_err(Flaw::from),
     }
 }
 
@@ -311,11 +354,11 @@ fn last_text(alloc: Global, opening: &Opening, history: &[Event]) -> Result<Stri
         .get(history.len().saturating_sub(1)..)
         .unwrap_or(&[]);
     if last.is_empty() {
-        return Ok("none".to_string(alloc)?);
+        return "none".to_string(alloc).map_err(Flaw::from);
     }
     let text = history_text(alloc, opening, last)?;
     let before = opening.elements.as_slice().len().saturating_add(2);
-    Ok(line_in(alloc, &text, before)?)
+    line_in(alloc, &text, before).map_err(Flaw::from)
 }
 
 fn history_text(alloc: Global, opening: &Opening, history: &[Event]) -> Result<Vec<u8>, Flaw> {

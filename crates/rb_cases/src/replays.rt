@@ -6,12 +6,20 @@ use std::alloc::{AllocError, Global};
 
 /// What differs from the case when its history is replayed.
 pub fn replay_difference(alloc: Global, case: &Case) -> Result<Option<String>, AllocError> {
-    let Some(options) = options_of(alloc, case)? else {
-        return Ok(Some("the words of `args` are refused".to_string(alloc)?));
-    };
-    match run_replay(alloc, &options, &case.history.bytes) {
+    match options_of(alloc, case)? {
+        Some(options) => by_options(alloc, case, &options),
+        None => "the words of `args` are refused".to_string(alloc).map(Some),
+    }
+}
+
+fn by_options(
+    alloc: Global,
+    case: &Case,
+    options: &ReplayOptions,
+) -> Result<Option<String>, AllocError> {
+    match run_replay(alloc, options, &case.history.bytes) {
         Ok((line, status)) => compared(alloc, case, &line, status),
-        Err(fault) => Ok(Some(format!(in alloc; "ends by a fault: {fault}")?)),
+        Err(fault) => format!(in alloc; "ends by a fault: {fault}").map(Some),
     }
 }
 
@@ -22,18 +30,26 @@ fn compared(
     line: &str,
     status: u8,
 ) -> Result<Option<String>, AllocError> {
-    let told = match &case.verdict {
-        Some(verdict) => format!(in alloc; "{verdict}\n")?,
-        None => String::new(alloc),
-    };
-    if let Some(text) = of_texts(alloc, "verdict", line, &told)? {
-        return Ok(Some(text));
+    let told = line_of(alloc, case)?;
+    match of_texts(alloc, "verdict", line, &told)? {
+        Some(text) => Ok(Some(text)),
+        None => of_statuses(alloc, status, case.status.unwrap_or(0)),
     }
-    let wanted = case.status.unwrap_or(0);
-    if status == wanted {
+}
+
+// The line of the case's verdict.
+fn line_of(alloc: Global, case: &Case) -> Result<String, AllocError> {
+    match &case.verdict {
+        Some(verdict) => format!(in alloc; "{verdict}\n"),
+        None => Ok(String::new(alloc)),
+    }
+}
+
+fn of_statuses(alloc: Global, came: u8, wanted: u8) -> Result<Option<String>, AllocError> {
+    if came == wanted {
         return Ok(None);
     }
-    Ok(Some(format!(in alloc; "status: {status} in place of {wanted}")?))
+    format!(in alloc; "status: {came} in place of {wanted}").map(Some)
 }
 
 fn options_of(alloc: Global, case: &Case) -> Result<Option<ReplayOptions>, AllocError> {

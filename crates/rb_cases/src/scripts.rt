@@ -26,16 +26,23 @@ pub fn script_difference(alloc: Global, case: &Case) -> Result<Option<String>, A
 
 // Runs the script over a timer, with each size of reads and cut at each place.
 fn over_timer(alloc: Global, case: &Case, timer: &str) -> Result<Option<String>, AllocError> {
-    let Some(options) = options_of(alloc, case, timer)? else {
-        return Ok(Some("the words of `args` are refused".to_string(alloc)?));
-    };
-    if let Some(text) = by_sizes(alloc, case, timer, &options)? {
-        return Ok(Some(text));
+    match options_of(alloc, case, timer)? {
+        Some(options) => by_options(alloc, case, timer, &options),
+        None => "the words of `args` are refused".to_string(alloc).map(Some),
     }
-    if case.devices.have_any_size() && case.input.bytes.len() <= MOST_CUT {
-        return by_cuts(alloc, case, timer, &options);
+}
+
+fn by_options(
+    alloc: Global,
+    case: &Case,
+    timer: &str,
+    options: &ScriptOptions,
+) -> Result<Option<String>, AllocError> {
+    let by_sizes = by_sizes(alloc, case, timer, options)?;
+    if by_sizes.is_none() && case.devices.have_any_size() && case.input.bytes.len() <= MOST_CUT {
+        return by_cuts(alloc, case, timer, options);
     }
-    Ok(None)
+    Ok(by_sizes)
 }
 
 fn by_sizes(
@@ -48,17 +55,19 @@ fn by_sizes(
         if case.devices.have_size(size)
             && let Some(text) = by_reads(alloc, case, options, Reads::of_size(size))?
         {
-            let reads = if size == usize::MAX {
-                "whole"
-            } else if size == 1 {
-                "1"
-            } else {
-                "7"
-            };
-            return Ok(Some(format!(in alloc; "over {timer}, reads {reads}: {text}")?));
+            let reads = size_name(size);
+            return format!(in alloc; "over {timer}, reads {reads}: {text}").map(Some);
         }
     }
     Ok(None)
+}
+
+fn size_name(size: usize) -> &'static str {
+    match size {
+        usize::MAX => "whole",
+        1 => "1",
+        _ => "7",
+    }
 }
 
 fn by_cuts(
@@ -69,7 +78,7 @@ fn by_cuts(
 ) -> Result<Option<String>, AllocError> {
     for first in 1..case.input.bytes.len() {
         if let Some(text) = by_reads(alloc, case, options, Reads::cut_behind(first))? {
-            return Ok(Some(format!(in alloc; "over {timer}, cut behind byte {first}: {text}")?));
+            return format!(in alloc; "over {timer}, cut behind byte {first}: {text}").map(Some);
         }
     }
     Ok(None)
@@ -112,24 +121,32 @@ fn run(
     let mut reader = source_of(case, reads);
     let mut writer = Sink::new(alloc, devices.writer_fails, devices.writer_takes);
     let mut recorder = recorder_of(alloc, case);
-    let ended = match opening_of(alloc, case) {
-        Ok(opening) => {
-            run_script_gathered(
-                alloc,
-                options,
-                opening,
-                &mut reader,
-                &mut writer,
-                recorder.as_mut(),
-            )
-        }
-        Err(fault) => Err(fault),
-    };
+    let ended = ended(
+        alloc,
+        case,
+        options,
+        &mut reader,
+        &mut writer,
+        recorder.as_mut(),
+    );
     Ok(Outcome {
         ends: text_of(alloc, ended)?,
         replies: writer.bytes,
         history: recorder.map(|recorder| recorder.bytes),
     })
+}
+
+// How the script ends over these devices.
+fn ended(
+    alloc: Global,
+    case: &Case,
+    options: &ScriptOptions,
+    reader: &mut Source<'_>,
+    writer: &mut Sink,
+    recorder: Option<&mut Sink>,
+) -> Result<Ended, BrokerFault> {
+    let opening = opening_of(alloc, case)?;
+    run_script_gathered(alloc, options, opening, reader, writer, recorder)
 }
 
 fn source_of(case: &Case, reads: Reads) -> Source<'_> {

@@ -122,23 +122,52 @@ fn row_difference<S: Subject>(
     round: usize,
     place: &str,
 ) -> Result<Option<String>, Flaw> {
-    let command = bytes_of(alloc, round, &row.command)?;
-    let came = subject.answer(alloc, &command)?;
+    let came = answer_to(alloc, subject, row, round)?;
     if is_right(alloc, row, round, &came)? {
         return Ok(None);
     }
-    let wanted = bytes_of(alloc, round, &row.answers)?;
-    let wanted = String::from_utf8_lossy(alloc, &wanted)?;
-    let line = row.line;
-    Ok(Some(format!(in alloc; "{place}line {line}: {came:?} in place of {wanted:?}")?))
+    difference(alloc, row, round, place, &came)
+}
+
+fn answer_to<S: Subject>(
+    alloc: Global,
+    subject: &mut S,
+    row: &Row,
+    round: usize,
+) -> Result<String, Flaw> {
+    let command = bytes_of(alloc, round, &row.command)?;
+    subject.answer(alloc, &command)
 }
 
 // Whether the answer is one of the row's.
 fn is_right(alloc: Global, row: &Row, round: usize, came: &str) -> Result<bool, Flaw> {
     for answer in row.answers.split(" or ") {
-        if bytes_of(alloc, round, answer)?.as_slice() == came.as_bytes() {
+        if is_same(alloc, answer, round, came)? {
             return Ok(true);
         }
     }
     Ok(false)
+}
+
+fn is_same(alloc: Global, answer: &str, round: usize, came: &str) -> Result<bool, Flaw> {
+    let answer = bytes_of(alloc, round, answer)?;
+    Ok(answer.as_slice() == came.as_bytes())
+}
+
+fn difference(
+    alloc: Global,
+    row: &Row,
+    round: usize,
+    place: &str,
+    came: &str,
+) -> Result<Option<String>, Flaw> {
+    let wanted = wanted_text(alloc, row, round)?;
+    let line = row.line;
+    let text = format!(in alloc; "{place}line {line}: {came:?} in place of {wanted:?}")?;
+    Ok(Some(text))
+}
+
+fn wanted_text(alloc: Global, row: &Row, round: usize) -> Result<String, Flaw> {
+    let wanted = bytes_of(alloc, round, &row.answers)?;
+    String::from_utf8_lossy(alloc, &wanted).map_err(Flaw::from)
 }

@@ -45,20 +45,24 @@ impl<T: Timer> Subject for TimerSubject<T> {
 
 fn answer_to<T: Timer>(alloc: Global, timer: &mut T, words: &[&str]) -> Result<String, Flaw> {
     match *words {
-        ["reserve", wanted] => reserve(alloc, timer, number(wanted)?),
-        ["room"] => Ok(timer.room().to_string(alloc)?),
-        ["len"] => Ok(timer.len().to_string(alloc)?),
-        ["get", slot] => Ok(moment_text(alloc, timer.get(number(slot)?))?),
-        _ => run(alloc, timer, command_of(words)?),
+        ["reserve", wanted] => reserve(alloc, timer, wanted),
+        ["room"] => timer.room().to_string(alloc).map_err(Flaw::from),
+        ["len"] => timer.len().to_string(alloc).map_err(Flaw::from),
+        ["get", slot] => get(alloc, timer, slot),
+        _ => run(alloc, timer, words),
     }
 }
 
-fn reserve<T: Timer>(alloc: Global, timer: &mut T, wanted: usize) -> Result<String, Flaw> {
-    let told = match timer.reserve(wanted) {
-        Ok(()) => "reserved",
-        Err(_) => "no memory",
-    };
-    Ok(told.to_string(alloc)?)
+fn reserve<T: Timer>(alloc: Global, timer: &mut T, wanted: &str) -> Result<String, Flaw> {
+    match timer.reserve(number(wanted)?) {
+        Ok(()) => "reserved".to_string(alloc).map_err(Flaw::from),
+        Err(_) => "no memory".to_string(alloc).map_err(Flaw::from),
+    }
+}
+
+fn get<T: Timer>(alloc: Global, timer: &T, slot: &str) -> Result<String, Flaw> {
+    let slot = number(slot)?;
+    moment_text(alloc, timer.get(slot)).map_err(Flaw::from)
 }
 
 /// A moment, or `none`.
@@ -69,10 +73,15 @@ pub fn moment_text(alloc: Global, moment: Option<u64>) -> Result<String, AllocEr
     }
 }
 
-fn run<T: Timer>(alloc: Global, timer: &mut T, command: TimerCommand) -> Result<String, Flaw> {
+fn run<T: Timer>(alloc: Global, timer: &mut T, words: &[&str]) -> Result<String, Flaw> {
+    let command = command_of(words)?;
     let answers = run_timer(alloc, timer, &[command])?;
+    first_text(alloc, &answers)
+}
+
+fn first_text(alloc: Global, answers: &[TimerAnswer]) -> Result<String, Flaw> {
     match answers.first() {
-        Some(answer) => Ok(text_of(alloc, answer)?),
+        Some(answer) => text_of(alloc, answer).map_err(Flaw::from),
         None => Err(Flaw::Memory),
     }
 }

@@ -41,12 +41,16 @@ impl FromSetUp for WordSubject {
 impl Subject for WordSubject {
     fn answer(&mut self, alloc: Global, command: &[u8]) -> Result<String, Flaw> {
         let words = words_of(alloc, str::from_utf8(command).unwrap_or_default())?;
-        match *words.as_slice() {
-            ["rb_broker", ..] => Ok(asked_text(alloc, &words)?),
-            ["shows", part, ..] => Ok(shows(alloc, &words, part)?),
-            ["no", "word"] => Ok(asked_text(alloc, &[])?),
-            _ => Err(Flaw::Command),
-        }
+        answer_to(alloc, &words)
+    }
+}
+
+fn answer_to(alloc: Global, words: &[&str]) -> Result<String, Flaw> {
+    match *words {
+        ["rb_broker", ..] => asked_text(alloc, words).map_err(Flaw::from),
+        ["shows", part, ..] => shows(alloc, words, part).map_err(Flaw::from),
+        ["no", "word"] => asked_text(alloc, &[]).map_err(Flaw::from),
+        _ => Err(Flaw::Command),
     }
 }
 
@@ -102,9 +106,8 @@ fn script_text(
     from: Option<&str>,
 ) -> Result<String, AllocError> {
     let (timer, calls) = (timer_name(options.timer), options.calls);
-    let policy = policy_text(alloc, options.policy)?;
-    let files = files_text(alloc, history, from)?;
-    format!(in alloc; "script timer {timer} calls {calls} {policy}{files}")
+    let run = run_text(alloc, options.policy, history, from)?;
+    format!(in alloc; "script timer {timer} calls {calls} {run}")
 }
 
 fn replay_text(alloc: Global, file: &str, chains: Option<Policy>) -> Result<String, AllocError> {
@@ -124,10 +127,22 @@ fn serve_text(
     let (port, timer) = (options.port, timer_name(options.timer));
     let (sessions, turns) = (options.sessions, options.turns);
     let (workers, calls) = (options.run.workers, options.run.calls);
-    let policy = policy_text(alloc, options.run.policy)?;
-    let files = files_text(alloc, history, from)?;
+    let run = run_text(alloc, options.run.policy, history, from)?;
     let door = format!(in alloc; "serve port {port} timer {timer} workers {workers}")?;
-    format!(in alloc; "{door} sessions {sessions} turns {turns} calls {calls} {policy}{files}")
+    format!(in alloc; "{door} sessions {sessions} turns {turns} calls {calls} {run}")
+}
+
+// The end of an answer: the policy, and the files that were given.
+fn run_text(
+    alloc: Global,
+    policy: Policy,
+    history: Option<&str>,
+    from: Option<&str>,
+) -> Result<String, AllocError> {
+    let policy = policy_text(alloc, policy)?;
+    let history = file_text(alloc, "history", history)?;
+    let from = file_text(alloc, "from", from)?;
+    format!(in alloc; "{policy}{history}{from}")
 }
 
 fn timer_name(timer: TimerKind) -> &'static str {
@@ -147,16 +162,10 @@ fn policy_text(alloc: Global, policy: Policy) -> Result<String, AllocError> {
     }
 }
 
-fn files_text(
-    alloc: Global,
-    history: Option<&str>,
-    from: Option<&str>,
-) -> Result<String, AllocError> {
-    match (history, from) {
-        (Some(history), Some(from)) => { format!(in alloc; " history {history:?} from {from:?}") }
-        (Some(history), None) => format!(in alloc; " history {history:?}"),
-        (None, Some(from)) => format!(in alloc; " from {from:?}"),
-        (None, None) => Ok(String::new(alloc)),
+fn file_text(alloc: Global, word: &str, file: Option<&str>) -> Result<String, AllocError> {
+    match file {
+        Some(file) => format!(in alloc; " {word} {file:?}"),
+        None => Ok(String::new(alloc)),
     }
 }
 
