@@ -138,6 +138,9 @@ class CheckoutTest(unittest.TestCase):
         self.addCleanup(shutil.rmtree, room, ignore_errors=True)
         self.checkout = Checkout(room)
         self.addCleanup(self.checkout.kill)
+        # Under nohup or in the background of a shell they are ignored, and builds that are started then do so too.
+        for number, action in ((signal.SIGHUP, signal.SIG_DFL), (signal.SIGINT, signal.default_int_handler)):
+            self.addCleanup(signal.signal, number, signal.signal(number, action))
 
     def tearDown(self) -> None:
         self.assertEqual(self.checkout.left_over(), [])

@@ -9,11 +9,6 @@ from building.tests.checkout import PATIENCE, CheckoutTest
 
 
 class StoppingTest(CheckoutTest):
-    def setUp(self) -> None:
-        super().setUp()
-        before = signal.signal(signal.SIGHUP, signal.SIG_DFL)  # under nohup it is ignored, and by builds then too
-        self.addCleanup(signal.signal, signal.SIGHUP, before)
-
     def stops(self, number: int, is_whole_group: bool) -> None:
         """Stops a build whose crates ignore signals, and have orphans in other sessions."""
         self.checkout.does("rb_right", 'trap "" TERM INT HUP; (setsid sleep 600 &); sleep 600 & sleep 600')
