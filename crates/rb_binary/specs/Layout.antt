@@ -37,7 +37,7 @@ parent place = (place - 1) / 2
 abbrev pub IsInOrder : List Entry → ℕ → Type 0
 IsInOrder heap place = expiry_at heap (parent place) ≤ expiry_at heap place
 
--- it holds at each place that has a parent
+-- this holds at each place that has a parent
 abbrev pub AtEachChild : List Entry → (ℕ → Type 0) → Type 0
 AtEachChild heap holds = (place : ℕ) → 0 < place → place < length heap → holds place
 
@@ -82,7 +82,7 @@ pub record IsPutAt (heap : List Entry) (places : List (Option ℕ)) (place : ℕ
   pub in_heap : place < length heap
   pub agrees : Agrees heap (note heap places place)
 
--- the entry at `place` found its place among the others, and no slot's expiry has changed
+-- the entry at `place` has moved to where it belongs, and no slot's expiry has changed
 pub record Sifts (heap : List Entry) (places : List (Option ℕ)) (place : ℕ)
     (new_heap : List Entry) (new_places : List (Option ℕ)) : Type 0 where
   pub agrees : Agrees new_heap new_places

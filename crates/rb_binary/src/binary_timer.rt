@@ -9,9 +9,10 @@ use std::alloc::{AllocError, Global};
 
 /// A binary heap of the entries, by expiry, that also knows where each slot's entry is.
 ///
-/// Whatever moves an entry in the heap notes its new place at its slot. An insert and a removal cost at most a
-/// logarithm of the entries, and a clear a constant for each entry, whatever the room. A `reserve` that makes room
-/// costs all the room that there is then, and each other call a constant.
+/// Each move of an entry in the heap notes its new place at its slot. An insert and a removal cost at
+/// most the logarithm of the number of entries, and a clear a constant for each entry, whatever the
+/// room. A `reserve` that makes room costs all the room that there is then, and each other call a
+/// constant.
 #[derive(Debug, Drop)]
 pub struct BinaryTimer {
     heap: Vec<Entry>,

@@ -10,7 +10,7 @@ pub(crate) struct Entry {
     pub(crate) expiry: u64,
 }
 
-// Puts the entry there, and notes its place.
+// Puts the entry at this place, and notes the place at its slot.
 fn put(heap: &mut [Entry], places: &mut [OptionalIndex], place: usize, entry: Entry)
     requires in_heap { place < length heap.old }
     requires in_room { entry.slot < length places.old }
@@ -69,7 +69,7 @@ fn least_child(heap: &[Entry], place: usize) -> usize
     let left = 2 * place + 1;
     let right = left + 1;
     let is_right = right < heap.len() && heap[right].expiry < heap[left].expiry;
-    // A processor would guess a branch wrong every other time.
+    // Not a branch, which a processor would mispredict every other time.
     left + usize::from(is_right)
 }
 
@@ -86,7 +86,7 @@ pub(crate) fn sift(heap: &mut [Entry], places: &mut [OptionalIndex], place: usiz
     }
 }
 
-/// Notes at each slot that it has no entry, at the cost of the entries and not of the room.
+/// Notes at each slot that it has no entry. The cost grows with the entries, not with the room.
 pub(crate) fn forget_all(heap: &[Entry], places: &mut [OptionalIndex])
     requires { Agrees heap.now places.old }
     ensures { places.new ≡ replicate (length places.old) None }

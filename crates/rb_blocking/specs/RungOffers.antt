@@ -7,7 +7,7 @@ use Rattle.rb_kept.specs.declared.fault.CallFault.{CallFault}
 use Rattle.rb_lock.specs.Passes.{Seen}
 use Rattle.rb_lock.specs.SharedCalls.{Replied, Answered}
 
--- as a call of the offer ends, whose reply is the offered element
+-- it ends as a call of the offer does, and its reply is the offered element
 abbrev pub OfferAnswered : Seen → Seen → Try → Result Element CallFault → Type 0
 OfferAnswered old new try (Ok element) = Replied old new try (Offered element)
 OfferAnswered old new try (Err fault) = Answered old new try (Err fault)

@@ -23,8 +23,8 @@ pub record IsAnswered (gives : ℕ → Type 0) (old new : Seen) (ask : Ask) (rep
   pub read : gives asked
   pub replied : Replied old new (try_of old asked ask) reply
 
--- A try at a reading that the clock gives found nothing that has expired. The pass has learned, it has made no
--- call more, and it would wait still.
+-- A try at a reading that the clock gives found nothing that has expired. The pass has learned, has made no
+-- further call, and would still wait.
 pub record FindsNothing (gives : ℕ → Type 0) (old new : Seen) (ask : Ask) : Type 0 where
   pub asked : ℕ
   pub read : gives asked
@@ -34,17 +34,17 @@ pub record FindsNothing (gives : ℕ → Type 0) (old new : Seen) (ask : Ask) : 
   pub waits : Waits (log_of new) (try_of old asked ask) expiry
   pub mine : new.mine ≡ old.mine
 
--- what the gate is told behind a try that comes after so many others: their number, as far as 64 bits hold it
+-- what the gate is told after a try that follows this many others: their number, or 2^64 - 1 if that is less
 abbrev pub turns_told : ℕ → ℕ
 turns_told tries = min tries (2 ^ 64 - 1)
 
--- So many tries, one after the other, found nothing that has expired, and behind each the gate let the wait go on.
+-- This many tries, one after the other, found nothing that has expired, and after each the gate let the wait go on.
 abbrev pub WaitsOn : (ℕ → Type 0) → (ℕ → Bool → Type 0) → Seen → Ask → ℕ → Seen → Type 0
 WaitsOn gives answers old ask zero new = new ≡ old
 WaitsOn gives answers old ask (suc tries) new =
     (mid : Seen) × WaitsOn gives answers old ask tries mid × FindsNothing gives mid new ask × answers (turns_told tries) true
 
--- The gate stopped the wait behind the last of its tries, each of which found nothing that has expired.
+-- The gate stopped the wait after the last of its tries, each of which found nothing that has expired.
 pub record IsStopped (gives : ℕ → Type 0) (answers : ℕ → Bool → Type 0) (old new : Seen) (ask : Ask) : Type 0 where
   pub tries : ℕ
   pub before : Seen
@@ -52,7 +52,7 @@ pub record IsStopped (gives : ℕ → Type 0) (answers : ℕ → Bool → Type 0
   pub last : FindsNothing gives before new ask
   pub stopped : answers (turns_told tries) false
 
--- the history that the pass has seen has no room, and the pass has made no call more
+-- the history that the pass has seen is full, and the pass has made no further call
 pub record EndsFull (old new : Seen) : Type 0 where
   pub full : IsFull (log_of new)
   pub mine : new.mine ≡ old.mine

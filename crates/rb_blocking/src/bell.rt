@@ -17,19 +17,19 @@ const LONGEST_REST: u64 = 20;
 /// the count is still the same. So a ring between the look and the rest is noticed: the count has
 /// changed, and the rest ends at once.
 ///
-/// An offer raises the count, and of the waiting calls that rest it wakes one that would look again only after
-/// the element has expired, if there is such a call. A call that gives up when it was woken wakes another in
-/// its place. Whatever else becomes of a wake, each call looks again by itself after 20 ms at most, so that no
-/// wake is lost for longer than one rest.
+/// An offer raises the count, and wakes one of the resting calls that would look again only after the
+/// element has expired, if there is one. A call that was woken but gives up wakes another in its place.
+/// Besides, each call looks again by itself after at most 20 ms, so no wake is lost for longer than one
+/// rest. A bell takes no memory.
 #[derive(Drop)]
 pub struct Bell {
-    // It has its own cache lines, as all threads that offer write it. A ringer changes it under the lock; a sleeper
-    // compares it under the lock, and lets go of the lock only by falling asleep. So no ring falls between the
-    // comparison and the sleep.
+    // It has cache lines of its own, since all threads that offer write it. A ringer changes it under the lock; a
+    // sleeper compares it under the lock, and lets go of the lock only by falling asleep. So no ring falls between
+    // the comparison and the sleep.
     state: CachePadded<Mutex<BellState>>,
-    // Where threads sleep that rest for no element. A notification calls the system only where one sleeps.
+    // Where threads sleep that are in `rest`. A notification makes a system call only if one sleeps.
     rung: Condvar,
-    // Where waiting calls sleep, for each place one.
+    // Where waiting calls sleep, one for each place.
     woken: [Condvar; PLACES],
 }
 
@@ -43,8 +43,8 @@ impl Bell {
         }
     }
 
-    /// Raises the count, from 2^64 - 1 to 0, and wakes all threads that rest. It waits while
-    /// another thread holds the count.
+    /// Raises the count, which wraps from 2^64 - 1 to 0, and wakes all threads that rest. It waits while
+    /// another thread holds the bell's lock.
     pub fn ring<R: Wait>(&self, rt: &R) {
         let mut state = self.locked(rt);
         state.rise(0);
@@ -56,17 +56,19 @@ impl Bell {
         }
     }
 
-    /// How often it was rung, modulo 2^64. It waits while another thread holds the count.
+    /// How often it was rung, by offers too, modulo 2^64. It waits while another thread holds the bell's
+    /// lock.
     pub fn count<R: Wait>(&self, rt: &R) -> u64 {
         self.locked(rt).count
     }
 
-    /// Waits until the count is not `seen`, for at most about 20 ms, and returns the count.
+    /// Waits until the count is not `seen`, for at most about 20 ms, and returns the count. If the
+    /// machine's clock can't be read, it returns at once.
     pub fn rest<R: Wait + time::Clock>(&self, rt: &R, seen: u64) -> u64 {
         self.rest_at_most(rt, seen, longest_rest())
     }
 
-    // The same, at most about so long. Where the clock can't be read it returns at once.
+    // Like `rest`, for at most about `most`.
     pub(crate) fn rest_at_most<R: Wait + time::Clock>(
         &self,
         rt: &R,
@@ -80,7 +82,7 @@ impl Bell {
     }
 
     /// Raises the count for an element that was offered, and wakes a waiting call that would look again only
-    /// after it has expired.
+    /// after the element has expired.
     pub(crate) fn announce<R: Wait>(&self, rt: &R, expiry: u64) {
         let mut state = self.locked(rt);
         state.rise(expiry);
@@ -90,16 +92,16 @@ impl Bell {
         self.notify(woken);
     }
 
-    /// Wakes a waiting call that would look again only after this expiry, in the place of one that was woken
-    /// and gives up.
+    /// Wakes a waiting call that would look again only after this expiry, in place of one that was woken and
+    /// gives up.
     pub(crate) fn wake_one<R: Wait>(&self, rt: &R, expiry: u64) {
         let woken = self.locked(rt).wake_one(expiry);
         self.notify(woken);
     }
 
-    /// A waiting call rests until it is woken, at most about so long. It looks again by itself at the moment
-    /// `until`, and does not rest at all where there was a ring for what expires before that, since the count
-    /// was `seen`. Where the clock can't be read it returns at once.
+    /// Lets a waiting call rest until it is woken, for at most about `most`. It will look again by itself at
+    /// the moment `until`. It does not rest at all if since the count was `seen` there was a ring for what
+    /// expires before that. If the machine's clock can't be read, it returns at once.
     pub(crate) fn rest_until<R: Wait + time::Clock>(
         &self,
         rt: &R,
@@ -132,7 +134,7 @@ impl Bell {
         state.lock(rt)
     }
 
-    // Notifies who sleeps at a place.
+    // Wakes a thread that sleeps at the place, if a place is given.
     fn notify(&self, place: Option<usize>)
         requires { IfSome place (λ at. at < PLACES) }
     {
@@ -148,7 +150,7 @@ impl Default for Bell {
     }
 }
 
-// Its count can't be seen without waiting for it.
+// Its state can't be seen without waiting for the lock.
 impl Debug for Bell {
     fn fmt<W: fmt::Write>(&self, f: &mut Formatter<W>) -> fmt::Result {
         f.debug_struct("Bell").finish_non_exhaustive()

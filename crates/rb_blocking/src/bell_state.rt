@@ -3,26 +3,26 @@ ghost use Rattle.rb_blocking.specs.Places.{woken_at};
 
 use crate::place::Place;
 
-/// At how many places calls rest. A server has no more workers, so that each of them rests alone.
+/// The number of places at which calls rest. A server has no more workers, so each of them rests alone.
 pub(crate) const PLACES: usize = 16;
 
-// Of how many rings it is known what they were for.
+// For how many rings, the last ones, a bell knows what they were for.
 const RECENT: u64 = 16;
 
-/// What a bell keeps under its lock: how often it was rung, and who rests at it.
+/// What a bell keeps under its lock: how often it was rung, and which calls rest at it.
 #[derive(Debug, Drop)]
 pub(crate) struct BellState {
     pub(crate) count: u64,
-    // How many calls rest at all places, so that a ring need not look at them where none does.
+    // How many calls rest, at all places together. If none does, a ring need not look at the places.
     resting: u64,
-    // When the elements of the last rings expire, or 0 for a ring that is for all. That of a ring lies at the
-    // place of the count that it has made.
+    // When the elements of the last rings expire, or 0 for a ring that is for all. A ring's entry is at the
+    // count that it made, modulo 16.
     recent: [u64; RECENT as usize],
     places: [Place; PLACES],
 }
 
 impl BellState {
-    /// A bell that was not rung yet, at which nobody rests.
+    /// The state of a bell that has not been rung, and at which no call rests.
     pub(crate) fn new() -> BellState
         ensures { result.count ≡ 0 }
     {
@@ -34,7 +34,7 @@ impl BellState {
         }
     }
 
-    /// Raises the count, which goes from 2^64 - 1 to 0, for an element that expires then.
+    /// Raises the count, which wraps from 2^64 - 1 to 0, for an element of this expiry.
     pub(crate) fn rise(&mut self, expiry: u64)
         ensures { self.new.count ≡ (self.old.count + 1) % (2 ^ 64) }
     {
@@ -42,8 +42,8 @@ impl BellState {
         self.recent[(self.count % RECENT) as usize] = expiry;
     }
 
-    /// Whether there was a ring since the count was `seen` that matters to a call which looks again at the
-    /// moment `until`. Also true after more than 16 rings.
+    /// Whether there was a ring, since the count was `seen`, for what expires before the moment `until`, at
+    /// which the call looks again by itself. Also true after more than 16 rings.
     pub(crate) fn has_missed(&self, seen: u64, until: u64) -> bool {
         let rings = self.count.wrapping_sub(seen);
         if rings > RECENT {
@@ -58,8 +58,8 @@ impl BellState {
         false
     }
 
-    /// One call more rests, which looks again by itself at the moment `until`. Where it rests: at one of the
-    /// places where the fewest do.
+    /// Adds a call that rests, and looks again by itself at the moment `until`. Returns its place, which is
+    /// one of those with the fewest calls.
     pub(crate) fn enter(&mut self, until: u64) -> usize
         ensures place { result < PLACES }
         ensures count { self.new.count ≡ self.old.count }
@@ -75,7 +75,7 @@ impl BellState {
         least
     }
 
-    /// Whether a call that rests there was woken.
+    /// Whether a call that rests at the place was woken.
     pub(crate) fn is_woken(&self, place: usize) -> bool
         requires { place < PLACES }
         ensures { IsTrue result ↔ (0 < woken_at self.now.places place) }
@@ -83,7 +83,7 @@ impl BellState {
         self.places[place].is_woken()
     }
 
-    /// A call that rested there rests no more. Whether it was woken.
+    /// Ends the rest of a call at the place. Returns whether it was woken.
     pub(crate) fn leave(&mut self, place: usize) -> bool
         requires { place < PLACES }
         ensures result { IsTrue result ↔ (0 < woken_at self.old.places place) }
@@ -109,7 +109,7 @@ impl BellState {
         None
     }
 
-    /// Wakes all that rest.
+    /// Wakes all calls that rest.
     pub(crate) fn wake_all(&mut self)
         ensures { self.new.count ≡ self.old.count }
     {

@@ -2,12 +2,12 @@ ghost use Rattle.std.specs.Prelude.{ℕ};
 
 /// The clock of a waiting call, in nanoseconds.
 ///
-/// `gives` says which numbers the clock may read. Code over any clock gets such a number in no
-/// other way, so if a contract says `gives`, the clock was read.
+/// `gives` says which numbers the clock may read. Generic code gets such a number only by reading the
+/// clock, so a contract that cites `gives` says that the clock was read.
 pub trait Clock {
     ghost gives: { Self → ℕ → Type 0 };
 
-    /// The moment now.
+    /// The present moment, in nanoseconds.
     fn now(&self) -> u64
         ensures { gives self.now result };
 }

@@ -1,6 +1,6 @@
 use thiserror::Error;
 
-/// Why a waiting call got no reply. It made no event then.
+/// Why a waiting call got no reply. It made no event.
 #[derive(Clone, Copy, Debug, PartialEq, Eq, Error)]
 pub enum WaitFault {
     /// The history has as many events as its capacity.

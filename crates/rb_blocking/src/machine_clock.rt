@@ -5,16 +5,16 @@ use std::time::{Duration, Instant};
 
 /// The machine's monotonic clock, in nanoseconds since this value was made.
 ///
-/// A clock that can't be read stays at 0. Nothing is claimed of its numbers.
+/// It reads 0 if the machine's clock can't be read. No contract says anything about its numbers.
 #[derive(Drop)]
 pub struct MachineClock<'a, R: time::Clock> {
     rt: &'a R,
-    // When it was made, if the clock could be read then.
+    // When this value was made, if the machine's clock could be read then.
     start: Option<Instant>,
 }
 
 impl<'a, R: time::Clock> MachineClock<'a, R> {
-    /// A clock that begins at 0 now.
+    /// A clock that reads 0 now. It takes no memory.
     pub fn new(rt: &'a R) -> MachineClock<'a, R> {
         MachineClock {
             rt,

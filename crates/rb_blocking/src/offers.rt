@@ -13,11 +13,13 @@ use rb_queue::{Ask, Draft, Reply};
 use rb_timer::Timer;
 use std::sync::Wait;
 
-/// Offers an element as `Shared::call` does, and rings where it was inserted. It waits while another pass calls.
+/// Offers an element like `Shared::call`, and rings the bell if the element was inserted. It waits while
+/// another pass calls.
 ///
-/// The ring wakes one waiting call, and only one that would try again by itself after the element has expired.
-/// The faults are those of the call: `Full` where the history has as many events as its capacity, `Memory`
-/// if there is none for the element; then nothing happens.
+/// The ring wakes at most one waiting call: one that would try again by itself only after the element
+/// has expired. The faults are those of the call: `Full` if the history has as many events as its
+/// capacity, and `Memory` if there is none for the element. After a fault no event was made, and the bell
+/// was not rung.
 pub fn offer_ring<T: Timer, R: Wait>(
     rt: &R,
     shared: &Shared<T>,
@@ -40,8 +42,8 @@ pub fn offer_ring<T: Timer, R: Wait>(
     Ok(element)
 }
 
-/// Makes one call as `Shared::call` does, and rings as `offer_ring` does if the ask is an offer. It waits while another
-/// pass calls.
+/// Makes one call like `Shared::call`, and after an offer rings the bell like `offer_ring`. It waits while
+/// another pass calls. A take or a timed poll is tried only once: it may end as `Later`.
 pub fn call_and_ring<T: Timer, R: Wait>(
     rt: &R,
     shared: &Shared<T>,
@@ -61,8 +63,8 @@ pub fn call_and_ring<T: Timer, R: Wait>(
     answer
 }
 
-// Rings for the element of an offer that was made at the moment `asked`. Where that has expired, it can be taken at
-// once.
+// Rings for the element of an offer that was made at the moment `asked`. If the element has expired by then, it can
+// be taken at once.
 fn ring_for<R: Wait>(rt: &R, bell: &Bell, ask: &Ask, asked: u64) {
     if let Ask::Offer(draft) = ask {
         let due = if draft.expiry <= asked {

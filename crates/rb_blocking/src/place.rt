@@ -1,14 +1,14 @@
 ghost use Rattle.std.specs.Prelude.{◌≡◌, ◌<◌, ◌+◌, ◌-◌, ◌^◌, ◌↔◌, IsTrue, if◌then◌else◌, eqb, min, max};
 
-/// Where calls rest at a bell: one call, or several where more rest than there are places.
+/// Where calls rest at a bell: one call, or several if more rest than there are places.
 #[derive(Clone, Copy, Debug, Default)]
 pub(crate) struct Place {
     // How many calls rest here.
     resting: u64,
-    // How many of them were woken and still have to notice it.
+    // How many of them were woken and have not noticed it.
     woken: u64,
-    // When the last of them looks again by itself, if nothing wakes it. It may be later than that where
-    // others have left.
+    // When the last of them looks again by itself, if nothing wakes it, or a later moment if others have
+    // left.
     latest: u64,
 }
 
@@ -27,7 +27,7 @@ impl Place {
         self.woken > 0
     }
 
-    /// One call more rests here. It looks again by itself at the moment `until`.
+    /// Adds a call that rests here, and looks again by itself at the moment `until`.
     pub(crate) fn enter(&mut self, until: u64)
         ensures resting { self.new.resting ≡ min (self.old.resting + 1) (2 ^ 64 - 1) }
         ensures woken { self.new.woken ≡ self.old.woken }
@@ -37,7 +37,7 @@ impl Place {
         self.latest = self.latest.max(until);
     }
 
-    /// A call ends its rest. Whether it was woken.
+    /// Ends the rest of a call. Returns whether it was woken.
     pub(crate) fn leave(&mut self) -> bool
         ensures result { IsTrue result ↔ (0 < self.old.woken) }
         ensures resting { self.new.resting ≡ self.old.resting - 1 }
@@ -53,7 +53,7 @@ impl Place {
         woken
     }
 
-    /// Wakes a call that would look again only after this expiry. Whether there was one.
+    /// Wakes a call that would look again only after this expiry. Returns whether there was one.
     pub(crate) fn wake_one(&mut self, expiry: u64) -> bool
         ensures result { IsTrue result ↔ ((self.old.woken < self.old.resting) × (expiry < self.old.latest)) }
         ensures woken { self.new.woken ≡ self.old.woken + (if result then 1 else 0) }
@@ -67,7 +67,7 @@ impl Place {
         true
     }
 
-    /// Wakes all that rest here.
+    /// Wakes all calls that rest here.
     pub(crate) fn wake_all(&mut self)
         ensures { self.new ≡ record self.old { woken = self.old.resting } }
     {

@@ -13,22 +13,22 @@ use std::time::Duration;
 /// The rests of a waiting call between its tries.
 #[derive(Drop)]
 pub(crate) struct Rests {
-    // From when on the call has nothing to wait for, in nanoseconds.
+    // When the wait ends, in nanoseconds: 2^64 - 1 if the ask sets no end.
     deadline: u64,
     // The bell's count before the next try.
     seen: u64,
     // The reading of the last try, if there was one.
     asked: Option<u64>,
-    // The least expiry that it found.
+    // The least expiry that it found, in nanoseconds, if there was one.
     least: Option<u64>,
-    // How long the call rests after it.
+    // How long the call rests after it, at most.
     most: Duration,
     // Whether another call ended the last rest.
     pub(crate) woken: bool,
 }
 
 impl Rests {
-    /// The rests of a call with this ask, where the bell's count was this before the first try.
+    /// The rests of a call with this ask. `seen` is the bell's count before the first try.
     pub(crate) fn new(ask: &Ask, seen: u64) -> Rests
         ensures deadline { (start timeout : ℕ) → ask.now ≡ PollFor start timeout → result.deadline ≡ deadline_of start timeout }
         ensures seen { result.seen ≡ seen }
@@ -49,11 +49,11 @@ impl Rests {
         }
     }
 
-    /// A try at this reading has found nothing expired, and this as the least expiry. The rest after it lasts
-    /// until then or the deadline, and no longer than the longest rest.
+    /// Notes a try at this reading that found nothing expired, and the least expiry, if any. The rest after it
+    /// lasts until that expiry or the deadline, and no longer than the longest rest.
     ///
-    /// Where the clock did not go on since the try before, it may not reach that moment either. Then the
-    /// rest is the longest, so that a clock that stands still does not make the call try without a rest.
+    /// If the clock has not advanced since the try before, it may stand still for good. The rest is then the
+    /// longest one, so that the call does not try again and again without a rest.
     pub(crate) fn learn(&mut self, asked: u64, expiry: Option<u64>)
         ensures asked { self.new.asked ≡ Some asked }
         ensures least { self.new.least ≡ expiry }
@@ -78,8 +78,8 @@ impl Rests {
         self.woken = rested.woken;
     }
 
-    /// Called at the end. If it was woken but took nothing, it wakes another call in its place, which may take
-    /// what it was woken for.
+    /// Called at the end. A call that was woken but took nothing wakes another in its place, which may take what
+    /// it was woken for.
     pub(crate) fn hand_on<R: Wait>(&self, rt: &R, bell: &Bell, waited: &Result<Reply, WaitFault>) {
         if !self.woken {
             return;

@@ -17,13 +17,15 @@ use rb_timer::Timer;
 use std::sync::Wait;
 use std::time;
 
-/// Takes an element that has expired, and waits while there is none.
+/// Takes an element that has expired, waiting while there is none, like `DelayQueue.take` (Java SE 17).
 ///
 /// Each try is at a fresh reading of the clock. After a try that finds nothing expired the gate is
-/// asked, and the call rests at the bell. The reply is that of one `Shared::call` with `Take` at a
-/// reading: the pass has seen a legal history that begins with all that it had seen and ends with
-/// this call. After `Stopped`, which only the gate's no causes, and after `Full` no event was made.
-/// It takes no memory.
+/// asked, and if it lets the wait go on, the call rests at the bell. The reply is that of one
+/// `Shared::call` with `Take` at a reading: the pass has seen a legal history that begins with all that
+/// it had seen and ends with this call.
+///
+/// The faults are `Stopped`, only if the gate said no, and `Full`, if the history has as many events as
+/// its capacity. After either no event was made. It takes no memory.
 pub fn take<T: Timer, C: Clock, G: Gate, R: Wait + time::Clock>(
     rt: &R,
     shared: &Shared<T>,
@@ -43,10 +45,10 @@ pub fn take<T: Timer, C: Clock, G: Gate, R: Wait + time::Clock>(
     }
 }
 
-/// Takes an element that has expired, and waits while there is none, until `timeout` nanoseconds
-/// after the moment `start`.
+/// Takes an element that has expired, waiting for one until `timeout` nanoseconds after the moment
+/// `start`, like `DelayQueue.poll` with a timeout (Java SE 17).
 ///
-/// It is like `take`, by a call with `PollFor`: it returns `None` only at the deadline or later, if
+/// It is like `take`, by a call with `PollFor`. It returns `None` only at the deadline or later, if
 /// nothing has expired.
 pub fn poll_for<T: Timer, C: Clock, G: Gate, R: Wait + time::Clock>(
     rt: &R,
@@ -71,9 +73,9 @@ pub fn poll_for<T: Timer, C: Clock, G: Gate, R: Wait + time::Clock>(
     }
 }
 
-/// Tries an ask, any but an offer and a drain, until it gets a reply, the history is full, or the gate says no.
+/// Tries an ask, which may not be an offer or a drain, until it gets a reply, the history is full, or the gate says no.
 ///
-/// `take` and `poll_for` do the same, and unwrap the reply. A call that was woken and takes nothing wakes another.
+/// `take` and `poll_for` make this call, and unwrap the reply. A call that was woken but takes nothing wakes another.
 pub fn call_and_wait<T: Timer, C: Clock, G: Gate, R: Wait + time::Clock>(
     rt: &R,
     shared: &Shared<T>,
@@ -97,8 +99,8 @@ pub fn call_and_wait<T: Timer, C: Clock, G: Gate, R: Wait + time::Clock>(
 
 // The tries of a wait, with its rests between them.
 //
-// The lock is held during a try alone. The bell's count was read before the try, so that a ring between the
-// try and the rest is seen.
+// The lock is held only during a try. The bell's count was read before the try, so that a ring between the
+// try and the rest is noticed.
 fn try_often<T: Timer, C: Clock, G: Gate, R: Wait + time::Clock>(
     rt: &R,
     shared: &Shared<T>,

@@ -10,13 +10,13 @@ abbrev pub status_of_run : {X : Type 0} → Result X BrokerFault → ℕ
 status_of_run (Ok ended) = 0
 status_of_run (Err fault) = status_of fault
 
--- that of the verdict, or that of the fault
+-- the status of the verdict, or that of the fault
 abbrev pub status_of_replay : Result ℕ BrokerFault → ℕ
 status_of_replay (Ok status) = status
 status_of_replay (Err fault) = status_of fault
 
--- If the words were not accepted: 4 for want of memory, 2 for a mistake, and 0 or 3 for help. Which of the
--- two depends on whether it could be printed, of which nothing is said here.
+-- If the words were not accepted: 4 for refused memory, 2 for a mistake, and for help 0 or 3. That depends on
+-- whether it could be printed, of which nothing is said here.
 abbrev pub IsStatusOfWords : ErrorKind → ℕ → Type 0
 IsStatusOfWords kinds.OutOfMemory status = status ≡ 4
 IsStatusOfWords kinds.DisplayHelp status = (status ≡ 0) ⊎ (status ≡ 3)

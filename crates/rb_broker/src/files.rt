@@ -10,10 +10,11 @@ use rb_runs::read_all;
 use std::fs::{self, File, OpenOptions};
 use std::io::{self, Write};
 
-// The system's number of a call on a descriptor that is not open.
+// The system's error number for a call on a descriptor that is not open.
 const NOT_OPEN: i32 = 9;
 
-/// All bytes of a file.
+/// All bytes of a file. The fault is `ReadHistory` if it can't be opened or read, `ReadTurns` if it does
+/// not end, or `Memory`.
 pub fn text_of(rt: &HostRuntime, path: &str) -> Result<Vec<u8>, BrokerFault>
     ensures { IfErr result IsReadFault }
 {
@@ -23,8 +24,8 @@ pub fn text_of(rt: &HostRuntime, path: &str) -> Result<Vec<u8>, BrokerFault>
     }
 }
 
-/// Fails if a file for the history is named and standard output is closed: the system would give the place
-/// of standard output to that file, which would then get the replies.
+/// Fails with `Write` if a file for the history is named and standard output is closed: the system would
+/// give that file the descriptor of standard output, and the replies would go to it.
 pub fn check_output(rt: &HostRuntime, history: Option<&str>) -> Result<(), BrokerFault>
     ensures { IfErr result (λ fault. fault ≡ Write) }
 {
@@ -37,7 +38,8 @@ pub fn check_output(rt: &HostRuntime, history: Option<&str>) -> Result<(), Broke
     }
 }
 
-/// What the history of a run is written to, if a file is named: that file, which is emptied.
+/// Where the history of a run is written, if a file is named: to that file, which is emptied. The fault is
+/// `WriteHistory`.
 pub fn device_for(rt: &HostRuntime, history: Option<&str>) -> Result<Option<File>, BrokerFault>
     ensures { IfErr result (λ fault. fault ≡ WriteHistory) }
 {
@@ -47,8 +49,8 @@ pub fn device_for(rt: &HostRuntime, history: Option<&str>) -> Result<Option<File
     }
 }
 
-/// Creates the file of a run's history, if one is named. What it holds stays: a port in use must not
-/// cost the history of an earlier run.
+/// Creates the file of a run's history, if one is named. A file that exists keeps its bytes: a port in use
+/// must not cost the history of an earlier run. The fault is `WriteHistory`.
 pub fn make_room_for(rt: &HostRuntime, history: Option<&str>) -> Result<(), BrokerFault>
     ensures { IfErr result (λ fault. fault ≡ WriteHistory) }
 {
@@ -58,7 +60,7 @@ pub fn make_room_for(rt: &HostRuntime, history: Option<&str>) -> Result<(), Brok
     }
 }
 
-// A file that is to be written.
+// Opens a file to write to.
 fn opened(rt: &HostRuntime, path: &str, options: &OpenOptions) -> Result<File, BrokerFault>
     ensures { IfErr result (λ fault. fault ≡ WriteHistory) }
 {
@@ -68,7 +70,7 @@ fn opened(rt: &HostRuntime, path: &str, options: &OpenOptions) -> Result<File, B
     }
 }
 
-// How the file of a history is opened, whether it is there or not. If it is emptied, what it held is lost.
+// How the file of a history is opened, whether it exists or not. If it is emptied, its bytes are lost.
 fn history_options(is_emptied: bool) -> OpenOptions
     ensures written { IsTrue (asks_write result) }
     ensures created { IsTrue (asks_create result) }
@@ -79,7 +81,7 @@ fn history_options(is_emptied: bool) -> OpenOptions
     options
 }
 
-// Whether a write failed because its descriptor is not open. One to a full device fails too.
+// Whether a write failed because its descriptor is not open. A full device is another reason.
 fn is_closed(fault: &io::Error) -> bool
     ensures { IsTrue result ↔ (raw_os_error fault.now ≡ Some NOT_OPEN) }
 {

@@ -107,8 +107,8 @@ fn exit_after_replay(rt: &HostRuntime, outcome: Result<u8, BrokerFault>) -> Exit
     }
 }
 
-/// Prints why the words could not be read, of which this is the kind, and returns the exit status: that of
-/// want of memory, or that of refused words for one that is not text.
+/// Prints why the words could not be read, and returns the exit status: 4 if memory was refused, and
+/// otherwise that of refused words, since one of them is not UTF-8 text.
 fn exit_without_words(rt: &HostRuntime, kind: ReadKind) -> ExitCode
     ensures memory { kind ≡ ReadKind.OutOfMemory → exit_status result ≡ 4 }
     ensures refused { kind ≢ ReadKind.OutOfMemory → exit_status result ≡ 2 }

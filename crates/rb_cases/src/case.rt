@@ -27,7 +27,7 @@
 //! word may be given once. A case with `ends` is a script; a case with `verdict` and `status` is a
 //! replay, and has none of the words of a script.
 //!
-//! A TEXT of these four may have escapes, of which `text.rt` tells. Their counter is the number of the
+//! A TEXT of these four may have the escapes that `text.rt` describes. Their counter is the number of the
 //! line among those of a `*`, counted from 0.
 
 use crate::devices::Devices;
@@ -165,7 +165,7 @@ fn set_text(place: &mut Option<String>, alloc: Global, text: &str) -> Result<(),
     once(place, text.to_string(alloc)?)
 }
 
-// Sets a value that is not set yet.
+// Sets a value, which must not be set yet.
 fn once<T: Drop>(place: &mut Option<T>, value: T) -> Result<(), Flaw> {
     if place.is_some() {
         return Err(Flaw::Twice);

@@ -27,7 +27,7 @@ struct SetUp {
     is_kept: bool,
 }
 
-/// What came in place of an answer at the first desk where a row did not get one of its own.
+/// What came in place of a right answer, at the first desk at which a row got none, if there is one.
 pub fn desks_difference<R: Wait + time::Clock>(
     rt: &R,
     alloc: Global,

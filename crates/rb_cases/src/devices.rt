@@ -4,14 +4,13 @@ use crate::numbers::number;
 /// The timers over which a script is run.
 pub const TIMERS: [&str; 4] = ["list", "heap", "pairing", "wheel"];
 
-/// The greatest number of bytes of a script that a read gives. The first value stands for the whole
-/// script.
+/// How many bytes of a script a read gives at most. The first value means the whole script.
 pub const SIZES: [usize; 3] = [usize::MAX, 1, 7];
 
 /// A script of at most this many bytes is also cut in two, at every place.
 pub const MOST_CUT: usize = 1_000;
 
-/// What a script is run over, if a case says so.
+/// The timer, the reads and the device faults that a case asks for.
 #[derive(Clone, Copy)]
 pub struct Devices {
     /// Whether the case says anything about devices.
@@ -121,7 +120,7 @@ impl Devices {
     }
 }
 
-// Sets a value that is not set yet.
+// Sets a value, which must not be set yet.
 fn set_once<T: Copy>(place: &mut Option<T>, value: T) -> Result<(), Flaw> {
     if place.is_some() {
         return Err(Flaw::Twice);

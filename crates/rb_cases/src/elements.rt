@@ -1,4 +1,4 @@
-//! Elements, as the lines of a history tell them: `ID EXPIRY ORIGIN FIRST ATTEMPT PAYLOAD`.
+//! Elements, as the lines of a history have them: `ID EXPIRY ORIGIN FIRST ATTEMPT PAYLOAD`.
 
 use crate::flaw::Flaw;
 use crate::numbers::number;
@@ -39,7 +39,7 @@ pub fn first_draft(expiry: &str, payload: &str) -> Result<Draft, Flaw> {
     Ok(Draft::first(number(expiry)? as u64, payload_of(payload)?))
 }
 
-/// The draft of a later attempt. Its words are those of the element but for the id.
+/// The draft of a later attempt. Its words are those of the element without the id.
 pub fn later_draft(words: &[&str]) -> Result<Draft, Flaw> {
     let [expiry, origin, first, attempt, payload] = *words else {
         return Err(Flaw::Command);

@@ -4,18 +4,18 @@ use std::alloc::Global;
 use std::sync::Wait;
 use std::time;
 
-/// What a file has many of, one after the other: cases, or tables.
+/// An entry of a file: a case, or a table.
 pub trait Entry: Drop + Sized {
-    /// The word that begins one.
+    /// The word that begins an entry.
     fn first_word() -> &'static str;
 
-    /// One that begins in this line, with what follows the word.
+    /// The entry that begins on this line. `rest` is what follows the word.
     fn begin(alloc: Global, line: usize, rest: &str) -> Result<Self, Flaw>;
 
     /// Takes a further line, which has this number.
     fn take(&mut self, alloc: Global, number: usize, line: &str) -> Result<(), Flaw>;
 
-    /// Whether it has all that it needs, and nothing else.
+    /// Checks that it has all that it needs, and nothing else.
     fn check(&self) -> Result<(), Flaw>;
 
     /// The number of its first line.
@@ -23,7 +23,7 @@ pub trait Entry: Drop + Sized {
 
     fn name(&self) -> &str;
 
-    /// Runs it. Returns what differs from it, if anything does.
+    /// Runs it. Returns what came out otherwise, if anything did.
     fn difference<R: Wait + time::Clock>(
         &self,
         rt: &R,

@@ -11,17 +11,17 @@ pub enum Flaw {
     Name,
     /// A case or table before has the same name.
     SameName,
-    /// A `\` is followed by something that may not follow it.
+    /// What follows a `\` is not an escape.
     Escape,
     /// There is no number where one is needed.
     Number,
     /// No timer, size of reads or device fault has this name.
     Device,
-    /// The case has the word for the second time, and it may have it once.
+    /// The case has the word a second time, and may have it only once.
     Twice,
     /// The case has neither `ends` nor `verdict`.
     NoOutcome,
-    /// The case has a `verdict` without a `status`, or the other way round.
+    /// The case has a `verdict` without a `status`, or a `status` without a `verdict`.
     Half,
     /// The case has words of a script and words of a replay.
     Mixed,
@@ -31,7 +31,7 @@ pub enum Flaw {
     Kind,
     /// The kind has no set-up that begins with this word.
     SetUp,
-    /// The table has the line for the second time, and it may have it once.
+    /// The table has the line a second time, and may have it only once.
     Again,
     /// No history leads to the opening that a table begins with.
     Opening,
@@ -45,7 +45,7 @@ pub enum Flaw {
     Command,
     /// The command needs a queue, or a share, that has not begun.
     Early,
-    /// No queue has room for so many calls.
+    /// No queue has room for this many calls.
     Capacity,
     /// A payload is not 1 to 64 visible bytes.
     Payload,

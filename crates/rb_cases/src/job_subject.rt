@@ -1,8 +1,8 @@
-//! A caller at a desk where no call waits, with the jobs that it has fetched.
+//! A caller at a desk at which no call waits, with the jobs that it has fetched.
 //!
 //! A table is run at the desk of a kept queue, over the plain timer and over the binary heap, and at that of a shared
-//! queue. An ELEMENT is `ID EXPIRY ORIGIN FIRST ATTEMPT PAYLOAD`, and ASK and REPLY are those of a queue
-//! (`queue_subject.rt`).
+//! queue. An ELEMENT is `ID EXPIRY ORIGIN FIRST ATTEMPT PAYLOAD`. A DRAFT is an ELEMENT without its id. ASK and REPLY
+//! are those of a queue (`queue_subject.rt`).
 //!
 //! | Set-up | Meaning |
 //! |---|---|
@@ -15,14 +15,14 @@
 //! | `now` | the moment of the desk's clock |
 //! | `set MOMENT` | the moment that the clock has then, or `none` if it can't be set |
 //! | `call ASKED ASK` | REPLY, or the fault's text |
-//! | `given N` | the element at this place, from 0, among those of the last call's drain: ELEMENT, or `none` |
+//! | `given N` | the element at this place, from 0, among those that the last drain by `call` gave, or `none` |
 //! | `poll ASKED`, `take`, `pollfor START TIMEOUT` | `job ELEMENT`, `none`, or the fault's text |
 //! | `drain ASKED MAX` | `jobs N`, or the fault's text |
-//! | `job` | the job that was fetched before all others: ELEMENT, or `none` |
+//! | `job` | the job that was fetched first: ELEMENT, or `none` |
 //! | `done` | that job is done: ELEMENT, or `none` |
 //! | `policy delay N ATTEMPTS`, `policy rate N ATTEMPTS` | `made`, or `none` |
-//! | `fail MOMENT` | that job fails: `again ELEMENT`, `dead ELEMENT`, or the fault's text and the ELEMENT of the job that is handed back |
-//! | `retry MOMENT ELEMENT` | the draft if a job of this element fails: `EXPIRY ORIGIN FIRST ATTEMPT PAYLOAD`, or `none` |
+//! | `fail MOMENT` | that job fails: `again ELEMENT`, `dead ELEMENT`, or the fault's text and the ELEMENT handed back |
+//! | `retry MOMENT ELEMENT` | what is offered again if a job of this element fails: DRAFT, or `none` |
 
 use crate::elements::{element_of, element_text, payload_text};
 use crate::flaw::Flaw;
@@ -40,7 +40,7 @@ use std::collections::VecDeque;
 #[derive(Drop)]
 pub struct JobSubject<D: Desk> {
     desk: D,
-    // What the last call's drain gave.
+    // What the last drain by `call` gave.
     given: Items,
     policy: Option<Policy>,
     // In the order in which they were fetched.
@@ -242,7 +242,7 @@ impl<D: Desk + Drop> JobSubject<D> {
         }
     }
 
-    // The job is once more the one that was fetched before all others.
+    // Hands a job back, as the one that was fetched first.
     fn hand_back(
         &mut self,
         alloc: Global,

@@ -11,7 +11,7 @@ pub enum Kind {
     Lines,
     /// Words of the command line.
     Words,
-    /// Jobs at the desks where no call waits.
+    /// Jobs at the desks at which no call waits.
     Jobs,
 }
 

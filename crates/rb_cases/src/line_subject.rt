@@ -6,8 +6,8 @@
 //! | `reply REPLY` | the line that is appended to the text |
 //! | `behind REPLY` | the line that is appended to each of several texts, some of which have to grow |
 //! | `length` | how many bytes the text has |
-//! | `part FROM LENGTH` | so many bytes of the text |
-//! | `constant NAME` | the number of this name |
+//! | `part FROM LENGTH` | LENGTH bytes of the text, from the byte FROM on |
+//! | `constant NAME` | the value of the constant of this name |
 //!
 //! A REPLY is one of these, where an ELEMENT is `ID EXPIRY ORIGIN FIRST ATTEMPT PAYLOAD`:
 //!
@@ -36,7 +36,7 @@ use rb_protocol::{
 };
 use std::alloc::{AllocError, Global};
 
-// How many bytes the texts have behind which a reply is written, without room for more and with room for a reply.
+// The lengths of the texts to which a reply is appended, without room for more and with room for a reply.
 const LENGTHS: [usize; 4] = [0, 10, 1_000, 100_000];
 
 #[derive(Drop)]
@@ -117,7 +117,7 @@ fn behind_texts(alloc: Global, reply: &LineReply) -> Result<String, AllocError> 
     String::from_utf8_lossy(alloc, &line)
 }
 
-// The length of the first text behind which the reply is not this line.
+// The length of the first text to which the reply is not appended as this line, if there is one.
 fn length_not_so(
     alloc: Global,
     reply: &LineReply,
@@ -132,7 +132,7 @@ fn length_not_so(
     Ok(None)
 }
 
-// Whether the reply is this line behind such a text, which does not grow if there is room.
+// Whether the reply is appended as this line to a text of this length, which does not grow if there is room.
 fn stands_behind(
     alloc: Global,
     reply: &LineReply,
@@ -154,7 +154,7 @@ fn text_with_room(alloc: Global, length: usize, room: usize) -> Result<Vec<u8>, 
     Ok(text)
 }
 
-// Whether the text has this line, and nothing else, behind so many bytes.
+// Whether the text has this line, and nothing else, after its first `length` bytes.
 fn ends_with(text: &[u8], length: usize, line: &[u8]) -> bool {
     text.get(length..) == Some(line)
 }
@@ -230,7 +230,7 @@ fn reply_of(words: &[&str]) -> Result<LineReply, Flaw> {
     }
 }
 
-// The element that is told behind the first word.
+// The element whose words follow the first one.
 fn element_behind(words: &[&str]) -> Result<Element, Flaw> {
     element_of(words.get(1..).unwrap_or(&[]))
 }

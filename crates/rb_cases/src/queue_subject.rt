@@ -6,12 +6,12 @@
 //! | Command | Answer |
 //! |---|---|
 //! | `begin CAPACITY` | `begun`, or the fault's text; it comes before all the others, and begins anew |
-//! | `SEAT ASKED ASK` | the step of a run of this one try |
-//! | `no try` | how many steps a run of no try has |
+//! | `SEAT ASKED ASK` | the step of a run of just this try |
+//! | `no try` | how many steps a run without tries has |
 //! | `given N` | the element at this place, from 0, among those of the last drain: ELEMENT, or `none` |
 //! | `audit` | the numbers of the audit: calls, offered, given, removed, cleared, left, opening |
 //! | `share` | the calls of the callers' share, and the elements that they offered and were given |
-//! | `split` | `split`: from then on the calls of seat 0 count in the share, those of all other seats in another |
+//! | `split` | `split`: from then on the calls of seat 0 count in the share, and those of all other seats in another |
 //! | `other share` | the same numbers of that other share |
 //! | `join` | `joined`: the two are one share again |
 //! | `capacity` | how many calls there is room for |
@@ -52,7 +52,7 @@ use std::str;
 #[derive(Drop)]
 pub struct QueueSubject<T: Timer> {
     from: Text,
-    // What was handed back by a queue that could not be made, for the next one to begin with.
+    // The opening that a queue which could not be made handed back, for the next one.
     handed_back: Option<Opening>,
     run: Option<Run<T>>,
 }
@@ -205,7 +205,7 @@ impl<T: Timer> Run<T> {
         }
     }
 
-    // The step of a run of this one try.
+    // The step of a run of just this try.
     fn step_of(&mut self, alloc: Global, one: Try) -> Result<Option<Step>, AllocError> {
         let is_other = one.seat > 0;
         let mut steps = self.run_try(is_other, vec![in alloc; one]?)?;
@@ -314,7 +314,7 @@ fn later_text(alloc: Global, next: Option<u64>) -> Result<String, AllocError> {
     }
 }
 
-/// A reply, but to a drain.
+/// The text of a reply to anything but a drain.
 pub fn reply_text(alloc: Global, reply: &Reply) -> Result<String, AllocError> {
     match reply {
         Reply::Offered(element) => element_text(alloc, "offered ", element),
@@ -328,7 +328,7 @@ pub fn reply_text(alloc: Global, reply: &Reply) -> Result<String, AllocError> {
     }
 }
 
-/// The element at a place of what a drain gave.
+/// The element at a place, from 0, among those that a drain gave.
 pub fn given_text(alloc: Global, given: &Items, place: &str) -> Result<String, Flaw> {
     match given.as_slice().get(number(place)?) {
         Some(element) => element_text(alloc, "", element).map_err(Flaw::from),

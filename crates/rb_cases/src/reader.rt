@@ -1,8 +1,8 @@
 //! The reading of a file of cases or of tables.
 //!
 //! A file is a list of lines. A line that is blank or begins with `#` is a comment. A line that begins
-//! with the word of an entry, `case` or `table`, begins one, and the lines up to the next belong to it.
-//! No two of a file have one name.
+//! with `case` or `table` begins an entry, and the lines up to the next one belong to it. No two entries
+//! of a file have the same name.
 
 use crate::entry::Entry;
 use crate::flaw::Flaw;
@@ -67,7 +67,7 @@ impl<E: Entry> Reader<E> {
         }
     }
 
-    // The entry before, which gets no more lines, is complete.
+    // Checks the entry before, which gets no more lines.
     fn check_last(&self) -> Result<(), Malformed> {
         match self.entries.last() {
             Some(entry) => at_line(entry.line(), entry.check()),

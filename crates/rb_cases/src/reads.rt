@@ -6,7 +6,7 @@ pub struct Reads {
 }
 
 impl Reads {
-    /// Each read gives at most so many.
+    /// Each read gives at most this many bytes.
     pub fn of_size(size: usize) -> Reads {
         Reads {
             first: size,
@@ -14,7 +14,7 @@ impl Reads {
         }
     }
 
-    /// The script is cut in two behind so many bytes.
+    /// The script is cut in two after this many bytes.
     pub fn cut_behind(first: usize) -> Reads {
         Reads {
             first,

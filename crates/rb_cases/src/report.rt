@@ -17,7 +17,7 @@ impl Report {
         }
     }
 
-    /// Counts one more table, or else one more case.
+    /// Counts one more table or case.
     pub fn add(&mut self, is_table: bool, is_wrong: bool) {
         self.tables = self.tables.saturating_add(u64::from(is_table));
         self.cases = self.cases.saturating_add(u64::from(!is_table));

@@ -14,7 +14,7 @@ pub struct Row {
     pub answers: String,
 }
 
-/// Rows that are run one after the other, and all of them as often as `times` says.
+/// Rows that are run one after the other, in as many rounds as `times` says.
 #[derive(Drop)]
 pub struct Block {
     pub times: usize,

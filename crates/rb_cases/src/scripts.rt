@@ -12,7 +12,7 @@ use rb_runs::{opening_in, run_script_gathered};
 use rb_session::Ended;
 use std::alloc::{AllocError, Global};
 
-/// What differs from the case in its first run that is not as it must be.
+/// What differs from the case in the first run that does not come out as it must, if there is one.
 pub fn script_difference(alloc: Global, case: &Case) -> Result<Option<String>, AllocError> {
     for timer in TIMERS {
         if case.devices.have_timer(timer)

@@ -6,16 +6,16 @@ use std::str;
 
 /// What the rows of a table are about: it performs their commands.
 pub trait Subject: Drop + Sized {
-    /// Performs a command, whose escapes have been read, and tells its answer.
+    /// Performs a command, whose escapes have been read, and returns its answer.
     fn answer(&mut self, alloc: Global, command: &[u8]) -> Result<String, Flaw>;
 }
 
-/// A subject that is made as the set-up says.
+/// A subject that is made from the table's set-up.
 pub trait FromSetUp: Subject {
     fn begin(alloc: Global, set_up: &[Line]) -> Result<Self, Malformed>;
 }
 
-/// Refuses set-up, for a subject that has none.
+/// Refuses any set-up, for a subject that has none.
 pub fn refuse_set_up(set_up: &[Line]) -> Result<(), Malformed> {
     match set_up.first() {
         Some(line) => Err(Malformed {

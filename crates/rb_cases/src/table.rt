@@ -16,7 +16,7 @@
 //! files (`text.rt`), such as `\x3D` for a `=`. Between `times` and `end`, `\#` is the number of the round,
 //! counted from 0; elsewhere it is 0.
 //!
-//! The kinds, and the file that has the commands of each and says how their answers are written:
+//! The kinds, and the file that describes the commands of each, with their answers:
 //!
 //! | Kind | About | File |
 //! |---|---|---|
@@ -24,7 +24,7 @@
 //! | `queue` | calls of a kept queue | `queue_subject.rt` |
 //! | `lines` | lines of the protocol | `line_subject.rt` |
 //! | `words` | words of the command line | `word_subject.rt` |
-//! | `jobs` | jobs at the desks where no call waits | `job_subject.rt` |
+//! | `jobs` | jobs at the desks at which no call waits | `job_subject.rt` |
 
 use crate::devices::timer_of;
 use crate::entry::Entry;
@@ -148,7 +148,7 @@ impl Table {
         }
     }
 
-    // Takes a line that is no row.
+    // Takes a line that is not a row.
     fn take_word(&mut self, alloc: Global, line: usize, text: &str) -> Result<(), Flaw> {
         let (word, rest) = text.split_once(' ').unwrap_or((text, ""));
         match word {

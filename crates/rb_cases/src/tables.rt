@@ -19,7 +19,7 @@ use std::alloc::Global;
 use std::sync::Wait;
 use std::time;
 
-/// What came in place of an answer in the first row that did not get one of its own.
+/// What came in place of a right answer in the first row that got none, if there is one.
 pub fn table_difference<R: Wait + time::Clock>(
     rt: &R,
     alloc: Global,
@@ -60,7 +60,7 @@ fn over<T: Timer>(alloc: Global, table: &Table, place: &str) -> Result<Option<St
     }
 }
 
-// Runs all rows. What is printed of a row begins with `place`.
+// Runs all rows. A difference is printed with `place` before it.
 fn run_table<S: FromSetUp>(
     alloc: Global,
     table: &Table,

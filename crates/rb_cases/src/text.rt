@@ -21,7 +21,7 @@ use std::alloc::{AllocError, Global};
 pub struct Text {
     alloc: Global,
     pub bytes: Vec<u8>,
-    /// Whether a line gives it. It may be empty then.
+    /// Whether the case has a line of it. The text may still be empty.
     pub is_given: bool,
 }
 
@@ -63,7 +63,7 @@ impl Text {
         Ok(self.bytes.extend_from_slice(b"\n")?)
     }
 
-    // Appends the bytes that are meant. There are no more escapes than bytes.
+    // Appends the bytes that the text stands for. There are no more escapes than bytes.
     fn push_told(&mut self, index: usize, told: &str) -> Result<(), Flaw> {
         let mut rest = told;
         for _ in 0..told.len() {
@@ -75,7 +75,7 @@ impl Text {
         Ok(())
     }
 
-    // Appends what comes before the first escape, and that escape. What follows it is left.
+    // Appends what comes before the first escape, and what the escape stands for. Returns what follows it.
     fn push_piece<'a>(&mut self, index: usize, told: &'a str) -> Result<&'a str, Flaw> {
         let Some((plain, escaped)) = told.split_once('\\') else {
             self.bytes.extend_from_slice(told.as_bytes())?;

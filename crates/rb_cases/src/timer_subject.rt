@@ -12,7 +12,7 @@
 //! | `due MOMENT` | `SLOT EXPIRY`, or `none` |
 //! | `clear` | `cleared` |
 //!
-//! The last five are the commands of `run_timer`, which refuses what the timer does not allow. There is no set-up.
+//! The last five are the commands of `run_timer`, which refuses a command whose condition fails. There is no set-up.
 
 use crate::flaw::Flaw;
 use crate::malformed::Malformed;

@@ -15,8 +15,8 @@
 //! | `serve port N timer T workers N sessions N turns N calls N POLICY FILES` |
 //! | `refused KIND STATUS` or `shown KIND STATUS`: clap's kind of error, and the exit status |
 //!
-//! A POLICY is `delay N attempts N` or `rate N attempts N`. FILES are ` history "FILE"` and ` from "FILE"`, each only if
-//! it was given. There is no set-up.
+//! A POLICY is `delay N attempts N` or `rate N attempts N`. FILES are ` history "FILE"` and ` from "FILE"`, each only
+//! if it was given. There is no set-up.
 
 use crate::flaw::Flaw;
 use crate::malformed::Malformed;
@@ -54,7 +54,7 @@ fn answer_to(alloc: Global, words: &[&str]) -> Result<String, Flaw> {
     }
 }
 
-// The words of a command. Each second part of it stood in quotes.
+// The words of a command. Every second part of it was in quotes.
 fn words_of(alloc: Global, command: &str) -> Result<Vec<&str>, AllocError> {
     let mut words = Vec::new(alloc);
     for (place, part) in command.split('\'').enumerate() {
@@ -179,7 +179,7 @@ fn error_text(alloc: Global, error: &Error) -> Result<String, AllocError> {
     format!(in alloc; "{told} {kind:?} {status}")
 }
 
-// Whether the part is shown for the words behind it.
+// Whether the part is shown for the words after it.
 fn shows(alloc: Global, words: &[&str], part: &str) -> Result<String, AllocError> {
     let line = words.get(2..).unwrap_or(&[]);
     match read_words(alloc, line) {

@@ -5,6 +5,6 @@ use Rattle.std.specs.Prelude.{ℕ, ℤ, pos, ◌-ℤ◌, ◌≤ℤ◌}
 abbrev pub delay_of : ℕ → ℕ → ℤ
 delay_of expiry now = pos expiry -ℤ pos now
 
--- the delay is used up: it is zero or less
+-- the delay has passed: it is zero or less
 abbrev pub IsExpired : ℕ → ℕ → Type 0
 IsExpired expiry now = delay_of expiry now ≤ℤ pos 0

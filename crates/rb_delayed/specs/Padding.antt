@@ -10,12 +10,12 @@ pub record IsPadded (buffer : List ℕ) (len : ℕ) : Type 0 where
   pub counted : len ≡ length (take len buffer)
   pub zeros : buffer ≡ take len buffer ++ replicate (MOST_PAYLOAD_BYTES - len) 0
 
--- what the payload gives back
+-- the payload determines the buffer and the length
 pub record Unpadded (buffer : List ℕ) (len : ℕ) : Type 0 where
   pub padded : take len buffer ++ replicate (MOST_PAYLOAD_BYTES - length (take len buffer)) 0 ≡ buffer
   pub counted : length (take len buffer) ≡ len
 
--- a payload and zeros make the buffer again
+-- a padded buffer is determined by its payload
 pub unpadded : (buffer : List ℕ) (len : ℕ) → IsPadded buffer len → Unpadded buffer len
 unpadded buffer len h = record {
   padded = ap (λ n. take len buffer ++ replicate (MOST_PAYLOAD_BYTES - n) 0) (sym h.counted) ∙ sym h.zeros;

@@ -7,13 +7,13 @@ use std::cmp::Ordering;
 /// Something that may be taken once its delay has expired, like `java.util.concurrent.Delayed`
 /// (Java SE 17).
 pub trait Delayed {
-    /// Its name.
+    /// Its id, the number that names it.
     ghost id: { Self → ℕ };
 
-    /// The moment at which its delay is zero.
+    /// The moment, in nanoseconds, at which its delay is zero.
     ghost expiry: { Self → ℕ };
 
-    /// Its name.
+    /// Its id, the number that names it.
     fn id(&self) -> u64
         ensures { result ≡ id self.now };
 
@@ -37,8 +37,8 @@ pub trait Delayed {
     }
 }
 
-/// Whether the delay is zero or less at `now`, which is what `DelayQueue` (Java SE 17) means by
-/// expired.
+/// Whether the element's delay is zero or less at `now`, in nanoseconds: what `DelayQueue`
+/// (Java SE 17) calls expired.
 pub fn is_expired<D: Delayed>(element: &D, now: u64) -> bool
     ensures expired { IsTrue result ↔ IsExpired (D.expiry element.now) now }
     ensures by_expiry { IsTrue result ↔ (D.expiry element.now ≤ now) }

@@ -4,7 +4,7 @@ ghost use Rattle.rb_delayed.specs.declared.element.TheConstants.{GREATEST_ATTEMP
 use crate::delayed::Delayed;
 use crate::payload::Payload;
 
-/// The greatest attempt number.
+/// The greatest attempt number: no job is tried more often.
 pub const GREATEST_ATTEMPT: u32 = 1_000;
 
 /// What a delay queue holds: a payload with the moment from which it may be taken.

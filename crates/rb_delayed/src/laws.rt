@@ -3,7 +3,7 @@ ghost use Rattle.rb_delayed.specs.declared.element.TheConstants.{GREATEST_ATTEMP
 ghost use Rattle.rb_delayed.specs.declared.moment.TheConstants.{GREATEST_MOMENT};
 ghost use Rattle.rb_delayed.specs.declared.payload.TheConstants.{MOST_PAYLOAD_BYTES, LEAST_PAYLOAD_BYTE, GREATEST_PAYLOAD_BYTE};
 
-/// The limits are these numbers. Every other clause that speaks of a limit names the constant.
+/// The limits are these numbers. Every other clause names the constants.
 pub fn limits_have_their_values()
     ensures moment { GREATEST_MOMENT ≡ 18446744073709551615 }
     ensures attempt { GREATEST_ATTEMPT ≡ 1000 }

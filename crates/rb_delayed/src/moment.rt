@@ -4,8 +4,7 @@ ghost use Rattle.std.specs.Option.{SomeIff};
 /// The last moment, 2^64 - 1 nanoseconds.
 pub const GREATEST_MOMENT: u64 = u64::MAX;
 
-/// The moment `delay` nanoseconds after `now`. `None` exactly if that would pass the greatest
-/// moment.
+/// The moment `delay` nanoseconds after `now`. `None` exactly if that would pass the greatest moment.
 pub fn add_delay(now: u64, delay: u64) -> Option<u64>
     ensures { SomeIff result (now + delay ≤ GREATEST_MOMENT) (now + delay) }
 {

@@ -7,7 +7,7 @@ use Rattle.rb_history.specs.declared.history_fault.HistoryFault.TheVariants as H
 use Rattle.rb_session.specs.declared.session_fault.SessionFault.{SessionFault}
 use Rattle.rb_session.specs.declared.session_fault.SessionFault.TheVariants as Session
 
--- 1 for a bad opening, 3 for input, output, files, listening and workers, 4 for want of memory
+-- 1 for a bad opening, 3 for input, output, files, listening and workers, 4 for refused memory
 abbrev pub status_of : BrokerFault → ℕ
 status_of Broker.BadOpening = 1
 status_of Broker.Read = 3
@@ -27,7 +27,7 @@ fault_of_session (Session.Read lost) = Broker.Read
 fault_of_session (Session.Write lost) = Broker.Write
 fault_of_session (Session.ReadTurns lost) = Broker.ReadTurns
 
--- a history that is not written
+-- the fault of a history that was not written
 abbrev pub fault_of_history : HistoryFault → BrokerFault
 fault_of_history History.Memory = Broker.Memory
 fault_of_history History.Write = Broker.WriteHistory

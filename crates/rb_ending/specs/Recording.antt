@@ -17,8 +17,8 @@ pub record IsReadable (log : Log) : Type 0 where
   pub legal : IsLegal log.opening log.history
   pub few : length log.history ≤ MOST_CALLS
 
--- A device has got the text of the log's history, or a first part of it, or nothing, as the result of writing it
--- says. From what it had got to what it has got.
+-- The device has got the text of the log's history, or a first part of it, or nothing, as the result of writing
+-- says. It had got `got` before, and has got `got'` after.
 pub record RecordsLog (log : Log) (wrote : Result (Unit {0}) HistoryFault) (got got' : Option (List ℕ)) : Type 0 where
   pub writes : Writes wrote got (history_text log.opening log.history) got'
   pub readable : OnOk wrote (IsReadable log)
@@ -28,7 +28,7 @@ abbrev pub lent : {H : Type 0} → Option (MutBor H) → Option H
 lent None = None
 lent (Some device) = Some device.now
 
--- and as it is given back: what a function leaves of an option of a reference tells its variants in order
+-- and as it is given back: a sum in the order of the option's variants, which is how a function leaves it
 abbrev pub given_back : {H : Type 0} → Unit {0} ⊎ ((MutBor H × Unit {0}) ⊎ ⊥) → Option H
 given_back (inl nothing) = None
 given_back (inr (inl device)) = Some device.0.now

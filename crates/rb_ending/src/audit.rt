@@ -11,7 +11,7 @@ use std::alloc::{AllocError, Global};
 /// The counts of a run as one line: a JSON object without spaces, with its keys in alphabetical
 /// order, and a line feed.
 ///
-/// The only fault is `Memory`.
+/// The only fault is `Memory`, if there is not enough for the line.
 pub fn audit_line(alloc: Global, audit: &Audit) -> Result<String, BrokerFault>
     ensures text { IfOk result (λ line. string_bytes line ≡ audit_text audit.now) }
     ensures fault { IfErr result (λ fault. fault ≡ BrokerFault.Memory) }

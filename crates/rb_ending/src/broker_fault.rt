@@ -14,7 +14,7 @@ pub enum BrokerFault {
     /// A write to standard output failed.
     #[error("cannot write output")]
     Write,
-    /// The input or a file had no end within the greatest number of reads.
+    /// The input or a file did not end within the greatest number of reads.
     #[error("too many reads")]
     ReadTurns,
     /// The file of a history could not be opened or read.
@@ -23,7 +23,7 @@ pub enum BrokerFault {
     /// The file of a history could not be created or written.
     #[error("cannot write history")]
     WriteHistory,
-    /// No run can continue this history: it is not a history, is not legal, or leads past a limit.
+    /// No run can continue this text: it is not a history, is not legal, or leads past a limit of openings.
     #[error("bad opening")]
     BadOpening,
     /// The server can't listen on its port.
@@ -32,7 +32,7 @@ pub enum BrokerFault {
     /// A worker of the server can't be started.
     #[error("cannot start worker")]
     Worker,
-    /// The calls of the server's workers are not all those of its history.
+    /// The server's history has calls that its workers' passes do not count.
     #[error("passes not gathered")]
     NotGathered,
     /// There is not enough memory for the run.

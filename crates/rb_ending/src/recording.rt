@@ -8,8 +8,8 @@ use std::io::Write;
 
 /// Writes the history of the kept queue to a device. The faults are those of `write_history`.
 ///
-/// What was written whole is legal and has its values in the ranges that texts have, so it is read
-/// again as just this history.
+/// A history that was written whole is legal and has all values in the ranges of texts, so it is read
+/// again as exactly this history.
 pub fn write_recording<T: Timer, H: Write>(
     alloc: Global,
     kept: &Kept<T>,

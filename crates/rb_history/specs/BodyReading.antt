@@ -1,4 +1,4 @@
--- What the lines behind a header are read as. No public clause cites this module.
+-- What the lines after a header are read as. No public clause cites this module.
 use Rattle.std.specs.Prelude.{◌≡◌, ℕ, ◌+◌, ◌<◌, ◌≤◌, ◌⊎◌, List, [], ◌∷◌, ◌++◌, length, map}
 use Rattle.rb_delayed.specs.declared.element.Element.{Element}
 use Rattle.rb_queue.specs.Opening.{AreInOrder}
@@ -21,26 +21,26 @@ use Rattle.rb_history.specs.declared.text_fault.TextReason.{TextReason}
 use Rattle.rb_history.specs.declared.text_fault.TextReason.TheVariants as reasons
 use Rattle.rb_history.specs.declared.write.TheConstants.{MOST_EVENTS}
 
--- the words keep this element, which may come next
+-- the words are the line of this element, which may come next
 pub record KeepsNext (version : Version) (least end : ℕ) (words : List (List ℕ)) (element : Element) : Type 0 where
   pub words_are : words ≡ keep_words version element
   pub right : IsRightElement element
   pub up : least ≤ element.id
   pub low : element.id < end
 
--- the words keep no element that may come next
+-- the words are the line of no element that may come next
 abbrev pub KeepsNone : Version → ℕ → ℕ → List (List ℕ) → Type 0
 KeepsNone version least end words =
     (element : Element) → IsRightElement element → words ≡ keep_words version element → least ≤ element.id → element.id < end → ⊥
 
--- the next lines keep these elements, as many as were told
+-- the next lines have these elements, as many as were announced
 pub record KeepsAll (version : Version) (end count : ℕ) (text : List ℕ) (kept : List Element) (rest : List ℕ) : Type 0 where
   pub split : text ≡ lines_text (map (keep_words version) kept) ++ rest
   pub order : AreInOrder kept end
   pub right : AreRightElements kept
   pub counted : length kept ≡ count
 
--- behind some of the elements, the next one's line has a fault
+-- after some of the elements, the next one's line has a fault
 pub record StopsKeeping (version : Version) (end count : ℕ) (text : List ℕ) (line : ℕ) (reason : TextReason) : Type 0 where
   pub kept : List Element
   pub rest : List ℕ
@@ -55,7 +55,7 @@ abbrev pub KeepsFail : Version → ℕ → ℕ → List ℕ → TextFault → Ty
 KeepsFail version end count text (At line reason) = StopsKeeping version end count text line reason
 KeepsFail version end count text Memory = Unit {0}
 
--- the first line tells these numbers of an opening
+-- the first line has these numbers of an opening
 pub record TellsNumbers (version : Version) (text : List ℕ) (told : OpenLine) (rest : List ℕ) : Type 0 where
   pub split : text ≡ line_text (numbers_words told.next_id told.last_at told.count) ++ rest
   pub next : told.next_id ≤ GREATEST_OPENING_ID
@@ -67,13 +67,13 @@ abbrev pub NumbersFail : Version → List ℕ → TextFault → Type 0
 NumbersFail version text (At line reason) = OpenFault version text line reason
 NumbersFail version text Memory = Unit {0}
 
--- the lines tell this opening
+-- the lines are those of this opening
 pub record TellsOpening (version : Version) (text : List ℕ) (opening : Opening) (rest : List ℕ) : Type 0 where
   pub split : text ≡ lines_text (opening_lines version opening) ++ rest
   pub begins : MayBegin version opening
   pub right : IsRightOpening opening
 
--- a line of the opening has this fault, where the version tells one
+-- a line of the opening has this fault, in a version that has such lines
 abbrev pub FaultOfOpening : Version → List ℕ → ℕ → TextReason → Type 0
 FaultOfOpening One text line reason = ⊥
 FaultOfOpening version text line reason = OpenFault version text line reason ⊎ KeepFault version text line reason
@@ -82,12 +82,12 @@ abbrev pub OpeningFails : Version → List ℕ → TextFault → Type 0
 OpeningFails version text (At line reason) = FaultOfOpening version text line reason
 OpeningFails version text Memory = Unit {0}
 
--- the number of the line behind the opening's
+-- the number of the line after the opening's
 abbrev pub line_behind : Version → Opening → ℕ
 line_behind One opening = 2
 line_behind version opening = 3 + length opening.elements
 
--- the lines tell this history, up to what follows of first expiries
+-- the lines are those of this history; first expiries that the version leaves out may be any
 pub record TellsRun (version : Version) (text : List ℕ) (history : History) : Type 0 where
   pub split : text ≡ lines_text (opening_lines version history.opening)
       ++ lines_text (map (event_words version) history.events ++ (end_words (length history.events) ∷ []))

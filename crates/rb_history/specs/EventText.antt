@@ -8,7 +8,7 @@ use Rattle.rb_queue.specs.declared.opening.Opening.{Opening}
 use Rattle.rb_history.specs.declared.version.Version.{Version}
 use Rattle.rb_history.specs.declared.version.Version.TheVariants.{One, Two, Three}
 
--- the expiry of the origin's first offer, in the version that tells it
+-- the expiry of the origin's first offer, in the version that has it
 abbrev pub first_words : Version → ℕ → List (List ℕ)
 first_words One first = []
 first_words Two first = []
@@ -19,7 +19,7 @@ abbrev pub whole_element_words : Version → Element → List (List ℕ)
 whole_element_words version e =
     decimal e.id ∷ decimal e.expiry ∷ decimal e.origin ∷ (first_words version e.first ++ (decimal e.attempt ∷ e.payload ∷ []))
 
--- the id, or that there was none
+-- the id, or `none`
 abbrev pub given_words : Option ℕ → List (List ℕ)
 given_words None = codes "none" ∷ []
 given_words (Some id) = decimal id ∷ []

@@ -1,4 +1,4 @@
--- The expiry of a job's first offer, which the texts of the first two versions do not tell.
+-- The expiry of a job's first offer, which the texts of the first two versions leave out.
 use Rattle.std.specs.Prelude.{◌≡◌, ℕ, ◌==◌, All, List, [], ◌∷◌, ◌++◌, Option, Some, None, if◌then◌else◌}
 use Rattle.rb_delayed.specs.declared.element.Element.{Element}
 use Rattle.rb_queue.specs.declared.event.Event.{Event}
@@ -16,7 +16,7 @@ earliest (element ∷ elements) origin =
 abbrev pub HaveEarliest : List Element → Type 0
 HaveEarliest elements = All (λ (element : Element). earliest elements element.origin ≡ Some element.first) elements
 
--- the first expiries of what was kept and offered are told, or follow from the lines
+-- the version's lines have the first expiries of the elements, or these follow from the lines
 abbrev pub FirstsFollow : Version → List Element → List Event → Type 0
 FirstsFollow One kept events = HaveEarliest (kept ++ offers_in events)
 FirstsFollow Two kept events = HaveEarliest (kept ++ offers_in events)

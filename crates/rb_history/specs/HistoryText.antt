@@ -8,7 +8,7 @@ use Rattle.rb_history.specs.declared.version.Version.{Version}
 use Rattle.rb_history.specs.declared.version.Version.TheVariants.{One, Two, Three}
 use Rattle.rb_history.specs.EventText.{event_words, header_words, open_words, keep_words, end_words}
 
--- words with one space between two of them, and a line feed
+-- the words, separated by single spaces, and a line feed
 abbrev pub line_text : List (List ℕ) → List ℕ
 line_text words = spaced words ++ (LINE_FEED ∷ [])
 
@@ -17,13 +17,13 @@ abbrev pub lines_text : List (List (List ℕ)) → List ℕ
 lines_text [] = []
 lines_text (words ∷ lines) = line_text words ++ lines_text lines
 
--- the lines that tell the opening: none in the first version, where it is empty
+-- the lines of the opening: none in the first version, whose opening is empty
 abbrev pub opening_lines : Version → Opening → List (List (List ℕ))
 opening_lines One opening = []
 opening_lines Two opening = open_words opening ∷ map (keep_words Two) opening.elements
 opening_lines Three opening = open_words opening ∷ map (keep_words Three) opening.elements
 
--- the lines of a history: the version, the opening, a line for each event, and how many they are
+-- the lines of a history: the version, the opening, a line for each event, and the number of events
 abbrev pub history_lines : Version → Opening → List Event → List (List (List ℕ))
 history_lines version opening events =
     (header_words version ∷ opening_lines version opening)

@@ -32,24 +32,24 @@ pub record IsTextIn (version : Version) (opening : Opening) (events : List Event
 abbrev pub IsTextOf : Opening → List Event → List ℕ → Type 0
 IsTextOf opening events text = (version : Version) × IsTextIn version opening events text
 
--- the history that the text is of, or the first fault of the text
+-- the history whose text this is, or the first fault of the text
 abbrev pub Reads : List ℕ → Result History TextFault → Type 0
 Reads text (Ok history) = IsTextOf history.opening history.events text
 Reads text (Err (At line reason)) = HasFault text line reason
 Reads text (Err Memory) = Unit {0}
 
--- this history was read, want of memory aside
+-- this history was read, unless memory was refused
 abbrev pub IsReadAs : Opening → List Event → Result History TextFault → Type 0
 IsReadAs opening events (Ok history) = (history.opening ≡ opening) × (history.events ≡ events)
 IsReadAs opening events (Err (At line reason)) = ⊥
 IsReadAs opening events (Err Memory) = Unit {0}
 
--- Want of memory aside, a text of a history is read as that history.
+-- A text of a history is read as that history, unless memory is refused.
 abbrev pub ReadsEach : List ℕ → Result History TextFault → Type 0
 ReadsEach text result = (opening : Opening) (events : List Event) → IsRightOpening opening → AreRightEvents events
     → IsTextOf opening events text → IsReadAs opening events result
 
--- the law that no text is of two histories, nor of one in two versions
+-- the law that no text is that of two histories, nor that of one history in two versions
 abbrev pub NoTextOfTwo : Type 0
 NoTextOfTwo = (version other : Version) (opening second : Opening) (events others : List Event) (text : List ℕ)
     → IsRightOpening opening → AreRightEvents events → IsRightOpening second → AreRightEvents others
@@ -66,7 +66,7 @@ abbrev pub NoFaultOfText : Type 0
 NoFaultOfText = (opening : Opening) (events : List Event) (text : List ℕ) (line : ℕ) (reason : TextReason)
     → IsRightOpening opening → AreRightEvents events → IsTextOf opening events text → HasFault text line reason → ⊥
 
--- the law that a text has one fault at most, its first
+-- the law that a text has at most one fault, its first
 abbrev pub OneFault : Type 0
 OneFault = (text : List ℕ) (line other : ℕ) (reason cause : TextReason)
     → HasFault text line reason → HasFault text other cause → (line ≡ other) × (reason ≡ cause)

@@ -1,4 +1,4 @@
--- How the first expiries are found that a text does not tell. No public clause cites this module.
+-- How the first expiries that a text leaves out are found. No public clause cites this module.
 use Rattle.std.specs.Prelude.{◌≡◌, ℕ, List, [], ◌∷◌, ◌++◌, length, map, Some}
 use Rattle.std.specs.Ordering.{nat_cmp}
 use Rattle.std.specs.BTreeMap as tree
@@ -20,13 +20,13 @@ use Rattle.rb_history.specs.declared.version.Version.TheVariants.{One}
 pub record KnowsFirsts (firsts : Firsts) (elements : List Element) : Type 0 where
   pub each : (origin : ℕ) → tree.get nat_cmp firsts.expiries origin ≡ earliest elements origin
 
--- The element is known behind those before, and the earliest with its origin has this expiry.
+-- The element is known besides those before it, and the earliest with its origin has this expiry.
 pub record IsFirst (old : Firsts) (element : Element) (new : Firsts) (first : ℕ) : Type 0 where
   pub small : IsWord first
   pub knows : (known : List Element) → KnowsFirsts old known → KnowsFirsts new (known ++ element ∷ [])
   pub is_first : (known : List Element) → KnowsFirsts old known → earliest (known ++ element ∷ []) element.origin ≡ Some first
 
--- the elements tell the same but for their first expiries, which are those of the earliest
+-- the elements are the same except for their first expiries, which are those of the earliest
 pub record SettlesElements (old : List Element) (after : Firsts) (new : List Element) : Type 0 where
   pub words : map (keep_words One) new ≡ map (keep_words One) old
   pub ids : ids_of new ≡ ids_of old
@@ -34,7 +34,7 @@ pub record SettlesElements (old : List Element) (after : Firsts) (new : List Ele
   pub knows : KnowsFirsts after new
   pub firsts : HaveEarliest new
 
--- the event tells the same but for the first expiry of what it offered
+-- the event is the same except for the first expiry of what it offered
 pub record SettlesEvent (before : Firsts) (old : Event) (after : Firsts) (new : Event) : Type 0 where
   pub words : event_words One new ≡ event_words One old
   pub right : IsRightEvent old → IsRightEvent new
@@ -49,7 +49,7 @@ pub record SettlesEvents (before : Firsts) (old : List Event) (after : Firsts) (
   pub knows : (known : List Element) → KnowsFirsts before known → KnowsFirsts after (known ++ offers_in new)
   pub firsts : (known : List Element) → KnowsFirsts before known → HaveEarliest known → HaveEarliest (known ++ offers_in new)
 
--- the history tells the same, and each first expiry is that of the earliest
+-- the history is the same except for the first expiries, each of which is that of the earliest
 pub record HasFirsts (told : History) (history : History) : Type 0 where
   pub elements : map (keep_words One) history.opening.elements ≡ map (keep_words One) told.opening.elements
   pub next_id : history.opening.next_id ≡ told.opening.next_id

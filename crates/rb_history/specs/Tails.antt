@@ -1,4 +1,4 @@
--- Words behind another. No public clause cites this module.
+-- Words that follow another. No public clause cites this module.
 use Rattle.std.specs.Prelude.{ℕ, List, [], ◌∷◌, ◌++◌}
 use Rattle.rb_protocol.specs.declared.format.TheConstants.{SPACE}
 

@@ -29,7 +29,7 @@ pub record HasOtherLine (version : Version) (text : List ℕ) : Type 0 where
   pub no_event : (event : Event) → IsRightEvent event → words_of line ≢ event_words version event
   pub no_end : (count : ℕ) → IsWord count → words_of line ≢ end_words count
 
--- the next line, of this number, has this fault, where so many events were read
+-- the next line, of this number, has this fault, after `count` events were read
 abbrev pub NextFault : Version → ℕ → ℕ → List ℕ → ℕ → TextReason → Type 0
 NextFault version count here text line End = (line ≡ here) × HasNoLineFeed text
 NextFault version count here text line Line = (line ≡ here) × HasOtherLine version text
@@ -42,7 +42,7 @@ NextFault version count here text line Trailing =
 NextFault version count here text line reasons.Opening = ⊥
 NextFault version count here text line Header = ⊥
 
--- Behind these events, of which the first stands in this line, the text has this fault.
+-- After some events, the first of which is on line `first`, the text has this fault on line `line`.
 pub record EventsFault (version : Version) (text : List ℕ) (first line : ℕ) (reason : TextReason) : Type 0 where
   pub events : List Event
   pub rest : List ℕ
@@ -59,13 +59,13 @@ ReadsEvents version text first (Ok events) =
 ReadsEvents version text first (Err (At line reason)) = EventsFault version text first line reason
 ReadsEvents version text first (Err Memory) = Unit {0}
 
--- a last line ends a text, or tells another number, or is not the last
+-- a last line ends the text, or has another number, or something follows it
 abbrev pub EndsWell : {X : Type 0} → ℕ → ℕ → List ℕ → ℕ → Result X TextFault → Type 0
 EndsWell told count behind here (Ok x) = (told ≡ count) × (behind ≡ [])
 EndsWell told count behind here (Err fault) =
     ((told ≢ count) × (fault ≡ At here Count)) ⊎ ((told ≡ count) × (behind ≢ []) × (fault ≡ At (here + 1) Trailing))
 
--- the text has a whole line next, which opens nothing in this version
+-- the text has a whole line next, which is no first line of an opening in this version
 pub record HasOtherOpen (version : Version) (text : List ℕ) : Type 0 where
   pub line : List ℕ
   pub behind : List ℕ
@@ -74,7 +74,7 @@ pub record HasOtherOpen (version : Version) (text : List ℕ) : Type 0 where
   pub no_open : (next_id last_at count : ℕ) → IsWord last_at → IsOpenLine (words_of line) next_id last_at count
       → MayOpen version next_id last_at count → ⊥
 
--- the text has a whole line next, which keeps no element that may stand behind these
+-- the text has a whole line next, which is the line of no element that may follow these
 pub record HasOtherKeep (version : Version) (next_id : ℕ) (kept : List Element) (text : List ℕ) : Type 0 where
   pub line : List ℕ
   pub behind : List ℕ
@@ -83,12 +83,12 @@ pub record HasOtherKeep (version : Version) (next_id : ℕ) (kept : List Element
   pub no_keep : (element : Element) → IsRightElement element → words_of line ≡ keep_words version element
       → AreInOrder (kept ++ element ∷ []) next_id → ⊥
 
--- The line that tells the numbers of an opening has this fault.
+-- The line with the numbers of an opening has this fault.
 abbrev pub OpenFault : Version → List ℕ → ℕ → TextReason → Type 0
 OpenFault version text line reason =
     (line ≡ 2) × (((reason ≡ End) × HasNoLineFeed text) ⊎ ((reason ≡ reasons.Opening) × HasOtherOpen version text))
 
--- Behind the numbers of an opening and these of its elements, the next element's line has this fault.
+-- After the numbers of an opening and some of its elements, the next element's line has this fault.
 pub record KeepFault (version : Version) (text : List ℕ) (line : ℕ) (reason : TextReason) : Type 0 where
   pub next_id : ℕ
   pub last_at : ℕ
@@ -106,7 +106,7 @@ pub record KeepFault (version : Version) (text : List ℕ) (line : ℕ) (reason 
   pub place : line ≡ 3 + length kept
   pub fault : ((reason ≡ End) × HasNoLineFeed rest) ⊎ ((reason ≡ reasons.Opening) × HasOtherKeep version next_id kept rest)
 
--- Behind a whole opening, the lines of events have this fault.
+-- After a whole opening, the lines of events have this fault.
 pub record FaultBehind (version : Version) (text : List ℕ) (line : ℕ) (reason : TextReason) : Type 0 where
   pub opening : Opening
   pub rest : List ℕ
@@ -115,13 +115,13 @@ pub record FaultBehind (version : Version) (text : List ℕ) (line : ℕ) (reaso
   pub opens : MayOpen version opening.next_id opening.last_at (length opening.elements)
   pub fault : EventsFault version rest (3 + length opening.elements) line reason
 
--- the lines behind the header have this first fault
+-- the lines after the header have this first fault
 abbrev pub BodyFault : Version → List ℕ → ℕ → TextReason → Type 0
 BodyFault One text line reason = EventsFault One text 2 line reason
 BodyFault version text line reason =
     OpenFault version text line reason ⊎ (KeepFault version text line reason ⊎ FaultBehind version text line reason)
 
--- the text begins with a header, and what stands behind it has this first fault
+-- the text begins with a header, and what follows it has this first fault
 pub record FaultInBody (text : List ℕ) (line : ℕ) (reason : TextReason) : Type 0 where
   pub version : Version
   pub behind : List ℕ

@@ -1,4 +1,4 @@
--- How each reason is printed for which a text is not a history.
+-- How each reason why a text is not a history is printed.
 use Rattle.std.specs.Prelude.{ℕ, List, codes}
 use Rattle.rb_history.specs.declared.text_fault.TextReason.{TextReason}
 use Rattle.rb_history.specs.declared.text_fault.TextReason.TheVariants.{Header, Opening, Line, Many, Count, Trailing, End}

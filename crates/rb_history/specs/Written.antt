@@ -4,8 +4,8 @@ use Rattle.std.specs.Io.KnownBytes.{Appends, Keeps}
 use Rattle.rb_history.specs.declared.history_fault.HistoryFault.{HistoryFault}
 use Rattle.rb_history.specs.declared.history_fault.HistoryFault.TheVariants.{Memory, Write}
 
--- The text was written whole, or nothing for want of memory, or a first part of it. From what the writer had
--- got to what it has got.
+-- The text was written whole; or nothing was, if memory was refused; or a first part of it. The writer had got
+-- `got` before, and has got `got'` after.
 abbrev pub Writes : {X : Type 0} → Result X HistoryFault → Option (List ℕ) → List ℕ → Option (List ℕ) → Type 0
 Writes (Ok x) got text got' = Appends got got' text
 Writes (Err Memory) got text got' = Keeps got got'

@@ -5,7 +5,7 @@ use rb_queue::{Act, Event};
 use std::alloc::{AllocError, Global};
 use std::collections::BTreeMap;
 
-/// The expiry of each job's first offer, as far as the elements were looked at.
+/// The expiry of each job's first offer, among the elements looked at so far.
 #[derive(Drop)]
 pub(crate) struct Firsts {
     expiries: BTreeMap<u64, u64>,
@@ -14,7 +14,7 @@ pub(crate) struct Firsts {
 impl Firsts {
     ghost use Rattle.std.specs.Prelude.{[], IfOk, OnOk, List};
 
-    /// No element was looked at yet.
+    /// No element has been looked at yet.
     pub(crate) fn new(alloc: Global) -> Self
         ensures { KnowsFirsts result [] }
     {
@@ -23,7 +23,8 @@ impl Firsts {
         }
     }
 
-    /// Gives each of these elements the expiry of the first with its origin, which may be itself.
+    /// Sets the first expiry of each of these elements: the expiry of the earliest element with its
+    /// origin, which may be itself. It takes memory for each origin.
     pub(crate) fn settle_elements(&mut self, elements: &mut [Element]) -> Result<(), AllocError>
         requires { KnowsFirsts self.old [] }
         ensures { OnOk result (SettlesElements elements.old self.new elements.new) }
@@ -53,7 +54,7 @@ impl Firsts {
         Ok(())
     }
 
-    // The expiry of the first element with this one's origin, which is this one where none came before.
+    // The expiry of the earliest element with this one's origin: this one's own, if none came before.
     fn first_of(&mut self, element: &Element) -> Result<u64, AllocError>
         ensures { IfOk result (IsFirst self.old element.now self.new) }
     {

@@ -4,7 +4,7 @@ ghost use Rattle.rb_history.specs.declared.write.TheConstants.{MOST_EVENTS};
 use crate::write::MOST_EVENTS;
 use rb_queue::{Event, Opening, Sequence};
 
-/// What a text tells of a run: what it began with, and its events, at most 1,000,000.
+/// What a text says of a run: its opening, and its events, at most 1,000,000.
 #[derive(Debug, Drop, PartialEq, Eq)]
 pub struct History {
     pub(crate) opening: Opening,
@@ -15,8 +15,8 @@ pub struct History {
 impl History {
     ghost use Rattle.std.specs.Prelude.{◌≡◌, ◌↔◌, IsSome, IfSome};
 
-    /// The history of a run that began with this opening. `None` exactly where the events are more than
-    /// 1,000,000. It takes no memory.
+    /// The history of a run that began with this opening. `None` exactly if there are more than 1,000,000
+    /// events. It takes no memory.
     pub fn new(opening: Opening, events: Sequence<Event>) -> Option<History>
         ensures few { IsSome result ↔ (length events ≤ MOST_EVENTS) }
         ensures opening { IfSome result (λ history. history.opening ≡ opening) }

@@ -3,6 +3,7 @@
 pub enum HistoryFault {
     /// There is not enough memory for the text. Nothing was written.
     Memory,
-    /// A write or a flush failed, or a write took no byte. A first part of the text was written.
+    /// A write or a flush failed, or a write took no byte. A first part of the text was written, perhaps
+    /// nothing or all of it.
     Write,
 }

@@ -10,7 +10,8 @@ use rb_protocol::LINE_FEED;
 use rb_queue::{Event, Opening};
 use std::alloc::{AllocError, Global};
 
-/// The text of a history, as it is written. All that was written was read, so it is in its range.
+/// The text of a history, in the version that is written. On `Ok` all values are in their ranges. `Err`
+/// means that there is not enough memory.
 pub(crate) fn history_bytes(
     alloc: Global,
     opening: &Opening,

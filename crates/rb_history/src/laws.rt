@@ -7,18 +7,18 @@ pub fn one_text_each()
     ensures { OneTextEach }
 {}
 
-/// No text is of two histories, nor of one in two versions. The values are within their ranges: numbers
-/// of 64 bits, and payloads.
+/// No text is that of two histories, nor that of one history in two versions, if all values are in their
+/// ranges: numbers of 64 bits, and payloads.
 pub fn no_text_of_two()
     ensures { NoTextOfTwo }
 {}
 
-/// A text of a history has no fault, so that it can be read. The values are within their ranges.
+/// A text of a history has no fault, so it can be read, if all values are in their ranges.
 pub fn no_fault_of_text()
     ensures { NoFaultOfText }
 {}
 
-/// A text has one fault at most: the first.
+/// A text has at most one fault: the first.
 pub fn one_fault()
     ensures { OneFault }
 {}

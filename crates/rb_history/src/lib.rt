@@ -1,7 +1,7 @@
 //! The history of a run as text.
 //!
-//! A text has what a run began with and each of its events, in order. It is written in one version and
-//! read in any. Moments are nanoseconds.
+//! A text has a run's opening and each of its events, in order. It is written in one version, and read
+//! in any. Moments are nanoseconds.
 #![tactic(auto)]
 
 mod firsts;

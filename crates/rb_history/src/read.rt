@@ -13,15 +13,15 @@ use crate::write::MOST_EVENTS;
 use rb_queue::{Items, Opening, Sequence};
 use std::alloc::{AllocError, Global};
 
-/// Reads the text of a history in any of its versions, with at most 1,000,000 events. It takes
-/// memory for the elements and the events of the lines that are there.
+/// Reads the text of a history in any of its versions, with at most 1,000,000 events. It takes memory
+/// for the elements and the events on the lines that are there, not for numbers that the text announces.
 ///
-/// For any other text it returns the first fault, and the number of its line, counted from 1:
-/// `Header` if the first line is none of the headers; `Opening` if a line of the opening is not
-/// one, or exceeds a limit; `Line` if another line is neither an event nor the last line; `Many` if
-/// an event follows 1,000,000 others; `Count` if the number of the last line is not that of the
-/// events; `Trailing` if bytes follow it; `End` if the text stops before its end. `Memory` means
-/// that there is not enough memory for what the text has.
+/// For any other text it returns the first fault, and the number of its line, counted from 1: `Header`
+/// if the first line is none of the headers; `Opening` if a line of the opening is malformed or exceeds
+/// a limit; `Line` if another line is neither an event nor the last line; `Many` if an event follows
+/// 1,000,000 others; `Count` if the number on the last line is not that of the events; `Trailing` if
+/// bytes follow the last line; `End` if the text stops before the end of its last line. The fault
+/// `Memory` means that there is not enough memory.
 pub fn read_history(alloc: Global, text: &[u8]) -> Result<History, TextFault>
     ensures reads { Reads text.now result }
     ensures each { ReadsEach text.now result }
@@ -31,7 +31,7 @@ pub fn read_history(alloc: Global, text: &[u8]) -> Result<History, TextFault>
     read_right(alloc, text)
 }
 
-// Reads a text. All numbers that it tells are of 64 bits.
+// Reads a text. The history's values are in their ranges.
 fn read_right(alloc: Global, text: &[u8]) -> Result<History, TextFault>
     ensures reads { Reads text.now result }
     ensures right { IfOk result IsRightHistory }
@@ -46,7 +46,7 @@ fn read_right(alloc: Global, text: &[u8]) -> Result<History, TextFault>
     Ok(history)
 }
 
-// The history with the first expiries that its version does not tell.
+// The history with the first expiries that its version leaves out.
 fn settled(alloc: Global, version: Version, told: History) -> Result<History, AllocError>
     requires { IsRightHistory told }
     ensures { IfOk result (IsSettled version told) }

@@ -9,7 +9,7 @@ use rb_protocol::read_number;
 use rb_queue::{Act, Ids};
 use std::alloc::{AllocError, Global};
 
-/// The act that the words that are left are.
+/// The act that the remaining words are.
 pub(crate) fn read_act(
     alloc: Global,
     version: Version,
@@ -119,7 +119,7 @@ fn drain(alloc: Global, rest: Option<&[u8]>) -> Result<Option<Act>, AllocError>
     }))
 }
 
-// The ids that the words that are left are.
+// The ids that the remaining words are.
 fn read_ids(alloc: Global, words: Option<&[u8]>) -> Result<Option<Vec<u64>>, AllocError>
     ensures { IfOk result (λ found. MatchOption found
         ((ids : List ℕ) → AreWords ids → words_behind words.entry ≢ map decimal ids)

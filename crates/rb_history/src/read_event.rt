@@ -38,7 +38,7 @@ pub(crate) fn read_event(
     }))
 }
 
-/// The number of events that a last line tells.
+/// The number of events on a last line.
 pub(crate) fn read_end(line: &[u8]) -> Option<u64>
     ensures some { IfSome result (λ count. words_of line.now ≡ end_words count) }
     ensures small { IfSome result IsWord }

@@ -9,7 +9,7 @@ use crate::write::MOST_EVENTS;
 use rb_queue::{Event, Sequence};
 use std::alloc::Global;
 
-/// The events of a text's lines, the first of which has this number, up to the last line.
+/// The events on a text's lines, up to the last line. The first of them has this number.
 pub(crate) fn read_events(
     alloc: Global,
     version: Version,
@@ -45,7 +45,7 @@ pub(crate) fn read_events(
     Err(at(first + events.len() as u64, TextReason::End))
 }
 
-// The fault of the last line of this number, or of what stands behind.
+// The fault of the last line, which has this number, or of what follows it.
 fn end_fault(told: u64, count: u64, behind: &[u8], number: u64) -> Result<(), TextFault>
     requires { number ≤ 2 ^ 63 }
     ensures { EndsWell told count behind.now number result }

@@ -11,10 +11,10 @@ use rb_delayed::Element;
 use rb_queue::Items;
 use std::alloc::Global;
 
-/// The number of the first line that keeps an element.
+/// The number of the first line with an element.
 pub(crate) const FIRST_KEEP_LINE: u64 = 3;
 
-/// The elements of an opening's lines, as many as were announced, and what follows them.
+/// The elements on an opening's lines, as many as were announced, and what follows these lines.
 ///
 /// It takes memory for the lines that are there, not for the number that was announced.
 pub(crate) fn read_keeps(
@@ -48,7 +48,7 @@ pub(crate) fn read_keeps(
     Ok((Items::new(kept), rest))
 }
 
-// The element that a line keeps, whose id is at least `least` and below `end`.
+// The element on a line, whose id is at least `least` and below `end`.
 fn next_keep(version: Version, line: &[u8], least: u64, end: u64) -> Option<Element>
     ensures some { IfSome result (KeepsNext version least end (words_of line.now)) }
     ensures none { IfNone result (KeepsNone version least end (words_of line.now)) }

@@ -16,7 +16,7 @@ use rb_queue::{GREATEST_OPENING_ID, MOST_OPENING_ELEMENTS};
 pub(crate) struct OpenLine {
     /// The next id, at most 2^40.
     pub(crate) next_id: u64,
-    /// The last moment.
+    /// The last moment, in nanoseconds.
     pub(crate) last_at: u64,
     /// The number of elements, at most 1,000,000.
     pub(crate) count: u64,
@@ -39,7 +39,7 @@ pub(crate) fn read_header(text: &[u8]) -> Option<(Version, &[u8])>
     None
 }
 
-/// The numbers that the first line of an opening tells, within their limits.
+/// The numbers on the first line of an opening, if they are within their limits.
 pub(crate) fn read_open(line: &[u8]) -> Option<OpenLine>
     ensures some { IfSome result (λ told. IsOpenLine (words_of line.now) told.next_id told.last_at told.count) }
     ensures small { IfSome result (λ told. IsWord told.last_at) }
@@ -66,7 +66,7 @@ pub(crate) fn read_open(line: &[u8]) -> Option<OpenLine>
     })
 }
 
-/// The element that a line of an opening tells.
+/// The element on a line of an opening.
 pub(crate) fn read_keep(version: Version, line: &[u8]) -> Option<Element>
     ensures some { IfSome result (λ element. words_of line.now ≡ keep_words version element) }
     ensures right { IfSome result IsRightElement }

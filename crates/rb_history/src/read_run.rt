@@ -12,7 +12,7 @@ use crate::version::Version;
 use rb_queue::Opening;
 use std::alloc::Global;
 
-// The number of the line that tells an opening's numbers, or in the first version of the first event.
+// The number of the line with an opening's numbers, or in the first version of the first event.
 const SECOND_LINE: u64 = 2;
 
 /// What the lines after the header say. If the version leaves out an element's first expiry, it is
@@ -30,7 +30,7 @@ pub(crate) fn read_run(alloc: Global, version: Version, text: &[u8]) -> Result<H
     Ok(History { opening, events })
 }
 
-// The number of the line behind the opening's.
+// The number of the line after the opening's.
 fn line_behind(version: Version, opening: &Opening) -> u64
     ensures number { result ≡ line_behind version opening.now }
     ensures small { result ≤ 2_000_000 }
@@ -43,7 +43,7 @@ fn line_behind(version: Version, opening: &Opening) -> u64
     }
 }
 
-// The opening, which the first version does not tell, and what stands behind its lines.
+// The opening, which the first version leaves out, and what follows its lines.
 fn read_opening(alloc: Global, version: Version, text: &[u8]) -> Result<(Opening, &[u8]), TextFault>
     ensures ok { IfOk result (λ cut. TellsOpening version text.now cut.0 cut.1.now) }
     ensures err { IfErr result (OpeningFails version text.now) }
@@ -54,7 +54,7 @@ fn read_opening(alloc: Global, version: Version, text: &[u8]) -> Result<(Opening
     }
 }
 
-// The opening that the lines tell, and what stands behind them.
+// The opening on the lines, and what follows them.
 fn read_told(alloc: Global, version: Version, text: &[u8]) -> Result<(Opening, &[u8]), TextFault>
     requires { version ≢ Version.One }
     ensures ok { IfOk result (λ cut. TellsOpening version text.now cut.0 cut.1.now) }
@@ -73,7 +73,7 @@ fn read_told(alloc: Global, version: Version, text: &[u8]) -> Result<(Opening, &
     Ok((opening, rest))
 }
 
-// The numbers of an opening, and what stands behind their line.
+// The numbers of an opening, and what follows their line.
 fn read_numbers(version: Version, text: &[u8]) -> Result<(OpenLine, &[u8]), TextFault>
     requires { version ≢ Version.One }
     ensures ok { IfOk result (λ cut. TellsNumbers version text.now cut.0 cut.1.now) }
@@ -91,7 +91,7 @@ fn read_numbers(version: Version, text: &[u8]) -> Result<(OpenLine, &[u8]), Text
     Ok((told, behind))
 }
 
-// Whether the version tells these numbers: the second leaves those of the empty opening to the first.
+// Whether the version has a line of these numbers: the empty opening is the first version's.
 fn may_open(version: Version, told: OpenLine) -> bool
     requires { version ≢ Version.One }
     ensures { IsTrue result ↔ MayOpen version told.next_id told.last_at told.count }

@@ -47,7 +47,7 @@ fn push_act(text: &mut Vec<u8>, act: &Act) -> Result<(), AllocError>
     }
 }
 
-/// Appends a front, and an element with a space between two of its words.
+/// Appends a front and an element's words, separated by single spaces.
 pub(crate) fn push_element(
     text: &mut Vec<u8>,
     front: &[u8],
@@ -66,7 +66,7 @@ pub(crate) fn push_element(
     push_bytes(text, element.payload.as_bytes())
 }
 
-// Appends a front, and the id, or `none`.
+// Appends a front, and the id or `none`.
 fn push_given(text: &mut Vec<u8>, front: &[u8], given: Option<u64>) -> Result<(), AllocError>
     ensures words { OnOk result (text.new.items
         ≡ text.old.items ++ (front.now ++ tails (given_words given))) }

@@ -6,13 +6,13 @@ ghost use Rattle.rb_history.specs.TextReasonText.{text_reason_text};
 pub enum TextReason {
     /// The first line is none of the headers.
     Header,
-    /// A line of the opening is not one, or exceeds a limit.
+    /// A line of the opening is malformed or exceeds a limit.
     Opening,
     /// A line is neither an event nor the last line.
     Line,
     /// An event follows 1,000,000 others.
     Many,
-    /// The number of the last line is not that of the events.
+    /// The number on the last line is not that of the events.
     Count,
     /// Bytes follow the last line.
     Trailing,
@@ -25,7 +25,7 @@ pub enum TextReason {
 pub enum TextFault {
     /// The line of this number, counted from 1, has the first fault.
     At { line: u64, reason: TextReason },
-    /// There is not enough memory for what the text has.
+    /// There is not enough memory for the elements and events of the text.
     Memory,
 }
 

@@ -10,7 +10,7 @@ use crate::version::Version;
 use rb_delayed::{Element, GREATEST_ATTEMPT, Payload};
 use rb_protocol::{cut_word, read_number};
 
-/// Takes the first of the remaining words of a line. `None` means that none is left.
+/// Takes the first of the remaining words of a line. `None` exactly if none is left.
 pub(crate) fn next_word(words: Option<&[u8]>) -> Option<(&[u8], Option<&[u8]>)>
     ensures some { IfSome result (λ cut. words_behind words.entry ≡ cut.0.now ∷ words_behind cut.1) }
     ensures none { IfNone result (words_behind words.entry ≡ []) }
@@ -29,7 +29,7 @@ pub(crate) fn take_number(words: Option<&[u8]>) -> Option<(u64, Option<&[u8]>)>
     Some((read_number(word)?, rest))
 }
 
-/// The number that is the only word that is left.
+/// The number that is the only remaining word.
 pub(crate) fn last_number(words: Option<&[u8]>) -> Option<u64>
     ensures some { IfSome result (λ number. words_behind words.entry ≡ decimal number ∷ []) }
     ensures small { IfSome result IsWord }
@@ -61,7 +61,7 @@ pub(crate) fn take_attempt(words: Option<&[u8]>) -> Option<(u32, Option<&[u8]>)>
     Some((number as u32, rest))
 }
 
-/// The payload that is the only word that is left.
+/// The payload that is the only remaining word.
 pub(crate) fn last_payload(words: Option<&[u8]>) -> Option<Payload>
     ensures some { IfSome result (λ payload. words_behind words.entry ≡ payload ∷ []) }
     ensures valid { IfSome result IsPayload }
@@ -75,7 +75,7 @@ pub(crate) fn last_payload(words: Option<&[u8]>) -> Option<Payload>
     Payload::new(word).ok()
 }
 
-/// The id that is the only word that is left, or that there was none.
+/// What the only remaining word is: an id, or `none`.
 pub(crate) fn last_given(words: Option<&[u8]>) -> Option<Option<u64>>
     ensures some { IfSome result (λ given. words_behind words.entry ≡ given_words given) }
     ensures right { IfSome result IsRightGiven }
@@ -92,7 +92,7 @@ pub(crate) fn last_given(words: Option<&[u8]>) -> Option<Option<u64>>
     Some(Some(read_number(word)?))
 }
 
-/// The element that the words that are left are.
+/// The element that the remaining words are.
 pub(crate) fn last_element(version: Version, words: Option<&[u8]>) -> Option<Element>
     ensures some { IfSome result (λ element. words_behind words.entry ≡ whole_element_words version element) }
     ensures right { IfSome result IsRightElement }
@@ -115,7 +115,7 @@ pub(crate) fn last_element(version: Version, words: Option<&[u8]>) -> Option<Ele
     })
 }
 
-// Takes the expiry of the origin's first offer, or the element's own where the version does not tell it.
+// Takes the expiry of the origin's first offer. If the version leaves it out, gives the element's own.
 fn take_first(version: Version, expiry: u64, words: Option<&[u8]>) -> Option<(u64, Option<&[u8]>)>
     ensures some { IfSome result (λ cut. words_behind words.entry
         ≡ first_words version cut.0 ++ words_behind cut.1) }

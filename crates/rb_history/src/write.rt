@@ -13,12 +13,13 @@ use std::io::Write;
 /// The greatest number of events in a text.
 pub const MOST_EVENTS: usize = 1_000_000;
 
-/// Writes what a run began with and its events, at most 1,000,000, and flushes.
+/// Writes a run's opening and its events, at most 1,000,000, in the third version, and flushes.
 ///
-/// It takes memory for the whole text before it writes the first byte: after `Memory` the writer is
-/// unchanged, and after `Write` it has got a first part of the text.
+/// It takes memory for the whole text before it writes the first byte. After `Memory` the writer is
+/// unchanged. After `Write` it has got a first part of the text, perhaps nothing or all of it.
 ///
-/// What it wrote is read again: its values are in the ranges that the laws of texts ask for.
+/// A text that was written whole can be read again: all values are in the ranges that the laws of texts
+/// ask for.
 pub fn write_history<W: Write>(
     alloc: Global,
     opening: &Opening,

@@ -1,4 +1,4 @@
--- What a kept queue is seen as: what it began with and its history, which say all of its queue, and how
+-- What contracts see of a kept queue: its opening and its history, which determine the queue, and how
 -- long the history may get.
 use Rattle.std.specs.Prelude.{◌≡◌, ℕ, ◌<◌, List, [], ◌∷◌, ◌++◌, length, refl}
 use Rattle.std.specs.Coded.{Coded, code_by, coded×, coded_ℕ, coded_list}
@@ -27,7 +27,7 @@ log_code =
 abbrev pub state_at : Log → State
 state_at log = state_of log.opening log.history
 
--- there is room for one event more
+-- there is room for one more event
 abbrev pub HasRoom : Log → Type 0
 HasRoom log = length log.history < log.capacity
 
@@ -39,6 +39,6 @@ IsFull log = length log.history ≡ log.capacity
 abbrev pub with_events : Log → List Event → Log
 with_events log events = record log { history = log.history ++ events }
 
--- the log with one event more
+-- the log with one more event
 abbrev pub with_event : Log → Event → Log
 with_event log event = with_events log (event ∷ [])

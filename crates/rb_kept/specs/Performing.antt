@@ -1,4 +1,4 @@
--- What an ask makes of a queue at one moment. No public clause cites this module.
+-- What an ask does to a queue at one moment. No public clause cites this module.
 use Rattle.std.specs.Prelude.{◌≡◌, ℕ, Some}
 use Rattle.rb_queue.specs.Bag.{NoneExpired}
 use Rattle.rb_queue.specs.Head.{IsNextExpiry}
@@ -17,7 +17,7 @@ pub record DoesAsk (old : Queue) (now : ℕ) (ask : Ask) (answer : Answer) (new 
   pub acts : Acts old now answer.act new
   pub reply : reply_in old.bag answer.act ≡ Some answer.reply
 
--- it did an act of the ask, or the ask would wait, or wanted memory, and then nothing has changed
+-- it did an act of the ask; or the ask would wait, or memory was refused, and nothing has changed
 abbrev pub Performs : Queue → ℕ → Ask → Performed → Queue → Type 0
 Performs old now ask (Done answer) new = DoesAsk old now ask answer new
 Performs old now ask (Later next) new =

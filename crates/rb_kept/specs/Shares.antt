@@ -21,7 +21,7 @@ abbrev pub share_with : Totals → List Event → Totals
 share_with share [] = share
 share_with share (event ∷ events) = share_with (total_of share (amount_of event)) events
 
--- the log has these events more, and so has the share
+-- the log has grown by some events, and the share by their totals
 pub record Grows (old new : Log) (before after : Totals) : Type 0 where
   pub more : List Event
   pub log : new ≡ with_events old more

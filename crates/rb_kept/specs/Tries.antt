@@ -44,7 +44,7 @@ IsActOf Clear acts.Clear = Unit {0}
 IsActOf Size (acts.Size count) = Unit {0}
 IsActOf _ _ = ⊥
 
--- The event is the try's. It makes a legal history longer, in which it has this reply.
+-- The event is the try's. The history with this event at its end is legal, and has this reply.
 pub record Records (old : Log) (try : Try) (answer : Reply) (event : Event) : Type 0 where
   pub seat : event.seat ≡ try.seat
   pub asked : event.asked ≡ try.asked
@@ -58,13 +58,13 @@ pub record Waits (old : Log) (try : Try) (expiry : Option ℕ) : Type 0 where
   pub none : NoneExpired (state_at old).queue.bag (max try.asked (state_at old).moment)
   pub next : IsNextExpiry (state_at old).queue.bag expiry
 
--- From one log a try may end so, and lead to another: it is answered by exactly one event more, or it
--- would wait, and nothing has changed.
+-- How a try that is not refused may end, from one log to the next: it is answered by exactly one more
+-- event, or it would wait, and nothing has changed.
 abbrev pub Answers : Log → Try → Outcome → Log → Type 0
 Answers old try (Done reply) new = (event : Event) × (new ≡ with_event old event) × Records old try reply event
 Answers old try (Later next) new = Waits old try next × (new ≡ old)
 
--- one try: full exactly if there is no room, and a fault changes nothing
+-- one try: `Full` exactly if there is no room, and a fault changes nothing
 abbrev pub StepsTo : Log → Try → Result Outcome CallFault → Log → Type 0
 StepsTo old try (Ok outcome) new = HasRoom old × Answers old try outcome new
 StepsTo old try (Err Full) new = IsFull old × (new ≡ old)

@@ -15,13 +15,13 @@ pub enum NewFault {
     Memory,
 }
 
-/// Why a call got no reply. Nothing has changed then. If both hold, the first is returned.
+/// Why a call got no reply. The call changed nothing. If both hold, the first is returned.
 #[derive(Clone, Copy, Debug, PartialEq, Eq, Error)]
 pub enum CallFault {
     /// The history has as many events as its capacity.
     #[error("the history is full")]
     Full,
-    /// There is not enough memory for the offered element or for what is drained.
+    /// There is not enough memory for the offered element, or for the elements that are drained.
     #[error("out of memory")]
     Memory,
 }

@@ -21,13 +21,12 @@ pub const MOST_CALLS: u64 = 1_000_000;
 
 /// A delay queue and the history of its calls, which leads from the opening to exactly this queue.
 ///
-/// Each call that gets a reply appends one event; a refused one changes nothing. Room for all
-/// events is taken at the start, so of the calls only an offer and a drain can fail for want of
-/// memory.
+/// Each call that gets a reply appends one event; a refused one changes nothing. The memory for all
+/// events is taken at the start, so only an offer and a drain can fail with `Memory`.
 ///
-/// What a call costs: `act` what the queue's own call costs, and a constant for the event and the
-/// counts; a drain also copies the ids that it took, and keeps room for no more. `run_tries` costs
-/// an `act` for each try. `history`, `opening`, `capacity` and `audit` cost a constant, however
+/// What a call costs: `act` costs what the queue's own call does, and a constant for the event and
+/// the counts. A drain also copies the ids that it took, and keeps memory for just these. `run_tries`
+/// costs an `act` for each try. `history`, `opening`, `capacity` and `audit` cost a constant, however
 /// long the history is. These costs are not part of the contract.
 #[derive(Drop)]
 pub struct Kept<T: Timer> {
@@ -58,9 +57,11 @@ impl<T: Timer> Model for Kept<T> {
 }
 
 impl<T: Timer> Kept<T> {
-    /// An empty queue with room for `capacity` calls, 1 to 1,000,000, which is taken at once, and
-    /// the first share of its totals. The faults are `BadCapacity`, exactly if the capacity is out
-    /// of range, and `Memory`.
+    /// An empty queue with room for `capacity` calls, 1 to 1,000,000, and the first share of its
+    /// totals. The memory for all events is taken at once.
+    ///
+    /// The faults are `BadCapacity`, exactly if the capacity is out of range, and `Memory`, if there is
+    /// not enough for the events.
     pub fn new(alloc: Global, capacity: u64) -> Result<(Self, Tally), NewFault>
         ensures elements { IfOk result (λ made. made.0.opening.elements ≡ []) }
         ensures next_id { IfOk result (λ made. made.0.opening.next_id ≡ 0) }
@@ -73,9 +74,11 @@ impl<T: Timer> Kept<T> {
         Kept::new_from(alloc, capacity, Opening::empty(alloc)).map_err(|refused| refused.1)
     }
 
-    /// The queue of an opening, with room for `capacity` calls, 1 to 1,000,000, which is taken at
-    /// once, and the first share of its totals. The faults are those of `new`, and hand the opening
-    /// back.
+    /// The queue of an opening, with room for `capacity` calls, 1 to 1,000,000, and the first share of
+    /// its totals. The memory for the elements and for all events is taken at once.
+    ///
+    /// The faults are `BadCapacity`, exactly if the capacity is out of range, and `Memory`, if there is
+    /// not enough for the elements or the events. Both hand the opening back.
     pub fn new_from(
         alloc: Global,
         capacity: u64,
@@ -112,12 +115,12 @@ impl<T: Timer> Kept<T> {
         Ok((kept, tally))
     }
 
-    /// Makes one call for a seat, at the later of the moment `asked` and that of the last event,
-    /// and counts it in the caller's share.
+    /// Makes one call for a seat, at the later of the moment `asked`, in nanoseconds, and that of the
+    /// last event, and counts it in the caller's share.
     ///
-    /// `Done` means that exactly one event was appended. `Full` comes exactly if the history has
-    /// `capacity` events, whatever the ask. If there is room, `Later` comes exactly if the ask
-    /// would wait, and changes nothing. `Memory` comes for an offer and a drain alone. A fault
+    /// `Done` means that exactly one event was appended. `Full` is returned exactly if the history has
+    /// `capacity` events, whatever the ask. If there is room, `Later` is returned exactly if the ask
+    /// would wait, and nothing changes. Only an offer and a drain are refused with `Memory`. A fault
     /// changes nothing.
     pub fn act(
         &mut self,
@@ -158,10 +161,11 @@ impl<T: Timer> Kept<T> {
         }
     }
 
-    /// Makes the tries one after the other, and returns a step for each. A fault is the step of its
-    /// try, and the next try follows.
+    /// Makes the tries one after the other, and returns a step for each. A fault is its try's step, and
+    /// the next try follows.
     ///
-    /// It asks for room for the steps first: on `Err` nothing has changed.
+    /// The memory for the steps is taken before the first try: on `Err` there was not enough, and
+    /// nothing has changed.
     pub fn run_tries(&mut self, tally: &mut Tally, tries: Vec<Try>) -> Result<Vec<Step>, AllocError>
         ensures steps { IfOk result (λ steps. StepsAlong self.old tries.items steps.items self.new) }
         ensures tally { Grows self.old self.new tally.old tally.new }
@@ -202,8 +206,8 @@ impl<T: Timer> Kept<T> {
         self.capacity
     }
 
-    /// The counts of the run so far. Nothing is lost: the elements of the opening and those that
-    /// were offered are those that were given, removed or cleared, and those that are left.
+    /// The counts of the run so far. Nothing is lost: each element of the opening and each that was
+    /// offered was given, removed or cleared, or is left.
     pub fn audit(&self) -> Audit
         ensures counts { result ≡ audit_of self.now.opening self.now.history }
         ensures balanced { result.offered + result.opening ≡ result.given + result.removed + result.cleared + result.left }

@@ -1,4 +1,4 @@
-//! A queue with the history of its calls: each call that gets a reply is one more event, and the
+//! A queue with the history of its calls. Each call that gets a reply is one more event, and the
 //! history is always one that a single queue could have had from its opening on.
 //!
 //! Moments are nanoseconds. The memory for all events is taken when the history is made, except

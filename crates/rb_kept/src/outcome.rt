@@ -6,8 +6,8 @@ use rb_queue::Reply;
 pub enum Outcome {
     /// It got a reply: the history has exactly one more event.
     Done(Reply),
-    /// It would wait, since nothing has expired, and nothing has changed. This is the least expiry,
-    /// in nanoseconds, or `None` if the queue is empty.
+    /// It would wait, since nothing has expired. Nothing has changed. This is the least expiry, in
+    /// nanoseconds, or `None` if the queue is empty.
     Later(Option<u64>),
 }
 

@@ -15,12 +15,12 @@ pub(crate) struct Answer {
 }
 
 /// How an ask of the queue ended. It is not a `Result`: an answer has the size of two elements, and
-/// each time that it is wrapped it would be copied.
+/// each wrapping would copy it.
 #[derive(Debug, Drop)]
 pub(crate) enum Performed {
     /// It got a reply.
     Done(Answer),
-    /// It would wait, at most until this expiry.
+    /// It would wait, since nothing has expired. This is the least expiry, in nanoseconds, if any.
     Later(Option<u64>),
     /// There is not enough memory for it, and the queue is unchanged.
     NoMemory,
@@ -143,7 +143,7 @@ fn remove<T: Timer>(queue: &mut DelayQueue<T>, id: u64) -> Performed
     })
 }
 
-// It asks for room for the ids before it takes anything out.
+// It takes the memory for the ids before it takes anything out.
 fn drain<T: Timer>(alloc: Global, queue: &mut DelayQueue<T>, at: u64, max: u64) -> Performed
     ensures { Performs queue.old at (Ask.Drain max) result queue.new }
 {
@@ -161,8 +161,8 @@ fn drain<T: Timer>(alloc: Global, queue: &mut DelayQueue<T>, at: u64, max: u64) 
     })
 }
 
-// The ids of the elements, in a vector that has room for them. The history keeps this vector, so it
-// gives back the room that is left over.
+// The ids of the elements, in a vector that has room for them. The history keeps this vector, so the
+// room that is left over is given back.
 fn ids_of(elements: &[Element], mut ids: Vec<u64>) -> Ids
     requires empty { ids.items ≡ [] }
     requires room { length elements.now ≤ vec_capacity ids }

@@ -1,6 +1,6 @@
 use rb_queue::Ask;
 
-/// A call that someone tries to make.
+/// A call that a seat tries to make.
 #[derive(Clone, Copy, Debug, PartialEq, Eq)]
 pub struct Try {
     /// Who calls.

@@ -31,7 +31,7 @@ impl Books {
         (books, Tally::new())
     }
 
-    /// Adds one call, which offered and gave this many elements, to the books and to its caller's
+    /// Adds one call that offered and gave this many elements, both to the books and to its caller's
     /// share.
     pub fn note(&mut self, tally: &mut Tally, offered: u64, given: u64)
         ensures books { self.new ≡ total_of self.old (one_call offered given) }
@@ -46,21 +46,21 @@ impl Books {
         tally.add(call);
     }
 
-    /// The calls that got a reply.
+    /// How many calls got a reply.
     pub fn calls(&self) -> u64
         ensures { result ≡ self.now.calls }
     {
         self.totals.calls
     }
 
-    /// The elements that were offered.
+    /// How many elements were offered.
     pub fn offered(&self) -> u64
         ensures { result ≡ self.now.offered }
     {
         self.totals.offered
     }
 
-    /// The elements that were given.
+    /// How many elements were given.
     pub fn given(&self) -> u64
         ensures { result ≡ self.now.given }
     {

@@ -6,7 +6,7 @@ use std::marker::Model;
 
 /// One caller's share of the totals of a run.
 ///
-/// It is made with the books or split off another share, and counts what `Books::note` tells it.
+/// It is made with the books or split off another share, and counts the calls that `Books::note` adds.
 #[derive(Debug, Drop)]
 pub struct Tally {
     totals: Totals,
@@ -35,7 +35,7 @@ impl Tally {
         self.totals = self.totals.plus(more);
     }
 
-    /// A new share of zero. This one stays as it is.
+    /// A new share, of zero. This one stays as it is.
     pub fn split(&mut self) -> Tally
         ensures share { result ≡ nothing }
         ensures same { self.new ≡ self.old }
@@ -50,21 +50,21 @@ impl Tally {
         self.add(other.totals);
     }
 
-    /// The calls that got a reply.
+    /// How many calls got a reply.
     pub fn calls(&self) -> u64
         ensures { result ≡ self.now.calls }
     {
         self.totals.calls
     }
 
-    /// The elements that were offered.
+    /// How many elements were offered.
     pub fn offered(&self) -> u64
         ensures { result ≡ self.now.offered }
     {
         self.totals.offered
     }
 
-    /// The elements that were given.
+    /// How many elements were given.
     pub fn given(&self) -> u64
         ensures { result ≡ self.now.given }
     {

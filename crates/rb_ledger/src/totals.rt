@@ -6,11 +6,11 @@ pub const GREATEST_COUNT: u64 = u64::MAX;
 /// How many calls there were, and how many elements they offered and gave.
 #[derive(Clone, Copy, Debug, PartialEq, Eq)]
 pub struct Totals {
-    /// The calls that got a reply.
+    /// How many calls got a reply.
     pub calls: u64,
-    /// The elements that were offered.
+    /// How many elements were offered.
     pub offered: u64,
-    /// The elements that were given.
+    /// How many elements were given.
     pub given: u64,
 }
 
@@ -24,7 +24,7 @@ impl Totals {
         given: 0,
     };
 
-    // The sum of the two.
+    // The sum of the two. A count that would pass 2^64 - 1 stays there.
     pub(crate) fn plus(self, other: Totals) -> Totals
         ensures { result ≡ total_of self other }
     {

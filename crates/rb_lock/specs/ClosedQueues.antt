@@ -19,8 +19,8 @@ pub record HasCallsOf (log : Log) (records : List PassRecord) : Type 0 where
   pub different : AreDifferent (names_of records)
   pub all : length log.history ≡ length (calls_of records)
 
--- What the pass counted is its share, and the books count the history that it has seen now, which has more
--- calls.
+-- `counted` is the pass's share. `booked` are the totals of the history that the pass has now seen, which has
+-- more calls.
 pub record IsNotAll (pass : Seen) (counted booked : Totals) : Type 0 where
   pub share : counted ≡ tally_of pass
   pub books : booked ≡ totals_of pass.seen

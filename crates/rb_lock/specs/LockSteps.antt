@@ -38,8 +38,8 @@ pub record Grown (name : ℕ) (found new : List Event) : Type 0 where
   pub own : events_of more name ≡ more
   pub others : (other : ℕ) → other ≢ name → events_of more other ≡ []
 
--- A seat has compared two lists: both begin what it has seen, which is one of them, and its own events stay.
--- The other was of a run like its own.
+-- A seat has compared two lists: both begin what it has now seen, which is one of them. Its own events stay,
+-- and the other's run had its own capacity and opening.
 pub record HasCompared (one other : List Event) (room : ℕ) (start : Opening) (v : View) : Type 0 where
   pub first : IsPrefix one v.seen
   pub second : IsPrefix other v.seen
@@ -48,7 +48,7 @@ pub record HasCompared (one other : List Event) (room : ℕ) (start : Opening) (
   pub capacity : room ≡ v.capacity
   pub opening : start ≡ v.opening
 
--- what a seat has compared by what it was about to do
+-- what a seat has compared, given what it was about to do
 abbrev pub Compared : View → Stage → Type 0
 Compared v (Meets one other room start) = HasCompared one other room start v
 Compared v Idle = Unit {0}
@@ -80,7 +80,7 @@ module _ {T : Type 0} where
     pub hand : after.1 ≡ (0, Some (pair_of log names)) ∷ before.1
     pub found : Noted log names before.0
 
-  -- a try of the lock, which found 0 where it took it, and else changed nothing
+  -- a try of the lock: it found 0 and took the lock, or it changed nothing
   abbrev pub taken : Step (Option (Pair T)) → LockSeat T → ℕ → LockSeat T → Type 0
   taken step before found after = (found ≡ 0 → TakesLock before after) × (found ≢ 0 → after ≡ before)
 
@@ -96,7 +96,7 @@ module _ {T : Type 0} where
   abbrev pub learned : Step (Option (Pair T)) → LockSeat T → ℕ → LockSeat T → Type 0
   learned step before found after = (after ≡ (rested before.0, before.1)) × Compared (rested before.0) before.0.stage
 
-  -- the seat is that of a pass which is in no step
+  -- the seat is that of a pass between its steps
   abbrev pub AtRest : TableId → LockSeat T → Type 0
   AtRest table seat = seat ≡ (idle (pass_of table seat.0), [])
 

@@ -1,4 +1,4 @@
--- What a pass is seen as: whose it is, its name, and what it has seen, made and taken in.
+-- What contracts see of a pass: its queue, its name, what it has seen and made, and what was folded into it.
 use Rattle.std.specs.Prelude.{◌≡◌, ℕ, ◌≤◌, min, List, [], ◌∷◌, ◌++◌, length, refl}
 use Rattle.std.specs.Coded.{Coded, code_by, coded×, coded_ℕ, coded_list}
 use mathlib.Core.List.{IsPrefix}
@@ -19,7 +19,7 @@ use Rattle.rb_lock.specs.declared.pass_record.PassRecord.{PassRecord}
 use Rattle.rb_lock.specs.contracts.pass_record.PassRecord as entry
 
 pub record Seen : Type 0 where
-  -- which shared queue it is of
+  -- the shared queue whose pass it is
   pub table : TableId
   pub name : ℕ
   pub capacity : ℕ
@@ -69,7 +69,7 @@ record_of pass = record { name = pass.name; seen = pass.seen; mine = pass.mine }
 abbrev pub all_records : Seen → List PassRecord
 all_records pass = record_of pass ∷ pass.folded
 
--- each total, or the greatest count where that is less
+-- each total, or the greatest count if that is less
 abbrev pub capped : Totals → Totals
 capped totals = record {
   calls = min totals.calls GREATEST_COUNT;
@@ -77,12 +77,12 @@ capped totals = record {
   given = min totals.given GREATEST_COUNT;
 }
 
--- what the calls of the pass and of all that were folded into it come to
+-- the totals of the calls of the pass and of all that were folded into it
 abbrev pub tally_of : Seen → Totals
 tally_of pass = capped (totals_of (calls_of (all_records pass)))
 
--- What every pass keeps true: it has seen a legal history with room for it, in which its events are exactly
--- its calls.
+-- What every pass keeps true: it has seen a legal history, no longer than its capacity, whose events under its
+-- name are exactly its calls.
 pub record IsSoundPass (pass : Seen) : Type 0 where
   pub legal : IsLegal pass.opening pass.seen
   pub few : length pass.seen ≤ pass.capacity

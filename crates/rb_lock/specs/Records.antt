@@ -10,12 +10,12 @@ abbrev pub bit : Bool → ℕ
 bit true = 1
 bit false = 0
 
--- how often a number stands in a list
+-- how often a number occurs in a list
 abbrev pub times_in : ℕ → List ℕ → ℕ
 times_in number [] = 0
 times_in number (first ∷ numbers) = bit (first == number) + times_in number numbers
 
--- no number stands twice
+-- no number occurs twice
 abbrev pub AreDifferent : List ℕ → Type 0
 AreDifferent numbers = (number : ℕ) → times_in number numbers ≤ 1
 

@@ -14,7 +14,7 @@ use Rattle.rb_lock.specs.declared.stage.Stage.{Stage}
 use Rattle.rb_lock.specs.declared.stage.Stage.TheVariants.{Idle, Holds, Drew, Meets, Gone}
 use Rattle.rb_lock.specs.declared.view.View.{View}
 
--- what a seat knows by what it is about to do
+-- what a seat knows, given what it is about to do
 abbrev pub AtStage : Log → ℕ → ℕ → Stage → Type 0
 AtStage log names noted Idle = Unit {0}
 AtStage log names noted (Holds found) = (found ≡ log.history) × (noted ≡ names)
@@ -52,7 +52,7 @@ module _ {T : Type 0} where
     pub homes : s.homes ≡ some (Some (pair_of log names)) ∷ []
     pub nobody : total holders s.views ≡ 0
 
-  -- the lock is held: the slot is out, with one seat
+  -- the lock is held: one seat has the slot in its hand
   pub record IsHeld (s : State (Option (Pair T)) View) : Type 0 where
     pub word : ℕ
     pub words : s.words ≡ word ∷ []

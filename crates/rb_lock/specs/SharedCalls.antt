@@ -14,8 +14,8 @@ use Rattle.rb_kept.specs.declared.fault.CallFault.{CallFault}
 use Rattle.rb_kept.specs.declared.fault.CallFault.TheVariants.{Full, Memory}
 use Rattle.rb_lock.specs.Passes.{Seen, log_at, log_of, tally_of}
 
--- The last event that the pass has seen is this call, and the event before it all that it had seen and more.
--- The call is one more of its own, with the reply that the history gives it.
+-- The last event that the pass has seen is this call. Before it come all events that it had seen, and perhaps
+-- others. The call is one more of the pass's own, and has the reply that the history gives it.
 pub record Replied (old new : Seen) (try : Try) (reply : Reply) : Type 0 where
   pub before : List Event
   pub event : Event
@@ -26,7 +26,7 @@ pub record Replied (old new : Seen) (try : Try) (reply : Reply) : Type 0 where
   pub records : Records (log_at old before) try reply event
   pub tally : tally_of new ≡ total_of (tally_of old) (amount_of event)
 
--- How a call ended, and what is seen after it. Without a reply the pass has made no call more.
+-- How a call ended, and what the pass has seen after it. Without a reply the pass has made no further call.
 abbrev pub Answered : Seen → Seen → Try → Result Outcome CallFault → Type 0
 Answered old new try (Ok (Done reply)) = Replied old new try reply
 Answered old new try (Ok (Later next)) = (new.mine ≡ old.mine) × HasRoom (log_of new) × Waits (log_of new) try next

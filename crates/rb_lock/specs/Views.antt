@@ -1,4 +1,4 @@
--- What stands in the view of a seat, and how the steps of the lock change it.
+-- What the view of a seat has, and how the steps of the lock change it.
 use Rattle.std.specs.Prelude.{ℕ, ◌+◌, Bool, true, false, List, [], ◌∷◌, ◌++◌}
 use Rattle.std.proofs.Math.Bridge.{no_suc-le-zero}
 use Prim.Native.Nat.{zero-le}
@@ -14,7 +14,7 @@ use Rattle.rb_lock.specs.declared.stage.Stage.{Stage}
 use Rattle.rb_lock.specs.declared.stage.Stage.TheVariants.{Idle, Holds, Drew, Meets, Gone}
 use Rattle.rb_lock.specs.declared.view.View.{View}
 
--- the view of a pass that is in no step
+-- the view of a pass between its steps
 abbrev pub idle : Seen → View
 idle pass = record {
   live = true;
@@ -58,11 +58,11 @@ drawn (Holds found) = []
 drawn (Meets one other room start) = []
 drawn Gone = []
 
--- how often the name stands in the view
+-- how often the name occurs in the view
 abbrev pub weight : ℕ → View → ℕ
 weight name v = times_in name (names_of (records_of v) ++ drawn v.stage)
 
--- 1 where the stage is that of a holder
+-- 1 if the stage is that of a holder, otherwise 0
 abbrev pub is_held : Stage → ℕ
 is_held (Holds found) = 1
 is_held Idle = 0
@@ -70,7 +70,7 @@ is_held (Drew name) = 0
 is_held (Meets one other room start) = 0
 is_held Gone = 0
 
--- 1 where the seat holds the lock
+-- 1 if the seat holds the lock, otherwise 0
 abbrev pub holders : View → ℕ
 holders v = is_held v.stage
 
@@ -117,11 +117,11 @@ drawn_name Gone = 0
 abbrev pub cut_off : View → View
 cut_off v = record v { name = drawn_name v.stage; mine = []; folded = []; stage = Idle }
 
--- the records of the other view behind the own ones
+-- the other view's records after its own
 abbrev pub folding : View → View → View
 folding v w = record v { folded = v.folded ++ records_of w }
 
--- no element, and ids from 0 on
+-- no elements, and ids from 0 on, are an opening
 pub empty_is_opening : IsOpening [] 0
 empty_is_opening = record {
   order = record { rising = λ one other less within. absurd (no_suc-le-zero within); below = λ place within. absurd (no_suc-le-zero within) };

@@ -20,7 +20,7 @@ pub enum SplitFault {
 /// Why a shared queue was not closed.
 #[derive(Clone, Copy, Debug, PartialEq, Eq, Error)]
 pub enum CloseFault {
-    /// The pass, with all that were folded into it, has fewer calls than the books.
+    /// The pass and those folded into it have made fewer calls than the books count.
     #[error("a pass with calls is not folded in")]
     NotAll {
         /// The totals of the pass and those folded into it.

@@ -1,7 +1,7 @@
 ghost use Rattle.std.specs.Prelude.{◌≡◌};
 ghost use Rattle.rb_lock.specs.declared.pair.TheConstants.{MOST_NAMES};
 
-/// There are at most this many names, 2^16. Every other clause names the constant.
+/// The number of names is at most this, 2^16. Every other clause names the constant.
 pub fn most_names_has_its_value()
     ensures { MOST_NAMES ≡ 65536 }
 {}

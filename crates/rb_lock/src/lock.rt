@@ -24,12 +24,12 @@ const HELD: u64 = 1;
 // A seat holds the lock, and another may sleep until it is given back.
 const SLEPT_ON: u64 = 2;
 
-// How often a thread that found the lock taken looks at it before it sleeps. A call is mostly over sooner than
+// How often a thread that finds the lock taken looks at it before it sleeps. Most calls are over before
 // a sleep would begin.
 const LOOKS: u32 = 100;
 
-/// Takes the lock, and with it the pair in its slot. If another seat holds it, it watches for a
-/// while whether the lock is given back, and then sleeps until it is.
+/// Takes the lock, and with it the pair in its slot. If another seat holds the lock, it watches it for
+/// a while, and then sleeps until it is given back.
 pub(crate) fn take<T: Timer, R: Wait>(table: &LockTable<T>, rt: &R, seat: &mut PassSeat<T>)
     requires lock { HasOneWord table.now.table_id }
     requires table { seat.old.table_id ≡ table.now.table_id }
@@ -45,7 +45,7 @@ pub(crate) fn take<T: Timer, R: Wait>(table: &LockTable<T>, rt: &R, seat: &mut P
         return;
     }
     for _ in rt.forever() {
-        // The word says from now on that somebody may sleep, whoever holds the lock.
+        // From now on the word says that a thread may sleep, whoever holds the lock.
         if table.swap::<Take>(seat, 0, SLEPT_ON) == FREE {
             return;
         }
@@ -55,7 +55,7 @@ pub(crate) fn take<T: Timer, R: Wait>(table: &LockTable<T>, rt: &R, seat: &mut P
     unreachable!()
 }
 
-// One try, which tells nobody that a thread may sleep: whether it took the lock.
+// Tries once, and does not announce a sleeper. Whether it took the lock.
 fn has_taken<T: Timer>(table: &LockTable<T>, seat: &mut PassSeat<T>) -> bool
     requires lock { HasOneWord table.now.table_id }
     requires table { seat.old.table_id ≡ table.now.table_id }
@@ -67,7 +67,7 @@ fn has_taken<T: Timer>(table: &LockTable<T>, seat: &mut PassSeat<T>) -> bool
     table.compare_exchange::<Take>(seat, 0, FREE, HELD) == FREE
 }
 
-// Looks for a while, as long as the lock is taken and nobody sleeps.
+// Watches the lock for a while, as long as it is taken and no thread may sleep on it.
 fn watch<T: Timer>(table: &LockTable<T>)
     requires lock { HasOneWord table.now.table_id }
 {
@@ -103,7 +103,7 @@ pub(crate) fn give_and_draw<T: Timer>(table: &LockTable<T>, seat: &mut PassSeat<
     wake(table, found);
 }
 
-// A thread that found the word so when it gave the lock back wakes a sleeper where there may be one.
+// Wakes a sleeper if there may be one. `found` is the word that was found when the lock was given back.
 pub(crate) fn wake<T: Timer>(table: &LockTable<T>, found: u64)
     requires lock { HasOneWord table.now.table_id }
 {
@@ -146,8 +146,7 @@ fn act_on<T: Timer>(
     pair.kept.act(tally, name, asked, ask)
 }
 
-/// The next name of the pair in the slot that the seat has in hand, which is thereby given. `None`
-/// if all are given.
+/// Gives the next name of the pair in the slot that the seat has in hand. `None` if all are given.
 pub(crate) fn next_name<T: Timer>(table: &LockTable<T>, seat: &mut PassSeat<T>) -> Option<u64>
     requires table { seat.old.table_id ≡ table.now.table_id }
     requires hand { (pair : Pair T) × (seat.old.me.1 ≡ (0, Some pair) ∷ []) }
@@ -166,7 +165,7 @@ fn next_name_of<T: Timer>(slot: &mut Option<Pair<T>>) -> Option<u64>
     pair.give_name()
 }
 
-/// A seat learns what another has seen. Both are at rest.
+/// Lets a seat learn what another has seen. Both are at rest.
 pub(crate) fn learn<T: Timer>(table: &LockTable<T>, seat: &mut PassSeat<T>, other: &mut PassSeat<T>)
     requires lock { HasOneWord table.now.table_id }
     requires table { seat.old.table_id ≡ table.now.table_id }

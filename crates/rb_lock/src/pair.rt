@@ -4,7 +4,7 @@ ghost use Rattle.rb_queue.specs.History.{IsLegal};
 use rb_kept::Kept;
 use rb_timer::Timer;
 
-/// The greatest number of names that the passes of one queue get.
+/// The greatest number of names that are given to the passes of one queue.
 pub const MOST_NAMES: u64 = 65_536;
 
 /// What the slot of the lock holds: the kept queue, and how many names of passes have been given.

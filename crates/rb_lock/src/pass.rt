@@ -9,7 +9,7 @@ use std::marker::Model;
 
 /// The right of one thread to call a shared queue, under a name of its own.
 ///
-/// It keeps its calls' share of the totals. Contracts see what it has seen of the history, its own
+/// It stores its calls' share of the totals. Contracts see what it has seen of the history, its own
 /// calls, and the passes that were folded into it; none of that is stored.
 #[derive(Drop)]
 pub struct Pass<T: Timer> {
@@ -34,7 +34,7 @@ impl<T: Timer> Model for Pass<T> {
 }
 
 impl<T: Timer> Pass<T> {
-    /// The seat of its events: 0 for the first pass of a queue, and no name is given twice.
+    /// The seat of its events: 0 for the first pass of a queue. No name is given twice.
     pub fn name(&self) -> u64
         ensures name { result ≡ self.now.name }
         ensures sound { IsSoundPass self.now }
@@ -42,7 +42,7 @@ impl<T: Timer> Pass<T> {
         self.name
     }
 
-    /// The calls of this pass and of those folded into it that got a reply.
+    /// How many calls of this pass and of those folded into it got a reply.
     pub fn calls(&self) -> u64
         ensures { result ≡ (tally_of self.now).calls }
     {

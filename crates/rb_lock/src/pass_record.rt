@@ -1,7 +1,7 @@
 use rb_queue::Event;
 use std::collections::LinkedList;
 
-/// What is remembered of a pass. No value of it is made.
+/// What is remembered of a pass. It is only for proofs: no value of it is made.
 pub(crate) struct PassRecord {
     /// The seat of its events.
     pub(crate) name: u64,

@@ -26,9 +26,9 @@ use std::sync::Wait;
 
 /// A kept queue that many threads call, each through a pass of its own.
 ///
-/// The queue is in the one slot of a table, and the table's one word says whether it is at home. It
-/// is taken and given back by single exchanges of the word; only the seat that took it touches the
-/// slot.
+/// The queue is in the one slot of a table, and the table's one word says whether it is at home. Each
+/// taking and each giving back is one exchange of the word. Only the seat that took the queue touches
+/// the slot.
 #[derive(Drop)]
 pub struct Shared<T: Timer> {
     table: Table<Option<Pair<T>>, View, Snapshot<Kept<T>>, LockRule, Global>,
@@ -51,7 +51,8 @@ impl<T: Timer> Model for Shared<T> {
 impl<T: Timer> Shared<T> {
     /// Shares a queue that has not been called yet, and returns its first pass, of name 0.
     ///
-    /// It takes memory only for the lock. A fault hands both back.
+    /// It takes memory only for the lock. If there is not enough, the fault is `Memory`, and the queue and
+    /// its share are handed back.
     pub fn open(
         alloc: Global,
         kept: Kept<T>,
@@ -83,12 +84,12 @@ impl<T: Timer> Shared<T> {
         }
     }
 
-    /// Splits a new pass off, under the next name, which was never given before. It waits while another pass
-    /// calls.
+    /// Splits a new pass off, under the next name, which was never given before. It waits while another
+    /// pass calls, and takes no memory.
     ///
-    /// The new pass has seen what this one has, and has made no call. Its name is below 65,536, and none of those
-    /// that this pass had noted. `Names` comes only if all
-    /// 65,536 names are given. Either way this pass may have seen more of the history.
+    /// The new pass has seen what this one has, and has made no call. Its name is below 65,536, and none
+    /// of those that this pass knew to be given. The fault is `Names`, only if all 65,536 names are given.
+    /// Either way this pass may have seen more of the history than before.
     pub fn split<R: Wait>(&self, rt: &R, pass: &mut Pass<T>) -> Result<Pass<T>, SplitFault>
         requires pass { pass.old.table ≡ self.now }
         ensures learns { Learns pass.old pass.new }
@@ -111,8 +112,8 @@ impl<T: Timer> Shared<T> {
         Ok(Pass { seat, name, tally })
     }
 
-    /// Folds another pass into this one, with all that were folded into it: their calls are counted here
-    /// from now on. It waits for nobody.
+    /// Folds another pass, and all that were folded into it, into this one, which counts their calls from
+    /// now on. It does not wait.
     pub fn fold(&self, pass: &mut Pass<T>, other: Pass<T>)
         requires pass { pass.old.table ≡ self.now }
         requires other { other.table ≡ self.now }
@@ -127,9 +128,9 @@ impl<T: Timer> Shared<T> {
         pass.tally.join(tally);
     }
 
-    /// Two passes tell each other what they have seen. It waits for nobody.
+    /// Lets two passes learn what the other has seen. It does not wait.
     ///
-    /// Afterwards both have seen one history, which begins with what each had seen.
+    /// Afterwards both have seen the same history, which begins with what each had seen.
     pub fn meet(&self, first: &mut Pass<T>, second: &mut Pass<T>)
         requires first { first.old.table ≡ self.now }
         requires second { second.old.table ≡ self.now }
@@ -148,9 +149,9 @@ impl<T: Timer> Shared<T> {
     /// calls.
     ///
     /// After a reply the pass has seen a legal history that begins with all that it had seen and
-    /// ends with this call, and the reply is that of the history. Otherwise no event was made:
-    /// after `Later` the pass has seen a history from which the ask would wait, after `Full` one
-    /// with `capacity` events; `Memory` comes for an offer and a drain alone.
+    /// ends with this call, and the reply is that of the history. Otherwise no event was made: after
+    /// `Later` the pass has seen a history from which the ask would wait, and after `Full` one with
+    /// `capacity` events. Only an offer and a drain are refused with `Memory`.
     pub fn call<R: Wait>(
         &self,
         rt: &R,
@@ -179,8 +180,8 @@ impl<T: Timer> Shared<T> {
     /// Ends the sharing, if every pass with calls is this one or folded into it. It waits while
     /// another pass calls, and takes no memory.
     ///
-    /// The history that comes back has the calls of these passes and no other. `NotAll` comes if
-    /// the pass's totals are not those of the whole history, and hands everything back.
+    /// The history that comes back consists of the calls of these passes. The fault is `NotAll` if the
+    /// pass's totals are not those of the whole history; it hands everything back.
     pub fn close<R: Wait>(
         self,
         rt: &R,
@@ -219,7 +220,7 @@ impl<T: Timer> Shared<T> {
     }
 }
 
-// What lies in the lock can't be seen without taking it.
+// What is in the lock can't be seen without taking the lock.
 impl<T: Timer> Debug for Shared<T> {
     fn fmt<W: fmt::Write>(&self, f: &mut Formatter<W>) -> fmt::Result {
         f.debug_struct("Shared").finish_non_exhaustive()

@@ -5,7 +5,7 @@ use crate::view::View;
 use atomic_table::{Join, Play, Split};
 use rb_timer::Timer;
 
-/// The lock is taken, or found taken.
+/// A seat takes the lock, or finds it taken.
 pub(crate) struct Take;
 
 impl<T: Timer> Play<Option<Pair<T>>, View> for Take {
@@ -14,7 +14,7 @@ impl<T: Timer> Play<Option<Pair<T>>, View> for Take {
     ghost then = { taken };
 }
 
-/// The lock is given back.
+/// The seat gives the lock back.
 pub(crate) struct Give;
 
 impl<T: Timer> Play<Option<Pair<T>>, View> for Give {
@@ -23,7 +23,7 @@ impl<T: Timer> Play<Option<Pair<T>>, View> for Give {
     ghost then = { gave };
 }
 
-/// The lock is given back, and a name is drawn in the same step.
+/// The seat gives the lock back, and draws a name in the same step.
 pub(crate) struct Draw;
 
 impl<T: Timer> Play<Option<Pair<T>>, View> for Draw {
@@ -32,7 +32,7 @@ impl<T: Timer> Play<Option<Pair<T>>, View> for Draw {
     ghost then = { drew };
 }
 
-/// A drawn name is given to a new seat.
+/// A new seat is cut off, and gets the drawn name.
 pub(crate) struct Cut;
 
 impl Split<View> for Cut {
@@ -54,7 +54,7 @@ impl Join<View> for Fold {
     ghost spent = { nobody };
 }
 
-/// A note is made of what a seat has seen.
+/// A note of what a seat has seen is cut off it.
 pub(crate) struct Note;
 
 impl Split<View> for Note {
@@ -65,7 +65,7 @@ impl Split<View> for Note {
     ghost right = { note_of };
 }
 
-/// A note is compared with what another seat has seen.
+/// A note is joined to another seat, to be compared with what that has seen.
 pub(crate) struct Compare;
 
 impl Join<View> for Compare {
@@ -76,7 +76,7 @@ impl Join<View> for Compare {
     ghost spent = { nobody };
 }
 
-/// The word is read: of the two lists one begins the other, as both begin the history.
+/// The word is read: one of the two lists begins the other, since both begin the history.
 pub(crate) struct Learn;
 
 impl<T: Timer> Play<Option<Pair<T>>, View> for Learn {

@@ -3,9 +3,9 @@ use crate::stage::Stage;
 use rb_queue::{Event, Opening};
 use std::collections::LinkedList;
 
-/// What a seat of the lock's table knows. No value of it is made.
+/// What a seat of the lock's table knows. It is only for proofs: no value of it is made.
 pub(crate) struct View {
-    /// Whether it is a pass's. The seat that a pass leaves behind, and a note of what it has seen, are not.
+    /// Whether it is the view of a pass. That of a seat that a pass leaves behind is not, nor is a note.
     pub(crate) live: bool,
     pub(crate) capacity: u64,
     pub(crate) opening: Opening,

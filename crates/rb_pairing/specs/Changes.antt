@@ -4,7 +4,7 @@ use Rattle.rb_pairing.specs.declared.node.Node.{Node}
 use Rattle.rb_pairing.specs.Nodes.{expiry_of, child_of, next_of, previous_of, expiries, moment_of}
 use Rattle.rb_pairing.specs.Forest.{HasNoLinks, LieAsTrees, IsTop}
 
--- what is before the slot, if there is one, is set
+-- if there is a slot, what comes before it is set
 pub record SetsPrevious (old new : List Node) (slot previous : Option ℕ) : Type 0 where
   pub expiries : expiries new ≡ expiries old
   pub child : (other : ℕ) → child_of new other ≡ child_of old other
@@ -12,7 +12,7 @@ pub record SetsPrevious (old new : List Node) (slot previous : Option ℕ) : Typ
   pub here : (other : ℕ) → slot ≡ Some other → previous_of new other ≡ previous
   pub elsewhere : (other : ℕ) → slot ≢ Some other → previous_of new other ≡ previous_of old other
 
--- the slot, if there is one, links to `to` where it linked to `from`
+-- the slot, if there is one, has `to` as the first under it if that was `from`, and otherwise as the next
 pub record SetsLink (old new : List Node) (slot : Option ℕ) (from : ℕ) (to : Option ℕ) : Type 0 where
   pub expiries : expiries new ≡ expiries old
   pub previous : (other : ℕ) → previous_of new other ≡ previous_of old other
@@ -25,7 +25,7 @@ pub record SetsLink (old new : List Node) (slot : Option ℕ) (from : ℕ) (to :
   pub next_stays : (other : ℕ) → (slot ≡ Some other → child_of old other ≡ Some from)
       → next_of new other ≡ next_of old other
 
--- what the slot stands between is set
+-- what comes before the slot and after it is set
 pub record SetsPlace (old new : List Node) (slot : ℕ) (before behind : Option ℕ) : Type 0 where
   pub expiries : expiries new ≡ expiries old
   pub child : (other : ℕ) → child_of new other ≡ child_of old other
@@ -50,7 +50,7 @@ pub record ClearsLinks (old new : List Node) (slot : ℕ) : Type 0 where
   pub next : (other : ℕ) → other ≢ slot → next_of new other ≡ next_of old other
   pub previous : (other : ℕ) → other ≢ slot → previous_of new other ≡ previous_of old other
 
--- what is around the slot in its row links past it: what linked to it links to what was beyond it
+-- the slot's neighbours in its row link past it: each links to the other instead
 pub record Bypasses (old new : List Node) (slot : ℕ) : Type 0 where
   pub expiries : expiries new ≡ expiries old
   pub child : (other : ℕ) → child_of old other ≡ Some slot → child_of new other ≡ next_of old slot
@@ -64,7 +64,7 @@ pub record Bypasses (old new : List Node) (slot : ℕ) : Type 0 where
   pub previous_stays : (other : ℕ) → next_of old slot ≢ Some other
       → previous_of new other ≡ previous_of old other
 
--- the slot is taken out of its row: what linked to it links to what was beyond it
+-- the slot is taken out of its row, and its neighbours there link to each other
 pub record Cuts (old new : List Node) (slot : ℕ) : Type 0 where
   pub expiries : expiries new ≡ expiries old
   pub child : (other : ℕ) → child_of old other ≡ Some slot → child_of new other ≡ next_of old slot
@@ -80,7 +80,7 @@ pub record Cuts (old new : List Node) (slot : ℕ) : Type 0 where
   pub previous_stays : (other : ℕ) → other ≢ slot → next_of old slot ≢ Some other
       → previous_of new other ≡ previous_of old other
 
--- the slot leaves its place to `by`, the only one under it: what linked to the slot links to that
+-- the slot leaves its place to `by`, the only one under it: what linked to the slot links to `by`
 pub record Replaces (old new : List Node) (slot by : ℕ) : Type 0 where
   pub expiries : expiries new ≡ expiries old
   pub none : HasNoLinks new slot
@@ -115,25 +115,25 @@ pub record Moves (old new : List Node) (earlier later : ℕ) : Type 0 where
   pub cuts : Cuts old between later
   pub adopts : Adopts between new earlier later
 
--- of two neighbours one is moved under the other, which stays
+-- one of two neighbours is moved under the other, which stays
 abbrev pub Joins : List Node → List Node → ℕ → ℕ → ℕ → Type 0
 Joins old new left right stays =
     ((stays ≡ left) × Moves old new left right) ⊎ ((stays ≡ right) × Moves old new right left)
 
--- the trees are linked otherwise, of the same entries and with the same ones in no row
+-- the same entries form other trees, and the same ones are in no row
 pub record Relinks (old new : List Node) : Type 0 where
   pub linked : LieAsTrees new
   pub expiries : expiries new ≡ expiries old
   pub tops : (slot : ℕ) → is_some (previous_of new slot) ≡ is_some (previous_of old slot)
 
--- the entries under `parent` are joined into one, if there are any
+-- the entries under `parent`, if there are any, are joined into one tree
 pub record JoinsChildren (old new : List Node) (parent : ℕ) (left : Option ℕ) : Type 0 where
   pub relinks : Relinks old new
   pub child : child_of new parent ≡ left
   pub only : (slot : ℕ) → left ≡ Some slot → next_of new slot ≡ None
 
 -- the slot is taken out of its tree: those that were under it hang under one of them, the heir,
--- which is in a row just where the slot was in one
+-- which is in a row exactly if the slot was in one
 pub record Unlinks (old new : List Node) (slot : ℕ) (heir : Option ℕ) : Type 0 where
   pub linked : LieAsTrees new
   pub expiries : expiries new ≡ expiries old
@@ -146,7 +146,7 @@ pub record Unlinks (old new : List Node) (slot : ℕ) (heir : Option ℕ) : Type
   pub tops : (other : ℕ) → other ≢ slot → heir ≢ Some other
       → is_some (previous_of new other) ≡ is_some (previous_of old other)
 
--- of two entries in no row one is put under the other, which is left
+-- one of two entries in no row is put under the other, which is left
 pub record Melds (old new : List Node) (one other left : Option ℕ) : Type 0 where
   pub linked : LieAsTrees new
   pub expiries : expiries new ≡ expiries old

@@ -1,4 +1,4 @@
--- What a node says: options, each of which takes one word.
+-- What a node says, as options. In the code each takes one word.
 use Rattle.std.specs.Prelude.{ℕ, Option}
 
 -- the expiry of a slot's entry, if it has one, and the entry's links

@@ -1,5 +1,5 @@
--- How the entries hang together: trees whose links agree both ways, and where no entry expires
--- before its parent.
+-- How the entries are linked: as trees whose links agree both ways, in which no entry expires before
+-- its parent.
 use Rattle.std.specs.Prelude.{◌≡◌, ℕ, ◌<◌, ◌≤◌, ◌≢◌, List, length, Option, Some, None, IsSome}
 use Rattle.rb_pairing.specs.declared.node.Node.{Node}
 use Rattle.rb_pairing.specs.Nodes.{expiry_of, child_of, next_of, previous_of, moment_of}
@@ -10,8 +10,8 @@ pub record HasNoLinks (nodes : List Node) (slot : ℕ) : Type 0 where
   pub next : next_of nodes slot ≡ None
   pub previous : previous_of nodes slot ≡ None
 
--- `parent` says under which entry each hangs. Along the links of a tree `rank`, which numbers the
--- slots of the room, only rises, so that each tree has an end above and each row one behind.
+-- `parent` says under which entry each hangs. `rank`, which numbers the slots of the room, only rises
+-- along the links of a tree, so no path down a tree or along a row comes back.
 pub record IsForest (nodes : List Node) (parent rank : ℕ → ℕ) : Type 0 where
   pub vacant : (slot : ℕ) → expiry_of nodes slot ≡ None → HasNoLinks nodes slot
   pub child_back : (slot child : ℕ) → child_of nodes slot ≡ Some child
@@ -38,7 +38,7 @@ pub record Forest (nodes : List Node) : Type 0 where
   pub rank : ℕ → ℕ
   pub is_forest : IsForest nodes parent rank
 
--- the nodes lie as trees
+-- the nodes form trees
 abbrev pub LieAsTrees : List Node → Type 0
 LieAsTrees nodes = ∥ Forest nodes ∥₁
 
@@ -56,7 +56,7 @@ pub record Row (nodes : List Node) (parent slot : ℕ) : Type 0 where
 abbrev pub IsInRow : List Node → ℕ → ℕ → Type 0
 IsInRow nodes parent slot = ∥ Row nodes parent slot ∥₁
 
--- one tree of all entries: what is in no row is the root, and nothing else
+-- one tree of all entries: only the root is in no row
 pub record IsTree (nodes : List Node) (root : Option ℕ) : Type 0 where
   pub linked : LieAsTrees nodes
   pub top : (slot : ℕ) → root ≡ Some slot → IsTop nodes slot

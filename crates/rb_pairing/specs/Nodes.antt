@@ -19,11 +19,11 @@ expiry_of nodes slot = (node_at nodes slot).expiry
 abbrev pub child_of : List Node → ℕ → Option ℕ
 child_of nodes slot = (node_at nodes slot).child
 
--- what is behind it in its row
+-- what comes after it in its row
 abbrev pub next_of : List Node → ℕ → Option ℕ
 next_of nodes slot = (node_at nodes slot).next
 
--- what is before it in its row, or for the first of a row the parent
+-- what comes before it in its row, or for the first of a row the parent
 abbrev pub previous_of : List Node → ℕ → Option ℕ
 previous_of nodes slot = (node_at nodes slot).previous
 

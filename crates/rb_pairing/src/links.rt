@@ -6,7 +6,7 @@ ghost use Rattle.rb_pairing.specs.Changes.{Bypasses, Cuts, Replaces, Adopts, Joi
 use crate::nodes::Nodes;
 
 impl Nodes {
-    // Links what is around the entry in its row, if it is in one, past it. Its own place stays.
+    // Links the entry's neighbours in its row, if it is in one, past it. Its own links stay.
     fn bypass(&mut self, slot: usize)
         requires linked { LieAsTrees self.old }
         requires in_room { slot < length self.old }
@@ -18,7 +18,7 @@ impl Nodes {
         self.set_link(previous, slot, next);
     }
 
-    // Takes the entry, with all that hang under it, out of its row, if it is in one.
+    // Takes the entry, with all entries under it, out of its row, if it is in one.
     fn cut(&mut self, slot: usize)
         requires linked { LieAsTrees self.old }
         requires in_room { slot < length self.old }
@@ -28,7 +28,7 @@ impl Nodes {
         self.set_place(slot, None, None);
     }
 
-    // Puts the only entry under another into its place. The other is left with no links.
+    // Puts the only entry under another into that one's place, and leaves the other with no links.
     fn replace(&mut self, slot: usize, by: usize)
         requires linked { LieAsTrees self.old }
         requires child { child_of self.old slot ≡ Some by }
@@ -67,8 +67,8 @@ impl Nodes {
     }
 
     // Hangs the later of two neighbours under the other, which keeps their place in the row. Each link is
-    // written once: the later one's own place is not emptied before it is set. It is compiled into both passes
-    // over a row, as a removal spends its time in them.
+    // written once: the later one's own place is not emptied before it is set. It is inlined into both passes
+    // over a row, since a removal spends its time in them.
     #[inline(always)]
     fn join(&mut self, left: usize, right: usize) -> usize
         requires linked { LieAsTrees self.old }
@@ -86,9 +86,9 @@ impl Nodes {
         }
     }
 
-    // Joins the entries under `parent` two by two from the first on, and gives the last that stays.
+    // Joins the entries under `parent` in pairs from the first on, and returns the last one that stays.
     //
-    // A row is no longer than the room, so the loop is left before its range ends.
+    // A row is no longer than the room, so the loop ends before its range does.
     fn join_pairs(&mut self, parent: usize) -> Option<usize>
         requires linked { LieAsTrees self.old }
         requires in_room { parent < length self.old }
@@ -111,7 +111,7 @@ impl Nodes {
         Some(last)
     }
 
-    // Joins the entries of the row under `parent` from its last on, until one is left, which it gives.
+    // Joins the entries of the row under `parent` from the last one back, and returns the one that is left.
     fn join_back(&mut self, parent: usize, mut last: usize) -> usize
         requires in_room { parent < length self.old }
         requires row { IsInRow self.old parent last }
@@ -130,7 +130,7 @@ impl Nodes {
         last
     }
 
-    // Joins the entries under `parent` into one, which it gives, if there are any.
+    // Joins the entries under `parent`, if there are any, into one tree, and returns its root.
     fn join_children(&mut self, parent: usize) -> Option<usize>
         requires linked { LieAsTrees self.old }
         requires in_room { parent < length self.old }
@@ -140,11 +140,11 @@ impl Nodes {
         Some(self.join_back(parent, last))
     }
 
-    /// Takes an entry out of its tree. The children are joined into one, which takes its place and
-    /// is returned.
+    /// Takes an entry out of its tree. The entries under it are joined into one tree, whose root takes
+    /// its place and is returned.
     ///
-    /// Nothing has to be compared for that place, since what is above it expires no later than the
-    /// entry did.
+    /// The root need not be compared with the entry above it, which expires no later than the entry
+    /// that was taken out.
     pub(crate) fn unlink(&mut self, slot: usize) -> Option<usize>
         requires linked { LieAsTrees self.old }
         requires in_room { slot < length self.old }
@@ -158,7 +158,8 @@ impl Nodes {
         Some(heir)
     }
 
-    /// Hangs the later of two entries that are in no row under the other, and returns that one.
+    /// Hangs the later of two entries that are in no row under the other, which it returns. If only one
+    /// is given, returns that.
     pub(crate) fn meld(&mut self, one: Option<usize>, other: Option<usize>) -> Option<usize>
         requires linked { LieAsTrees self.old }
         requires one { (slot : ℕ) → one ≡ Some slot → IsTop self.old slot }

@@ -3,20 +3,20 @@ ghost use Rattle.std.specs.Prelude.{◌≡◌, ℕ, ◌<◌, ◌↔◌, Some, No
 use rb_timer::optional_index::{NONE, OptionalIndex};
 use std::marker::Model;
 
-// In the place of the child: the slot has no entry. Every slot of the room is below it.
+// In place of a child: the slot has no entry. Every slot of the room is below this number.
 const VACANT: usize = NONE - 1;
 
 /// What a slot of the room holds: its entry's expiry, if it has one, and the entry's links.
 ///
 /// The entries under one parent are a row, linked both ways. A slot with no entry has no links.
-/// Contracts see options: here each takes one word, so that two nodes share a line of the cache.
+/// Contracts see options. Here each takes one word, so that two nodes share a cache line.
 #[derive(Clone, Copy, Debug)]
 pub(crate) struct Node {
     // In nanoseconds.
     expiry: u64,
     // The first entry of the row under this one.
     child: OptionalIndex,
-    // The entry behind this one in its row.
+    // The entry after this one in its row.
     next: OptionalIndex,
     // The entry before this one in its row, or for the first of a row the parent.
     previous: OptionalIndex,
@@ -100,7 +100,7 @@ impl Node {
         self.child.as_option() == Some(slot)
     }
 
-    /// The entry behind this one in its row.
+    /// The entry after this one in its row.
     pub(crate) fn next(&self) -> Option<usize>
         ensures { result ≡ self.now.next }
     {
@@ -123,7 +123,7 @@ impl Node {
         self.child = OptionalIndex::none();
     }
 
-    /// Takes away the entry of a slot that has no child.
+    /// Removes the entry of a slot that has no child.
     pub(crate) fn vacate(&mut self)
         requires { self.old.child ≡ None }
         ensures { self.new ≡ record self.old { expiry = None } }
@@ -141,7 +141,7 @@ impl Node {
         self.child = link_to(child);
     }
 
-    /// Notes the entry behind this one.
+    /// Notes the entry after this one.
     pub(crate) fn set_next(&mut self, next: Option<usize>)
         requires { (slot : ℕ) → next ≡ Some slot → slot < VACANT }
         ensures { self.new ≡ record self.old { next = next } }
@@ -157,7 +157,7 @@ impl Node {
         self.previous = link_to(previous);
     }
 
-    /// Notes which entries this one is between.
+    /// Notes the entry before this one, or the parent, and the entry after it.
     pub(crate) fn set_place(&mut self, previous: Option<usize>, next: Option<usize>)
         requires previous { (slot : ℕ) → previous ≡ Some slot → slot < VACANT }
         requires next { (slot : ℕ) → next ≡ Some slot → slot < VACANT }
@@ -167,7 +167,7 @@ impl Node {
         self.set_next(next);
     }
 
-    /// Takes every link from the entry.
+    /// Removes every link of the entry.
     pub(crate) fn clear_links(&mut self)
         requires { IsSome self.old.expiry }
         ensures { self.new ≡ record self.old { child = None; next = None; previous = None } }

@@ -8,7 +8,7 @@ use std::marker::Model;
 
 /// The slots of the room, each with its node. Contracts see the list of the nodes.
 ///
-/// But for `reserve` and `clear`, each of the calls here reads or writes one node.
+/// Each call other than `reserve` and `clear` reads or writes one node.
 #[derive(Debug, Drop)]
 pub(crate) struct Nodes {
     slots: Vec<Node>,
@@ -24,7 +24,7 @@ impl Model for Nodes {
 }
 
 impl Nodes {
-    /// There is no slot, and no memory is taken until `reserve`.
+    /// No slots. It takes no memory until `reserve`.
     pub(crate) fn new(alloc: Global) -> Self
         ensures { result ≡ [] }
     {
@@ -40,7 +40,8 @@ impl Nodes {
         self.slots.len()
     }
 
-    /// Makes room for `wanted` slots. Where memory is refused nothing changes.
+    /// Makes room for at least `wanted` slots. On `Err` there was not enough memory, and the slots are
+    /// unchanged.
     pub(crate) fn reserve(&mut self, wanted: usize) -> Result<(), AllocError>
         ensures { self.new ≡ self.old ++ replicate (if is_ok result then wanted - length self.old else 0) vacant }
     {
@@ -50,7 +51,7 @@ impl Nodes {
         Ok(())
     }
 
-    /// Takes away every entry.
+    /// Removes every entry, and keeps the room.
     pub(crate) fn clear(&mut self)
         ensures { self.new ≡ replicate (length self.old) vacant }
     {
@@ -89,7 +90,7 @@ impl Nodes {
         self.slots[parent].is_above(slot)
     }
 
-    /// The entry behind that one in its row.
+    /// The entry after that one in its row.
     pub(crate) fn next(&self, slot: usize) -> Option<usize>
         requires { slot < length self.now }
         ensures { result ≡ next_of self.now slot }
@@ -116,7 +117,7 @@ impl Nodes {
         }
     }
 
-    /// Has the entry that links to `from` link to `to` instead.
+    /// Makes the entry, if there is one, link to `to` instead of `from`, to which it links.
     pub(crate) fn set_link(&mut self, slot: Option<usize>, from: usize, to: Option<usize>)
         requires slot { (other : ℕ) → slot ≡ Some other → other < length self.old }
         requires present { (other : ℕ) → slot ≡ Some other → IsSome (expiry_of self.old other) }
@@ -133,7 +134,7 @@ impl Nodes {
         }
     }
 
-    /// Notes what the entry stands between.
+    /// Notes the entry before that one, or the parent, and the entry after it.
     pub(crate) fn set_place(&mut self, slot: usize, previous: Option<usize>, next: Option<usize>)
         requires slot { slot < length self.old }
         requires previous { (other : ℕ) → previous ≡ Some other → other < length self.old }
@@ -143,7 +144,7 @@ impl Nodes {
         self.slots[slot].set_place(previous, next);
     }
 
-    /// Notes the first of the row under the entry.
+    /// Notes the first entry of the row under that one.
     pub(crate) fn set_child(&mut self, slot: usize, child: usize)
         requires slot { slot < length self.old }
         requires present { IsSome (expiry_of self.old slot) }
@@ -153,7 +154,7 @@ impl Nodes {
         self.slots[slot].set_child(Some(child));
     }
 
-    /// Takes every link from the entry. What links to it stays.
+    /// Removes every link of the entry. The links to it stay.
     pub(crate) fn clear_links(&mut self, slot: usize)
         requires slot { slot < length self.old }
         requires present { IsSome (expiry_of self.old slot) }
@@ -172,7 +173,7 @@ impl Nodes {
         self.slots[slot].occupy(expiry);
     }
 
-    /// Takes away the entry of a slot that has no child.
+    /// Removes the entry of a slot that has no child.
     pub(crate) fn vacate(&mut self, slot: usize)
         requires slot { slot < length self.old }
         requires child { child_of self.old slot ≡ None }

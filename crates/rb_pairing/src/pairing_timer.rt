@@ -9,21 +9,21 @@ use std::alloc::{AllocError, Global};
 
 /// A pairing heap of the entries, by expiry, whose links are slots.
 ///
-/// In the long run an insert and a removal cost no more than a logarithm of the entries, though no proof
-/// says so: a leaf below k entries raises the usual potential, the sum of the logarithms of the entries'
-/// sizes, by a sum of log(1 + 1/size) over k sizes that differ, which is at most log(k + 1). A single
-/// removal may join as many entries as there are. A clear costs a constant for each entry that it takes
-/// out, whatever the room. `reserve`, where it makes room, costs all the room that there is then, and every
-/// other call a constant.
+/// In the long run an insert and a removal cost at most the logarithm of the number of entries, which is
+/// not proved: a leaf below k entries raises the usual potential, the sum of the logarithms of the
+/// entries' sizes, by a sum of log(1 + 1/size) over k different sizes, which is at most log(k + 1). A
+/// single removal may join as many entries as there are. A clear costs a constant for each entry,
+/// whatever the room. A `reserve` that makes room costs all the room that there is then, and every other
+/// call a constant.
 #[derive(Debug, Drop)]
 pub struct PairingTimer {
-    // At each slot of the room its node.
+    // The node of each slot of the room.
     nodes: Nodes,
-    // The slot of the entry under which all others hang.
+    // The slot of the root, the entry under which all others hang.
     root: Option<usize>,
-    // The slot of the newest entry or, once that is removed, of the one that was before it. An entry
-    // is put under this one, unless it expires earlier: so rising expiries make a chain, in which
-    // each has one child at most, and nothing has to be joined.
+    // The slot of the newest entry or, once that is removed, of the one before it. A new entry is put
+    // under this one, unless it expires earlier. So rising expiries make a chain, in which each entry
+    // has at most one child, and nothing has to be joined.
     newest: Option<usize>,
     // How many entries there are.
     len: usize,
@@ -107,9 +107,9 @@ impl PairingTimer {
     ghost use Rattle.rb_timer.specs.Slots.{content_of};
     ghost use Rattle.rb_pairing.specs.Nodes.{expiries};
 
-    // Takes out one entry after another, each when none is under it, so that nothing is ever joined.
+    // Takes the entries out one by one, each when none is under it, so that nothing is ever joined.
     //
-    // The newest is the entry to go on from: once it is removed that is the one that was before it.
+    // It goes on from the newest entry: once that is removed, the newest is the one before it.
     fn take_each(&mut self)
         ensures content { content_of (expiries self.new.nodes) ≡ map.empty }
         ensures room { length self.new.nodes ≡ length self.old.nodes }
@@ -121,7 +121,7 @@ impl PairingTimer {
         }
     }
 
-    // Takes out all entries at once, by a walk over the room.
+    // Takes all entries out in one pass over the room.
     fn take_all(&mut self)
         ensures content { content_of (expiries self.new.nodes) ≡ map.empty }
         ensures room { length self.new.nodes ≡ length self.old.nodes }

@@ -61,9 +61,10 @@ impl Nodes {
         if root == Some(slot) { heir } else { root }
     }
 
-    /// The entry with none under it to which the first of each row leads, from that entry on.
+    /// The entry that is reached by going down from the slot's to the first of each row, until none is
+    /// under it.
     ///
-    /// No entry is reached twice, so the loop is left before its range ends.
+    /// No entry is reached twice, so the loop ends before its range does.
     pub(crate) fn leaf_under(&self, mut slot: usize) -> usize
         requires linked { LieAsTrees self.now }
         requires present { IsSome (expiry_of self.now slot) }

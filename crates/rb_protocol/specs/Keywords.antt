@@ -7,7 +7,7 @@ use Rattle.rb_protocol.specs.declared.keywords.OfferKeyword.TheVariants as of_of
 use Rattle.rb_protocol.specs.declared.request.Request.{Request}
 use Rattle.rb_protocol.specs.declared.request.Request.TheVariants.{Offer, OfferAt, PollFor, Remove, Drain, Done, Fail, At}
 
--- with this number
+-- the request of a keyword with this number
 abbrev pub number_request : NumberKeyword → ℕ → Request
 number_request of_number.PollFor timeout = PollFor timeout
 number_request of_number.Remove id = Remove id
@@ -16,7 +16,7 @@ number_request of_number.Done id = Done id
 number_request of_number.Fail id = Fail id
 number_request of_number.At moment = At moment
 
--- with this number and this payload
+-- the request of a keyword with this number and this payload
 abbrev pub offer_request : OfferKeyword → ℕ → List ℕ → Request
 offer_request of_offer.Offer delay payload = Offer delay payload
 offer_request of_offer.OfferAt expiry payload = OfferAt expiry payload

@@ -14,7 +14,7 @@ abbrev pub request_text : Request → List ℕ
 request_text request =
     spaced ((form_of request).keyword ∷ argument_words (form_of request).arguments)
 
--- the line is this request: its words with one space between two of them, and none before or after
+-- the line is this request: its words, separated by single spaces, with no space before or after them
 pub record IsRequest (line : List ℕ) (request : Request) : Type 0 where
   pub words : words_of line ≡ (form_of request).keyword ∷ argument_words (form_of request).arguments
   pub right : AreRight (form_of request).arguments
@@ -23,7 +23,7 @@ pub record IsRequest (line : List ℕ) (request : Request) : Type 0 where
 abbrev pub NoGap : List (List ℕ) → Type 0
 NoGap words = All (λ word. 0 < length word) words
 
--- the line has the words of a request, whatever the words for its arguments are
+-- the line has a request's keyword and as many words after it as the request has, whatever they are
 pub record HasWords (line keyword : List ℕ) (places : List (List ℕ)) : Type 0 where
   pub words : words_of line ≡ keyword ∷ places
   pub no_gap : NoGap places

@@ -42,6 +42,6 @@ reply_words Stopped = codes "STOPPED" ∷ []
 reply_words Bye = codes "BYE" ∷ []
 reply_words (Error word) = codes "ERR" ∷ error_words word
 
--- the line, with its end
+-- the line, with its line feed
 abbrev pub text_of : LineReply → List ℕ
 text_of reply = spaced (reply_words reply) ++ (LINE_FEED ∷ [])

@@ -3,7 +3,7 @@ use Rattle.std.specs.Prelude.{◌≡◌, ℕ, List, ◌++◌, Option, Result, Ok
 use Rattle.std.specs.Io.KnownBytes.{Appends}
 use Rattle.rb_protocol.specs.declared.writing.WriteFault.{WriteFault}
 
--- a text was sent whole, or its first part
+-- the text was sent whole, or after a fault a first part of it
 abbrev pub Sends : {T : Type 0} → Result T WriteFault → Option (List ℕ) → List ℕ → Option (List ℕ) → Type 0
 Sends (Ok _) got text got' = Appends got got' text
 Sends (Err fault) got text got' = (sent : List ℕ) × (unsent : List ℕ) × (text ≡ sent ++ unsent) × Appends got got' sent

@@ -1,5 +1,5 @@
--- The words that a line was taken apart into, and what they were read as. Of public clauses only
--- that of `cut_word` cites this.
+-- The words into which a line was split, and what they are read as. The only public clause that
+-- cites this is that of `cut_word`.
 use Rattle.std.specs.Prelude.{◌≡◌, ℕ, ◌≤◌, ◌==◌, List, [], ◌∷◌, length, Option, Some, None, position, Result, Ok, Err}
 use Rattle.rb_protocol.specs.Form.{form_of, argument_words, AreRight, Takes}
 use Rattle.rb_protocol.specs.Line.{words_of}

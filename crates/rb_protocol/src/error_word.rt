@@ -5,7 +5,7 @@ pub enum ErrorWord {
     Syntax,
     /// A word in the place of a number is not a number.
     Number,
-    /// The expiry would pass the greatest moment.
+    /// The expiry would pass the greatest moment, 2^64 - 1 nanoseconds.
     Range,
     /// The payload is too long, or has a byte that is not allowed.
     Payload,

@@ -4,5 +4,5 @@ pub const SPACE: u8 = b' ';
 /// The byte that ends a line.
 pub const LINE_FEED: u8 = b'\n';
 
-/// The byte that may stand before a request's line feed, and belongs to the line's end then.
+/// The byte that may come before a request's line feed, and is then part of the line's end.
 pub const CARRIAGE_RETURN: u8 = b'\r';

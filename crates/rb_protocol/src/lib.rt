@@ -1,9 +1,9 @@
-//! The line protocol of the broker: which request a line is, and which line a reply is; and what
-//! all crates share that read lines and write them.
+//! The broker's line protocol: which request a line is, and which line a reply is. It also has what
+//! all crates that read or write lines share: the limits of reads, and the loop that writes bytes.
 //!
-//! A request is one line of words with one space between two of them, and so is each line of a
-//! reply. Lines are read without their ends, and written with them. Reading takes no memory, and
-//! writing takes none if the text has `REPLY_ROOM` bytes of free capacity.
+//! A request is one line of words separated by single spaces, and so is each line of a reply. Lines
+//! are read without their ends, and written with them. Reading takes no memory, and writing takes
+//! none if the text has `REPLY_ROOM` bytes of free capacity.
 #![tactic(auto)]
 
 mod error_word;

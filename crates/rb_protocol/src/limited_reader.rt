@@ -6,7 +6,7 @@ use crate::limits::MOST_READS;
 use std::io;
 use std::io::Read;
 
-/// A reader that is read 10,000,000 times at most.
+/// A reader that is read at most 10,000,000 times, so that an endless input ends.
 #[derive(Drop)]
 pub struct LimitedReader<'a, R: Read> {
     inner: &'a mut R,
@@ -17,7 +17,7 @@ pub struct LimitedReader<'a, R: Read> {
 impl<'a, R: Read> LimitedReader<'a, R> {
     ghost use Rattle.rb_protocol.specs.declared.limits.TheConstants.{MOST_READS};
 
-    /// The reader before the first read.
+    /// A reader of `inner` that has not been read yet. It takes no memory.
     pub fn new(inner: &'a mut R) -> LimitedReader<'a, R>
         ensures same_reference { result.inner.ghost_name ≡ inner.entry.ghost_name }
         ensures same { result.inner.now ≡ inner.old }
@@ -36,7 +36,8 @@ impl<'a, R: Read> LimitedReader<'a, R> {
         self.left > 0
     }
 
-    /// Reads once.
+    /// Reads once from the inner reader, whose errors it returns, and counts the read, even one that
+    /// fails. It requires that one more read may be made.
     pub fn read(&mut self, buf: &mut [u8]) -> io::Result<usize>
         requires { 0 < self.old.left }
         ensures bound { ReadsAtMost result buf.new }

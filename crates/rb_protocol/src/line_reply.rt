@@ -21,11 +21,11 @@ pub enum LineReply {
     Offered { id: u64, expiry: u64 },
     /// This element was taken.
     Item(Element),
-    /// This element has least expiry.
+    /// This element has least expiry. It stays in the queue.
     Head(Element),
     /// There is nothing to take or to show.
     Nothing,
-    /// Whether the element was in the queue, from which it is then removed.
+    /// Whether the element was in the queue. If so, it was removed.
     Removed(bool),
     /// This many elements were taken; their lines follow.
     Drained(u64),
@@ -39,7 +39,7 @@ pub enum LineReply {
     Again { id: u64, expiry: u64 },
     /// The job of this id failed at its last attempt, and is not offered again.
     Dead(u64),
-    /// The moment is now this one.
+    /// The clock is at this moment now.
     Now(u64),
     /// The wait was given up.
     Stopped,
@@ -63,8 +63,8 @@ impl LineReply {
 
 /// Appends the reply's line, with its line feed: at most 117 bytes.
 ///
-/// With `REPLY_ROOM` bytes of free capacity it takes no memory and succeeds. It fails only if the
-/// text could not grow, and then leaves the text as it was.
+/// If the text has `REPLY_ROOM` bytes of free capacity, it takes no memory and succeeds. `Err` means
+/// that the text could not grow; the text is then unchanged.
 pub fn write_reply(reply: &LineReply, text: &mut Vec<u8>) -> Result<(), AllocError>
     ensures ok { OnOk result (text.new.items ≡ text.old.items ++ text_of reply.now) }
     ensures err { OnErr result (text.new.items ≡ text.old.items) }
@@ -76,7 +76,7 @@ pub fn write_reply(reply: &LineReply, text: &mut Vec<u8>) -> Result<(), AllocErr
     text.extend_from_slice(line.as_bytes())
 }
 
-// Puts the words in front of the line's end.
+// Writes the words before the line's end.
 fn put_words(line: &mut ReplyLine, reply: &LineReply)
     requires { length line.old + MOST_REPLY_BYTES ≤ REPLY_ROOM }
     ensures written { line.new ≡ spaced (reply_words reply.now) ++ line.old }
@@ -109,7 +109,7 @@ const NUMBERS_ROOM: usize = 41;
 // payload.
 const ELEMENT_ROOM: usize = 111;
 
-// Puts the front, id, expiry, attempt and payload.
+// Writes the front, and the element's id, expiry, attempt and payload.
 fn put_element(line: &mut ReplyLine, front: &[u8], element: &Element)
     requires { length line.old + length front.now + ELEMENT_ROOM ≤ REPLY_ROOM }
     ensures written { line.new ≡ (front.now ++ spaced (element_words element.now)) ++ line.old }
@@ -122,7 +122,7 @@ fn put_element(line: &mut ReplyLine, front: &[u8], element: &Element)
     put_numbers(line, front, element.id, element.expiry);
 }
 
-// Puts the front and two numbers.
+// Writes the front and two numbers.
 fn put_numbers(line: &mut ReplyLine, front: &[u8], one: u64, other: u64)
     requires { length line.old + length front.now + NUMBERS_ROOM ≤ REPLY_ROOM }
     ensures written { line.new ≡ (front.now ++ spaced (decimal one ∷ decimal other ∷ [])) ++ line.old }
@@ -133,7 +133,7 @@ fn put_numbers(line: &mut ReplyLine, front: &[u8], one: u64, other: u64)
     put_number(line, front, one);
 }
 
-// Puts the front and a number.
+// Writes the front and a number.
 fn put_number(line: &mut ReplyLine, front: &[u8], number: u64)
     requires { length line.old + length front.now + MOST_DIGITS ≤ REPLY_ROOM }
     ensures written { line.new ≡ (front.now ++ decimal number) ++ line.old }

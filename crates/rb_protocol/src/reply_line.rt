@@ -7,12 +7,12 @@ use crate::line_reply::REPLY_ROOM;
 use itoa::write_digits;
 use std::marker::Model;
 
-/// The greatest number of digits that a number has.
+/// The greatest number of digits of a number.
 pub(crate) const MOST_DIGITS: usize = 20;
 
-/// A line of a reply, with its line feed. Contracts see its bytes: while it is written, the last ones.
+/// A line of a reply, with its line feed. Contracts see the bytes written so far, the line's last ones.
 ///
-/// It is written from its end to its front, in the order in which the digits of a number are found.
+/// It is written from its end to its front, since the digits of a number are found in that order.
 #[derive(Drop)]
 pub struct ReplyLine {
     bytes: [u8; REPLY_ROOM],
@@ -31,7 +31,7 @@ impl Model for ReplyLine {
 }
 
 impl ReplyLine {
-    /// A line of which only the line feed is written.
+    /// A line with only its line feed written.
     pub(crate) fn new() -> ReplyLine
         ensures { result ≡ LINE_FEED ∷ [] }
     {
@@ -48,7 +48,7 @@ impl ReplyLine {
         &self.bytes[self.start..]
     }
 
-    /// Puts these bytes in front.
+    /// Writes these bytes before those written so far.
     pub(crate) fn put(&mut self, bytes: &[u8])
         requires { length self.old + length bytes.now ≤ REPLY_ROOM }
         ensures written { self.new ≡ bytes.now ++ self.old }
@@ -59,7 +59,7 @@ impl ReplyLine {
         self.bytes[self.start..end].copy_from_slice(bytes);
     }
 
-    /// Puts the number's digits in front.
+    /// Writes the number's digits before what is written so far.
     pub(crate) fn put_number(&mut self, number: u64)
         requires { length self.old + MOST_DIGITS ≤ REPLY_ROOM }
         ensures written { self.new ≡ decimal number ++ self.old }

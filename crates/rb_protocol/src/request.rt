@@ -23,7 +23,7 @@ pub enum Request {
     OfferAt { expiry: u64, payload: Payload },
     /// Take the head, if there is one.
     Poll,
-    /// Take the head, waiting for one for at most this timeout.
+    /// Take the head, waiting for one for at most this time.
     PollFor(u64),
     /// Take the head, waiting for one.
     Take,
@@ -41,13 +41,13 @@ pub enum Request {
     Done(u64),
     /// The held job of this id failed.
     Fail(u64),
-    /// Move time to this moment, unless it is later already.
+    /// Move the clock to this moment, unless it is later already.
     At(u64),
     /// End the session.
     Quit,
 }
 
-/// Reads a line, without its line feed.
+/// Reads a line, which is given without its end.
 ///
 /// Returns the first fault that holds: `Line`, `Syntax`, `Number`, `Payload`. It takes no memory,
 /// and does not copy the line.
@@ -82,13 +82,13 @@ fn request_of(keyword: &[u8], places: WordPlaces<'_>) -> Result<Request, LineFau
     }
 }
 
-/// A line is a request exactly if it is the text of that request.
+/// A line is a request exactly if it is that request's text.
 pub fn request_has_text()
     ensures { (line : List ℕ) (request : Request) → IsRequest line request
         ↔ ((line ≡ request_text request) × AreRight (form_of request).arguments) }
 {}
 
-/// A line is at most one request, or has one fault.
+/// A line has at most one reading: it is one request, or has one fault.
 pub fn one_reading()
     ensures { (line : List ℕ) (one other : Result Request LineFault)
         → IsReading line one → IsReading line other → one ≡ other }

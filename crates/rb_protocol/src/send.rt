@@ -5,9 +5,10 @@ use crate::writing::{WriteFault, write_out};
 use std::io::Write;
 
 /// Writes a line: by one write if that takes the whole line, and otherwise by further writes of the
-/// rest. An interrupted write is made again.
+/// rest. It repeats a write that is interrupted.
 ///
-/// After an `Err` the writer has got the first bytes of the line, perhaps none.
+/// `Err` means that a write failed or took no byte. The writer has then got the first bytes of the
+/// line, perhaps none.
 pub fn send_line<W: Write>(writer: &mut W, line: &[u8]) -> Result<(), WriteFault>
     ensures { Sends result (W.contents writer.old) line.now (W.contents writer.new) }
 {
@@ -17,7 +18,8 @@ pub fn send_line<W: Write>(writer: &mut W, line: &[u8]) -> Result<(), WriteFault
     Ok(())
 }
 
-/// Writes a line and flushes. After an `Err` the writer has got the first bytes of it, perhaps none or all.
+/// Writes a line like `send_line`, and flushes. After an `Err` the writer has got the first bytes of
+/// the line, perhaps none or all.
 pub fn send_at_once<W: Write>(writer: &mut W, line: &[u8]) -> Result<(), WriteFault>
     ensures { Sends result (W.contents writer.old) line.now (W.contents writer.new) }
 {
@@ -25,7 +27,7 @@ pub fn send_at_once<W: Write>(writer: &mut W, line: &[u8]) -> Result<(), WriteFa
     flush(writer)
 }
 
-/// Hands on what was written.
+/// Flushes the writer, which hands on what it has got. `Err` means that it could not.
 pub fn flush<W: Write>(writer: &mut W) -> Result<(), WriteFault>
     ensures { Keeps (W.contents writer.old) (W.contents writer.new) }
 {

@@ -8,10 +8,10 @@ use std::io::{ErrorKind, Write};
 pub struct WriteFault;
 
 /// Writes bytes: by one write if that takes all of them, and otherwise by further writes of the
-/// rest. An interrupted write is made again.
+/// rest. It repeats a write that is interrupted.
 ///
-/// Returns how many of the first bytes the writer has got: all of them, unless a write failed or
-/// took none.
+/// Returns how many bytes the writer has got, from the first on: all of them, unless a write failed
+/// or took none.
 pub fn write_out<W: Write>(writer: &mut W, bytes: &[u8]) -> usize
     ensures within { result ≤ length bytes.now }
     ensures taken { Appends (W.contents writer.old) (W.contents writer.new) (take result bytes.now) }

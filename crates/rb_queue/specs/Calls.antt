@@ -1,4 +1,4 @@
--- What each call may do: of a queue, at one moment.
+-- What each call may do, with a given queue at a given moment.
 use Rattle.std.specs.Prelude.{◌≡◌, ℕ, ◌+◌, ◌<◌, ◌≤◌, ◌↔◌, min, IsTrue, IsSome, List, [], ◌∷◌, length, Option, Some, None, MatchOption, IsSomeAnd, option_map}
 use Rattle.std.specs.FinMap as map
 use Rattle.rb_delayed.specs.declared.element.Element.{Element}
@@ -39,7 +39,7 @@ pub record Drains (bag : Bag) (now max : ℕ) (ids : List ℕ) : Type 0 where
   pub at_most : length ids ≤ max
   pub all : length ids < max → NoneExpired (without bag ids) now
 
--- the act is one that a call at this moment may do
+-- a call at this moment may do the act
 abbrev pub Permits : Queue → ℕ → Act → Type 0
 Permits queue now (Offer element) = element.id ≡ queue.next_id
 Permits queue now (Poll given) = Polls queue.bag now given
@@ -52,7 +52,7 @@ Permits queue now (Drain max ids) = Drains queue.bag now max ids
 Permits queue now Clear = Unit {0}
 Permits queue now (Size count) = count ≡ map.len queue.bag
 
--- a call at this moment that does the act, from the queue before it to the queue after it
+-- a call at this moment does the act, and leads from the old queue to the new one
 pub record Acts (old : Queue) (now : ℕ) (act : Act) (new : Queue) : Type 0 where
   pub permitted : Permits old now act
   pub after : new ≡ queue_after old (effect_of act)

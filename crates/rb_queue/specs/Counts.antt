@@ -1,4 +1,4 @@
--- Whose events a history has, and their counts.
+-- The events of one seat, and the counts of a history.
 use Rattle.std.specs.Prelude.{ℕ, ◌+◌, ◌==◌, List, [], ◌∷◌, length, filter, sum_by}
 use Rattle.std.specs.FinMap as map
 use Rattle.rb_queue.specs.Effect.{effect_of, inserted, given, removed, cleared}

@@ -3,7 +3,7 @@ use Rattle.std.specs.Prelude.{◌≡◌, unwrap_or}
 use Rattle.rb_delayed.specs.declared.element.Element.{Element}
 use Rattle.rb_queue.specs.declared.draft.Draft.{Draft}
 
--- the element has the draft's fields; if the draft names no origin, it is its own and the first
+-- the element has the draft's fields; a missing origin is its own id, and a missing `first` its own expiry
 pub record IsDrafted (draft : Draft) (element : Element) : Type 0 where
   pub expiry : element.expiry ≡ draft.expiry
   pub origin : element.origin ≡ unwrap_or draft.origin element.id

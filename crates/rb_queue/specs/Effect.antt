@@ -1,4 +1,4 @@
--- What an act does to the queue. All that changes by an act follows from its effect.
+-- What an act does to the queue. All that an act changes follows from its effect.
 use Rattle.std.specs.Prelude.{ℕ, ◌+◌, List, [], ◌∷◌, Option, Some, None, if◌then◌else◌}
 use Rattle.std.specs.FinMap as map
 use Rattle.rb_delayed.specs.declared.element.Element.{Element}
@@ -55,7 +55,7 @@ given (gives ids) = ids
 given (removes ids) = []
 given empties = []
 
--- the ids that are taken out by name, and nobody gets
+-- the ids that are removed, and nobody gets
 abbrev pub removed : Effect → List ℕ
 removed (inserts element) = []
 removed (gives ids) = []

@@ -25,7 +25,7 @@ abbrev pub state_after : State → Event → State
 state_after state event =
     record { queue = queue_after state.queue (effect_of event.act); moment = event.at }
 
--- Time does not go back, and the act is one that the queue may do then.
+-- Time does not go back, and the queue may do the act at that moment.
 pub record Allows (state : State) (event : Event) : Type 0 where
   pub moment : event.at ≡ max event.asked state.moment
   pub act : Permits state.queue event.at event.act

@@ -34,7 +34,7 @@ reply_in bag (acts.Drain max ids) = option_map Drained (elements_in bag ids)
 reply_in bag acts.Clear = Some Cleared
 reply_in bag (acts.Size count) = Some (Size count)
 
--- with the element that came in
+-- the bag with the element that comes in
 abbrev pub with_inserted : Bag → Effect → Bag
 with_inserted bag (inserts element) = map.insert bag element.id element
 with_inserted bag (gives ids) = bag

@@ -47,7 +47,7 @@ impl Act {
         u64::from(matches!(self, Act::Offer(_)))
     }
 
-    /// How many elements it gave out.
+    /// How many elements it gave to the caller.
     pub fn given(&self) -> u64
         ensures { result ≡ length (given (effect_of self.now)) }
     {
@@ -58,14 +58,14 @@ impl Act {
         }
     }
 
-    /// How many elements it took out by name.
+    /// How many elements it took out by their id.
     pub fn removed(&self) -> u64
         ensures { result ≡ length (removed (effect_of self.now)) }
     {
         u64::from(matches!(self, Act::Remove { found: true, .. }))
     }
 
-    /// How many elements it cleared, if `standing` were in the queue.
+    /// How many elements it cleared, if there were `standing` in the queue.
     pub fn cleared(&self, standing: u64) -> u64
         ensures { result ≡ cleared (effect_of self.now) standing }
     {

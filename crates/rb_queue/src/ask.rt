@@ -7,9 +7,9 @@ pub enum Ask {
     Offer(Draft),
     /// Take the head, if there is one.
     Poll,
-    /// Take the head, and wait for it if there is none.
+    /// Take the head, waiting for one if there is none.
     Take,
-    /// Take the head, and wait for it until `timeout` nanoseconds after `start`.
+    /// Take the head, waiting for one until `timeout` nanoseconds after `start`.
     PollFor { start: u64, timeout: u64 },
     /// Show an element of least expiry, expired or not.
     Peek,

@@ -1,14 +1,13 @@
-/// The counts of a run: of elements, and in `calls` of calls.
+/// The counts of a run. `calls` counts calls, and each other field elements.
 ///
-/// What was there at the start plus what was offered is what was given, removed, cleared or is
-/// left.
+/// `opening` and `offered` together are as many as `given`, `removed`, `cleared` and `left` together.
 #[derive(Clone, Copy, Debug, PartialEq, Eq)]
 pub struct Audit {
     /// The calls that were answered.
     pub calls: u64,
     /// The elements that were offered.
     pub offered: u64,
-    /// The elements that were given out.
+    /// The elements that were given to callers.
     pub given: u64,
     /// The elements that `remove` took out.
     pub removed: u64,

@@ -22,10 +22,10 @@ use std::marker::Model;
 ///
 /// Only `new_from`, `offer` and `drain` take memory.
 ///
-/// What a call costs: `offer`, `poll` and `remove` change the timer once, and cost a constant on
-/// average besides. An offer that finds no room doubles it, and so moves all elements. `drain`
+/// What a call costs: `offer`, `poll` and `remove` change the timer once, and besides that cost a
+/// constant on average. An offer that finds no room doubles it, which moves all elements. `drain`
 /// costs a poll for each element that it takes, and one more. `peek` and `next_expiry` cost the
-/// timer's `least`, `size` and `next_id` a constant. `clear` costs a removal for each element if
+/// timer's `least`, and `size` and `next_id` a constant. `clear` costs a removal for each element if
 /// they are few beside the room, and one pass over the room otherwise. `new_from` costs an offer
 /// for each element. These costs are not part of the contract.
 #[derive(Drop)]
@@ -61,7 +61,8 @@ impl<T: Timer> DelayQueue<T> {
         }
     }
 
-    /// The queue that a run with this opening begins with. It fails if there is not enough memory.
+    /// The queue with which a run of this opening begins. It takes memory for each element. `Err` means
+    /// that there was not enough.
     pub fn new_from(alloc: Global, opening: &Opening) -> Result<Self, AllocError>
         ensures { IfOk result (λ queue. queue ≡ opening_queue opening.now) }
     {
@@ -76,11 +77,10 @@ impl<T: Timer> DelayQueue<T> {
         })
     }
 
-    /// Inserts an element under the next id, like `DelayQueue.offer`, and returns it. It never
-    /// waits.
+    /// Inserts an element under the next id, like `DelayQueue.offer`, and returns it. It never waits.
     ///
-    /// It asks for all memory first: on `Err` the queue is unchanged. It requires that an id is
-    /// left.
+    /// All memory is taken before anything changes: on `Err` there was not enough, and the queue is
+    /// unchanged. It requires that an id is left, so that the next id is below 2^64 - 1.
     pub fn offer(&mut self, draft: Draft) -> Result<Element, AllocError>
         requires { self.old.next_id < u64.MAX }
         ensures offers { IfOk result (λ element. (now : ℕ) → Acts self.old now (acts.Offer element) self.new) }
@@ -124,8 +124,8 @@ impl<T: Timer> DelayQueue<T> {
     /// Takes out heads one after the other, at most `max`, while one has expired at `now`, like
     /// `DelayQueue.drainTo`, and returns them in that order.
     ///
-    /// It asks for room for the lesser of `max` and the size first: on `Err` the queue is
-    /// unchanged.
+    /// It first takes memory for `max` elements, or for all if that is fewer. On `Err` there was not
+    /// enough, and the queue is unchanged.
     pub fn drain(&mut self, now: u64, max: u64) -> Result<Items, AllocError>
         ensures drains { IfOk result (λ items. Acts self.old now (acts.Drain max (ids_of items)) self.new) }
         ensures elements { IfOk result (λ items. elements_in self.old.bag (ids_of items) ≡ Some items) }
@@ -143,8 +143,7 @@ impl<T: Timer> DelayQueue<T> {
         Ok(Items::new(items))
     }
 
-    /// Discards all elements, unexpired ones too, like `DelayQueue.clear`. Ids go on from where
-    /// they were.
+    /// Discards all elements, unexpired ones too, like `DelayQueue.clear`. The next id stays the same.
     pub fn clear(&mut self)
         ensures { (now : ℕ) → Acts self.old now acts.Clear self.new }
     {

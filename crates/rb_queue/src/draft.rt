@@ -24,7 +24,8 @@ pub struct Draft {
 impl Draft {
     ghost use Rattle.rb_queue.specs.Draft.{IsDrafted};
 
-    /// The draft of a job's first element, expiring at `expiry`, which is its own origin.
+    /// The draft of a job's first element, which expires at `expiry`, in nanoseconds, and is its own
+    /// origin.
     pub fn first(expiry: u64, payload: Payload) -> Draft
         ensures expiry { result.expiry ≡ expiry }
         ensures origin { result.origin ≡ None }

@@ -9,13 +9,13 @@ pub fn each_id_once()
     ensures leaves { LeavesOnce }
 {}
 
-/// In a legal history nothing is lost: the elements of the opening and those that were offered are
-/// those that were given, removed or cleared, and those that are left.
+/// In a legal history nothing is lost: each element of the opening and each that was offered was given,
+/// removed or cleared, or is left.
 pub fn each_element_counted()
     ensures { IsBalanced }
 {}
 
-/// The limits of an opening are these numbers, the second 2^40. Every other clause names the
+/// The limits of an opening are these numbers; the second is 2^40. Every other clause names the
 /// constants.
 pub fn opening_limits_have_their_values()
     ensures elements { MOST_OPENING_ELEMENTS ≡ 1000000 }

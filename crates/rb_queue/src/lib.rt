@@ -1,9 +1,9 @@
-//! The queue, whose elements may be taken once their delay has expired, like
+//! A queue whose elements may be taken once their delay has expired, like
 //! `java.util.concurrent.DelayQueue` (Java SE 17), and which histories of its calls are legal.
 //!
 //! Contracts see the queue as a bag of elements, which has no order, and the id that the next offer
 //! gets. What each call may do is one named permission on these, which the legal histories cite
-//! too; what it changes follows from the effect of its act. Moments and delays are nanoseconds.
+//! too. What it changes follows from the effect of its act. Moments and delays are nanoseconds.
 #![tactic(auto)]
 
 mod act;

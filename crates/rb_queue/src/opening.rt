@@ -16,11 +16,11 @@ pub const GREATEST_OPENING_ID: u64 = 1_099_511_627_776;
 /// next offer gets, and the moment of the last event before, in nanoseconds.
 #[derive(Debug, Drop, PartialEq, Eq)]
 pub struct Opening {
-    /// At most 1,000,000 elements, each id above the one before and below `next_id`.
+    /// The elements in the queue, at most 1,000,000, each id above the one before and below `next_id`.
     pub elements: Items,
-    /// At most 2^40.
+    /// The id that the next offer gets, at most 2^40.
     pub next_id: u64,
-    /// No event of the run is earlier.
+    /// The moment of the last event before the run, in nanoseconds. No event of the run is earlier.
     pub last_at: u64,
     pub ghost opening: { IsOpening elements next_id } by { Prim.hlevel props },
 }

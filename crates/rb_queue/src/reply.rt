@@ -10,9 +10,9 @@ pub enum Reply {
     Item(Element),
     /// There was nothing to take or to show.
     Nothing,
-    /// This element has least expiry.
+    /// This element has least expiry. It stays in the queue.
     Head(Element),
-    /// Whether there was such an element, which then was taken out.
+    /// Whether the element was in the queue. If so, it was taken out.
     Removed(bool),
     /// These elements were taken, in this order.
     Drained(Items),

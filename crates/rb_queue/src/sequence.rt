@@ -4,16 +4,16 @@ ghost use Rattle.std.specs.Cmp.Lexicographic.{pointwise, lists_per, lists_equiv}
 use rb_delayed::Element;
 use std::marker::Model;
 
-/// Values in an order. Contracts see them as a list.
+/// A sequence of values. Contracts see a list.
 #[derive(Debug, Drop)]
 pub struct Sequence<T> {
     values: Vec<T>,
 }
 
-/// Ids in an order.
+/// A sequence of ids.
 pub type Ids = Sequence<u64>;
 
-/// Elements in an order.
+/// A sequence of elements.
 pub type Items = Sequence<Element>;
 
 impl<T> Model for Sequence<T> {

@@ -53,7 +53,8 @@ impl<T: Timer> Store<T> {
 
     /// Inserts an element under its id, which no element here has.
     ///
-    /// It asks for all memory first: on `Err` the store is unchanged.
+    /// All memory is taken before anything changes: on `Err` there was not enough, and the store is
+    /// unchanged.
     pub(crate) fn insert(&mut self, element: &Element) -> Result<(), AllocError>
         requires { map.get self.old element.now.id ≡ None }
         ensures ok { OnOk result (self.new ≡ map.insert self.old element.now.id element.now) }
@@ -85,7 +86,7 @@ impl<T: Timer> Store<T> {
     }
 
     /// Takes out the element of the id, if there is one.
-    // A removal spends its time here, and a call that is not compiled in copies the element.
+    // A removal spends its time here, and a call that is not inlined copies the element.
     #[inline(always)]
     pub(crate) fn remove(&mut self, id: u64) -> Option<Element>
         ensures element { result ≡ map.get self.old id }
@@ -119,8 +120,8 @@ impl<T: Timer> Store<T> {
         self.elements.len()
     }
 
-    /// Discards all elements, at the cost of those that are there, not of the room nor of what once
-    /// was there.
+    /// Discards all elements. The cost grows with their number, not with the room or with how many there
+    /// once were.
     pub(crate) fn clear(&mut self)
         ensures { self.new ≡ map.empty }
     {
@@ -129,7 +130,8 @@ impl<T: Timer> Store<T> {
     }
 }
 
-// Discards the elements in all slots, and their ids. They need no order, so the timer is left to clear itself.
+// Discards the elements in all slots, and their ids. Their order does not matter, so the timer is not
+// asked for it, and clears itself.
 fn discard_all(elements: &mut Slab<Element>, directory: &mut IndexMap<u64, usize>)
     requires { (content : Content) × IsFiled elements.old content directory.old }
     ensures { IsFiled elements.new map.empty directory.new }

@@ -1,4 +1,4 @@
--- How what came before an offer is stored. No public clause cites this module.
+-- How the check of retries stores what came before an offer. No public clause cites this module.
 use Rattle.std.specs.Prelude.{◌≡◌, ℕ, ◌+◌, ◌<◌, ◌≤◌, ◌==◌, true, if◌then◌else◌, List, [], ◌∷◌, ◌++◌, length, Option, Some, None, option_map, option_and_then}
 use Rattle.std.specs.Bool.{then_some}
 use Rattle.std.specs.Option.{option_or}
@@ -33,7 +33,7 @@ attempt_cmp one other = ordering_then (nat_cmp one.origin other.origin) (nat_cmp
 abbrev pub attempt_of : Element → Attempt
 attempt_of element = record { origin = element.origin; number = element.attempt }
 
--- the offer under an id, where the first has the id `first`, and each other the id after the one before
+-- the offer under an id, if the ids follow one another from `first` on
 abbrev pub offer_at : ℕ → List OfferedElement → ℕ → Option OfferedElement
 offer_at first [] id = None
 offer_at first (offer ∷ offers) id = if id == first then Some offer else offer_at (first + 1) offers id
@@ -55,11 +55,11 @@ pub record IsPlaceOf (attempts : AttemptIndex) (id place : ℕ) : Type 0 where
 abbrev pub element_of : AttemptIndex → ℕ → Option Element
 element_of attempts id = option_or (option_map (λ offer. offer.element) (offer_of attempts id)) (tree.get nat_cmp attempts.opened id)
 
--- the element of an offer that was given first of its attempt
+-- the element of the offer, if it was given first of its attempt
 abbrev pub first_given_in : OfferedElement → Option Element
 first_given_in offer = then_some offer.is_given_first offer.element
 
--- the element that is the first attempt of its own job, if this is that attempt and it was given first
+-- the element that began the attempt's job, if this is its first attempt and that element was given first
 abbrev pub begun : AttemptIndex → Attempt → Option Element
 begun attempts attempt = if attempt.number == 1 then option_and_then first_given_in (offer_of attempts attempt.origin) else None
 
@@ -67,7 +67,7 @@ begun attempts attempt = if attempt.number == 1 then option_and_then first_given
 abbrev pub given_first : AttemptIndex → Attempt → Option Element
 given_first attempts attempt = option_or (begun attempts attempt) (tree.get attempt_cmp attempts.given attempt)
 
--- the index has what came in under its ids, whether a later attempt came in, and which of an attempt was given first
+-- the index has what came in under its id, whether a later attempt came in, and which of an attempt was given first
 pub record Recalls (came : Bag) (past : Past) (attempts : AttemptIndex) : Type 0 where
   pub elements : (id : ℕ) → element_of attempts id ≡ map.get came id
   pub offered : (attempt : Attempt) → 2 ≤ attempt.number → set.contains attempt_cmp attempts.offered attempt
@@ -86,34 +86,34 @@ past_after came past act = record {
   given = past.given ++ filter_map (map.get came) (given (effect_of act));
 }
 
--- the index has the act too
+-- the index has also the act
 pub record Keeps (act : Act) (old new : AttemptIndex) : Type 0 where
   pub recalls : (came : Bag) (past : Past) → Recalls came past old
       → Recalls (with_inserted came (effect_of act)) (past_after came past act) new
   pub next_id : next_id_of new ≡ next_id_of old + length (inserted (effect_of act))
 
--- the attempt is marked too, if it is a retry
+-- the attempt, if it is a retry, is marked too
 abbrev pub MarksRetry : Attempt → BTreeSet Attempt → BTreeSet Attempt → Type 0
 MarksRetry attempt old new = (other : Attempt) → 2 ≤ other.number → set.contains attempt_cmp new other
     ≡ (if is_at (attempt_cmp attempt) other then true else set.contains attempt_cmp old other)
 
--- the index has an element more that came in
+-- the index has one more element that came in
 abbrev pub RecallsOffer : Element → AttemptIndex → AttemptIndex → Type 0
 RecallsOffer element old new = (came : Bag) (past : Past) → Recalls came past old
     → Recalls (map.insert came element.id element) (record past { offers = past.offers ++ element ∷ [] }) new
 
--- the index has an element more that stood at the start
+-- the index has one more element that was there at the start
 pub record KeepsOpened (element : Element) (old new : AttemptIndex) : Type 0 where
   pub recalls : RecallsOffer element old new
   pub offers : new.offers ≡ old.offers
   pub first_id : new.first_id ≡ old.first_id
 
--- the index has an element more that was offered
+-- the index has one more element that was offered
 pub record KeepsOffer (element : Element) (old new : AttemptIndex) : Type 0 where
   pub recalls : RecallsOffer element old new
   pub next_id : next_id_of new ≡ next_id_of old + 1
 
--- the index has those of these ids that came in as given
+-- the index has as given those of these ids that came in
 pub record KeepsGiven (ids : List ℕ) (old new : AttemptIndex) : Type 0 where
   pub recalls : (came : Bag) (past : Past) → Recalls came past old
       → Recalls came (record past { given = past.given ++ filter_map (map.get came) ids }) new
@@ -123,7 +123,7 @@ pub record KeepsGiven (ids : List ℕ) (old new : AttemptIndex) : Type 0 where
 abbrev pub EventIsLinked : Policy → Past → Event → Type 0
 EventIsLinked policy past event = (element : Element) → event.act ≡ Offer element → IsLinked policy past event.asked element
 
--- the event offers an element that is not, for this reason
+-- the event offers an element that is not linked, for this reason
 abbrev pub ChainTests : Policy → Past → Event → ChainReason → Type 0
 ChainTests policy past event reason =
     (element : Element) × (event.act ≡ Offer element) × LinkTests policy past event.asked element reason

@@ -13,14 +13,14 @@ use Rattle.rb_replay.specs.declared.chain_fault.ChainFault.{ChainFault}
 use Rattle.rb_replay.specs.declared.chain_fault.ChainFault.TheVariants.{At, Memory}
 use Rattle.rb_replay.specs.declared.chain_reason.ChainReason.{ChainReason}
 
--- what came in and was given by these events
+-- what was there at the start, what these events offered, and what they gave
 abbrev pub past_of : Opening → List Event → Past
 past_of opening events = record {
   offers = opening.elements ++ offers_in events;
   given = elements_given opening events;
 }
 
--- A history is chained where each offered element is linked to the events before it.
+-- A history is chained if each offered element is linked to the events before it.
 pub record IsChained (policy : Policy) (opening : Opening) (history : List Event) : Type 0 where
   pub linked : (front behind : List Event) (event : Event) (element : Element)
       → history ≡ front ++ event ∷ behind → event.act ≡ Offer element

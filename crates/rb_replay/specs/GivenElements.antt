@@ -9,7 +9,7 @@ use Rattle.rb_queue.specs.Replies.{with_inserted}
 use Rattle.rb_queue.specs.declared.event.Event.{Event}
 use Rattle.rb_queue.specs.declared.opening.Opening.{Opening}
 
--- the elements that these events gave, in order, where those of the bag came in before them
+-- the elements that these events gave, in order, if those of the bag came in before
 abbrev pub elements_given_from : Bag → List Event → List Element
 elements_given_from came [] = []
 elements_given_from came (event ∷ events) =

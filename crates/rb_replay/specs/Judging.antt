@@ -1,4 +1,4 @@
--- What the replay of one act may come to. No public clause cites this module.
+-- How the replay of one act may end. No public clause cites this module.
 use Rattle.std.specs.Prelude.{◌≡◌, ℕ, Result, Ok, Err}
 use Rattle.std.specs.FinMap as map
 use Rattle.rb_queue.specs.Head.{IsHeadId}
@@ -10,13 +10,13 @@ use Rattle.rb_replay.specs.Refusal.{ActTests}
 use Rattle.rb_replay.specs.declared.judge.JudgeFault.{JudgeFault}
 use Rattle.rb_replay.specs.declared.judge.JudgeFault.TheVariants.{Refused, Memory}
 
--- a value of which this holds, or the reason that the first failing test has
+-- a value of which this holds, or the reason of the first test that fails
 abbrev pub Passes : {X : Type 0} → (X → Type 0) → (Reason → Type 0) → Result X JudgeFault → Type 0
 Passes holds tests (Ok x) = holds x
 Passes holds tests (Err (Refused reason)) = tests reason
 Passes holds tests (Err Memory) = ⊥
 
--- the queue did the act, or the act has this as the reason of the first test that fails
+-- the queue did the act, or this is the reason of the act's first test that fails
 abbrev pub Judges : {X : Type 0} → Queue → ℕ → Act → Result X JudgeFault → Queue → Type 0
 Judges old now act (Ok x) new = Acts old now act new
 Judges old now act (Err (Refused reason)) new = ActTests old now act reason

@@ -15,7 +15,7 @@ FollowTests policy asked element parent others =
     (Test (element.first ≡ parent.first) Base
     (Test (element.expiry ≡ next_expiry policy.pace parent asked) Expiry others))
 
--- there is a parent, and then its tests
+-- the test that there is a parent, and then the tests with it
 abbrev pub ParentTests : Policy → ℕ → Element → Option Element → (ChainReason → Type 0) → ChainReason → Type 0
 ParentTests policy asked element None others reason = reason ≡ NoParent
 ParentTests policy asked element (Some parent) others reason = FollowTests policy asked element parent others reason
@@ -24,7 +24,7 @@ ParentTests policy asked element (Some parent) others reason = FollowTests polic
 abbrev pub BeginTests : Element → ChainReason → Type 0
 BeginTests element = Test (Begins element) BadFirst NoTest
 
--- the tests of an element that goes on with a job, in their order
+-- the tests of an element that continues a job, in their order
 abbrev pub GoOnTests : Policy → Past → ℕ → Element → ChainReason → Type 0
 GoOnTests policy past asked element =
     Test (element.attempt ≤ policy.attempts) TooMany

@@ -8,7 +8,7 @@ use Rattle.rb_retry.specs.declared.policy.Policy.{Policy}
 
 -- what came before an offer
 pub record Past : Type 0 where
-  -- the elements that stood at the start, and those that were offered
+  -- the elements that were there at the start, and those that were offered
   pub offers : List Element
   -- the elements that were given out, in order
   pub given : List Element
@@ -17,7 +17,7 @@ pub record Past : Type 0 where
 abbrev pub is_attempt : ℕ → ℕ → Element → Bool
 is_attempt origin attempt element = element.origin == origin && element.attempt == attempt
 
--- the first element given of those that are the attempt before of the same job
+-- of the elements that are the attempt before of the same job, the one that was given first
 abbrev pub parent_in : Past → Element → Option Element
 parent_in past element = find (is_attempt element.origin (element.attempt - 1)) past.given
 
@@ -30,19 +30,19 @@ pub record Begins (element : Element) : Type 0 where
   pub origin : element.origin ≡ element.id
   pub first : element.first ≡ element.expiry
 
--- the element is what the policy offers where its parent failed at this moment
+-- the element is what the policy offers if its parent failed at this moment
 pub record Follows (policy : Policy) (asked : ℕ) (element parent : Element) : Type 0 where
   pub payload : element.payload ≡ parent.payload
   pub first : element.first ≡ parent.first
   pub expiry : element.expiry ≡ next_expiry policy.pace parent asked
 
--- the element goes on with a job: it follows its parent, and is the first to do so
+-- the element continues a job: it follows its parent, and is the first to do so
 pub record GoesOn (policy : Policy) (past : Past) (asked : ℕ) (element : Element) : Type 0 where
   pub attempts : element.attempt ≤ policy.attempts
   pub parent : IsSomeAnd (parent_in past element) (Follows policy asked element)
   pub once : ¬ CameBefore past element
 
--- the element, offered at this moment, is right behind what came before
+-- the element, offered at this moment, is linked to what came before
 pub record IsLinked (policy : Policy) (past : Past) (asked : ℕ) (element : Element) : Type 0 where
   pub begins : element.attempt ≡ 1 → Begins element
   pub goes_on : 2 ≤ element.attempt → GoesOn policy past asked element

@@ -1,4 +1,4 @@
--- How each reason is printed for which an event is not allowed.
+-- How each reason why an event is not allowed is printed.
 use Rattle.std.specs.Prelude.{ℕ, List, codes}
 use Rattle.rb_replay.specs.declared.reason.Reason.{Reason}
 use Rattle.rb_replay.specs.declared.reason.Reason.TheVariants.{BadMoment, BadId, NotInQueue, NotLeast, NotExpired, NotNone, TooEarly, WrongFound, TooMany, NotAll, WrongSize}

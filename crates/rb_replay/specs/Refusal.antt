@@ -1,5 +1,5 @@
--- Why an event is not allowed: the first of its tests that fails. The tests of an act are all that the
--- queue permits by it.
+-- Why an event is not allowed: the first of its tests that fails. The tests of an act together are what
+-- permits it.
 use Rattle.std.specs.Prelude.{◌≡◌, ℕ, ◌<◌, ◌≤◌, ◌↔◌, max, IsTrue, IsSome, IsSomeAnd, List, [], ◌∷◌, ◌++◌, length, Some, None}
 use Rattle.std.specs.FinMap as map
 use Rattle.rb_queue.specs.Bag.{Bag, NoneExpired}
@@ -19,16 +19,16 @@ use Rattle.rb_replay.specs.declared.reason.Reason.TheVariants.{BadMoment, BadId,
 abbrev pub IsLeastId : Bag → ℕ → Type 0
 IsLeastId bag id = IsSomeAnd (map.get bag id) (IsLeast bag)
 
--- an element is shown: one that is there, and least
+-- the tests of an element that is shown: it is there, and it is least
 abbrev pub LeastTests : Bag → ℕ → (Reason → Type 0) → Reason → Type 0
 LeastTests bag id others =
     Test (IsSome (map.get bag id)) NotInQueue (Test (IsLeastId bag id) NotLeast others)
 
--- an element is given: one that could be shown, and is expired
+-- the tests of an element that is given: it could be shown, and it is expired
 abbrev pub HeadTests : Bag → ℕ → ℕ → (Reason → Type 0) → Reason → Type 0
 HeadTests bag now id others = LeastTests bag id (Test (IsHeadId bag now id) NotExpired others)
 
--- the drained elements, and then whether all were taken, where they are fewer than were asked for
+-- the tests of each drained element, and then that all were taken, if they are fewer than were asked for
 abbrev pub DrainTests : Bag → ℕ → Type 0 → List ℕ → Reason → Type 0
 DrainTests bag now fewer [] = Test (fewer → NoneExpired bag now) NotAll NoTest
 DrainTests bag now fewer (id ∷ ids) =

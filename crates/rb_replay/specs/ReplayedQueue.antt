@@ -1,4 +1,4 @@
--- How what stands is stored. No public clause cites this module.
+-- How the replay stores the elements of its queue. No public clause cites this module.
 use Rattle.std.specs.Prelude.{◌≡◌, ℕ, ◌<◌, IfSome, List, [], ◌∷◌}
 use Rattle.std.specs.Ordering.{nat_cmp}
 use Rattle.std.specs.FinMap as map

@@ -1,4 +1,4 @@
--- That the text which is written of a run is read again as that run.
+-- The text that is written of a run is read again as that run.
 use Rattle.std.specs.Prelude.{◌≡◌, ◌≤◌, List, length, Result, Ok, Err, IfOk}
 use Rattle.rb_queue.specs.History.{IsLegal}
 use Rattle.rb_queue.specs.Counts.{audit_of}
@@ -15,14 +15,14 @@ use Rattle.rb_replay.specs.declared.replay_fault.ReplayFault.{ReplayFault}
 use Rattle.rb_replay.specs.declared.replay_fault.ReplayFault.TheVariants.{At, Memory}
 use Rattle.rb_history.specs.declared.text_fault.TextFault.{TextFault}
 
--- this is the audit of the history, want of memory aside
+-- this is the audit of the history, unless memory was refused
 abbrev pub IsAudited : Opening → List Event → Result Audit ReplayFault → Type 0
 IsAudited opening events (Ok audit) = audit ≡ audit_of opening events
 IsAudited opening events (Err (At index reason)) = ⊥
 IsAudited opening events (Err Memory) = Unit {0}
 
--- Whatever is read of the text that is written of this run is this run, and whatever the check of it
--- answers is its audit.
+-- The text that is written of this run is read as this run, and the check returns its audit, unless memory is
+-- refused.
 pub record IsReadAgain (opening : Opening) (events : List Event) : Type 0 where
   pub read : (answer : Result History TextFault) → IfOk answer IsRightHistory
       → Reads (history_text opening events) answer → IsReadAs opening events answer

@@ -13,7 +13,7 @@ use std::collections::{BTreeMap, BTreeSet};
 
 /// What the events so far say about the jobs.
 ///
-/// Most elements are offered, and are a job's first attempt: each is at the place of its id, and
+/// Most elements are offered as a job's first attempt. Such an element is at the place of its id, and
 /// needs no entry in a map.
 #[derive(Drop)]
 pub(crate) struct AttemptIndex {
@@ -23,14 +23,14 @@ pub(crate) struct AttemptIndex {
     first_id: u64,
     /// The elements that were offered. Their ids follow one another.
     offers: Vec<OfferedElement>,
-    /// The attempts, other than first ones, of which an element came in.
+    /// The attempts, other than first ones, of which an element was offered or there at the start.
     offered: BTreeSet<Attempt>,
-    /// The element of each attempt that was given first, unless an offer says that it is the one.
+    /// For each attempt, the element of it that was given first, unless an offer is marked as that one.
     given: BTreeMap<Attempt, Element>,
 }
 
 impl AttemptIndex {
-    /// What the opening of a run tells.
+    /// What the opening of a run says about the jobs.
     pub(crate) fn new_from(alloc: Global, opening: &Opening) -> Result<AttemptIndex, AllocError>
         ensures recalls { IfOk result (Recalls (bag_from opening.now.elements)
             (record { offers = opening.now.elements; given = [] })) }
@@ -49,7 +49,7 @@ impl AttemptIndex {
         Ok(attempts)
     }
 
-    /// Whether an element of the attempt, which is not a first one, came in.
+    /// Whether an element of the attempt, which is not a first one, was offered or there at the start.
     pub(crate) fn is_offered(&self, attempt: Attempt) -> bool
         requires { 2 ≤ attempt.number }
         ensures { (came : Bag) (past : Past) → Recalls came past self.now
@@ -58,7 +58,7 @@ impl AttemptIndex {
         self.offered.contains(&attempt)
     }
 
-    /// The element of the attempt that was given first.
+    /// The element of the attempt that was given first, if any was given.
     pub(crate) fn first_given(&self, attempt: Attempt) -> Option<Element>
         ensures first { result ≡ given_first self.now attempt }
         ensures found { (came : Bag) (past : Past) → Recalls came past self.now
@@ -70,8 +70,8 @@ impl AttemptIndex {
         }
     }
 
-    /// Adds what an event did, which offers no other id than the next one. After an `Err` the index
-    /// has a part of it.
+    /// Adds what an event did. It requires that an offered element has the next id. `Err` means that there
+    /// was not enough memory; the index may then have a part of it.
     pub(crate) fn keep(&mut self, act: &Act) -> Result<(), AllocError>
         requires { IsNext act.now self.old }
         ensures { OnOk result (Keeps act.now self.old self.new) }
@@ -86,7 +86,7 @@ impl AttemptIndex {
         }
     }
 
-    // Keeps that the element stood at the start, where none was offered yet.
+    // Adds an element that was there at the start. None has been offered yet.
     fn keep_opened(&mut self, element: &Element) -> Result<(), AllocError>
         requires { self.old.offers.items ≡ [] }
         ensures { OnOk result (KeepsOpened element.now self.old self.new) }
@@ -95,7 +95,7 @@ impl AttemptIndex {
         mark_retry(&mut self.offered, Attempt::of(element))
     }
 
-    // Keeps that the element was offered.
+    // Adds an element that was offered.
     fn keep_offer(&mut self, element: &Element) -> Result<(), AllocError>
         requires { element.now.id ≡ next_id_of self.old }
         ensures { OnOk result (KeepsOffer element.now self.old self.new) }
@@ -107,7 +107,7 @@ impl AttemptIndex {
         mark_retry(&mut self.offered, Attempt::of(element))
     }
 
-    // Keeps that the elements of these ids were given, one after the other.
+    // Adds that the elements of these ids were given, one after the other.
     fn keep_all_given(&mut self, ids: &[u64]) -> Result<(), AllocError>
         ensures { OnOk result (KeepsGiven ids.now self.old self.new) }
     {
@@ -117,7 +117,7 @@ impl AttemptIndex {
         Ok(())
     }
 
-    // Keeps that the element of the id was given, where none of its attempt was before.
+    // Adds that the element of the id was given, unless one of its attempt was given before.
     fn keep_given(&mut self, id: u64) -> Result<(), AllocError>
         ensures { OnOk result (KeepsGiven (id ∷ []) self.old self.new) }
     {
@@ -176,7 +176,7 @@ impl AttemptIndex {
     }
 }
 
-// Marks that the attempt came in, if it is a retry: a first attempt needs no mark.
+// Marks an attempt that was offered or there at the start, if it is a retry. A first attempt needs no mark.
 fn mark_retry(offered: &mut BTreeSet<Attempt>, attempt: Attempt) -> Result<(), AllocError>
     ensures { OnOk result (MarksRetry attempt offered.old offered.new) }
 {

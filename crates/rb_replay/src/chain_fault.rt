@@ -4,7 +4,7 @@ use crate::chain_reason::ChainReason;
 #[derive(Clone, Copy, Debug, PartialEq, Eq)]
 pub enum ChainFault {
     /// The event of this index, counted from 0, is the first that offers an element which is not
-    /// linked to what came before. The reason is the first test that fails.
+    /// linked to what came before. The reason is that of the first test that fails.
     At { index: u64, reason: ChainReason },
     /// There is not enough memory for the check.
     Memory,

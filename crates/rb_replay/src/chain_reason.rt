@@ -7,9 +7,9 @@ ghost use Rattle.rb_replay.specs.ChainReasonText.{chain_reason_text};
 pub enum ChainReason {
     /// It is a first attempt, and its origin is not its own id or its `first` not its own expiry.
     BadFirst,
-    /// The policy has fewer attempts.
+    /// The policy allows fewer attempts.
     TooMany,
-    /// No event before gave an element of the same job that is the attempt before.
+    /// No earlier event gave an element that is the attempt before of the same job.
     NoParent,
     /// The first element so given has another payload.
     Payload,

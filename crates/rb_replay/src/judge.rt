@@ -14,9 +14,9 @@ use rb_queue::Act;
 /// Why the queue did not repeat an act.
 #[derive(Clone, Copy, Debug, PartialEq, Eq)]
 pub(crate) enum JudgeFault {
-    /// The queue could not have done it, for the first reason.
+    /// The queue could not have done it. The reason is that of the first test that fails.
     Refused(Reason),
-    /// There is not enough memory for it.
+    /// There is not enough memory to repeat it.
     Memory,
 }
 
@@ -99,7 +99,7 @@ fn peek(queue: &ReplayedQueue, shown: Option<u64>) -> Result<(), JudgeFault>
     }
 }
 
-// An element is taken out by name, or there is none.
+// The element of the id is taken out, or there is none.
 fn remove(queue: &mut ReplayedQueue, id: u64, found: bool) -> Result<(), JudgeFault>
     ensures { (now : ℕ) → Judges queue.old now (acts.Remove id found) result queue.new }
 {
@@ -125,7 +125,7 @@ fn drain(queue: &mut ReplayedQueue, now: u64, max: u64, ids: &[u64]) -> Result<(
     ensure(none_expired(queue, now), Reason::NotAll)
 }
 
-// The element of the id, where it is least.
+// The element of the id, if it is least.
 fn find_least(queue: &ReplayedQueue, id: u64) -> Result<Element, JudgeFault>
     ensures { Passes (λ element. (map.get queue.now.bag id ≡ Some element) × IsLeast queue.now.bag element)
         (LeastTests queue.now.bag id NoTest) result }
@@ -150,7 +150,7 @@ fn none_expired(queue: &ReplayedQueue, now: u64) -> bool
     }
 }
 
-// The reason where the test fails.
+// The reason as a fault, unless the test holds.
 fn ensure(holds: bool, reason: Reason) -> Result<(), JudgeFault>
     ensures { Passes (λ _. IsTrue holds) (Test (IsTrue holds) reason NoTest) result }
 {

@@ -1,9 +1,9 @@
 //! The checks that a history is legal, and that its retries are right.
 //!
-//! The first accepts exactly the events that one queue in one thread could have had; the check of
-//! retries, exactly the legal histories in which each offer begins a job or continues one as a policy
-//! says. Moments and delays are nanoseconds. What reads and writes the text of a history is handed on
-//! from `rb_history`.
+//! `check` accepts exactly the histories that one queue in one thread could have had. `chains`, the check
+//! of retries, accepts exactly the legal histories in which each offer begins a job or continues one as a
+//! policy says. Moments and delays are nanoseconds. This crate also exports the calls of `rb_history` that
+//! read and write the text of a history.
 #![tactic(auto)]
 
 mod attempt;

@@ -1,10 +1,10 @@
 ghost use Rattle.std.specs.Prelude.{◌≡◌};
 ghost use Rattle.rb_replay.specs.ReasonText.{reason_text};
 
-/// Why an event is not one that the queue may have had then.
+/// Why the queue could not have had an event.
 #[derive(Clone, Copy, Debug, PartialEq, Eq)]
 pub enum Reason {
-    /// The event's moment is not the greater of what was asked and the moment before.
+    /// The event's moment is not the greater of the asked moment and that of the event before.
     BadMoment,
     /// The offered element's id is not the next one.
     BadId,
@@ -16,7 +16,7 @@ pub enum Reason {
     NotExpired,
     /// There was something to give or to show.
     NotNone,
-    /// The poll gave up before its deadline.
+    /// The timed poll gave up before its deadline.
     TooEarly,
     /// An element of this id is in the queue and was not found, or none is and it was.
     WrongFound,
@@ -24,7 +24,7 @@ pub enum Reason {
     TooMany,
     /// The drain left an expired element, and took fewer than were asked for.
     NotAll,
-    /// The number of elements is another one.
+    /// The queue has another number of elements.
     WrongSize,
 }
 

@@ -18,7 +18,7 @@ pub(crate) struct End {
     pub(crate) moment: u64,
 }
 
-/// Makes a queue repeat all events.
+/// Makes a new queue repeat all events.
 pub(crate) fn replay(alloc: Global, opening: &Opening, events: &[Event]) -> Result<End, ReplayFault>
     requires { length events.now ≤ MOST_EVENTS }
     ensures { Replays opening.now events.now result }
@@ -38,7 +38,7 @@ pub(crate) fn replay(alloc: Global, opening: &Opening, events: &[Event]) -> Resu
     Ok(end)
 }
 
-// Lets the queue do one event again.
+// Makes the queue repeat one event.
 fn replay_event(end: &mut End, event: &Event) -> Result<(), JudgeFault>
     requires { end.old.queue.next_id < u64.MAX }
     ensures { ReplaysEvent (end_state end.old) event.now result (end_state end.new) }
@@ -51,7 +51,7 @@ fn replay_event(end: &mut End, event: &Event) -> Result<(), JudgeFault>
     Ok(())
 }
 
-// The fault of an event's index.
+// The fault, with the event's index.
 fn replay_fault(index: u64, fault: JudgeFault) -> ReplayFault
     ensures { result ≡ fault_at index fault }
 {

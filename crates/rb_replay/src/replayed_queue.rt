@@ -20,7 +20,7 @@ use std::marker::Model;
 
 /// The queue that a history leads to.
 ///
-/// The queue finds the least expiry, and the map the element of an id: both have the same elements.
+/// The queue finds the least expiry, and the map finds the element of an id. Both have the same elements.
 #[derive(Drop)]
 pub(crate) struct ReplayedQueue {
     queue: DelayQueue<BinaryTimer>,
@@ -85,7 +85,8 @@ impl ReplayedQueue {
         self.elements.get(&id).copied()
     }
 
-    /// Takes in an element under the next id. After an `Err` the queue is empty.
+    /// Inserts an element under the next id. `Err` means that there was not enough memory; the queue is then
+    /// empty.
     pub(crate) fn insert(&mut self, element: &Element) -> Result<(), AllocError>
         requires next { element.now.id ≡ self.old.next_id }
         requires left { self.old.next_id < u64.MAX }

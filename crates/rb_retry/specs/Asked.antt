@@ -46,7 +46,7 @@ IsReplyTo Clear replies.Cleared = Unit {0}
 IsReplyTo Size (replies.Size count) = Unit {0}
 IsReplyTo _ _ = ⊥
 
--- Exactly one event more was made, which is of the ask and has this reply.
+-- Exactly one more event was made, which is of the ask and has this reply.
 pub record Makes (gives : ℕ → Type 0) (handed : ℕ) (ask : Ask) (answer : Reply) (old new : List Made) : Type 0 where
   pub event : Event
   pub grows : new ≡ old ++ record { event = event; reply = Some answer } ∷ []

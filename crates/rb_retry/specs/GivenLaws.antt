@@ -147,11 +147,11 @@ given_along id opening before (event ∷ events) from =
     let rest = given_along id opening (before ++ event ∷ []) events (state_after from event) in
     omega (arith, here, rest, times_append id (ids_with (reply_of opening (before ++ event ∷ []))) (given_by (made_after opening (before ++ event ∷ []) events)))
 
--- so it is given once at most
+-- so no id is given twice
 pub legal_gives_once : (opening : Opening) (history : List Event) → IsLegal opening history → GivesOnce (made_after opening [] history)
 legal_gives_once opening history legal id = omega (arith, given_along id opening [] history (start_of opening), leaves_once opening history id legal)
 
--- also by the events after the first ones
+-- the events that follow the first ones give no id twice either
 pub later_gives_once : (opening : Opening) (before events : List Event) → IsLegal opening (before ++ events) → GivesOnce (made_after opening before events)
 later_gives_once opening before events legal id =
     omega (

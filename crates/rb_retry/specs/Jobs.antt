@@ -14,25 +14,25 @@ use Rattle.rb_retry.specs.declared.desk_fault.DeskFault.{DeskFault}
 use Rattle.rb_retry.specs.declared.verdict.Verdict.{Verdict}
 use Rattle.rb_retry.specs.declared.verdict.Verdict.TheVariants.{Again, Dead}
 
--- the answer of which a fetch gave the element, if there was one
+-- the desk's answer to a fetch that returned this: an element, if there was one
 abbrev pub answer_with : Result (Option Element) DeskFault → Result Reply DeskFault
 answer_with (Ok (Some element)) = Ok (Item element)
 answer_with (Ok None) = Ok Nothing
 answer_with (Err fault) = Err fault
 
--- the answer of which a fetch gave the element
+-- the desk's answer to a fetch that returned this: an element
 abbrev pub answer_with_one : Result Element DeskFault → Result Reply DeskFault
 answer_with_one (Ok element) = Ok (Item element)
 answer_with_one (Err fault) = Err fault
 
--- the answer of which an offer gave the element
+-- the desk's answer to an offer that returned this: the element
 abbrev pub offer_answer : Result Element CallFault → Result Reply DeskFault
 offer_answer (Ok element) = Ok (Offered element)
 offer_answer (Err fault) = Err (fault_of fault)
 
 module _ {S : Type 0} (Steps : S → ℕ → Ask → Result Reply DeskFault → S → Type 0) where
-  -- A job of this element fails at this moment: the next attempt is offered, at this very moment, or
-  -- there is none, and no call is made. A refused offer gives the job back.
+  -- A job of this element fails at this moment. Its next attempt is offered, at this very moment; or it has
+  -- none, and no call is made. A refused offer gives the job back.
   abbrev pub FailsTo : Policy → Element → ℕ → S → Result Verdict (Element × CallFault) → S → Type 0
   FailsTo policy element now old (Ok (Again again)) new =
       (draft : Draft) × IsRetry policy element now (Some draft) × Steps old now (Offer draft) (offer_answer (Ok again)) new

@@ -1,4 +1,4 @@
--- An answered try of a kept queue is one event more with its reply, and a refused one is none. No
+-- An answered try of a kept queue is one more event with its reply, and a refused one is none. No
 -- public clause cites this module.
 use Rattle.std.proofs.Common.{◌≡◌, ℕ, ◌≤◌, List, [], ◌∷◌, ◌++◌, ap, ap₂, sym, subst, ◌∙◌, Option, Some, Result, Ok, Err, length, take, drop}
 use Rattle.std.proofs.lemmas.List.{take-append-drop, take-append-le, drop-append-le}
@@ -38,7 +38,7 @@ made_more opening count history event within =
     ∙ ap (λ (front : List Event). made_after opening (take count history) (drop count history) ++ (record { event = event; reply = reply_of opening (front ++ event ∷ []) }) ∷ []) (take-append-drop count history)
 
 module _ (old new : KeptState) (handed : ℕ) (ask : Ask) where
-  -- what was made is read off the log
+  -- the log says what was made
   made_of_log : (result : Result Reply DeskFault) → KeptSteps old handed ask result new → (log : Log) → new.log ≡ log
       → made_at new ≡ made_after log.opening (take old.before log.history) (drop old.before log.history)
   made_of_log result steps log same = ap made_at steps.stays ∙ ap (λ (l : Log). made_after l.opening (take old.before l.history) (drop old.before l.history)) same

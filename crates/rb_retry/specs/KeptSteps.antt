@@ -16,7 +16,7 @@ use Rattle.rb_retry.specs.declared.desk_fault.DeskFault.{DeskFault}
 use Rattle.rb_retry.specs.declared.desk_fault.DeskFault.TheVariants.{Full, Memory, Stopped}
 
 -- A desk over a kept queue: which reference it holds, the queue's log, the share that counts the calls,
--- the desk's moment, and how many events there were when it was made.
+-- the desk's moment, and how many events the history had when the desk was made.
 pub record KeptState : Type 0 where
   pub name : ℕ
   pub log : Log
@@ -24,7 +24,7 @@ pub record KeptState : Type 0 where
   pub moment : ℕ
   pub before : ℕ
 
--- the events after those that there were when the desk was made
+-- the events after those that the history had when the desk was made
 abbrev pub made_at : KeptState → List Made
 made_at state =
     made_after state.log.opening (take state.before state.log.history) (drop state.before state.log.history)
@@ -51,7 +51,7 @@ abbrev pub SetsKept : KeptState → ℕ → Option ℕ → KeptState → Type 0
 SetsKept old moment result new =
     (result ≡ Some (max moment old.moment)) × (new ≡ record old { moment = max moment old.moment })
 
--- one try of seat 0 is the answer, and nothing but the log and the share has changed
+-- the answer is that of one try of seat 0, and only the log and the share have changed
 pub record KeptSteps (old : KeptState) (handed : ℕ) (ask : Ask) (result : Result Reply DeskFault) (new : KeptState) : Type 0 where
   pub earlier : old.before ≤ length old.log.history
   pub outcome : Result Outcome CallFault

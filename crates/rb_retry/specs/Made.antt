@@ -8,7 +8,7 @@ use Rattle.rb_queue.specs.declared.opening.Opening.{Opening}
 use Rattle.rb_queue.specs.declared.reply.Reply.{Reply}
 use Rattle.rb_queue.specs.declared.reply.Reply.TheVariants.{Item, Drained}
 
--- an event, and what its caller was answered
+-- an event, and the reply to its caller
 pub record Made : Type 0 where
   pub event : Event
   pub reply : Option Reply

@@ -49,7 +49,7 @@ length_found bag (id ∷ ids) elements found = more (map.get bag id) (elements_i
     more (Some e) None step whole = absurd (cc)
     more (Some e) (Some es) step whole = sym (ap length (same_Some (e ∷ es) elements whole)) ∙ ap suc (step es refl)
 
--- a reply that may be none of an element
+-- the reply for an element, if there is one
 one_reply : (ask : Ask) (answer : Reply) (here : Option Element) (tag : Element → Reply) → ((element : Element) → IsReplyTo ask (tag element))
     → option_map tag here ≡ Some answer → IsReplyTo ask answer
 one_reply ask answer None tag fits named = absurd (cc)
@@ -91,7 +91,7 @@ may_wait Take now waits = tt
 may_wait (PollFor start timeout) now waits = tt
 may_wait _ now waits = waits
 
--- events that follow others have their replies after those of the others
+-- the replies to further events follow those to the first ones
 pub made_after-more : (opening : Opening) (before events more : List Event)
     → made_after opening before (events ++ more) ≡ made_after opening before events ++ made_after opening (before ++ events) more
 made_after-more opening before [] more = ap (λ (front : List Event). made_after opening front more) (sym (append-nil before))

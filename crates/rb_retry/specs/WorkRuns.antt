@@ -13,7 +13,7 @@ use Rattle.rb_retry.specs.declared.verdict.Verdict.{Verdict}
 use Rattle.rb_retry.specs.declared.verdict.Verdict.TheVariants.{Again, Dead}
 use Rattle.rb_retry.specs.declared.work_report.WorkReport.{WorkReport}
 
--- how a run of an element ended: it was done, or it failed so
+-- how a run of an element ended: it was done, or it failed with this result
 pub data RunEnd : Type 0 where
   done : RunEnd
   failed : Result Verdict (Element × CallFault) → RunEnd
@@ -31,7 +31,7 @@ no_runs = record { runs = 0; dones = 0; agains = 0; deads = 0; lost = 0 }
 abbrev pub IsSum : WorkReport → Type 0
 IsSum report = report.runs ≡ report.dones + report.agains + report.deads + report.lost
 
--- one run more
+-- the report with one more run
 abbrev pub counted : WorkReport → RunEnd → WorkReport
 counted report done = record report { runs = report.runs + 1; dones = report.dones + 1 }
 counted report (failed (Ok (Again again))) = record report { runs = report.runs + 1; agains = report.agains + 1 }
@@ -44,7 +44,7 @@ report_after report [] = report
 report_after report (run ∷ runs) = report_after (counted report run.end) runs
 
 module _ {S : Type 0} (gives : S → ℕ → Type 0) (Steps : S → ℕ → Ask → Result Reply DeskFault → S → Type 0) (may : Element → Bool → Type 0) (policy : Policy) where
-  -- the work said so of the element, and what failed did so at the desk's moment
+  -- the work gave this answer for the element, and a job that failed did so at a reading of the desk's clock
   abbrev pub EndsRun : Element → S → RunEnd → S → Type 0
   EndsRun element old done new = may element true × (new ≡ old)
   EndsRun element old (failed result) new =

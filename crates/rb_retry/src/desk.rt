@@ -11,9 +11,9 @@ use rb_queue::{Ask, Reply};
 
 /// A caller's way to a delay queue, with a clock of its own.
 ///
-/// All desks have in common that a call which gets a reply makes exactly one event, with this
-/// reply, that a refused one makes none, and that none gives an id which one before it gave. What
-/// else a call does is each desk's own relation.
+/// At every desk, a call that gets a reply makes exactly one event, which has this reply; a refused
+/// call makes none; and no call gives an id that one before it gave. What else a call does is each
+/// desk's own relation, `Steps`.
 pub trait Desk {
     /// What a contract sees of a desk.
     ghost State: { Type 0 };
@@ -21,7 +21,7 @@ pub trait Desk {
     /// The state of this desk.
     ghost state: { Self → State };
 
-    /// What kind of value a desk's name is.
+    /// The type of a desk's name.
     ghost Name: { Type 0 };
 
     /// What no call changes: which reference to its queue the desk holds, and what its owner has to
@@ -44,17 +44,17 @@ pub trait Desk {
     fn now(&self) -> u64
         ensures { gives (state self.now) result };
 
-    /// Moves the clock to this moment, unless it is later already, and returns the clock's moment.
-    /// `None` if the clock of such a desk can't be set.
+    /// Moves the clock to this moment, in nanoseconds, unless it is later already, and returns the moment
+    /// that it has then. `None` if such a desk's clock can't be set.
     fn set(&mut self, moment: u64) -> Option<u64>
         ensures sets { Sets (state self.old) moment result (state self.new) }
         ensures name { name (state self.new) ≡ name (state self.old) };
 
-    /// Makes one call. A take and a timed poll are made at readings of the desk's clock, and any
-    /// other call at the moment `asked`, which those two do not use.
+    /// Makes one call. A take and a timed poll are made at readings of the desk's clock, and any other
+    /// call at the moment `asked`, in nanoseconds, which those two ignore.
     ///
-    /// The faults are `Full` if there is no room for an event, `Memory` for an offer and a drain
-    /// alone, `Stopped` for a take and a timed poll alone.
+    /// The faults are `Full`, if there is no room for an event; `Memory`, only for an offer or a drain;
+    /// and `Stopped`, only for a take or a timed poll.
     fn call(&mut self, asked: u64, ask: Ask) -> Result<Reply, DeskFault>
         ensures step { Steps (state self.old) asked ask result (state self.new) }
         ensures name { name (state self.new) ≡ name (state self.old) }

@@ -4,8 +4,7 @@ ghost use Rattle.rb_retry.specs.KeptSteps.{fault_of};
 use rb_kept::CallFault;
 use thiserror::Error;
 
-/// Why a call at a desk got no reply. It made no event then. If several hold, the first is
-/// returned.
+/// Why a call at a desk got no reply. It made no event. If several hold, the first is returned.
 #[derive(Clone, Copy, Debug, PartialEq, Eq, Error)]
 pub enum DeskFault {
     /// The history has as many events as it has room for.

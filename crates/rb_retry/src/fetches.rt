@@ -12,9 +12,9 @@ use crate::job::Job;
 use rb_delayed::Element;
 use rb_queue::{Ask, Reply};
 
-/// Fetches the head, if there is one at the moment `asked`.
+/// Fetches the head, if there is one at the moment `asked`, in nanoseconds.
 ///
-/// A fault is the desk's: it made no event, and fetched nothing.
+/// A fault is that of the desk's call. Then no event was made, and nothing was fetched.
 pub fn poll<D: Desk>(desk: &mut D, asked: u64) -> Result<Option<Job>, DeskFault>
     ensures step { D.Steps (D.state desk.old) asked asks.Poll (answer_with result) (D.state desk.new) }
     ensures name { D.name (D.state desk.new) ≡ D.name (D.state desk.old) }
@@ -25,7 +25,7 @@ pub fn poll<D: Desk>(desk: &mut D, asked: u64) -> Result<Option<Job>, DeskFault>
 
 /// Fetches the head, waiting for it by the desk's clock.
 ///
-/// A fault is the desk's: it made no event, and fetched nothing.
+/// A fault is that of the desk's call. Then no event was made, and nothing was fetched.
 pub fn take<D: Desk>(desk: &mut D) -> Result<Job, DeskFault>
     ensures step { D.Steps (D.state desk.old) 0 asks.Take (answer_with_one result) (D.state desk.new) }
     ensures few { length (D.mine (D.state desk.new)) ≤ MOST_CALLS }
@@ -39,7 +39,7 @@ pub fn take<D: Desk>(desk: &mut D) -> Result<Job, DeskFault>
 
 /// Fetches the head, waiting for it by the desk's clock until `timeout` nanoseconds after `start`.
 ///
-/// A fault is the desk's: it made no event, and fetched nothing.
+/// A fault is that of the desk's call. Then no event was made, and nothing was fetched.
 pub fn poll_for<D: Desk>(desk: &mut D, start: u64, timeout: u64) -> Result<Option<Job>, DeskFault>
     ensures step { D.Steps (D.state desk.old) start (asks.PollFor start timeout) (answer_with result) (D.state desk.new) }
     ensures name { D.name (D.state desk.new) ≡ D.name (D.state desk.old) }
@@ -48,7 +48,7 @@ pub fn poll_for<D: Desk>(desk: &mut D, start: u64, timeout: u64) -> Result<Optio
     Ok(polled(&reply))
 }
 
-// The job that a poll's reply gives, if it gives one.
+// The job that the reply to a poll gives, if it gives one.
 fn polled(reply: &Reply) -> Option<Job>
     requires { IsReplyTo asks.Poll reply.now }
     ensures { answer_with (Ok result) ≡ Ok reply.now }
@@ -59,10 +59,11 @@ fn polled(reply: &Reply) -> Option<Job>
     }
 }
 
-/// Fetches at most `max` expired elements, head after head, and appends them to the jobs.
+/// Fetches at most `max` elements that have expired at `asked`, in nanoseconds, head after head, and
+/// appends them to the jobs.
 ///
-/// It requires that `jobs` has room for `max` more. A fault is the desk's: it made no event, and
-/// fetched nothing.
+/// It requires that `jobs` has room for `max` more. A fault is that of the desk's call. Then no event was
+/// made, and nothing was fetched.
 pub fn drain<D: Desk>(
     desk: &mut D,
     asked: u64,
@@ -87,7 +88,7 @@ pub fn drain<D: Desk>(
     }
 }
 
-// Makes jobs of the elements, and appends them to those that are there.
+// Appends a job for each element.
 fn append(elements: &[Element], jobs: &mut Vec<Job>)
     requires { vec_len jobs.old + length elements.now ≤ vec_capacity jobs.old }
     ensures items { jobs.new.items ≡ jobs.old.items ++ elements.now }

@@ -11,11 +11,11 @@ use rb_delayed::Element;
 use rb_kept::CallFault;
 use rb_queue::{Ask, Draft, Reply};
 
-/// Lets the job fail at `now`, and offers the policy's next attempt at that moment.
+/// Lets the job fail at `now`, in nanoseconds, and offers the policy's next attempt at that moment.
 ///
-/// After the last attempt the job is dead: no call is made, so nothing can refuse it. If the offer
-/// is refused, the caller gets the job back and no event was made: `Full` if there is no room for
-/// an event, `Memory` if there is not enough memory for the element.
+/// After the last attempt the job is dead: no call is made, so none can be refused. If the offer is
+/// refused, the caller gets the job back, and no event was made. The faults are `Full`, if there is no
+/// room for an event, and `Memory`, if there is not enough for the element.
 pub fn fail<D: Desk>(
     desk: &mut D,
     policy: &Policy,
@@ -34,7 +34,7 @@ pub fn fail<D: Desk>(
     }
 }
 
-// Offers a draft. The desk's answer is the element, or that there is no room or no memory for it.
+// Offers a draft. The desk answers with the element, or that there is no room or no memory for it.
 fn offer<D: Desk>(desk: &mut D, draft: Draft, now: u64) -> Result<Element, CallFault>
     ensures step { D.Steps (D.state desk.old) now (asks.Offer draft) (offer_answer result) (D.state desk.new) }
     ensures name { D.name (D.state desk.new) ≡ D.name (D.state desk.old) }
@@ -48,7 +48,7 @@ fn offer<D: Desk>(desk: &mut D, draft: Draft, now: u64) -> Result<Element, CallF
     }
 }
 
-/// Ends the job as done. No call is made.
+/// Ends the job as done, and returns its element. No call is made.
 pub fn done(job: Job) -> Element
     ensures { result ≡ job }
 {

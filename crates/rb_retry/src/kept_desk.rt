@@ -15,14 +15,14 @@ const SEAT: u64 = 0;
 
 /// A desk over a kept queue that is not shared. Its clock stands still until it is set.
 ///
-/// Its calls are those of seat 0. Nobody else could offer what a call would wait for, so a call
-/// that would wait is answered `Stopped` at once.
+/// Its calls are those of seat 0. Nobody else could offer what a call would wait for, so a call that
+/// would wait is answered `Stopped` at once. The desk takes no memory of its own.
 #[derive(Drop)]
 pub struct KeptDesk<'a, T: Timer> {
     kept: &'a mut Kept<T>,
     tally: &'a mut Tally,
     moment: u64,
-    // How many events there were when the desk was made.
+    // How many events the history had when the desk was made.
     before: usize,
     ghost earlier: { before ≤ length kept.now.history },
     ghost few: { length kept.now.history ≤ kept.now.capacity },
@@ -30,7 +30,7 @@ pub struct KeptDesk<'a, T: Timer> {
 }
 
 impl<'a, T: Timer> KeptDesk<'a, T> {
-    /// A desk at the moment of the opening's last event, whose calls the tally counts.
+    /// A desk whose calls the tally counts. Its clock is at the opening's `last_at`.
     pub fn new(kept: &'a mut Kept<T>, tally: &'a mut Tally) -> KeptDesk<'a, T>
         ensures state { ⟦<KeptDesk<'a, T> as Desk>⟧.state result
             ≡ record { name = kept.entry.ghost_name; log = kept.old; share = tally.old; moment = kept.old.opening.last_at; before = length kept.old.history } }
@@ -99,7 +99,7 @@ fn asked_at(moment: u64, ask: &Ask, handed: u64) -> u64
     }
 }
 
-// The queue's answer. A wait is stopped, since nobody else could end it.
+// The desk's answer. A wait is stopped, since nobody else could end it.
 fn answer_of(step: Step) -> Result<Reply, DeskFault>
     ensures { result ≡ answer_of step }
 {

@@ -29,8 +29,8 @@ pub struct Policy {
 impl Policy {
     ghost use Rattle.rb_retry.specs.Retry.{AreAttempts, IsRetry};
 
-    /// The next attempt expires `delay` nanoseconds after the failure. `None` exactly if `attempts`
-    /// is 0 or above 1,000.
+    /// The policy by which the next attempt expires `delay` nanoseconds after the failure. `None` exactly
+    /// if `attempts` is 0 or above 1,000.
     pub fn fixed(delay: u64, attempts: u32) -> Option<Policy>
         ensures some { IsSome result ↔ AreAttempts attempts }
         ensures pace { IfSome result (λ policy. policy.pace ≡ Pace.Delay delay) }
@@ -39,8 +39,8 @@ impl Policy {
         Policy::new(Pace::Delay(delay), attempts)
     }
 
-    /// Attempt k + 1 expires k times `period` nanoseconds after the job's first expiry, even if
-    /// that has passed. `None` exactly if `attempts` is 0 or above 1,000.
+    /// The policy by which attempt k + 1 expires k times `period` nanoseconds after the job's first
+    /// expiry, even if that moment has passed. `None` exactly if `attempts` is 0 or above 1,000.
     pub fn fixed_rate(period: u64, attempts: u32) -> Option<Policy>
         ensures some { IsSome result ↔ AreAttempts attempts }
         ensures pace { IfSome result (λ policy. policy.pace ≡ Pace.Rate period) }
@@ -61,8 +61,9 @@ impl Policy {
         }
     }
 
-    /// What a failure of the element at `now` offers again: the next attempt of its job, or `None`
-    /// exactly if this was the last one. The next expiry is at most the greatest moment, 2^64 - 1.
+    /// What is offered again if the element fails at `now`, in nanoseconds: the next attempt of its job.
+    /// `None` exactly if this was the last one. An expiry that would pass the greatest moment, 2^64 - 1
+    /// nanoseconds, is that moment.
     pub fn retry_of(&self, element: &Element, now: u64) -> Option<Draft>
         ensures { IsRetry self.now element.now now result }
     {

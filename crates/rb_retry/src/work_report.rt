@@ -9,6 +9,6 @@ pub struct WorkReport {
     pub agains: u64,
     /// How many failed at their last attempt.
     pub deads: u64,
-    /// How many failed and were lost, since the next attempt was refused.
+    /// How many failed and were lost, because the offer of their next attempt was refused.
     pub lost: u64,
 }

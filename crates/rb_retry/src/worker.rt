@@ -24,8 +24,8 @@ pub trait Work {
         ensures { may self.now element.now result };
 }
 
-/// Takes jobs and runs them, one after the other, until a take is refused. A job that is not done
-/// fails at the desk's moment.
+/// Takes jobs and runs them, one after the other, until a take is refused, and returns the counts. A job
+/// that is not done fails at the present moment of the desk's clock.
 ///
 /// It takes memory only for what is offered again.
 pub fn work_off<D: Desk, W: Work>(desk: &mut D, policy: &Policy, work: &W) -> WorkReport

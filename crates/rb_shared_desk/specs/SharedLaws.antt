@@ -1,4 +1,4 @@
--- An answered call at a desk over a shared queue is one event more with its reply, and a refused one is
+-- An answered call at a desk over a shared queue is one more event with its reply, and a refused one is
 -- none. No public clause cites this module.
 use Rattle.std.proofs.Common.{◌≡◌, ℕ, ◌+◌, ◌≤◌, ◌==◌, Bool, true, false, cond, List, [], ◌∷◌, ◌++◌, refl, sym, ap, ap₂, subst, ◌∙◌, arith, eq-eqb, Option, Some, Result, Ok, Err, length, length-append, drop, suc}
 use Rattle.std.proofs.lemmas.List.{drop-append-le, nil_from_length, append-nil}
@@ -29,7 +29,7 @@ module _ (seat : ℕ) (opening : Opening) where
   one_counted true made event mades events same = ap suc same
   one_counted false made event mades events same = same
 
-  -- as many are made by a seat as it has events
+  -- a seat has made as many calls as it has events
   pub length_own : (before events : List Event) → length (filter (λ (made : Made). made.event.seat == seat) (made_after opening before events)) ≡ length (events_of events seat)
   length_own before [] = refl
   length_own before (event ∷ events) =
@@ -43,35 +43,35 @@ module _ (seat : ℕ) (opening : Opening) where
       ap (filter (λ (made : Made). made.event.seat == seat)) (made_after-more opening [] events more)
       ∙ filter-append (λ (made : Made). made.event.seat == seat) (made_after opening [] events) (made_after opening events more)
 
-  -- what has none of the seat's events makes none
+  -- events of other seats add nothing to what the seat made
   made_by-none : (events more : List Event) → length (events_of more seat) ≡ 0 → made_by seat opening (events ++ more) ≡ made_by seat opening events
   made_by-none events more none =
       made_by-more events more
       ∙ ap (λ (mades : List Made). made_by seat opening events ++ mades) (nil_from_length _ (length_own events more ∙ none))
       ∙ append-nil (made_by seat opening events)
 
-  -- one event of the seat is made last
+  -- an event of the seat at the end is the last that it made
   made_by-one : (events : List Event) (event : Event) → event.seat ≡ seat → made_by seat opening (events ++ event ∷ [])
       ≡ made_by seat opening events ++ record { event = event; reply = reply_of opening (events ++ event ∷ []) } ∷ []
   made_by-one events event is =
       made_by-more events (event ∷ [])
       ∙ ap (λ (own : Bool). made_by seat opening events ++ cond own (record { event = event; reply = reply_of opening (events ++ event ∷ []) } ∷ []) []) (eq-eqb event.seat seat is)
 
--- how many events of the seat follow a history
+-- the events of the seat in a history, and those that follow
 counted : (seat : ℕ) (events more : List Event) → length (events_of (events ++ more) seat) ≡ length (events_of events seat) + length (events_of more seat)
 counted seat events more =
     ap length (filter-append (λ (event : Event). event.seat == seat) events more) ∙ length-append (events_of events seat) (events_of more seat)
 
 module _ (old new : Seen) (sound : IsSoundPass old) (learns : Learns old new) where
-  -- what was made is read off the new history
+  -- the new history says what was made
   own_at : made_by new.name new.opening new.seen ≡ made_by old.name old.opening new.seen
   own_at = ap₂ (λ (seat : ℕ) (opening : Opening). made_by seat opening new.seen) learns.name learns.opening
 
-  -- as many calls as the new history has under the pass's name
+  -- the new history has as many events under the pass's name as the pass has made calls
   own_count : length (events_of new.seen old.name) ≡ length new.mine
   own_count = ap (λ (seat : ℕ). length (events_of new.seen seat)) (sym learns.name) ∙ ap length learns.sound.own
 
-  -- a pass that made no call more has the same
+  -- a pass that made no further call has made the same
   own_stays : new.mine ≡ old.mine → made_by new.name new.opening new.seen ≡ made_by old.name old.opening old.seen
   own_stays same =
       let more : List Event = learns.begins.0 in
@@ -81,7 +81,7 @@ module _ (old new : Seen) (sound : IsSoundPass old) (learns : Learns old new) wh
       omega (arith, counted old.name old.seen more, ap length sound.own, grown, ap length same) in
       own_at ∙ ap (made_by old.name old.opening) (sym learns.begins.1) ∙ made_by-none old.name old.opening old.seen more none
 
-  -- a call that was answered is one more
+  -- an answered call is one more that was made
   own_grows : (asked : ℕ) (ask : Ask) (answer : Reply) (replied : Replied old new (try_of old asked ask) answer)
       → made_by new.name new.opening new.seen ≡ made_by old.name old.opening old.seen ++ record { event = replied.event; reply = Some answer } ∷ []
   own_grows asked ask answer replied =
@@ -110,7 +110,7 @@ module _ {C G : Type 0} (gives : C → ℕ → Type 0) (answers : G → ℕ → 
       → made_by new.pass.name new.pass.opening new.pass.seen ≡ mades → made_through new ≡ drop old.before mades
   through result steps mades is = ap made_through steps.stays ∙ ap (drop old.before) is
 
-  -- if the pass made no more calls, neither did the desk
+  -- if the pass made no further call, neither did the desk
   none_more : (result : Result Reply DeskFault) → SharedSteps gives answers old handed ask result new → new.pass.mine ≡ old.pass.mine → made_through new ≡ made_through old
   none_more result steps same =
       through result steps (made_by old.pass.name old.pass.opening old.pass.seen) (own_stays old.pass new.pass steps.sound steps.learns same)
@@ -131,7 +131,7 @@ module _ {C G : Type 0} (gives : C → ℕ → Type 0) (answers : G → ℕ → 
         answered = recorded_reply (log_at old.pass replied.before) (try_of old.pass asked ask) answer replied.event replied.records;
       }
 
-  -- what the pass has seen is legal, and the desk made a part of it
+  -- the pass has seen a legal history, of which the desk made a part
   pub shared_gives_once : (answer : Reply) → SharedSteps gives answers old handed ask (Ok answer) new → GivesOnce (made_through new)
   shared_gives_once answer steps id =
       let seen : List Made = made_after new.pass.opening [] new.pass.seen in

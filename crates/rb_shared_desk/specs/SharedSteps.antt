@@ -41,8 +41,8 @@ abbrev pub fault_of_wait : WaitFault → DeskFault
 fault_of_wait waits.Full = Full
 fault_of_wait waits.Stopped = Stopped
 
--- How an ask ended, and what the pass has seen after it. With a reply the pass has made this one call more;
--- with a fault none, since what it has seen is full, or no memory could be had, or the gate stopped the wait.
+-- How an ask ended, and what the pass has seen after it. With a reply the pass has made this one further call;
+-- with a fault none: the history that it has seen is full, memory was refused, or the gate stopped the wait.
 abbrev pub Ends : (ℕ → Type 0) → (ℕ → Bool → Type 0) → Seen → Seen → ℕ → Ask → Result Reply DeskFault → Type 0
 Ends gives answers old new handed ask (Ok reply) =
     (asked : ℕ) × IsMomentOf gives ask handed asked × Replied old new (try_of old asked ask) reply
@@ -70,7 +70,7 @@ module _ {C G : Type 0} where
   SetsShared old moment result new = (result ≡ None) × (new ≡ old)
 
   module _ (gives : C → ℕ → Type 0) (answers : G → ℕ → Bool → Type 0) where
-    -- The ask ended so, and the pass has learned. What the gate answers is as before, and nothing else has
+    -- The ask ended in this way, and the pass has learned. The gate's answers are as before, and nothing else has
     -- changed.
     pub record SharedSteps (old : SharedState C G) (handed : ℕ) (ask : Ask) (result : Result Reply DeskFault) (new : SharedState C G) : Type 0 where
       pub earlier : old.before ≤ length old.pass.mine

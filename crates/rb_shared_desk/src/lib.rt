@@ -1,4 +1,4 @@
-//! A desk over a shared queue: sessions and jobs of many threads at one queue.
+//! A desk over a shared queue, so that sessions and jobs of many threads share one queue.
 //!
 //! It is a crate of its own, so that code which needs no lock and never waits, such as a session
 //! over a kept queue or a replay, does not depend on either. Moments are nanoseconds.

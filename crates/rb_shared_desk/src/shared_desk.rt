@@ -13,11 +13,12 @@ use std::snapshot::Snapshot;
 use std::sync::Wait;
 use std::time;
 
-/// A desk over a shared queue, at the readings of a clock that can't be set.
+/// A desk over a shared queue, with a clock that can't be set.
 ///
-/// Its calls are those of its pass, and each waits while another pass calls. A take and a timed
-/// poll also wait until they are answered or the gate stops them. An offer rings the bell, so that
-/// the waiting calls of other desks try again.
+/// Its calls are those of its pass, and each waits while another pass calls. A take and a timed poll
+/// also wait until they are answered or the gate stops them. An offer rings the bell, which wakes a
+/// waiting call that would otherwise look again only after the element has expired, if there is one. The
+/// desk takes no memory of its own.
 pub struct SharedDesk<'a, T: Timer, C: Clock, G: Gate, R: Wait + time::Clock> {
     rt: &'a R,
     shared: &'a Shared<T>,
@@ -32,8 +33,8 @@ pub struct SharedDesk<'a, T: Timer, C: Clock, G: Gate, R: Wait + time::Clock> {
 }
 
 impl<'a, T: Timer, C: Clock, G: Gate, R: Wait + time::Clock> SharedDesk<'a, T, C, G, R> {
-    /// A desk that calls through this pass, which must be one of this queue. Its waits read the
-    /// clock, and end when the gate says no.
+    /// A desk that calls through this pass, which must be a pass of this queue. Its waits read the clock,
+    /// and end when the gate says no.
     pub fn new(
         rt: &'a R,
         shared: &'a Shared<T>,
@@ -62,7 +63,7 @@ impl<'a, T: Timer, C: Clock, G: Gate, R: Wait + time::Clock> SharedDesk<'a, T, C
     }
 }
 
-// Why a wait got no reply, as a desk's fault.
+// The desk's fault for a wait that got no reply.
 fn desk_fault_of(fault: WaitFault) -> DeskFault
     ensures { result ≡ fault_of_wait fault }
 {

@@ -12,12 +12,12 @@ pub record IsLeastSlot (content : Content) (slot expiry : ℕ) : Type 0 where
   pub present : map.get content slot ≡ Some expiry
   pub least : (other : ℕ) → IfSome (map.get content other) (λ another. expiry ≤ another)
 
--- an entry of least expiry, or none where the content is empty
+-- an entry of least expiry, or none if the content is empty
 abbrev pub IsLeastEntry : Content → Option (ℕ × ℕ) → Type 0
 IsLeastEntry content None = content ≡ map.empty
 IsLeastEntry content (Some entry) = IsLeastSlot content entry.0 entry.1
 
--- an entry of least expiry where that is at most `now`, or none where every expiry is later
+-- an entry of least expiry if that is at most `now`, or none if every expiry is later
 abbrev pub IsDueEntry : Content → ℕ → Option (ℕ × ℕ) → Type 0
 IsDueEntry content now None = (slot : ℕ) → IfSome (map.get content slot) (λ expiry. now < expiry)
 IsDueEntry content now (Some entry) = IsLeastSlot content entry.0 entry.1 × (entry.1 ≤ now)

@@ -6,7 +6,7 @@ use Rattle.std.proofs.lemmas.Bool.{cases_lt, lt-ltb, le-ltb}
 use Rattle.rb_timer.specs.declared.optional_index.TheConstants.{NONE}
 use Rattle.rb_timer.specs.declared.optional_index.OptionalIndex.TheInside.{Inside}
 
--- the index that a word is, if it is one
+-- the index that a word stands for, if it stands for one
 abbrev pub option_of : Inside → Option ℕ
 option_of inside = cond (ltb inside.word NONE) (Some inside.word) None
 
@@ -25,6 +25,6 @@ word-option word within =
     ap (λ b. unwrap_or (cond b (Some word) None) NONE) (le-ltb word NONE high) ∙ last)
     (cases_lt word NONE)
 
--- a word is that of the option that it is
+-- a word is that of the option that it stands for
 pub word_of-option : (inside : Inside) → IsIndexWord inside → word_of (option_of inside) ≡ inside
 word_of-option inside is = λ i. record { word = word-option inside.word is i }

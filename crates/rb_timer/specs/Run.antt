@@ -1,4 +1,4 @@
--- Which answers a timer with a room may give to a list of commands, and what it contains after them.
+-- Which answers a timer of a given room may give to a list of commands, and what it contains after them.
 use Rattle.std.specs.Prelude.{◌≡◌, ℕ, ◌<◌, List, [], ◌∷◌, Some, None}
 use Rattle.std.specs.FinMap as map
 use Rattle.rb_timer.specs.Content.{Content, IsLeastEntry, IsDueEntry}
@@ -20,13 +20,13 @@ Step room old (Remove slot) (Removed expiry) new =
 Step room old Least (Entry entry) new = IsLeastEntry old entry × (new ≡ old)
 Step room old (Due now) (Entry entry) new = IsDueEntry old now entry × (new ≡ old)
 Step room old Clear Cleared new = new ≡ map.empty
--- where a condition fails, nothing changes
+-- if the condition fails, nothing changes
 Step room old (Insert slot expiry) Refused new = ¬ CanInsert room old slot × (new ≡ old)
 Step room old (Remove slot) Refused new = (map.get old slot ≡ None) × (new ≡ old)
 -- no other answer is given
 Step room old _ _ new = ⊥
 
--- one step leads to what the timer contains between it and the rest
+-- the first step leads to some content, from which the rest goes on
 pub record StepsOn (step rest : Content → Type 0) : Type 0 where
   pub between : Content
   pub first : step between

@@ -41,7 +41,7 @@ get-remove_other content slot other differs =
     map.get-remove nat_cmp_total content slot other
     ∙ ap (λ b. cond b None (map.get content other)) (unsigned_tied other slot ∙ ne_eqb other slot differs)
 
--- no entry lies before the first slot
+-- no entry is at a slot before the first
 get-below : (expiries : List (Option ℕ)) (first slot : ℕ) → slot < first → map.get (content_from first expiries) slot ≡ None
 get-below [] first slot below = map.get-empty nat_cmp slot
 get-below (None ∷ rest) first slot below = get-below rest (first + 1) slot (omega arith)
@@ -49,7 +49,7 @@ get-below (Some expiry ∷ rest) first slot below =
     get-insert_other (content_from (first + 1) rest) first expiry slot (omega arith)
     ∙ get-below rest (first + 1) slot (omega arith)
 
--- each entry lies where it stands in the row
+-- each entry is at the slot of its place in the row
 get-content_from : (expiries : List (Option ℕ)) (first place : ℕ) → map.get (content_from first expiries) (first + place) ≡ slice_index_or expiries place None
 get-content_from [] first place = map.get-empty nat_cmp (first + place)
 get-content_from (None ∷ rest) first zero = get-below rest (first + 1) (first + zero) (omega arith)
@@ -71,11 +71,11 @@ get-content_of expiries slot =
     let here : slot ≡ 0 + slot = omega arith in
     ap (map.get (content_of expiries)) here ∙ get-content_from expiries 0 slot
 
--- two contents with the same expiry at each slot are one
+-- two contents with the same expiry at each slot are equal
 same_map : (content other : Content) → ((slot : ℕ) → map.get content slot ≡ map.get other slot) → content ≡ other
 same_map content other = map.same_map nat_cmp_total map.nat_cmp-IsAntisymmetric content other
 
--- two rows with the same expiry at each slot have one content
+-- two rows with the same expiry at each slot have the same content
 pub same_content : (xs ys : List (Option ℕ)) → ((slot : ℕ) → slice_index_or xs slot None ≡ slice_index_or ys slot None) → content_of xs ≡ content_of ys
 same_content xs ys same =
     same_map (content_of xs) (content_of ys) (λ slot. get-content_of xs slot ∙ same slot ∙ sym (get-content_of ys slot))
@@ -84,12 +84,12 @@ same_content xs ys same =
 pub content_empty : (expiries : List (Option ℕ)) → ((slot : ℕ) → slice_index_or expiries slot None ≡ None) → content_of expiries ≡ map.empty
 content_empty expiries none = same_content expiries [] none
 
--- what holds at a slot and at each other one holds at each
+-- what holds at a slot and at each other one holds at every slot
 each_slot : (P : ℕ → Type 0) (slot : ℕ) → P slot → ((other : ℕ) → other ≢ slot → P other) → (other : ℕ) → P other
 each_slot P slot here elsewhere other =
     ⊎_elim (λ same. subst P (sym same) here) (λ differs. elsewhere other differs) (cases_eq other slot)
 
--- an expiry written at a slot of the row is an entry added
+-- writing an expiry at a slot of the row adds an entry
 pub content_of-insert : (expiries : List (Option ℕ)) (slot expiry : ℕ) → slot < length expiries → content_of (slice_set expiries slot (Some expiry)) ≡ map.insert (content_of expiries) slot expiry
 content_of-insert expiries slot expiry within =
     let written : List (Option ℕ) = slice_set expiries slot (Some expiry) in
@@ -100,7 +100,7 @@ content_of-insert expiries slot expiry within =
     (λ other differs. get-content_of written other ∙ get_or-set_other expiries slot other (Some expiry) None differs
     ∙ sym (get-insert_other content slot expiry other differs ∙ get-content_of expiries other)))
 
--- none written at a slot of the row is an entry taken out
+-- writing none at a slot of the row takes its entry out
 pub content_of-remove : (expiries : List (Option ℕ)) (slot : ℕ) → slot < length expiries → content_of (slice_set expiries slot None) ≡ map.remove (content_of expiries) slot
 content_of-remove expiries slot within =
     let written : List (Option ℕ) = slice_set expiries slot None in
@@ -111,7 +111,7 @@ content_of-remove expiries slot within =
     (λ other differs. get-content_of written other ∙ get_or-set_other expiries slot other None None differs
     ∙ sym (get-remove_other content slot other differs ∙ get-content_of expiries other)))
 
--- a row of none has no expiry, and adds none behind another row
+-- a row of empty slots has no expiry, and adds none after another row
 get_or-replicate_none : (n slot : ℕ) → slice_index_or {A = Option ℕ} (replicate n None) slot None ≡ None
 get_or-replicate_none zero slot = refl
 get_or-replicate_none (suc n) zero = refl
@@ -122,7 +122,7 @@ get_or-append_none [] more slot = get_or-replicate_none more slot
 get_or-append_none (expiry ∷ rest) more zero = refl
 get_or-append_none (expiry ∷ rest) more (suc slot) = get_or-append_none rest more slot
 
--- empty slots behind the row change nothing
+-- empty slots after the row change nothing
 pub content_of-more : (expiries : List (Option ℕ)) (more : ℕ) → content_of (expiries ++ replicate more None) ≡ content_of expiries
 content_of-more expiries more =
     same_content (expiries ++ replicate more None) expiries (get_or-append_none expiries more)
@@ -152,7 +152,7 @@ is_some_within [] slot present = absurd (cc)
 is_some_within (expiry ∷ rest) zero present = omega arith
 is_some_within (expiry ∷ rest) (suc slot) present = let within : slot < length rest = is_some_within rest slot present in omega arith
 
--- a slot that has an entry stands in the row
+-- a slot that has an entry is in the row
 pub in_range_of_content : (expiries : List (Option ℕ)) (slot : ℕ) → IsSome (map.get (content_of expiries) slot) → slot < length expiries
 in_range_of_content expiries slot present =
     is_some_within expiries slot (sym (ap is_some (get-content_of expiries slot)) ∙ present)

@@ -1,12 +1,13 @@
 ghost use Rattle.std.specs.Prelude.{◌≤◌, ◌/◌, ◌↔◌, IsTrue};
 
-// How many slots a pass may go over for each entry: beyond that, to take the entries out one by one costs less.
+// From this many slots for each entry on, it costs less to take the entries out one by one than to go
+// over all slots.
 const SLOTS_TO_AN_ENTRY: usize = 8;
 
-/// Whether a clear takes entries out one by one, so that it costs nothing for the room of which most is empty.
-/// Otherwise one pass over all slots costs less.
+/// Whether a clear takes the entries out one by one: at most one slot in eight has an entry, so a pass
+/// over all slots would cost more.
 ///
-/// It is decided here for every timer and every queue that has both ways.
+/// Every timer and queue that can clear in both ways asks this function.
 pub fn clears_one_by_one(entries: usize, slots: usize) -> bool
     ensures { IsTrue result ↔ (entries ≤ slots / SLOTS_TO_AN_ENTRY) }
 {

@@ -18,9 +18,9 @@ pub enum TimerCommand {
 pub enum TimerAnswer {
     /// The entry was added.
     Inserted,
-    /// The entry was taken out. It had this expiry.
+    /// The entry was taken out. It had this expiry, in nanoseconds.
     Removed(u64),
-    /// The slot and the expiry of an entry, or that there is none.
+    /// The slot and the expiry, in nanoseconds, of an entry. `None` if there was none to give.
     Entry(Option<(usize, u64)>),
     /// Every entry was taken out.
     Cleared,

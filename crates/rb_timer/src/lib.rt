@@ -2,8 +2,8 @@
 //!
 //! Contracts see a timer as a finite map from slot to expiry, with a room that every slot is below.
 //! A slot is a number that the timer's owner chose, and an expiry a moment in nanoseconds. Only
-//! `reserve` may fail for want of memory, so an owner that has made room cannot fail later.
-//! `optional_index` has what timers note slots and places in.
+//! `reserve` takes memory and may fail, so an owner that has made room cannot fail later.
+//! `optional_index` has the words in which timers note slots and places.
 #![tactic(auto)]
 
 mod clearing;

@@ -1,10 +1,10 @@
 use crate::timer::Timer;
 use std::alloc::{AllocError, Global};
 
-/// The plain timer: the expiry of each slot, in a row. It is what the other timers are compared with.
+/// The plain timer: a row with the expiry of each slot. The other timers are compared with it.
 ///
-/// `least`, `due`, `len` and `clear` cost the whole room, and so does a `reserve` that makes room. Each other call
-/// costs a constant.
+/// `least`, `due`, `len` and `clear` look at every slot, and a `reserve` that makes room copies every
+/// slot. Each other call costs a constant.
 #[derive(Debug, Drop)]
 pub struct ListTimer {
     expiries: Vec<Option<u64>>,

@@ -6,7 +6,7 @@ ghost use Rattle.std.specs.Prelude.{◌≡◌, ◌<◌, Some, None};
 
 use std::marker::Model;
 
-/// The word of no index. Every index that can be noted is below it.
+/// The word that stands for no index. Every index that can be noted is below it.
 pub const NONE: usize = usize::MAX;
 
 /// An index, or none, in one word: a slot that a slot is linked to, or a place in an array. Contracts see an option.
@@ -60,7 +60,7 @@ impl OptionalIndex {
         }
     }
 
-    /// The index that it was, if any. Afterwards it is none.
+    /// Takes the index out, if there is one, and leaves none.
     pub fn take(&mut self) -> Option<usize>
         ensures value { result ≡ self.old }
         ensures after { self.new ≡ None }

@@ -5,10 +5,11 @@ use crate::command::{TimerAnswer, TimerCommand};
 use crate::timer::Timer;
 use std::alloc::{AllocError, Global};
 
-/// Runs commands in order, with an answer for each, on any timer.
+/// Runs the commands on a timer, one after the other, and returns an answer for each.
 ///
-/// `Refused` comes exactly if the condition of `insert` or `remove` fails, and that command changes
-/// nothing. It asks for room for the answers first: on `Err` nothing has changed.
+/// The answer is `Refused` exactly if the condition of an insert or a removal fails; that command
+/// changes nothing. The memory for the answers is taken before the first command: on `Err` there was
+/// not enough, and nothing has changed.
 pub fn run_timer<T: Timer>(
     alloc: Global,
     timer: &mut T,
@@ -25,7 +26,7 @@ pub fn run_timer<T: Timer>(
     Ok(answers)
 }
 
-// One command, and its answer.
+// Runs one command.
 fn answer<T: Timer>(timer: &mut T, command: TimerCommand) -> TimerAnswer
     ensures step { Step (T.room timer.old) (T.content timer.old) command result (T.content timer.new) }
     ensures room { T.room timer.new ≡ T.room timer.old }

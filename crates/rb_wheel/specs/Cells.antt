@@ -20,8 +20,8 @@ digit level moment = units level moment % DIGITS
 abbrev pub above : ℕ → ℕ → ℕ
 above level moment = units level moment / DIGITS
 
--- the cell has the expiry's digit, on the highest level where that differs from the base's, or on
--- the lowest where none does
+-- the cell has the expiry's digit, on the highest level on which that differs from the base's, or on
+-- the lowest if none does
 pub record IsCellOf (base expiry cell : ℕ) : Type 0 where
   pub same_digit : digit (level_of cell) expiry ≡ digit_of cell
   pub same_above : above (level_of cell) expiry ≡ above (level_of cell) base

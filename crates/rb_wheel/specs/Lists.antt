@@ -1,4 +1,4 @@
--- Lists of slots, one for each cell, as callers see them.
+-- The lists of slots, one for each cell, as callers see them.
 use Rattle.std.specs.Prelude.{◌≡◌, ℕ, ◌≤◌, ◌≢◌, List, Option, Some, None, IfSome, IsSome, slice_index_or}
 
 -- at each slot its entry's expiry, and the cell that it lies in, or none

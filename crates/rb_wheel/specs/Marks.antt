@@ -4,11 +4,11 @@ use Rattle.std.specs.Int.{bit_at}
 use Rattle.rb_wheel.specs.declared.marks.Marks.{Marks}
 use Rattle.rb_wheel.specs.declared.cells.TheConstants.{DIGITS}
 
--- 1 where the cell is marked, otherwise 0
+-- 1 if the cell is marked, otherwise 0
 abbrev pub mark_at : Marks → ℕ → ℕ
 mark_at marks cell = bit_at (slice_index marks.words (cell / DIGITS)) (cell % DIGITS)
 
--- the first marked cell, or none where none is marked
+-- the first marked cell, or none if none is marked
 abbrev pub IsFirstMarked : Marks → Option ℕ → Type 0
 IsFirstMarked marks None = (cell : ℕ) → mark_at marks cell ≡ 0
 IsFirstMarked marks (Some cell) = (mark_at marks cell ≡ 1) × ((other : ℕ) → mark_at marks other ≡ 1 → cell ≤ other)
@@ -18,7 +18,7 @@ abbrev pub mark_of : Option ℕ → ℕ
 mark_of None = 0
 mark_of (Some slot) = 1
 
--- its mark once its list begins with `next`, where nothing precedes that
+-- its mark once its list begins with `next`, if nothing precedes that
 abbrev pub mark_with_first : Option ℕ → Option ℕ → ℕ → ℕ
 mark_with_first None next mark = mark_of next
 mark_with_first (Some previous) next mark = mark

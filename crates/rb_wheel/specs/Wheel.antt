@@ -9,7 +9,7 @@ use Rattle.rb_wheel.specs.Lists.{cell_at, slot_expiry}
 abbrev pub AreMoments : List (Option ℕ) → Type 0
 AreMoments expiries = (slot : ℕ) → IfSome (slot_expiry expiries slot) (λ expiry. expiry < 2 ^ 64)
 
--- an entry lies right: in the cell of its expiry, or in none where it expires before the base
+-- an entry lies right: in the cell of its expiry, or in none if it expires before the base
 abbrev pub LiesRight : ℕ → Option ℕ → Option ℕ → Type 0
 LiesRight base None cell = cell ≡ None
 LiesRight base (Some expiry) None = expiry < base
@@ -19,13 +19,13 @@ LiesRight base (Some expiry) (Some cell) = (base ≤ expiry) × IsCellOf base ex
 pub record LieRight (base : ℕ) (expiries cells : List (Option ℕ)) : Type 0 where
   pub each : (slot : ℕ) → LiesRight base (slot_expiry expiries slot) (cell_at cells slot)
 
--- each entry lies right but those of one cell, and these belong in cells before it
+-- each entry lies right, except those of one cell, which belong in cells before it
 pub record MaySpread (base cell : ℕ) (expiries cells : List (Option ℕ)) : Type 0 where
   pub others : (slot : ℕ) → cell_at cells slot ≢ Some cell → LiesRight base (slot_expiry expiries slot) (cell_at cells slot)
   pub inside : (slot : ℕ) → cell_at cells slot ≡ Some cell
       → IsSomeAnd (slot_expiry expiries slot) (λ expiry. (base ≤ expiry) × ((lower : ℕ) → IsCellOf base expiry lower → lower < cell))
 
--- the slots that lie in some cell are the same
+-- the same slots lie in some cell
 pub record SameInCells (cells new_cells : List (Option ℕ)) : Type 0 where
   pub room : length new_cells ≡ length cells
   pub each : (slot : ℕ) → is_some (cell_at new_cells slot) ≡ is_some (cell_at cells slot)
@@ -41,7 +41,7 @@ pub record IsLeastInCells (expiries cells : List (Option ℕ)) (slot expiry : �
   pub expires : slot_expiry expiries slot ≡ Some expiry
   pub least : (other : ℕ) → IsSome (cell_at cells other) → IfSome (slot_expiry expiries other) (λ another. expiry ≤ another)
 
--- an entry of least expiry among those that lie in cells, or none where no entry lies in a cell
+-- an entry of least expiry among those that lie in cells, or none if no entry lies in a cell
 abbrev pub IsFirst : List (Option ℕ) → List (Option ℕ) → Option (ℕ × ℕ) → Type 0
 IsFirst expiries cells None = (slot : ℕ) → cell_at cells slot ≡ None
 IsFirst expiries cells (Some entry) = IsLeastInCells expiries cells entry.0 entry.1

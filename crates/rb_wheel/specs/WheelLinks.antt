@@ -41,7 +41,7 @@ expiries_of nodes = map expiry_of nodes
 abbrev pub slots_of : List Node → Slots
 slots_of nodes = record { expiries = expiries_of nodes; cells = cells_of nodes }
 
--- neighbours agree, each list begins at its cell's head, and ranks rise along it, so that it ends
+-- neighbours agree, each list begins at its cell's head, and ranks rise along it, so it ends
 pub record LinksAgree (head cell next previous : ℕ → Option ℕ) (rank : ℕ → ℕ) : Type 0 where
   pub head_cell : (at slot : ℕ) → head at ≡ Some slot → cell slot ≡ Some at
   pub head_first : (at slot : ℕ) → head at ≡ Some slot → previous slot ≡ None

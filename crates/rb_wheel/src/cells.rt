@@ -1,17 +1,17 @@
 ghost use Rattle.std.specs.Prelude.{◌≡◌, ◌+◌, ◌<◌, ◌≤◌};
 ghost use Rattle.rb_wheel.specs.Cells.{IsCellOf};
 
-/// How many digits a moment has, in base 64. Each is a level of the wheel, the lowest first.
+/// How many digits a moment has in base 64. Each has a level of the wheel, the lowest digit first.
 pub(crate) const LEVELS: usize = 11;
-/// How many values a digit has. Each is a cell of its level.
+/// How many values a digit has. Each has a cell on the digit's level.
 pub(crate) const DIGITS: usize = 64;
-/// How many cells there are: that of a digit on a level is `level * DIGITS + digit`.
+/// How many cells there are. A digit's cell on a level is `level * DIGITS + digit`.
 pub(crate) const CELLS: usize = LEVELS * DIGITS;
 
 const DIGIT_BITS: u32 = 6;
 
 /// The cell of an expiry: the highest level on which its digit differs from that of the base (the
-/// lowest where none does), and its digit there.
+/// lowest if none does), and its digit there.
 pub(crate) fn cell_of(base: u64, expiry: u64) -> usize
     ensures in_wheel { result < CELLS }
     ensures cell { IsCellOf base expiry result }

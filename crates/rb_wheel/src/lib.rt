@@ -1,4 +1,4 @@
-//! The timer for far moments: a hierarchical wheel of cells, each a list of the slots in it.
+//! The timer for distant moments: a hierarchical wheel of cells, each with a list of the slots in it.
 #![tactic(auto)]
 
 mod cells;

@@ -12,8 +12,8 @@ use rb_timer::optional_index::OptionalIndex;
 use std::alloc::{AllocError, Global};
 use std::marker::Model;
 
-/// The slots: each may have an entry, whose expiry is kept here, and is in at most one cell. Each
-/// cell has a list of its slots, linked both ways.
+/// The slots. Each may have an entry, whose expiry is kept here, and is in at most one cell. Each cell
+/// has a list of its slots, linked both ways.
 #[derive(Debug, Drop)]
 pub(crate) struct Lists {
     // The first slot of each cell's list. There are none until the first `reserve`.
@@ -36,7 +36,7 @@ impl Model for Lists {
 }
 
 impl Lists {
-    /// There is no slot, and no memory is taken until `reserve`.
+    /// No slots. It takes no memory until `reserve`.
     pub(crate) fn new(alloc: Global) -> Self
         ensures { result ≡ record { expiries = []; cells = [] } }
     {
@@ -54,14 +54,15 @@ impl Lists {
         self.nodes.len()
     }
 
-    /// The expiry of the slot's entry, if it has one.
+    /// The expiry of the slot's entry, in nanoseconds, if it has one.
     pub(crate) fn expiry(&self, slot: usize) -> Option<u64>
         ensures { result ≡ slot_expiry self.now.expiries slot }
     {
         self.nodes.get(slot)?.expiry()
     }
 
-    /// Makes room for `wanted` slots. If memory is refused, nothing changes.
+    /// Makes room for at least `wanted` slots. On `Err` there was not enough memory, and the slots are
+    /// unchanged.
     pub(crate) fn reserve(&mut self, wanted: usize) -> Result<(), AllocError>
         ensures expiries { OnOk result (self.new.expiries ≡ self.old.expiries ++ replicate (wanted - length self.old.expiries) None) }
         ensures cells { OnOk result (self.new.cells ≡ self.old.cells ++ replicate (wanted - length self.old.cells) None) }
@@ -74,7 +75,7 @@ impl Lists {
         Ok(())
     }
 
-    /// Notes an entry at a slot, which lies where it did.
+    /// Notes an entry at a slot, which stays in its cell, or in none.
     pub(crate) fn occupy(&mut self, slot: usize, expiry: u64)
         requires { slot < length self.old.expiries }
         ensures noted { self.new ≡ record self.old { expiries = slice_set self.old.expiries slot (Some expiry) } }
@@ -85,7 +86,8 @@ impl Lists {
         node.is_taken = true;
     }
 
-    /// Forgets the entry of a slot that has one, and gives its expiry. The slot lies where it did.
+    /// Removes the entry of a slot that has one, and returns its expiry. The slot stays in its cell, or in
+    /// none.
     pub(crate) fn vacate(&mut self, slot: usize) -> u64
         requires { IsSome (slot_expiry self.old.expiries slot) }
         ensures value { slot_expiry self.old.expiries slot ≡ Some result }
@@ -131,7 +133,7 @@ impl Lists {
         self.nodes[slot].take_out();
     }
 
-    /// Puts the slots of a cell into the lower cells where they belong from the base, which has entered it.
+    /// Moves the slots of a cell to the lower cells where they belong, now that the base has entered it.
     pub(crate) fn spread(&mut self, base: u64, cell: usize)
         requires held { IsHeld self.old.cells cell }
         requires may { MaySpread base cell self.old.expiries self.old.cells }
@@ -148,7 +150,7 @@ impl Lists {
         );
     }
 
-    /// The first cell that holds a slot.
+    /// The first cell that holds a slot, if any does.
     pub(crate) fn first_cell(&self) -> Option<usize>
         ensures in_wheel { IfSome result (λ cell. cell < CELLS) }
         ensures first { MatchOption result ((cell : ℕ) → IsVacant self.now.cells cell) (IsFirstCell self.now.cells) }
@@ -156,14 +158,14 @@ impl Lists {
         self.marks.first()
     }
 
-    /// A slot of the cell.
+    /// A slot of the cell, if it holds one.
     pub(crate) fn first_in(&self, cell: usize) -> Option<usize>
         ensures { MatchOption result (IsVacant self.now.cells cell) (λ slot. cell_at self.now.cells slot ≡ Some cell) }
     {
         head_of(&self.heads, cell)
     }
 
-    /// A slot of the cell whose expiry is least among them, with its expiry.
+    /// A slot of the cell, if it holds one, whose expiry is least among them, and that expiry.
     pub(crate) fn least_in(&self, cell: usize) -> Option<(usize, u64)>
         requires { HasExpiries self.now.cells self.now.expiries cell }
         ensures { MatchOption result (IsVacant self.now.cells cell) (λ entry. IsLeastIn self.now.cells self.now.expiries cell entry.0 entry.1) }
@@ -179,7 +181,7 @@ impl Lists {
         least
     }
 
-    /// Takes every slot out of its cell, and forgets its entry.
+    /// Takes every slot out of its cell, and removes its entry.
     pub(crate) fn clear(&mut self)
         ensures expiries { self.new.expiries ≡ replicate (length self.old.expiries) None }
         ensures cells { self.new.cells ≡ replicate (length self.old.cells) None }
@@ -190,14 +192,14 @@ impl Lists {
     }
 }
 
-// The first slot of the cell's list.
+// The first slot of the cell's list, if there is one.
 fn head_of(heads: &[OptionalIndex], cell: usize) -> Option<usize>
     ensures { result ≡ slice_index_or heads.now cell None }
 {
     heads.get(cell)?.as_option()
 }
 
-/// The entry that expires first, of the best so far and another, which is given of two equals.
+/// The earlier one of the best entry so far and another. If both expire together, the other one.
 pub(crate) fn earlier_of(best: Option<(usize, u64)>, entry: (usize, u64)) -> (usize, u64)
     ensures no_later { result.1 ≤ entry.1 }
     ensures no_worse { IfSome best (λ best. result.1 ≤ best.1) }
@@ -209,7 +211,7 @@ pub(crate) fn earlier_of(best: Option<(usize, u64)>, entry: (usize, u64)) -> (us
     }
 }
 
-// Begins the cell's list with `next`, where nothing precedes that, and marks the cell accordingly.
+// If `previous` is none, begins the cell's list with `next`, and marks the cell accordingly.
 fn set_first(
     heads: &mut [OptionalIndex],
     marks: &mut Marks,
@@ -229,7 +231,7 @@ fn set_first(
     }
 }
 
-// Marks the cell where it has a first slot, and only there.
+// Marks the cell if it has a first slot, and otherwise takes the mark off.
 fn mark_held(marks: &mut Marks, cell: usize, first: OptionalIndex)
     requires { cell < CELLS }
     ensures here { mark_at marks.new cell ≡ mark_of first }

@@ -3,7 +3,7 @@ ghost use Rattle.rb_wheel.specs.declared.cells.TheConstants.{CELLS};
 
 use crate::cells::{DIGITS, LEVELS};
 
-/// A set of cells, as one word of 64 bits for each level.
+/// A set of cells: one word of 64 bits for each level.
 #[derive(Clone, Copy, Debug)]
 pub(crate) struct Marks {
     words: [u64; LEVELS],
@@ -37,7 +37,7 @@ impl Marks {
         self.words[cell / DIGITS] &= !(1 << (cell % DIGITS));
     }
 
-    /// The first marked cell.
+    /// The first marked cell, if any is marked.
     pub(crate) fn first(&self) -> Option<usize>
         ensures { IsFirstMarked self.now result }
     {

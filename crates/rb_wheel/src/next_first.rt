@@ -5,8 +5,8 @@ ghost use Rattle.rb_wheel.specs.Wheel.{LieRight, SameInCells, ExpireTogether, Is
 use crate::cells::DIGITS;
 use crate::lists::Lists;
 
-/// The first entry of the cells, after a slot was taken out of its cell: the one so far or, if that
-/// was of this slot, the next one.
+/// The first entry in cells after a slot was taken out of its cell: the one so far or, if that was this
+/// slot's, the next one.
 pub(crate) fn first_without(
     lists: &mut Lists,
     base: &mut u64,
@@ -29,8 +29,8 @@ pub(crate) fn first_without(
 /// Finds an entry of least expiry among those in cells, moves the base to its expiry, and spreads its
 /// cell over lower levels.
 ///
-/// It lies in the first cell that holds a slot. The walk over that cell is paid for by its entries: each
-/// then lies on a lower level, and those of the lowest level are not walked over.
+/// The entry lies in the first cell that holds a slot. The walk over that cell is paid for by its
+/// entries: each moves to a lower level, and a cell of the lowest level is not walked over.
 fn next_first(lists: &mut Lists, base: &mut u64) -> Option<(usize, u64)>
     requires { LieRight base.old lists.old.expiries lists.old.cells }
     ensures expiries { lists.new.expiries ≡ lists.old.expiries }
@@ -47,7 +47,7 @@ fn next_first(lists: &mut Lists, base: &mut u64) -> Option<(usize, u64)>
     Some(entry)
 }
 
-// An entry of least expiry among those of the cell. On the lowest level all of them expire together.
+// An entry of least expiry among those of the cell. On the lowest level they all expire together.
 fn least_of(lists: &Lists, cell: usize) -> Option<(usize, u64)>
     requires expiries { HasExpiries lists.now.cells lists.now.expiries cell }
     requires together { cell < DIGITS → ExpireTogether lists.now.expiries lists.now.cells cell }

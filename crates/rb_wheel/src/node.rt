@@ -7,7 +7,7 @@ use rb_timer::optional_index::OptionalIndex;
 /// What a slot of the room holds: its entry's expiry, if it has one, and where the slot lies.
 #[derive(Clone, Copy, Debug)]
 pub(crate) struct Node {
-    // In nanoseconds. It says nothing where the slot has no entry.
+    // In nanoseconds. It means nothing if the slot has no entry.
     pub(crate) expiry: u64,
     // The neighbours in the list of the cell.
     pub(crate) next: OptionalIndex,
@@ -18,7 +18,7 @@ pub(crate) struct Node {
     pub(crate) is_taken: bool,
 }
 
-// Two nodes share a line of the cache.
+// Two nodes share a cache line.
 const _: () = prove!(size_of::<Node>() == 32);
 
 impl Node {
@@ -66,7 +66,7 @@ impl Node {
     }
 }
 
-/// Notes which slot precedes this one, if there is one.
+/// Notes what precedes the slot, if there is a slot.
 pub(crate) fn set_previous(nodes: &mut [Node], slot: OptionalIndex, previous: OptionalIndex)
     requires { IfSome slot (λ slot. slot < length nodes.old) }
     ensures { nodes.new ≡ with_previous nodes.old slot previous }
@@ -76,7 +76,7 @@ pub(crate) fn set_previous(nodes: &mut [Node], slot: OptionalIndex, previous: Op
     }
 }
 
-/// Notes which slot follows this one, if there is one.
+/// Notes what follows the slot, if there is a slot.
 pub(crate) fn set_next(nodes: &mut [Node], slot: OptionalIndex, next: OptionalIndex)
     requires { IfSome slot (λ slot. slot < length nodes.old) }
     ensures { nodes.new ≡ with_next nodes.old slot next }

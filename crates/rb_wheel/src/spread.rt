@@ -33,9 +33,9 @@ pub(crate) fn put_first(
     marks.insert(cell);
 }
 
-/// Puts the slots of a cell into the lower cells where they belong from the base, which has entered it.
+/// Moves the slots of a cell to the lower cells where they belong, now that the base has entered it.
 ///
-/// The list is taken off whole, so that each of its slots is linked once.
+/// The list is taken off as a whole, so each of its slots is linked only once.
 pub(crate) fn spread(
     heads: &mut [OptionalIndex],
     marks: &mut Marks,

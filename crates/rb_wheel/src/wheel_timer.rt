@@ -9,23 +9,23 @@ use std::marker::Model;
 /// A hierarchical wheel whose early entries are kept in a pairing heap.
 pub type WheelTimer = Wheel<PairingTimer>;
 
-/// A hierarchical timing wheel: a moment has 11 digits in base 64, and each level of the wheel has
-/// a cell for each value of its digit. An entry lies in the cell of its digit on the highest level
-/// on which its expiry's digit differs from the base's, on the lowest level where none does.
+/// A hierarchical timing wheel. A moment has 11 digits in base 64, and each level of the wheel has a
+/// cell for each value of its digit. An entry lies in the cell of its digit on the highest level on
+/// which its expiry's digit differs from the base's, or on the lowest level if none does.
 ///
-/// The base moves only when the first entry of the cells leaves: to the expiry of the next, whose cell is
-/// then spread over lower levels. What is put in later and expires before the base stands in a timer of
-/// its own, `E`. Where no entry is left the base is 0 again.
+/// The base moves only when the first entry in cells leaves: to the expiry of the next one, whose cell
+/// is then spread over lower levels. An entry that is put in later and expires before the base is kept
+/// in a timer of its own, `E`. Once no entry is left, the base is 0 again.
 ///
-/// What calls cost, beside those of `E`: `insert`, `least` and `due` cost a constant, and so does a `remove`
-/// of any entry but the first of the cells. When that one leaves, the entries of one cell, which may be all,
-/// are walked over twice: to find the next, and to move each to a lower level. An entry is moved at most ten
-/// times before it is taken out, so in the long run this `remove` costs a constant too. `clear` costs a
-/// constant for each entry that it takes out, whatever the room. `reserve`, where it makes room, costs all
-/// the room that there is then.
+/// What calls cost, besides those of `E`: `insert`, `least` and `due` cost a constant, and so does a
+/// `remove` of any entry but the first one in cells. When that one leaves, the entries of one cell,
+/// which may be all, are walked over twice: to find the next one, and to move each to a lower level. An
+/// entry is moved at most ten times before it is taken out, so in the long run this `remove` costs a
+/// constant too. `clear` costs a constant for each entry, whatever the room. A `reserve` that makes
+/// room costs all the room that there is then.
 #[derive(Debug, Drop)]
 pub struct Wheel<E: Timer> {
-    // The slots of the room, each with its entry's expiry, wherever that lies.
+    // The slots of the room, each with its entry's expiry, in a cell or not.
     lists: Lists,
     early: E,
     base: u64,
@@ -129,7 +129,7 @@ impl<E: Timer> Wheel<E> {
     ghost use Rattle.rb_timer.specs.Slots.{content_of};
     ghost use Rattle.rb_wheel.specs.Lists.{slot_expiry};
 
-    // Takes out the entry at a slot that has one, and gives its expiry.
+    // Takes out the entry at a slot that has one, and returns its expiry.
     fn take_out(&mut self, slot: usize) -> u64
         requires { IsSome (slot_expiry self.old slot) }
         ensures value { slot_expiry self.old slot ≡ Some result }
@@ -146,7 +146,8 @@ impl<E: Timer> Wheel<E> {
         expiry
     }
 
-    // Begins anew with base 0 where no entry is left: the next one then lies in a cell, whatever its expiry.
+    // If no entry is left, begins again with base 0, so that the next one lies in a cell, whatever its
+    // expiry.
     fn reset_if_empty(&mut self)
         ensures { self.new ≡ self.old }
     {
@@ -155,7 +156,7 @@ impl<E: Timer> Wheel<E> {
         }
     }
 
-    // Takes out one entry after another.
+    // Takes the entries out one by one.
     fn take_each(&mut self)
         ensures content { content_of self.new ≡ map.empty }
         ensures room { length self.new ≡ length self.old }
@@ -165,7 +166,7 @@ impl<E: Timer> Wheel<E> {
         }
     }
 
-    // Takes out all entries at once, by a walk over the room.
+    // Takes all entries out in one pass over the room.
     fn take_all(&mut self)
         ensures { self.new ≡ replicate (length self.old) None }
     {

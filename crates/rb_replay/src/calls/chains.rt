@@ -16,12 +16,12 @@ use rb_queue::{Act, Event, Opening};
 use rb_retry::Policy;
 use std::alloc::Global;
 
-/// Whether each element that a legal history offers is a job's first attempt, or what the policy offers
-/// after the attempt before.
+/// Checks that each element that a legal history offers is a job's first attempt, or what the policy
+/// offers after the attempt before.
 ///
-/// `At` names the first event that offers another one, and the first of its reasons. Memory is taken
-/// for each element that came in, and each event takes time that grows with the logarithm of their
-/// number.
+/// The fault `At` names the first event that offers another element, and the first reason. `Memory` means
+/// that there is not enough. Memory is taken for each element that was offered or there at the start, and
+/// each event takes time that grows with the logarithm of their number.
 pub fn chains(
     alloc: Global,
     opening: &Opening,
@@ -46,7 +46,7 @@ pub fn chains(
     Ok(())
 }
 
-// The first reason why the event's element, if it offers one, is not linked to what the index has.
+// The first reason, if any, why the event offers an element that is not linked to what the index has.
 fn check_event(attempts: &AttemptIndex, policy: &Policy, event: &Event) -> Result<(), ChainReason>
     ensures { (came : Bag) (past : Past) → Recalls came past attempts.now → MatchResult result
         (λ _. EventIsLinked policy.now past event.now)
@@ -58,7 +58,7 @@ fn check_event(attempts: &AttemptIndex, policy: &Policy, event: &Event) -> Resul
     }
 }
 
-// The first reason why an offered element is not linked to what the index has.
+// The first reason, if any, why an offered element is not linked to what the index has.
 fn check_offer(
     attempts: &AttemptIndex,
     policy: &Policy,
@@ -76,7 +76,7 @@ fn check_offer(
     }
 }
 
-// The reason why a first attempt does not begin a job.
+// The reason, if any, why a first attempt does not begin a job.
 fn check_first(element: &Element) -> Result<(), ChainReason>
     ensures { MatchResult result (λ _. Begins element.now) (BeginTests element.now) }
 {
@@ -86,7 +86,7 @@ fn check_first(element: &Element) -> Result<(), ChainReason>
     Ok(())
 }
 
-// The first reason why a later attempt does not go on with its job.
+// The first reason, if any, why a later attempt does not go on with its job.
 fn check_later(
     attempts: &AttemptIndex,
     policy: &Policy,
@@ -115,7 +115,7 @@ fn check_later(
     Ok(())
 }
 
-// The first reason why the element is not what the policy offers where the parent failed at `asked`.
+// The first reason, if any, why the element is not what the policy offers if the parent failed at `asked`.
 fn check_retry(
     policy: &Policy,
     parent: &Element,

@@ -9,11 +9,12 @@ use rb_history::MOST_EVENTS;
 use rb_queue::{Audit, Event, Opening};
 use std::alloc::Global;
 
-/// Whether the events, at most 1,000,000, are a legal history from the opening on, one that a queue in
-/// one thread may have had, and what it came to.
+/// Checks that the events, at most 1,000,000, are a legal history from the opening on, one that a queue
+/// in one thread could have had, and returns its audit.
 ///
-/// `At` names the first event that is not allowed, and the first of its reasons. Memory is taken for
-/// the elements that stand, and each event takes time that grows with the logarithm of their number.
+/// The fault `At` names the first event that is not allowed, and the first reason. `Memory` means that
+/// there is not enough. Memory is taken for the elements in the queue, and each event takes time that
+/// grows with the logarithm of their number.
 pub fn check(alloc: Global, opening: &Opening, events: &[Event]) -> Result<Audit, ReplayFault>
     requires { length events.now ≤ MOST_EVENTS }
     ensures { Checks opening.now events.now result }
@@ -22,7 +23,7 @@ pub fn check(alloc: Global, opening: &Opening, events: &[Event]) -> Result<Audit
     Ok(audit(opening, events, end.queue.size()))
 }
 
-// What a legal history came to that left so many elements.
+// The audit of a legal history that has left this many elements.
 fn audit(opening: &Opening, events: &[Event], left: u64) -> Audit
     requires legal { IsLegal opening.now events.now }
     requires few { length events.now ≤ MOST_EVENTS }
@@ -43,7 +44,7 @@ fn audit(opening: &Opening, events: &[Event], left: u64) -> Audit
         offered,
         given,
         removed,
-        // Every element that came in has left in one of these ways, or is left.
+        // Each element that was offered or there at the start left in one of these ways, or is left.
         cleared: offered + opening - given - removed - left,
         left,
         opening,

@@ -8,11 +8,11 @@ use rb_history::History;
 use rb_queue::Opening;
 use std::alloc::Global;
 
-/// The opening of a run that begins where this one ended: what stands after its last event, at most
-/// 1,000,000 events, the next id, and the last moment.
+/// The opening of a run that begins where this history ended: the elements that are left after its last
+/// event, the next id, and the moment of that event.
 ///
-/// `At` is answered as `check` does, and `TooLarge` exactly where a legal history leads past a limit of
-/// openings.
+/// The faults are `At`, as that of `check`; `TooLarge`, if a legal history leads past a limit of
+/// openings; and `Memory`, if there is not enough. Memory is taken for the elements in the queue.
 pub fn opening_of(alloc: Global, history: &History) -> Result<Opening, OpeningFault>
     ensures { Opens history.now.opening history.now.events result }
 {
@@ -29,7 +29,7 @@ pub fn opening_of(alloc: Global, history: &History) -> Result<Opening, OpeningFa
     }
 }
 
-// The same fault of an opening.
+// The fault of the replay, as one of an opening.
 fn opening_fault(fault: ReplayFault) -> OpeningFault
     ensures { result ≡ opening_fault fault }
 {
