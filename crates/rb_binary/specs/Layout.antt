@@ -1,5 +1,6 @@
 -- How a binary timer lies in its two arrays: a heap of entries, and at each slot its entry's place.
-use Rattle.std.specs.Prelude.{◌≡◌, ℕ, ◌-◌, ◌/◌, ◌<◌, ◌≤◌, ◌≢◌, List, length, map, Option, Some, None, is_some, option_map, count_by, slice_index_or, slice_set}
+use Rattle.std.specs.Prelude.{◌≡◌, ℕ, ◌-◌, ◌/◌, ◌<◌, ◌≤◌, ◌≢◌, List, length, map, Option, Some}
+use Rattle.std.specs.Prelude.{None, is_some, option_map, count_by, slice_index_or, slice_set}
 use Rattle.rb_binary.specs.declared.heap.Entry.{Entry}
 
 -- what a read past the end would give

@@ -33,7 +33,8 @@ impl Timer for BinaryTimer {
 
     ghost room = { λ timer. length timer.places.items };
 
-    ghost slots_below_room = { λ timer slot present. in_room_of_content timer.heap.items timer.places.items slot present };
+    ghost slots_below_room = { λ timer slot present.
+        in_room_of_content timer.heap.items timer.places.items slot present };
 
     fn new(alloc: Global) -> Self {
         BinaryTimer {

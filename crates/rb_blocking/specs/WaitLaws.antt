@@ -12,5 +12,7 @@ waited_unmade gives answers old ask (suc tries) new (mid, waited, nothing, went_
     nothing.mine ∙ waited_unmade gives answers old ask tries mid waited
 
 -- and neither did the last
-pub stopped_unmade : (gives : ℕ → Type 0) (answers : ℕ → Bool → Type 0) (old new : Seen) (ask : Ask) → IsStopped gives answers old new ask → new.mine ≡ old.mine
-stopped_unmade gives answers old new ask stopped = stopped.last.mine ∙ waited_unmade gives answers old ask stopped.tries stopped.before stopped.waited
+pub stopped_unmade : (gives : ℕ → Type 0) (answers : ℕ → Bool → Type 0) (old new : Seen) (ask : Ask)
+    → IsStopped gives answers old new ask → new.mine ≡ old.mine
+stopped_unmade gives answers old new ask stopped =
+    stopped.last.mine ∙ waited_unmade gives answers old ask stopped.tries stopped.before stopped.waited

@@ -42,7 +42,8 @@ turns_told tries = min tries (2 ^ 64 - 1)
 abbrev pub WaitsOn : (ℕ → Type 0) → (ℕ → Bool → Type 0) → Seen → Ask → ℕ → Seen → Type 0
 WaitsOn gives answers old ask zero new = new ≡ old
 WaitsOn gives answers old ask (suc tries) new =
-    (mid : Seen) × WaitsOn gives answers old ask tries mid × FindsNothing gives mid new ask × answers (turns_told tries) true
+    (mid : Seen) × WaitsOn gives answers old ask tries mid × FindsNothing gives mid new ask
+    × answers (turns_told tries) true
 
 -- The gate stopped the wait after the last of its tries, each of which found nothing that has expired.
 pub record IsStopped (gives : ℕ → Type 0) (answers : ℕ → Bool → Type 0) (old new : Seen) (ask : Ask) : Type 0 where
@@ -74,6 +75,9 @@ TakeWaited gives answers old new (Ok element) = Waited gives answers old new Tak
 TakeWaited gives answers old new (Err fault) = Waited gives answers old new Take (Err fault)
 
 -- how a timed poll ended: its reply is the element, or that there is none
-abbrev pub PollForWaited : (ℕ → Type 0) → (ℕ → Bool → Type 0) → Seen → Seen → ℕ → ℕ → Result (Option Element) WaitFault → Type 0
-PollForWaited gives answers old new start timeout (Ok got) = Waited gives answers old new (PollFor start timeout) (Ok (reply_with got))
-PollForWaited gives answers old new start timeout (Err fault) = Waited gives answers old new (PollFor start timeout) (Err fault)
+abbrev pub PollForWaited : (ℕ → Type 0) → (ℕ → Bool → Type 0) → Seen → Seen → ℕ → ℕ
+    → Result (Option Element) WaitFault → Type 0
+PollForWaited gives answers old new start timeout (Ok got) =
+    Waited gives answers old new (PollFor start timeout) (Ok (reply_with got))
+PollForWaited gives answers old new start timeout (Err fault) =
+    Waited gives answers old new (PollFor start timeout) (Err fault)

@@ -30,7 +30,8 @@ pub(crate) struct Rests {
 impl Rests {
     /// The rests of a call with this ask. `seen` is the bell's count before the first try.
     pub(crate) fn new(ask: &Ask, seen: u64) -> Rests
-        ensures deadline { (start timeout : ℕ) → ask.now ≡ PollFor start timeout → result.deadline ≡ deadline_of start timeout }
+        ensures deadline { (start timeout : ℕ) → ask.now ≡ PollFor start timeout
+            → result.deadline ≡ deadline_of start timeout }
         ensures seen { result.seen ≡ seen }
         ensures untried { result.asked ≡ None }
         ensures unwoken { result.woken ≡ false }

@@ -15,7 +15,8 @@ impl Gate for TurnGate {
     // It says no exactly if the wait has made `limit` turns or more.
     fn turn(&mut self, turns: u64) -> bool
         ensures answers { (result ≡ true) ↔ (turns < self.old.limit) }
-        ensures same { (n : ℕ) (goes_on : Bool) → ((goes_on ≡ true) ↔ (n < self.new.limit)) ↔ ((goes_on ≡ true) ↔ (n < self.old.limit)) }
+        ensures same { (n : ℕ) (goes_on : Bool)
+            → ((goes_on ≡ true) ↔ (n < self.new.limit)) ↔ ((goes_on ≡ true) ↔ (n < self.old.limit)) }
     {
         turns < self.limit
     }

@@ -1,6 +1,7 @@
 -- Which bytes are a payload.
 use Rattle.std.specs.Prelude.{◌≡◌, ℕ, ◌<◌, ◌≤◌, ◌&&◌, Bool, not, nat_le, List, length, Option, None, position}
-use Rattle.rb_delayed.specs.declared.payload.TheConstants.{MOST_PAYLOAD_BYTES, LEAST_PAYLOAD_BYTE, GREATEST_PAYLOAD_BYTE}
+use Rattle.rb_delayed.specs.declared.payload.TheConstants.{MOST_PAYLOAD_BYTES, LEAST_PAYLOAD_BYTE}
+use Rattle.rb_delayed.specs.declared.payload.TheConstants.{GREATEST_PAYLOAD_BYTE}
 
 -- the byte is a visible ASCII character, from `!` to `~`
 abbrev pub is_visible : ℕ → Bool

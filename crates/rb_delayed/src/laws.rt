@@ -1,7 +1,8 @@
 ghost use Rattle.std.specs.Prelude.{◌≡◌};
 ghost use Rattle.rb_delayed.specs.declared.element.TheConstants.{GREATEST_ATTEMPT};
 ghost use Rattle.rb_delayed.specs.declared.moment.TheConstants.{GREATEST_MOMENT};
-ghost use Rattle.rb_delayed.specs.declared.payload.TheConstants.{MOST_PAYLOAD_BYTES, LEAST_PAYLOAD_BYTE, GREATEST_PAYLOAD_BYTE};
+ghost use Rattle.rb_delayed.specs.declared.payload.TheConstants.{MOST_PAYLOAD_BYTES, LEAST_PAYLOAD_BYTE};
+ghost use Rattle.rb_delayed.specs.declared.payload.TheConstants.{GREATEST_PAYLOAD_BYTE};
 
 /// The limits are these numbers. Every other clause names the constants.
 pub fn limits_have_their_values()

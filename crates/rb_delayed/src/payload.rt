@@ -40,7 +40,10 @@ impl Model for Payload {
       len = length bytes;
     } };
 
-    ghost inverse_ok = { λ p h i. let same = unpadded p.buffer p.len h in record { buffer = same.padded i; len = same.counted i } };
+    ghost inverse_ok = { λ p h i. let same = unpadded p.buffer p.len h in record {
+      buffer = same.padded i;
+      len = same.counted i;
+    } };
 }
 
 impl Payload {

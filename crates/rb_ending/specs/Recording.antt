@@ -35,7 +35,8 @@ given_back (inr (inl device)) = Some device.0.now
 given_back (inr (inr never)) = None
 
 -- the history was written to the device, if there was one; otherwise nothing was to be done
-abbrev pub RecordsRun : {H : Type 0} → (H → Option (List ℕ)) → Log → Result (Unit {0}) HistoryFault → Option H → Option H → Type 0
+abbrev pub RecordsRun : {H : Type 0} → (H → Option (List ℕ)) → Log → Result (Unit {0}) HistoryFault → Option H
+    → Option H → Type 0
 RecordsRun contents log wrote None None = wrote ≡ Ok tt
 RecordsRun contents log wrote (Some old) (Some new) = RecordsLog log wrote (contents old) (contents new)
 RecordsRun contents log wrote _ _ = ⊥

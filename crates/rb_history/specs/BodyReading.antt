@@ -31,17 +31,20 @@ pub record KeepsNext (version : Version) (least end : ℕ) (words : List (List �
 -- the words are the line of no element that may come next
 abbrev pub KeepsNone : Version → ℕ → ℕ → List (List ℕ) → Type 0
 KeepsNone version least end words =
-    (element : Element) → IsRightElement element → words ≡ keep_words version element → least ≤ element.id → element.id < end → ⊥
+    (element : Element) → IsRightElement element → words ≡ keep_words version element
+    → least ≤ element.id → element.id < end → ⊥
 
 -- the next lines have these elements, as many as were announced
-pub record KeepsAll (version : Version) (end count : ℕ) (text : List ℕ) (kept : List Element) (rest : List ℕ) : Type 0 where
+pub record KeepsAll (version : Version) (end count : ℕ) (text : List ℕ) (kept : List Element)
+    (rest : List ℕ) : Type 0 where
   pub split : text ≡ lines_text (map (keep_words version) kept) ++ rest
   pub order : AreInOrder kept end
   pub right : AreRightElements kept
   pub counted : length kept ≡ count
 
 -- after some of the elements, the next one's line has a fault
-pub record StopsKeeping (version : Version) (end count : ℕ) (text : List ℕ) (line : ℕ) (reason : TextReason) : Type 0 where
+pub record StopsKeeping (version : Version) (end count : ℕ) (text : List ℕ) (line : ℕ)
+    (reason : TextReason) : Type 0 where
   pub kept : List Element
   pub rest : List ℕ
   pub split : text ≡ lines_text (map (keep_words version) kept) ++ rest
@@ -49,7 +52,8 @@ pub record StopsKeeping (version : Version) (end count : ℕ) (text : List ℕ) 
   pub right : AreRightElements kept
   pub fewer : length kept < count
   pub place : line ≡ 3 + length kept
-  pub fault : ((reason ≡ reasons.End) × HasNoLineFeed rest) ⊎ ((reason ≡ reasons.Opening) × HasOtherKeep version end kept rest)
+  pub fault : ((reason ≡ reasons.End) × HasNoLineFeed rest)
+      ⊎ ((reason ≡ reasons.Opening) × HasOtherKeep version end kept rest)
 
 abbrev pub KeepsFail : Version → ℕ → ℕ → List ℕ → TextFault → Type 0
 KeepsFail version end count text (At line reason) = StopsKeeping version end count text line reason

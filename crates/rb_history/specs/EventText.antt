@@ -17,7 +17,8 @@ first_words Three first = decimal first ∷ []
 -- an element
 abbrev pub whole_element_words : Version → Element → List (List ℕ)
 whole_element_words version e =
-    decimal e.id ∷ decimal e.expiry ∷ decimal e.origin ∷ (first_words version e.first ++ (decimal e.attempt ∷ e.payload ∷ []))
+    decimal e.id ∷ decimal e.expiry ∷ decimal e.origin
+    ∷ (first_words version e.first ++ (decimal e.attempt ∷ e.payload ∷ []))
 
 -- the id, or `none`
 abbrev pub given_words : Option ℕ → List (List ℕ)

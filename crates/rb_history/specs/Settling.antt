@@ -24,7 +24,8 @@ pub record KnowsFirsts (firsts : Firsts) (elements : List Element) : Type 0 wher
 pub record IsFirst (old : Firsts) (element : Element) (new : Firsts) (first : ℕ) : Type 0 where
   pub small : IsWord first
   pub knows : (known : List Element) → KnowsFirsts old known → KnowsFirsts new (known ++ element ∷ [])
-  pub is_first : (known : List Element) → KnowsFirsts old known → earliest (known ++ element ∷ []) element.origin ≡ Some first
+  pub is_first : (known : List Element) → KnowsFirsts old known
+      → earliest (known ++ element ∷ []) element.origin ≡ Some first
 
 -- the elements are the same except for their first expiries, which are those of the earliest
 pub record SettlesElements (old : List Element) (after : Firsts) (new : List Element) : Type 0 where
@@ -38,7 +39,8 @@ pub record SettlesElements (old : List Element) (after : Firsts) (new : List Ele
 pub record SettlesEvent (before : Firsts) (old : Event) (after : Firsts) (new : Event) : Type 0 where
   pub words : event_words One new ≡ event_words One old
   pub right : IsRightEvent old → IsRightEvent new
-  pub knows : (known : List Element) → KnowsFirsts before known → KnowsFirsts after (known ++ inserted (effect_of new.act))
+  pub knows : (known : List Element) → KnowsFirsts before known
+      → KnowsFirsts after (known ++ inserted (effect_of new.act))
   pub firsts : (known : List Element) → KnowsFirsts before known → HaveEarliest known
       → HaveEarliest (known ++ inserted (effect_of new.act))
 
@@ -47,7 +49,8 @@ pub record SettlesEvents (before : Firsts) (old : List Event) (after : Firsts) (
   pub words : map (event_words One) new ≡ map (event_words One) old
   pub right : AreRightEvents old → AreRightEvents new
   pub knows : (known : List Element) → KnowsFirsts before known → KnowsFirsts after (known ++ offers_in new)
-  pub firsts : (known : List Element) → KnowsFirsts before known → HaveEarliest known → HaveEarliest (known ++ offers_in new)
+  pub firsts : (known : List Element) → KnowsFirsts before known → HaveEarliest known
+      → HaveEarliest (known ++ offers_in new)
 
 -- the history is the same except for the first expiries, each of which is that of the earliest
 pub record HasFirsts (told : History) (history : History) : Type 0 where

@@ -10,7 +10,8 @@ use Rattle.rb_queue.specs.declared.opening.TheConstants.{GREATEST_OPENING_ID, MO
 use Rattle.rb_history.specs.OpeningReading.{IsOpenLine, HasNoHeader, MayOpen, numbers_words}
 use Rattle.rb_history.specs.EventText.{event_words, header_words, keep_words, end_words}
 use Rattle.rb_history.specs.HistoryText.{line_text, lines_text, opening_lines}
-use Rattle.rb_history.specs.Ranges.{IsWord, IsRightElement, IsRightEvent, IsRightOpening, AreRightElements, AreRightEvents}
+use Rattle.rb_history.specs.Ranges.{IsWord, IsRightElement, IsRightEvent}
+use Rattle.rb_history.specs.Ranges.{IsRightOpening, AreRightElements, AreRightEvents}
 use Rattle.rb_history.specs.declared.version.Version.{Version}
 use Rattle.rb_history.specs.declared.version.Version.TheVariants.{One}
 use Rattle.rb_history.specs.declared.text_fault.TextFault.{TextFault}
@@ -34,9 +35,12 @@ abbrev pub NextFault : Version → ℕ → ℕ → List ℕ → ℕ → TextReas
 NextFault version count here text line End = (line ≡ here) × HasNoLineFeed text
 NextFault version count here text line Line = (line ≡ here) × HasOtherLine version text
 NextFault version count here text line Many =
-    (line ≡ here) × (count ≡ MOST_EVENTS) × ((event : Event) × (behind : List ℕ) × IsRightEvent event × (text ≡ line_text (event_words version event) ++ behind))
+    (line ≡ here) × (count ≡ MOST_EVENTS)
+    × ((event : Event) × (behind : List ℕ) × IsRightEvent event
+    × (text ≡ line_text (event_words version event) ++ behind))
 NextFault version count here text line Count =
-    (line ≡ here) × ((told : ℕ) × (behind : List ℕ) × IsWord told × (text ≡ line_text (end_words told) ++ behind) × (told ≢ count))
+    (line ≡ here)
+    × ((told : ℕ) × (behind : List ℕ) × IsWord told × (text ≡ line_text (end_words told) ++ behind) × (told ≢ count))
 NextFault version count here text line Trailing =
     (line ≡ here + 1) × ((behind : List ℕ) × (text ≡ line_text (end_words count) ++ behind) × (behind ≢ []))
 NextFault version count here text line reasons.Opening = ⊥
@@ -104,7 +108,8 @@ pub record KeepFault (version : Version) (text : List ℕ) (line : ℕ) (reason 
   pub order : AreInOrder kept next_id
   pub fewer : length kept < count
   pub place : line ≡ 3 + length kept
-  pub fault : ((reason ≡ End) × HasNoLineFeed rest) ⊎ ((reason ≡ reasons.Opening) × HasOtherKeep version next_id kept rest)
+  pub fault : ((reason ≡ End) × HasNoLineFeed rest)
+      ⊎ ((reason ≡ reasons.Opening) × HasOtherKeep version next_id kept rest)
 
 -- After a whole opening, the lines of events have this fault.
 pub record FaultBehind (version : Version) (text : List ℕ) (line : ℕ) (reason : TextReason) : Type 0 where

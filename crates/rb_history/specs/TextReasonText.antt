@@ -1,7 +1,8 @@
 -- How each reason why a text is not a history is printed.
 use Rattle.std.specs.Prelude.{ℕ, List, codes}
 use Rattle.rb_history.specs.declared.text_fault.TextReason.{TextReason}
-use Rattle.rb_history.specs.declared.text_fault.TextReason.TheVariants.{Header, Opening, Line, Many, Count, Trailing, End}
+use Rattle.rb_history.specs.declared.text_fault.TextReason.TheVariants.{Header, Opening, Line, Many}
+use Rattle.rb_history.specs.declared.text_fault.TextReason.TheVariants.{Count, Trailing, End}
 
 abbrev pub text_reason_text : TextReason → List ℕ
 text_reason_text Header = codes "header"

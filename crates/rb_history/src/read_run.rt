@@ -1,5 +1,6 @@
 ghost use Rattle.std.specs.Prelude.{◌≡◌, ◌≢◌, ◌≤◌, ◌↔◌, IsTrue, IfOk, IfErr};
-ghost use Rattle.rb_history.specs.BodyReading.{TellsNumbers, NumbersFail, TellsOpening, OpeningFails, TellsRun, RunFails, line_behind};
+ghost use Rattle.rb_history.specs.BodyReading.{TellsNumbers, NumbersFail, TellsOpening};
+ghost use Rattle.rb_history.specs.BodyReading.{OpeningFails, TellsRun, RunFails, line_behind};
 ghost use Rattle.rb_history.specs.OpeningReading.{MayOpen};
 
 use crate::history::History;

@@ -27,7 +27,8 @@ pub fn write_history<W: Write>(
     writer: &mut W,
 ) -> Result<(), HistoryFault>
     requires { length events.now ≤ MOST_EVENTS }
-    ensures writes { Writes result (W.contents writer.old) (history_text opening.now events.now) (W.contents writer.new) }
+    ensures writes { Writes result (W.contents writer.old) (history_text opening.now events.now)
+        (W.contents writer.new) }
     ensures opening { OnOk result (IsRightOpening opening.now) }
     ensures events { OnOk result (AreRightEvents events.now) }
 {

@@ -52,7 +52,8 @@ impl<T: Timer> Model for Kept<T> {
 
     ghost view = { λ k. record { opening = k.opening; history = k.history.items; capacity = k.capacity } };
 
-    ghost invariant = { λ k. IsKept k.queue (record { opening = k.opening; history = k.history.items; capacity = k.capacity })
+    ghost invariant = { λ k. IsKept k.queue
+        (record { opening = k.opening; history = k.history.items; capacity = k.capacity })
         (vec_capacity k.history) k.books k.removed k.cleared };
 }
 
@@ -210,7 +211,8 @@ impl<T: Timer> Kept<T> {
     /// offered was given, removed or cleared, or is left.
     pub fn audit(&self) -> Audit
         ensures counts { result ≡ audit_of self.now.opening self.now.history }
-        ensures balanced { result.offered + result.opening ≡ result.given + result.removed + result.cleared + result.left }
+        ensures balanced { result.offered + result.opening
+            ≡ result.given + result.removed + result.cleared + result.left }
     {
         // For the proof: the law for every legal history.
         each_element_counted();

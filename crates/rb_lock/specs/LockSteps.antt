@@ -132,7 +132,8 @@ module _ {T : Type 0} where
   -- the next name of the pair in a slot was given, or all are
   abbrev pub GivesName : Pair T → Option ℕ → Pair T → Type 0
   GivesName before None after = (MOST_NAMES ≤ before.names) × (after ≡ before)
-  GivesName before (Some name) after = (name ≡ before.names) × (before.names < MOST_NAMES) × (after ≡ pair_of before.kept (before.names + 1))
+  GivesName before (Some name) after =
+      (name ≡ before.names) × (before.names < MOST_NAMES) × (after ≡ pair_of before.kept (before.names + 1))
 
   pub record NamesOn (given : Option ℕ) (old new : Option (Pair T)) : Type 0 where
     pub before : Pair T
@@ -154,10 +155,12 @@ module _ {T : Type 0} where
   -- a seat at rest has seen what another has, beside what it had
   pub record HasLearned (one other : View) (seat : LockSeat T) : Type 0 where
     pub rest : seat ≡ (record one { seen = longer one.seen other.seen }, [])
-    pub compared : HasCompared one.seen other.seen other.capacity other.opening (record one { seen = longer one.seen other.seen })
+    pub compared : HasCompared one.seen other.seen other.capacity other.opening
+        (record one { seen = longer one.seen other.seen })
 
   -- the kept queue of the pair in a slot was called
-  pub record ActsOn (try : Try) (step : Result Outcome CallFault) (share share' : Totals) (old new : Option (Pair T)) : Type 0 where
+  pub record ActsOn (try : Try) (step : Result Outcome CallFault) (share share' : Totals)
+      (old new : Option (Pair T)) : Type 0 where
     pub before : Pair T
     pub after : Pair T
     pub was : old ≡ Some before
@@ -168,7 +171,8 @@ module _ {T : Type 0} where
     pub grows : Grows before.kept after.kept share share'
 
   -- the same in the slot that a seat has in hand
-  pub record ActsIn (try : Try) (step : Result Outcome CallFault) (share share' : Totals) (old new : LockSeat T) : Type 0 where
+  pub record ActsIn (try : Try) (step : Result Outcome CallFault) (share share' : Totals)
+      (old new : LockSeat T) : Type 0 where
     pub slot : Option (Pair T)
     pub slot' : Option (Pair T)
     pub was : old.1 ≡ (0, slot) ∷ []

@@ -124,7 +124,10 @@ folding v w = record v { folded = v.folded ++ records_of w }
 -- no elements, and ids from 0 on, are an opening
 pub empty_is_opening : IsOpening [] 0
 empty_is_opening = record {
-  order = record { rising = λ one other less within. absurd (no_suc-le-zero within); below = λ place within. absurd (no_suc-le-zero within) };
+  order = record {
+    rising = λ one other less within. absurd (no_suc-le-zero within);
+    below = λ place within. absurd (no_suc-le-zero within);
+  };
   few = zero-le;
   next = zero-le;
 }

@@ -1,7 +1,8 @@
 //! The lock: its word, and how the pair in its slot is taken, used and given back.
 ghost use Rattle.std.specs.Prelude.{◌≡◌, ◌≤◌, [], ◌∷◌, Some, None, length, true, false};
 ghost use Rattle.rb_queue.specs.History.{IsLegal};
-ghost use Rattle.rb_lock.specs.LockSteps.{HasOneWord, AtRest, TakesLock, MayGive, MayDraw, ActsIn, ActsOn, NamesIn, NamesOn, HasLearned, in_hand};
+ghost use Rattle.rb_lock.specs.LockSteps.{HasOneWord, AtRest, TakesLock, MayGive, MayDraw};
+ghost use Rattle.rb_lock.specs.LockSteps.{ActsIn, ActsOn, NamesIn, NamesOn, HasLearned, in_hand};
 ghost use Rattle.rb_lock.specs.Views.{caught_up};
 ghost use Rattle.rb_lock.specs.declared.stage.Stage.TheVariants.{Idle, Drew};
 
@@ -124,7 +125,8 @@ pub(crate) fn act<T: Timer>(
     requires table { seat.old.table_id ≡ table.now.table_id }
     requires hand { (pair : Pair T) × (seat.old.me.1 ≡ (0, Some pair) ∷ []) }
     ensures table { seat.new.table_id ≡ seat.old.table_id }
-    ensures acts { ActsIn (record { seat = name; asked = asked; ask = ask }) result tally.old tally.new seat.old.me seat.new.me }
+    ensures acts { ActsIn (record { seat = name; asked = asked; ask = ask }) result
+        tally.old tally.new seat.old.me seat.new.me }
 {
     let slot = seat.slot_mut(table, 0);
     act_on(slot, tally, name, asked, ask)

@@ -161,7 +161,8 @@ impl<T: Timer> Shared<T> {
     ) -> Result<Outcome, CallFault>
         requires pass { pass.old.table ≡ self.now }
         ensures learns { Learns pass.old pass.new }
-        ensures answered { Answered pass.old pass.new (record { seat = pass.old.name; asked = asked; ask = ask }) result }
+        ensures answered { Answered pass.old pass.new
+            (record { seat = pass.old.name; asked = asked; ask = ask }) result }
     {
         let table = &self.table.shared;
         take(table, rt, &mut pass.seat);

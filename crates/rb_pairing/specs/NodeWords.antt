@@ -47,7 +47,8 @@ child_link-fields : (child : Option ℕ) (expiry : ℕ)
 child_link-fields None expiry = refl
 child_link-fields (Some slot) expiry =
     ⊎_elim
-    (λ vacant. ap (λ b. child_link (cond b None (Some expiry)) (cond b None (Some slot))) (eq-eqb slot VACANT vacant) ∙ ap Some (sym vacant))
+    (λ vacant. ap (λ b. child_link (cond b None (Some expiry)) (cond b None (Some slot))) (eq-eqb slot VACANT vacant)
+    ∙ ap Some (sym vacant))
     (λ apart. ap (λ b. child_link (cond b None (Some expiry)) (cond b None (Some slot))) (ne_eqb slot VACANT apart))
     (cases_eq slot VACANT)
 
@@ -56,7 +57,8 @@ expiry_word-fields : (child : Option ℕ) (expiry : ℕ) → (child ≡ Some VAC
 expiry_word-fields None expiry none = refl
 expiry_word-fields (Some slot) expiry none =
     ⊎_elim
-    (λ vacant. ap (λ b. expiry_word (cond b None (Some expiry))) (eq-eqb slot VACANT vacant) ∙ sym (none (ap Some vacant)))
+    (λ vacant. ap (λ b. expiry_word (cond b None (Some expiry))) (eq-eqb slot VACANT vacant)
+    ∙ sym (none (ap Some vacant)))
     (λ apart. ap (λ b. expiry_word (cond b None (Some expiry))) (ne_eqb slot VACANT apart))
     (cases_eq slot VACANT)
 

@@ -1,7 +1,8 @@
 ghost use Rattle.std.specs.Prelude.{◌≡◌, ℕ, ◌<◌, ◌≢◌, ◌↔◌, Some, None, IsTrue, IsSome, IfSome, IfNone, length};
 ghost use Rattle.rb_pairing.specs.Nodes.{expiry_of, child_of, next_of, previous_of, moment_of};
 ghost use Rattle.rb_pairing.specs.Forest.{LieAsTrees, IsTop, IsInRow};
-ghost use Rattle.rb_pairing.specs.Changes.{Bypasses, Cuts, Replaces, Adopts, Joins, Relinks, JoinsChildren, Unlinks, Melds};
+ghost use Rattle.rb_pairing.specs.Changes.{Bypasses, Cuts, Replaces, Adopts, Joins};
+ghost use Rattle.rb_pairing.specs.Changes.{Relinks, JoinsChildren, Unlinks, Melds};
 
 use crate::nodes::Nodes;
 

@@ -1,4 +1,5 @@
-ghost use Rattle.std.specs.Prelude.{◌≡◌, ℕ, ◌<◌, ◌^◌, ◌-◌, ◌++◌, ◌↔◌, [], Some, None, IsTrue, IsSome, is_ok, if◌then◌else◌, length, replicate};
+ghost use Rattle.std.specs.Prelude.{◌≡◌, ℕ, ◌<◌, ◌^◌, ◌-◌, ◌++◌, ◌↔◌, [], Some, None, IsTrue};
+ghost use Rattle.std.specs.Prelude.{IsSome, is_ok, if◌then◌else◌, length, replicate};
 ghost use Rattle.rb_pairing.specs.Nodes.{vacant, expiry_of, child_of, next_of, previous_of, moment_of, with_expiry};
 ghost use Rattle.rb_pairing.specs.Changes.{SetsPrevious, SetsLink, SetsPlace, SetsChild, ClearsLinks};
 

@@ -2,7 +2,8 @@
 use Rattle.std.specs.Prelude.{◌≡◌, ℕ, ◌^◌, ◌<◌, List, [], ◌∷◌, length, codes, decimal}
 use Rattle.rb_delayed.specs.Payload.{IsPayload}
 use Rattle.rb_protocol.specs.declared.request.Request.{Request}
-use Rattle.rb_protocol.specs.declared.request.Request.TheVariants.{Offer, OfferAt, Poll, PollFor, Take, Peek, Remove, Drain, Clear, Size, Done, Fail, At, Quit}
+use Rattle.rb_protocol.specs.declared.request.Request.TheVariants.{Offer, OfferAt, Poll, PollFor, Take, Peek, Remove}
+use Rattle.rb_protocol.specs.declared.request.Request.TheVariants.{Drain, Clear, Size, Done, Fail, At, Quit}
 
 -- what follows a keyword
 pub data Arguments : Type 0 where

@@ -5,7 +5,8 @@ use Rattle.rb_protocol.specs.declared.keywords.NumberKeyword.TheVariants as of_n
 use Rattle.rb_protocol.specs.declared.keywords.OfferKeyword.{OfferKeyword}
 use Rattle.rb_protocol.specs.declared.keywords.OfferKeyword.TheVariants as of_offer
 use Rattle.rb_protocol.specs.declared.request.Request.{Request}
-use Rattle.rb_protocol.specs.declared.request.Request.TheVariants.{Offer, OfferAt, PollFor, Remove, Drain, Done, Fail, At}
+use Rattle.rb_protocol.specs.declared.request.Request.TheVariants.{Offer, OfferAt, PollFor}
+use Rattle.rb_protocol.specs.declared.request.Request.TheVariants.{Remove, Drain, Done, Fail, At}
 
 -- the request of a keyword with this number
 abbrev pub number_request : NumberKeyword → ℕ → Request

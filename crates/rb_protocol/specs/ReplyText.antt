@@ -4,9 +4,12 @@ use Rattle.rb_delayed.specs.declared.element.Element.{Element}
 use Rattle.rb_protocol.specs.Line.{spaced}
 use Rattle.rb_protocol.specs.declared.format.TheConstants.{LINE_FEED}
 use Rattle.rb_protocol.specs.declared.error_word.ErrorWord.{ErrorWord}
-use Rattle.rb_protocol.specs.declared.error_word.ErrorWord.TheVariants.{Syntax, Number, Range, Payload, NotHeld, Full, Memory, Line, Held}
+use Rattle.rb_protocol.specs.declared.error_word.ErrorWord.TheVariants.{Syntax, Number, Range, Payload}
+use Rattle.rb_protocol.specs.declared.error_word.ErrorWord.TheVariants.{NotHeld, Full, Memory, Line, Held}
 use Rattle.rb_protocol.specs.declared.line_reply.LineReply.{LineReply}
-use Rattle.rb_protocol.specs.declared.line_reply.LineReply.TheVariants.{Offered, Item, Head, Nothing, Removed, Drained, Cleared, Size, Done, Again, Dead, Now, Stopped, Bye, Error}
+use Rattle.rb_protocol.specs.declared.line_reply.LineReply.TheVariants.{Offered, Item, Head, Nothing, Removed}
+use Rattle.rb_protocol.specs.declared.line_reply.LineReply.TheVariants.{Drained, Cleared, Size, Done, Again, Dead}
+use Rattle.rb_protocol.specs.declared.line_reply.LineReply.TheVariants.{Now, Stopped, Bye, Error}
 
 -- what is shown of an element
 abbrev pub element_words : Element → List (List ℕ)

@@ -1,4 +1,5 @@
-ghost use Rattle.std.specs.Prelude.{◌≡◌, ◌+◌, ◌<◌, ◌≤◌, [], ◌∷◌, ◌++◌, length, codes, decimal, OnOk, OnErr, IsOk, vec_len, vec_capacity};
+ghost use Rattle.std.specs.Prelude.{◌≡◌, ◌+◌, ◌<◌, ◌≤◌, [], ◌∷◌, ◌++◌, length, codes};
+ghost use Rattle.std.specs.Prelude.{decimal, OnOk, OnErr, IsOk, vec_len, vec_capacity};
 ghost use Rattle.rb_protocol.specs.Line.{spaced};
 ghost use Rattle.rb_protocol.specs.ReplyText.{text_of, reply_words, element_words, error_words};
 

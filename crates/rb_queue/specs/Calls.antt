@@ -1,5 +1,6 @@
 -- What each call may do, with a given queue at a given moment.
-use Rattle.std.specs.Prelude.{◌≡◌, ℕ, ◌+◌, ◌<◌, ◌≤◌, ◌↔◌, min, IsTrue, IsSome, List, [], ◌∷◌, length, Option, Some, None, MatchOption, IsSomeAnd, option_map}
+use Rattle.std.specs.Prelude.{◌≡◌, ℕ, ◌+◌, ◌<◌, ◌≤◌, ◌↔◌, min, IsTrue, IsSome, List, [], ◌∷◌}
+use Rattle.std.specs.Prelude.{length, Option, Some, None, MatchOption, IsSomeAnd, option_map}
 use Rattle.std.specs.FinMap as map
 use Rattle.rb_delayed.specs.declared.element.Element.{Element}
 use Rattle.rb_delayed.specs.declared.moment.TheConstants.{GREATEST_MOMENT}

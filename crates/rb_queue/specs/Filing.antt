@@ -26,8 +26,10 @@ bag_of (Some element ∷ slots) = map.insert (bag_of slots) element.id element
 -- the timer has the expiry of each element at its slot, and the directory its slot at its id
 pub record IsFiled (elements : Slab Element) (content : Content) (directory : Directory) : Type 0 where
   pub timed : (slot : ℕ) → map.get content slot ≡ option_map (λ element. element.expiry) (get elements slot)
-  pub listed : (slot : ℕ) (element : Element) → get elements slot ≡ Some element → slot_of directory element.id ≡ Some slot
-  pub filed : (id slot : ℕ) → slot_of directory id ≡ Some slot → IsSomeAnd (get elements slot) (λ element. element.id ≡ id)
+  pub listed : (slot : ℕ) (element : Element) → get elements slot ≡ Some element
+      → slot_of directory element.id ≡ Some slot
+  pub filed : (id slot : ℕ) → slot_of directory id ≡ Some slot
+      → IsSomeAnd (get elements slot) (λ element. element.id ≡ id)
   pub counted : slab_len elements ≡ map.len (bag_of elements.slots)
 
 -- each id of the bag is below the next one

@@ -19,4 +19,6 @@ bag_code = map.code coded_ℕ the_row.coded
 
 -- a queue is stored as the pair of its fields
 abbrev pub queue_code : Coded Queue
-queue_code = code_by (Bag × ℕ) (coded× bag_code coded_ℕ) (λ q. (q.bag, q.next_id)) (λ p. record { bag = p.0; next_id = p.1 }) (λ _. refl)
+queue_code =
+    code_by (Bag × ℕ) (coded× bag_code coded_ℕ) (λ q. (q.bag, q.next_id))
+    (λ p. record { bag = p.0; next_id = p.1 }) (λ _. refl)

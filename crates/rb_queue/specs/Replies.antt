@@ -7,7 +7,8 @@ use Rattle.rb_queue.specs.Effect.{Effect, inserts, gives, removes, empties, effe
 use Rattle.rb_queue.specs.declared.act.Act.{Act}
 use Rattle.rb_queue.specs.declared.act.Act.TheVariants as acts
 use Rattle.rb_queue.specs.declared.reply.Reply.{Reply}
-use Rattle.rb_queue.specs.declared.reply.Reply.TheVariants.{Offered, Item, Nothing, Head, Removed, Drained, Cleared, Size}
+use Rattle.rb_queue.specs.declared.reply.Reply.TheVariants.{Offered, Item, Nothing, Head}
+use Rattle.rb_queue.specs.declared.reply.Reply.TheVariants.{Removed, Drained, Cleared, Size}
 use Rattle.rb_queue.specs.declared.event.Event.{Event}
 use Rattle.rb_queue.specs.declared.opening.Opening.{Opening}
 

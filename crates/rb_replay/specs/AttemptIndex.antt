@@ -1,5 +1,6 @@
 -- How the check of retries stores what came before an offer. No public clause cites this module.
-use Rattle.std.specs.Prelude.{◌≡◌, ℕ, ◌+◌, ◌<◌, ◌≤◌, ◌==◌, true, if◌then◌else◌, List, [], ◌∷◌, ◌++◌, length, Option, Some, None, option_map, option_and_then}
+use Rattle.std.specs.Prelude.{◌≡◌, ℕ, ◌+◌, ◌<◌, ◌≤◌, ◌==◌, true, if◌then◌else◌, List, [], ◌∷◌}
+use Rattle.std.specs.Prelude.{◌++◌, length, Option, Some, None, option_map, option_and_then}
 use Rattle.std.specs.Bool.{then_some}
 use Rattle.std.specs.Option.{option_or}
 use Rattle.std.specs.declared.cmp.Ordering.{Ordering}
@@ -53,7 +54,8 @@ pub record IsPlaceOf (attempts : AttemptIndex) (id place : ℕ) : Type 0 where
 
 -- the element that came in under the id
 abbrev pub element_of : AttemptIndex → ℕ → Option Element
-element_of attempts id = option_or (option_map (λ offer. offer.element) (offer_of attempts id)) (tree.get nat_cmp attempts.opened id)
+element_of attempts id =
+    option_or (option_map (λ offer. offer.element) (offer_of attempts id)) (tree.get nat_cmp attempts.opened id)
 
 -- the element of the offer, if it was given first of its attempt
 abbrev pub first_given_in : OfferedElement → Option Element
@@ -61,7 +63,8 @@ first_given_in offer = then_some offer.is_given_first offer.element
 
 -- the element that began the attempt's job, if this is its first attempt and that element was given first
 abbrev pub begun : AttemptIndex → Attempt → Option Element
-begun attempts attempt = if attempt.number == 1 then option_and_then first_given_in (offer_of attempts attempt.origin) else None
+begun attempts attempt =
+    if attempt.number == 1 then option_and_then first_given_in (offer_of attempts attempt.origin) else None
 
 -- the element that was given first of the attempt
 abbrev pub given_first : AttemptIndex → Attempt → Option Element
@@ -121,7 +124,8 @@ pub record KeepsGiven (ids : List ℕ) (old new : AttemptIndex) : Type 0 where
 
 -- the element that the event offers, if it offers one, is linked
 abbrev pub EventIsLinked : Policy → Past → Event → Type 0
-EventIsLinked policy past event = (element : Element) → event.act ≡ Offer element → IsLinked policy past event.asked element
+EventIsLinked policy past event =
+    (element : Element) → event.act ≡ Offer element → IsLinked policy past event.asked element
 
 -- the event offers an element that is not linked, for this reason
 abbrev pub ChainTests : Policy → Past → Event → ChainReason → Type 0

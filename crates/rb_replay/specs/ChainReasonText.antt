@@ -1,7 +1,8 @@
 -- How each reason of the check of retries is printed.
 use Rattle.std.specs.Prelude.{ℕ, List, codes}
 use Rattle.rb_replay.specs.declared.chain_reason.ChainReason.{ChainReason}
-use Rattle.rb_replay.specs.declared.chain_reason.ChainReason.TheVariants.{BadFirst, TooMany, NoParent, Payload, Base, Expiry, Twice}
+use Rattle.rb_replay.specs.declared.chain_reason.ChainReason.TheVariants.{BadFirst, TooMany, NoParent}
+use Rattle.rb_replay.specs.declared.chain_reason.ChainReason.TheVariants.{Payload, Base, Expiry, Twice}
 
 abbrev pub chain_reason_text : ChainReason → List ℕ
 chain_reason_text BadFirst = codes "bad first"

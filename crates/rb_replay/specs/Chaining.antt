@@ -28,7 +28,8 @@ pub record IsChained (policy : Policy) (opening : Opening) (history : List Event
 
 -- The events before it are chained, and the element that this one offers is not linked to them, for
 -- this reason.
-pub record Unchains (policy : Policy) (opening : Opening) (events : List Event) (index : ℕ) (reason : ChainReason) : Type 0 where
+pub record Unchains (policy : Policy) (opening : Opening) (events : List Event) (index : ℕ)
+    (reason : ChainReason) : Type 0 where
   pub front : List Event
   pub event : Event
   pub element : Element

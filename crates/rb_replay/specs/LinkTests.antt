@@ -6,7 +6,8 @@ use Rattle.rb_retry.specs.declared.policy.Policy.{Policy}
 use Rattle.rb_replay.specs.Tests.{Test, NoTest}
 use Rattle.rb_replay.specs.Links.{Past, parent_in, CameBefore, Begins}
 use Rattle.rb_replay.specs.declared.chain_reason.ChainReason.{ChainReason}
-use Rattle.rb_replay.specs.declared.chain_reason.ChainReason.TheVariants.{BadFirst, TooMany, NoParent, Payload, Base, Expiry, Twice}
+use Rattle.rb_replay.specs.declared.chain_reason.ChainReason.TheVariants.{BadFirst, TooMany, NoParent}
+use Rattle.rb_replay.specs.declared.chain_reason.ChainReason.TheVariants.{Payload, Base, Expiry, Twice}
 
 -- the tests of an element that has this parent
 abbrev pub FollowTests : Policy → ℕ → Element → Element → (ChainReason → Type 0) → ChainReason → Type 0
@@ -33,4 +34,5 @@ GoOnTests policy past asked element =
 -- the tests of an offered element
 abbrev pub LinkTests : Policy → Past → ℕ → Element → ChainReason → Type 0
 LinkTests policy past asked element reason =
-    ((element.attempt ≡ 1) × BeginTests element reason) ⊎ ((2 ≤ element.attempt) × GoOnTests policy past asked element reason)
+    ((element.attempt ≡ 1) × BeginTests element reason)
+    ⊎ ((2 ≤ element.attempt) × GoOnTests policy past asked element reason)

@@ -1,7 +1,9 @@
 -- How each reason why an event is not allowed is printed.
 use Rattle.std.specs.Prelude.{ℕ, List, codes}
 use Rattle.rb_replay.specs.declared.reason.Reason.{Reason}
-use Rattle.rb_replay.specs.declared.reason.Reason.TheVariants.{BadMoment, BadId, NotInQueue, NotLeast, NotExpired, NotNone, TooEarly, WrongFound, TooMany, NotAll, WrongSize}
+use Rattle.rb_replay.specs.declared.reason.Reason.TheVariants.{BadMoment, BadId, NotInQueue, NotLeast}
+use Rattle.rb_replay.specs.declared.reason.Reason.TheVariants.{NotExpired, NotNone, TooEarly, WrongFound}
+use Rattle.rb_replay.specs.declared.reason.Reason.TheVariants.{TooMany, NotAll, WrongSize}
 
 abbrev pub reason_text : Reason → List ℕ
 reason_text BadMoment = codes "bad moment"

@@ -1,6 +1,7 @@
 -- Why an event is not allowed: the first of its tests that fails. The tests of an act together are what
 -- permits it.
-use Rattle.std.specs.Prelude.{◌≡◌, ℕ, ◌<◌, ◌≤◌, ◌↔◌, max, IsTrue, IsSome, IsSomeAnd, List, [], ◌∷◌, ◌++◌, length, Some, None}
+use Rattle.std.specs.Prelude.{◌≡◌, ℕ, ◌<◌, ◌≤◌, ◌↔◌, max, IsTrue, IsSome}
+use Rattle.std.specs.Prelude.{IsSomeAnd, List, [], ◌∷◌, ◌++◌, length, Some, None}
 use Rattle.std.specs.FinMap as map
 use Rattle.rb_queue.specs.Bag.{Bag, NoneExpired}
 use Rattle.rb_queue.specs.Head.{IsLeast, IsHeadId}
@@ -13,7 +14,9 @@ use Rattle.rb_queue.specs.declared.event.Event.{Event}
 use Rattle.rb_queue.specs.declared.opening.Opening.{Opening}
 pub use Rattle.rb_replay.specs.Tests.{Test, NoTest}
 use Rattle.rb_replay.specs.declared.reason.Reason.{Reason}
-use Rattle.rb_replay.specs.declared.reason.Reason.TheVariants.{BadMoment, BadId, NotInQueue, NotLeast, NotExpired, NotNone, TooEarly, WrongFound, TooMany, NotAll, WrongSize}
+use Rattle.rb_replay.specs.declared.reason.Reason.TheVariants.{BadMoment, BadId, NotInQueue, NotLeast}
+use Rattle.rb_replay.specs.declared.reason.Reason.TheVariants.{NotExpired, NotNone, TooEarly, WrongFound}
+use Rattle.rb_replay.specs.declared.reason.Reason.TheVariants.{TooMany, NotAll, WrongSize}
 
 -- the element of the id is in the bag, and it is least
 abbrev pub IsLeastId : Bag → ℕ → Type 0

@@ -2,7 +2,8 @@ ghost use Rattle.std.specs.Prelude.{◌≡◌, ◌≤◌, ◌∷◌, [], None, I
 ghost use Rattle.std.specs.List.{find, list_any};
 ghost use Rattle.rb_queue.specs.Bag.{Bag, bag_from};
 ghost use Rattle.rb_replay.specs.Links.{Past, is_attempt};
-ghost use Rattle.rb_replay.specs.AttemptIndex.{next_id_of, offer_of, element_of, begun, given_first, Recalls, IsNext, IsPlaceOf, MarksRetry, Keeps, KeepsOpened, KeepsOffer, KeepsGiven};
+ghost use Rattle.rb_replay.specs.AttemptIndex.{next_id_of, offer_of, element_of, begun, given_first, Recalls, IsNext};
+ghost use Rattle.rb_replay.specs.AttemptIndex.{IsPlaceOf, MarksRetry, Keeps, KeepsOpened, KeepsOffer, KeepsGiven};
 
 use crate::attempt::Attempt;
 use crate::offered_element::OfferedElement;

@@ -1,5 +1,6 @@
 -- In a legal history no id is given twice. No public clause cites this module.
-use Rattle.std.proofs.Common.{◌≡◌, ◌≢◌, ℕ, ◌+◌, ◌≤◌, Bool, true, false, cond, List, [], ◌∷◌, ◌++◌, refl, sym, ap, ap₂, subst, ◌∙◌, arith, Option, Some, None, inl, inr, ◌⊎◌, append_assoc, take, drop, nat_eq}
+use Rattle.std.proofs.Common.{◌≡◌, ◌≢◌, ℕ, ◌+◌, ◌≤◌, Bool, true, false, cond, List, [], ◌∷◌, ◌++◌, refl, sym, ap, ap₂}
+use Rattle.std.proofs.Common.{subst, ◌∙◌, arith, Option, Some, None, inl, inr, ◌⊎◌, append_assoc, take, drop, nat_eq}
 use Rattle.std.proofs.lemmas.List.{take-append-drop}
 use Rattle.std.proofs.lemmas.List.Sums.{sum_by-append}
 use Rattle.std.proofs.lemmas.Option.{same_Some, none-some}
@@ -35,13 +36,15 @@ named_inserted bag new named id element found = by_id (same_or_not id new.id)
   where
     by_id : (id ≡ new.id) ⊎ (id ≢ new.id) → element.id ≡ id
     by_id (inl same) =
-        let is : Some new ≡ Some element = sym (get_inserted_same bag new.id new) ∙ sym (ap (map.get (map.insert bag new.id new)) same) ∙ found in
+        let is : Some new ≡ Some element =
+        sym (get_inserted_same bag new.id new) ∙ sym (ap (map.get (map.insert bag new.id new)) same) ∙ found in
         ap (λ (e : Element). e.id) (sym (same_Some new element is)) ∙ sym same
     by_id (inr differ) = named id element (sym (get_inserted_other bag new.id id new differ) ∙ found)
 
 named_from : (elements : List Element) → IsNamed (bag_from elements)
 named_from [] id element found = absurd (none-some element (sym (get-empty {X = Element} nat_cmp id) ∙ found))
-named_from (first ∷ elements) id element found = named_inserted (bag_from elements) first (named_from elements) id element found
+named_from (first ∷ elements) id element found =
+    named_inserted (bag_from elements) first (named_from elements) id element found
 
 named_after : (all : Bag) (effect : Effect) → IsNamed all → IsNamed (with_inserted all effect)
 named_after all (inserts element) named = named_inserted all element named
@@ -52,44 +55,60 @@ named_after all empties named = named
 -- what was offered stands under its own id
 named_offered : (all : Bag) (events : List Event) → IsNamed all → IsNamed (offered_from all events)
 named_offered all [] named = named
-named_offered all (event ∷ events) named = named_offered (with_inserted all (effect_of event.act)) events (named_after all (effect_of event.act) named)
+named_offered all (event ∷ events) named =
+    named_offered (with_inserted all (effect_of event.act)) events (named_after all (effect_of event.act) named)
 
 -- the elements that are found have the ids that were named
-ids_of_found : (bag : Bag) (ids : List ℕ) (elements : List Element) → IsNamed bag → elements_in bag ids ≡ Some elements → ids_of elements ≡ ids
+ids_of_found : (bag : Bag) (ids : List ℕ) (elements : List Element) → IsNamed bag
+    → elements_in bag ids ≡ Some elements → ids_of elements ≡ ids
 ids_of_found bag [] elements named found = ap ids_of (sym (same_Some [] elements found))
-ids_of_found bag (id ∷ ids) elements named found = more (map.get bag id) (elements_in bag ids) (named id) (λ es. ids_of_found bag ids es named) found
+ids_of_found bag (id ∷ ids) elements named found =
+    more (map.get bag id) (elements_in bag ids) (named id) (λ es. ids_of_found bag ids es named) found
   where
-    more : (here : Option Element) (rest : Option (List Element)) → ((e : Element) → here ≡ Some e → e.id ≡ id) → ((es : List Element) → rest ≡ Some es → ids_of es ≡ ids)
+    more : (here : Option Element) (rest : Option (List Element)) → ((e : Element) → here ≡ Some e → e.id ≡ id)
+        → ((es : List Element) → rest ≡ Some es → ids_of es ≡ ids)
         → option_and_then (λ e. option_map (λ r. e ∷ r) rest) here ≡ Some elements → ids_of elements ≡ id ∷ ids
     more None rest is step whole = absurd (cc)
     more (Some e) None is step whole = absurd (cc)
-    more (Some e) (Some es) is step whole = ap ids_of (sym (same_Some (e ∷ es) elements whole)) ∙ ap₂ (λ (one : ℕ) (others : List ℕ). one ∷ others) (is e refl) (step es refl)
+    more (Some e) (Some es) is step whole =
+        ap ids_of (sym (same_Some (e ∷ es) elements whole))
+        ∙ ap₂ (λ (one : ℕ) (others : List ℕ). one ∷ others) (is e refl) (step es refl)
 
-one_given : (here : Option Element) (id : ℕ) (reply : Reply) → ((e : Element) → here ≡ Some e → e.id ≡ id) → option_map replies.Item here ≡ Some reply → ids_given reply ≡ id ∷ []
+one_given : (here : Option Element) (id : ℕ) (reply : Reply) → ((e : Element) → here ≡ Some e → e.id ≡ id)
+    → option_map replies.Item here ≡ Some reply → ids_given reply ≡ id ∷ []
 one_given None id reply is found = absurd (cc)
-one_given (Some e) id reply is found = ap ids_given (sym (same_Some (replies.Item e) reply found)) ∙ ap (λ (one : ℕ). one ∷ []) (is e refl)
+one_given (Some e) id reply is found =
+    ap ids_given (sym (same_Some (replies.Item e) reply found)) ∙ ap (λ (one : ℕ). one ∷ []) (is e refl)
 
 -- an element that is shown is not given
 none_shown : (here : Option Element) (reply : Reply) → option_map replies.Head here ≡ Some reply → ids_given reply ≡ []
 none_shown None reply found = absurd (cc)
 none_shown (Some e) reply found = ap ids_given (sym (same_Some (replies.Head e) reply found))
 
-all_given : (here : Option (List Element)) (ids : List ℕ) (reply : Reply) → ((es : List Element) → here ≡ Some es → ids_of es ≡ ids) → option_map replies.Drained here ≡ Some reply → ids_given reply ≡ ids
+all_given : (here : Option (List Element)) (ids : List ℕ) (reply : Reply)
+    → ((es : List Element) → here ≡ Some es → ids_of es ≡ ids) → option_map replies.Drained here ≡ Some reply
+    → ids_given reply ≡ ids
 all_given None ids reply are found = absurd (cc)
 all_given (Some es) ids reply are found = ap ids_given (sym (same_Some (replies.Drained es) reply found)) ∙ are es refl
 
 -- a reply gives what the act gives
-gives_named : (bag : Bag) (act : Act) (reply : Reply) → IsNamed bag → reply_in bag act ≡ Some reply → ids_given reply ≡ given (effect_of act)
-gives_named bag (acts.Offer element) reply named found = ap ids_given (sym (same_Some (replies.Offered element) reply found))
+gives_named : (bag : Bag) (act : Act) (reply : Reply) → IsNamed bag → reply_in bag act ≡ Some reply
+    → ids_given reply ≡ given (effect_of act)
+gives_named bag (acts.Offer element) reply named found =
+    ap ids_given (sym (same_Some (replies.Offered element) reply found))
 gives_named bag (acts.Poll None) reply named found = ap ids_given (sym (same_Some replies.Nothing reply found))
 gives_named bag (acts.Poll (Some id)) reply named found = one_given (map.get bag id) id reply (named id) found
 gives_named bag (acts.Take id) reply named found = one_given (map.get bag id) id reply (named id) found
-gives_named bag (acts.PollFor start timeout None) reply named found = ap ids_given (sym (same_Some replies.Nothing reply found))
-gives_named bag (acts.PollFor start timeout (Some id)) reply named found = one_given (map.get bag id) id reply (named id) found
+gives_named bag (acts.PollFor start timeout None) reply named found =
+    ap ids_given (sym (same_Some replies.Nothing reply found))
+gives_named bag (acts.PollFor start timeout (Some id)) reply named found =
+    one_given (map.get bag id) id reply (named id) found
 gives_named bag (acts.Peek None) reply named found = ap ids_given (sym (same_Some replies.Nothing reply found))
 gives_named bag (acts.Peek (Some id)) reply named found = none_shown (map.get bag id) reply found
-gives_named bag (acts.Remove id there) reply named found = ap ids_given (sym (same_Some (replies.Removed there) reply found))
-gives_named bag (acts.Drain most ids) reply named found = all_given (elements_in bag ids) ids reply (λ es. ids_of_found bag ids es named) found
+gives_named bag (acts.Remove id there) reply named found =
+    ap ids_given (sym (same_Some (replies.Removed there) reply found))
+gives_named bag (acts.Drain most ids) reply named found =
+    all_given (elements_in bag ids) ids reply (λ es. ids_of_found bag ids es named) found
 gives_named bag acts.Clear reply named found = ap ids_given (sym (same_Some replies.Cleared reply found))
 gives_named bag (acts.Size count) reply named found = ap ids_given (sym (same_Some (replies.Size count) reply found))
 
@@ -99,23 +118,38 @@ times_append id one two = sum_by-append (λ (other : ℕ). cond (nat_eq other id
 given_by-append : (one two : List Made) → given_by (one ++ two) ≡ given_by one ++ given_by two
 given_by-append [] two = refl
 given_by-append (made ∷ one) two =
-    ap (λ (ids : List ℕ). ids_with made.reply ++ ids) (given_by-append one two) ∙ sym (append_assoc (ids_with made.reply) (given_by one) (given_by two))
+    ap (λ (ids : List ℕ). ids_with made.reply ++ ids) (given_by-append one two)
+    ∙ sym (append_assoc (ids_with made.reply) (given_by one) (given_by two))
 
-pub times_given-append : (id : ℕ) (one two : List Made) → times id (given_by (one ++ two)) ≡ times id (given_by one) + times id (given_by two)
+pub times_given-append : (id : ℕ) (one two : List Made)
+    → times id (given_by (one ++ two)) ≡ times id (given_by one) + times id (given_by two)
 times_given-append id one two = ap (times id) (given_by-append one two) ∙ times_append id (given_by one) (given_by two)
 
 -- a part of them gives no id more often than all
-pub times_given-drop : (id count : ℕ) (mades : List Made) → times id (given_by (drop count mades)) ≤ times id (given_by mades)
+pub times_given-drop : (id count : ℕ) (mades : List Made)
+    → times id (given_by (drop count mades)) ≤ times id (given_by mades)
 times_given-drop id count mades =
-    omega (arith, times_given-append id (take count mades) (drop count mades), ap (λ (ms : List Made). times id (given_by ms)) (take-append-drop count mades))
+    omega (
+      arith,
+      times_given-append id (take count mades) (drop count mades),
+      ap (λ (ms : List Made). times id (given_by ms)) (take-append-drop count mades),
+    )
 
-pub times_given-filter : (id : ℕ) (test : Made → Bool) (mades : List Made) → times id (given_by (filter test mades)) ≤ times id (given_by mades)
+pub times_given-filter : (id : ℕ) (test : Made → Bool) (mades : List Made)
+    → times id (given_by (filter test mades)) ≤ times id (given_by mades)
 times_given-filter id test [] = omega arith
 times_given-filter id test (made ∷ mades) = by_test (test made) (times_given-filter id test mades)
   where
     by_test : (keeps : Bool) → times id (given_by (filter test mades)) ≤ times id (given_by mades)
-        → times id (given_by (cond keeps (made ∷ filter test mades) (filter test mades))) ≤ times id (given_by (made ∷ mades))
-    by_test true fewer = omega (arith, fewer, times_append id (ids_with made.reply) (given_by (filter test mades)), times_append id (ids_with made.reply) (given_by mades))
+        → times id (given_by (cond keeps (made ∷ filter test mades) (filter test mades)))
+        ≤ times id (given_by (made ∷ mades))
+    by_test true fewer =
+        omega (
+          arith,
+          fewer,
+          times_append id (ids_with made.reply) (given_by (filter test mades)),
+          times_append id (ids_with made.reply) (given_by mades),
+        )
     by_test false fewer = omega (arith, fewer, times_append id (ids_with made.reply) (given_by mades))
 
 -- what is given leaves
@@ -132,27 +166,44 @@ reply_leaves id bag opening before event = by_reply (reply_of opening (before ++
     all : Bag
     all = offered opening (before ++ event ∷ [])
 
-    by_reply : (reply : Option Reply) → reply_of opening (before ++ event ∷ []) ≡ reply → times id (ids_with reply) ≤ leavings_of id bag (effect_of event.act)
+    by_reply : (reply : Option Reply) → reply_of opening (before ++ event ∷ []) ≡ reply
+        → times id (ids_with reply) ≤ leavings_of id bag (effect_of event.act)
     by_reply None is = omega arith
     by_reply (Some reply) is =
-        let found : reply_in all event.act ≡ Some reply = sym (ap (option_and_then (λ (e : Event). reply_in all e.act)) (last_of before event)) ∙ is in
-        let named : IsNamed all = named_offered (bag_from opening.elements) (before ++ event ∷ []) (named_from opening.elements) in
-        omega (arith, ap (times id) (gives_named all event.act reply named found), given_leaves id bag (effect_of event.act))
+        let found : reply_in all event.act ≡ Some reply =
+        sym (ap (option_and_then (λ (e : Event). reply_in all e.act)) (last_of before event)) ∙ is in
+        let named : IsNamed all =
+        named_offered (bag_from opening.elements) (before ++ event ∷ []) (named_from opening.elements) in
+        omega (
+          arith,
+          ap (times id) (gives_named all event.act reply named found),
+          given_leaves id bag (effect_of event.act),
+        )
 
 -- no id is given more often than it leaves
-given_along : (id : ℕ) (opening : Opening) (before events : List Event) (from : State) → times id (given_by (made_after opening before events)) ≤ leaving_times_from from events id
+given_along : (id : ℕ) (opening : Opening) (before events : List Event) (from : State)
+    → times id (given_by (made_after opening before events)) ≤ leaving_times_from from events id
 given_along id opening before [] from = omega arith
 given_along id opening before (event ∷ events) from =
     let here = reply_leaves id from.queue.bag opening before event in
     let rest = given_along id opening (before ++ event ∷ []) events (state_after from event) in
-    omega (arith, here, rest, times_append id (ids_with (reply_of opening (before ++ event ∷ []))) (given_by (made_after opening (before ++ event ∷ []) events)))
+    omega (
+      arith,
+      here,
+      rest,
+      times_append id (ids_with (reply_of opening (before ++ event ∷ [])))
+      (given_by (made_after opening (before ++ event ∷ []) events)),
+    )
 
 -- so no id is given twice
-pub legal_gives_once : (opening : Opening) (history : List Event) → IsLegal opening history → GivesOnce (made_after opening [] history)
-legal_gives_once opening history legal id = omega (arith, given_along id opening [] history (start_of opening), leaves_once opening history id legal)
+pub legal_gives_once : (opening : Opening) (history : List Event) → IsLegal opening history
+    → GivesOnce (made_after opening [] history)
+legal_gives_once opening history legal id =
+    omega (arith, given_along id opening [] history (start_of opening), leaves_once opening history id legal)
 
 -- the events that follow the first ones give no id twice either
-pub later_gives_once : (opening : Opening) (before events : List Event) → IsLegal opening (before ++ events) → GivesOnce (made_after opening before events)
+pub later_gives_once : (opening : Opening) (before events : List Event) → IsLegal opening (before ++ events)
+    → GivesOnce (made_after opening before events)
 later_gives_once opening before events legal id =
     omega (
       arith,

@@ -35,8 +35,10 @@ module _ {S : Type 0} (Steps : S → ℕ → Ask → Result Reply DeskFault → 
   -- none, and no call is made. A refused offer gives the job back.
   abbrev pub FailsTo : Policy → Element → ℕ → S → Result Verdict (Element × CallFault) → S → Type 0
   FailsTo policy element now old (Ok (Again again)) new =
-      (draft : Draft) × IsRetry policy element now (Some draft) × Steps old now (Offer draft) (offer_answer (Ok again)) new
+      (draft : Draft) × IsRetry policy element now (Some draft)
+      × Steps old now (Offer draft) (offer_answer (Ok again)) new
   FailsTo policy element now old (Ok (Dead dead)) new =
       IsRetry policy element now None × (dead ≡ element) × (new ≡ old)
   FailsTo policy element now old (Err (back, fault)) new =
-      (draft : Draft) × IsRetry policy element now (Some draft) × Steps old now (Offer draft) (offer_answer (Err fault)) new × (back ≡ element)
+      (draft : Draft) × IsRetry policy element now (Some draft)
+      × Steps old now (Offer draft) (offer_answer (Err fault)) new × (back ≡ element)

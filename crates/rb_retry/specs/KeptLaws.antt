@@ -1,6 +1,7 @@
 -- An answered try of a kept queue is one more event with its reply, and a refused one is none. No
 -- public clause cites this module.
-use Rattle.std.proofs.Common.{◌≡◌, ℕ, ◌≤◌, List, [], ◌∷◌, ◌++◌, ap, ap₂, sym, subst, ◌∙◌, Option, Some, Result, Ok, Err, length, take, drop}
+use Rattle.std.proofs.Common.{◌≡◌, ℕ, ◌≤◌, List, [], ◌∷◌, ◌++◌, ap, ap₂, sym, subst}
+use Rattle.std.proofs.Common.{◌∙◌, Option, Some, Result, Ok, Err, length, take, drop}
 use Rattle.std.proofs.lemmas.List.{take-append-drop, take-append-le, drop-append-le}
 use Rattle.rb_queue.specs.History.{IsLegal}
 use Rattle.rb_queue.specs.Replies.{reply_of}
@@ -24,40 +25,51 @@ use Rattle.rb_retry.specs.declared.desk_fault.DeskFault.{DeskFault}
 use Rattle.rb_retry.specs.declared.desk_fault.DeskFault.TheVariants.{Full, Memory, Stopped}
 
 -- the moment that is recorded is the one at which the ask is made
-is_moment : (ask : Ask) (moment handed asked : ℕ) → asked ≡ asked_at moment ask handed → IsMomentOf (λ reading. reading ≡ moment) ask handed asked
+is_moment : (ask : Ask) (moment handed asked : ℕ) → asked ≡ asked_at moment ask handed
+    → IsMomentOf (λ reading. reading ≡ moment) ask handed asked
 is_moment Take moment handed asked same = same
 is_moment (PollFor start timeout) moment handed asked same = same
 is_moment _ moment handed asked same = same
 
 made_more : (opening : Opening) (count : ℕ) (history : List Event) (event : Event) → count ≤ length history
     → made_after opening (take count (history ++ event ∷ [])) (drop count (history ++ event ∷ []))
-    ≡ made_after opening (take count history) (drop count history) ++ record { event = event; reply = reply_of opening (history ++ event ∷ []) } ∷ []
+    ≡ made_after opening (take count history) (drop count history)
+    ++ record { event = event; reply = reply_of opening (history ++ event ∷ []) } ∷ []
 made_more opening count history event within =
-    ap₂ (made_after opening) (take-append-le count history (event ∷ []) within) (drop-append-le count history (event ∷ []) within)
+    ap₂ (made_after opening) (take-append-le count history (event ∷ []) within)
+    (drop-append-le count history (event ∷ []) within)
     ∙ made_after-more opening (take count history) (drop count history) (event ∷ [])
-    ∙ ap (λ (front : List Event). made_after opening (take count history) (drop count history) ++ (record { event = event; reply = reply_of opening (front ++ event ∷ []) }) ∷ []) (take-append-drop count history)
+    ∙ ap (λ (front : List Event). made_after opening (take count history) (drop count history)
+    ++ (record { event = event; reply = reply_of opening (front ++ event ∷ []) }) ∷ []) (take-append-drop count history)
 
 module _ (old new : KeptState) (handed : ℕ) (ask : Ask) where
   -- the log says what was made
   made_of_log : (result : Result Reply DeskFault) → KeptSteps old handed ask result new → (log : Log) → new.log ≡ log
       → made_at new ≡ made_after log.opening (take old.before log.history) (drop old.before log.history)
-  made_of_log result steps log same = ap made_at steps.stays ∙ ap (λ (l : Log). made_after l.opening (take old.before l.history) (drop old.before l.history)) same
+  made_of_log result steps log same =
+      ap made_at steps.stays
+      ∙ ap (λ (l : Log). made_after l.opening (take old.before l.history) (drop old.before l.history)) same
 
-  pub kept_makes : (answer : Reply) → KeptSteps old handed ask (Ok answer) new → Makes (λ moment. moment ≡ old.moment) handed ask answer (made_at old) (made_at new)
+  pub kept_makes : (answer : Reply) → KeptSteps old handed ask (Ok answer) new
+      → Makes (λ moment. moment ≡ old.moment) handed ask answer (made_at old) (made_at new)
   kept_makes answer steps = of_outcome steps.outcome steps.answers steps.steps
     where
       of_outcome : (outcome : Result Outcome CallFault) → Ok answer ≡ answer_of outcome
           → StepsTo old.log (record { seat = 0; asked = asked_at old.moment ask handed; ask = ask }) outcome new.log
           → Makes (λ moment. moment ≡ old.moment) handed ask answer (made_at old) (made_at new)
       of_outcome (Ok (Done reply)) same (room, (event, is, records)) =
-          let named : reply_of old.log.opening (old.log.history ++ event ∷ []) ≡ Some answer = records.reply ∙ ap Some (reply_is same) in record {
+          let named : reply_of old.log.opening (old.log.history ++ event ∷ []) ≡ Some answer =
+          records.reply ∙ ap Some (reply_is same) in record {
             event = event;
-            grows = made_of_log (Ok answer) steps (with_event old.log event) is ∙ made_more old.log.opening old.before old.log.history event steps.earlier
+            grows =
+                made_of_log (Ok answer) steps (with_event old.log event) is
+                ∙ made_more old.log.opening old.before old.log.history event steps.earlier
                 ∙ ap (λ (r : Option Reply). made_at old ++ (record { event = event; reply = r }) ∷ []) named;
             of_ask = records.act;
             asked = is_moment ask old.moment handed event.asked records.asked;
             answered = subst (IsReplyTo ask) (reply_is same)
-                (recorded_reply old.log (record { seat = 0; asked = asked_at old.moment ask handed; ask = ask }) reply event records);
+                (recorded_reply old.log (record { seat = 0; asked = asked_at old.moment ask handed; ask = ask })
+                reply event records);
           }
         where
           reply_is : Ok answer ≡ answer_of (Ok (Done reply)) → reply ≡ answer
@@ -70,16 +82,20 @@ module _ (old new : KeptState) (handed : ℕ) (ask : Ask) where
   kept_gives_once answer steps = of_outcome steps.outcome steps.answers steps.steps
     where
       of_outcome : (outcome : Result Outcome CallFault) → Ok answer ≡ answer_of outcome
-          → StepsTo old.log (record { seat = 0; asked = asked_at old.moment ask handed; ask = ask }) outcome new.log → GivesOnce (made_at new)
+          → StepsTo old.log (record { seat = 0; asked = asked_at old.moment ask handed; ask = ask }) outcome new.log
+          → GivesOnce (made_at new)
       of_outcome (Ok (Done reply)) same (room, (event, is, records)) =
           let history : List Event = old.log.history ++ event ∷ [] in
-          let legal : IsLegal old.log.opening (take old.before history ++ drop old.before history) = subst (IsLegal old.log.opening) (sym (take-append-drop old.before history)) records.legal in
-          subst GivesOnce (sym (made_of_log (Ok answer) steps (with_event old.log event) is)) (later_gives_once old.log.opening (take old.before history) (drop old.before history) legal)
+          let legal : IsLegal old.log.opening (take old.before history ++ drop old.before history) =
+          subst (IsLegal old.log.opening) (sym (take-append-drop old.before history)) records.legal in
+          subst GivesOnce (sym (made_of_log (Ok answer) steps (with_event old.log event) is))
+          (later_gives_once old.log.opening (take old.before history) (drop old.before history) legal)
       of_outcome (Ok (Later next)) same step = absurd (cc)
       of_outcome (Err refusals.Full) same step = absurd (cc)
       of_outcome (Err refusals.Memory) same step = absurd (cc)
 
-  pub kept_refuses : (fault : DeskFault) → KeptSteps old handed ask (Err fault) new → MayGet ask fault × (made_at new ≡ made_at old)
+  pub kept_refuses : (fault : DeskFault) → KeptSteps old handed ask (Err fault) new
+      → MayGet ask fault × (made_at new ≡ made_at old)
   kept_refuses fault steps = of_outcome steps.outcome steps.answers steps.steps
     where
       of_outcome : (outcome : Result Outcome CallFault) → Err fault ≡ answer_of outcome
@@ -87,11 +103,15 @@ module _ (old new : KeptState) (handed : ℕ) (ask : Ask) where
           → MayGet ask fault × (made_at new ≡ made_at old)
       of_outcome (Ok (Done reply)) same step = absurd (cc)
       of_outcome (Ok (Later next)) same (room, (waits, is)) =
-          let stopped : Stopped ≡ fault = cc in (subst (MayGet ask) stopped (may_wait ask _ waits.waits), made_of_log (Err fault) steps old.log is)
+          let stopped : Stopped ≡ fault = cc in
+          (subst (MayGet ask) stopped (may_wait ask _ waits.waits), made_of_log (Err fault) steps old.log is)
       of_outcome (Err refusals.Full) same (full, is) =
-          let is_full : Full ≡ fault = cc in (subst (MayGet ask) is_full tt, made_of_log (Err fault) steps old.log is)
+          let is_full : Full ≡ fault = cc in
+          (subst (MayGet ask) is_full tt, made_of_log (Err fault) steps old.log is)
       of_outcome (Err refusals.Memory) same (room, takes, is) =
-          let is_memory : Memory ≡ fault = cc in (subst (MayGet ask) is_memory takes, made_of_log (Err fault) steps old.log is)
+          let is_memory : Memory ≡ fault = cc in
+          (subst (MayGet ask) is_memory takes, made_of_log (Err fault) steps old.log is)
 
-pub kept_stays : (old new : KeptState) (moment : ℕ) (result : Option ℕ) → SetsKept old moment result new → made_at new ≡ made_at old
+pub kept_stays : (old new : KeptState) (moment : ℕ) (result : Option ℕ) → SetsKept old moment result new
+    → made_at new ≡ made_at old
 kept_stays old new moment result sets = ap made_at sets.1

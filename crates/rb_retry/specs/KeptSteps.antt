@@ -52,7 +52,8 @@ SetsKept old moment result new =
     (result ≡ Some (max moment old.moment)) × (new ≡ record old { moment = max moment old.moment })
 
 -- the answer is that of one try of seat 0, and only the log and the share have changed
-pub record KeptSteps (old : KeptState) (handed : ℕ) (ask : Ask) (result : Result Reply DeskFault) (new : KeptState) : Type 0 where
+pub record KeptSteps (old : KeptState) (handed : ℕ) (ask : Ask) (result : Result Reply DeskFault)
+    (new : KeptState) : Type 0 where
   pub earlier : old.before ≤ length old.log.history
   pub outcome : Result Outcome CallFault
   pub answers : result ≡ answer_of outcome

@@ -43,7 +43,8 @@ abbrev pub report_after : WorkReport → List WorkRun → WorkReport
 report_after report [] = report
 report_after report (run ∷ runs) = report_after (counted report run.end) runs
 
-module _ {S : Type 0} (gives : S → ℕ → Type 0) (Steps : S → ℕ → Ask → Result Reply DeskFault → S → Type 0) (may : Element → Bool → Type 0) (policy : Policy) where
+module _ {S : Type 0} (gives : S → ℕ → Type 0) (Steps : S → ℕ → Ask → Result Reply DeskFault → S → Type 0)
+    (may : Element → Bool → Type 0) (policy : Policy) where
   -- the work gave this answer for the element, and a job that failed did so at a reading of the desk's clock
   abbrev pub EndsRun : Element → S → RunEnd → S → Type 0
   EndsRun element old done new = may element true × (new ≡ old)

@@ -41,7 +41,8 @@ pub fn take<D: Desk>(desk: &mut D) -> Result<Job, DeskFault>
 ///
 /// A fault is that of the desk's call. Then no event was made, and nothing was fetched.
 pub fn poll_for<D: Desk>(desk: &mut D, start: u64, timeout: u64) -> Result<Option<Job>, DeskFault>
-    ensures step { D.Steps (D.state desk.old) start (asks.PollFor start timeout) (answer_with result) (D.state desk.new) }
+    ensures step { D.Steps (D.state desk.old) start (asks.PollFor start timeout) (answer_with result)
+        (D.state desk.new) }
     ensures name { D.name (D.state desk.new) ≡ D.name (D.state desk.old) }
 {
     let reply = desk.call(start, Ask::PollFor { start, timeout })?;

@@ -33,7 +33,13 @@ impl<'a, T: Timer> KeptDesk<'a, T> {
     /// A desk whose calls the tally counts. Its clock is at the opening's `last_at`.
     pub fn new(kept: &'a mut Kept<T>, tally: &'a mut Tally) -> KeptDesk<'a, T>
         ensures state { ⟦<KeptDesk<'a, T> as Desk>⟧.state result
-            ≡ record { name = kept.entry.ghost_name; log = kept.old; share = tally.old; moment = kept.old.opening.last_at; before = length kept.old.history } }
+            ≡ record {
+              name = kept.entry.ghost_name;
+              log = kept.old;
+              share = tally.old;
+              moment = kept.old.opening.last_at;
+              before = length kept.old.history;
+            } }
         ensures few { length (made_at (⟦<KeptDesk<'a, T> as Desk>⟧.state result)) ≤ MOST_CALLS }
     {
         // For the proof: how long the history may get.
@@ -52,7 +58,13 @@ impl<'a, T: Timer> KeptDesk<'a, T> {
 impl<'a, T: Timer> Desk for KeptDesk<'a, T> {
     ghost State = { KeptState };
 
-    ghost state = { λ desk. record { name = desk.kept.ghost_name; log = desk.kept.now; share = desk.tally.now; moment = desk.moment; before = desk.before } };
+    ghost state = { λ desk. record {
+      name = desk.kept.ghost_name;
+      log = desk.kept.now;
+      share = desk.tally.now;
+      moment = desk.moment;
+      before = desk.before;
+    } };
 
     ghost Name = { ℕ };
 

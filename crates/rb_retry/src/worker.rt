@@ -53,7 +53,8 @@ fn run_job<D: Desk, W: Work>(
 )
     requires few { report.old.runs < MOST_CALLS }
     requires sum { IsSum report.old }
-    ensures ends { (end : RunEnd) × EndsRun D.gives D.Steps (W.may work.now) policy.now job (D.state desk.old) end (D.state desk.new)
+    ensures ends { (end : RunEnd)
+        × EndsRun D.gives D.Steps (W.may work.now) policy.now job (D.state desk.old) end (D.state desk.new)
         × (report.new ≡ counted report.old end) }
     ensures sum { IsSum report.new }
     ensures name { D.name (D.state desk.new) ≡ D.name (D.state desk.old) }

@@ -72,7 +72,8 @@ module _ {C G : Type 0} where
   module _ (gives : C → ℕ → Type 0) (answers : G → ℕ → Bool → Type 0) where
     -- The ask ended in this way, and the pass has learned. The gate's answers are as before, and nothing else has
     -- changed.
-    pub record SharedSteps (old : SharedState C G) (handed : ℕ) (ask : Ask) (result : Result Reply DeskFault) (new : SharedState C G) : Type 0 where
+    pub record SharedSteps (old : SharedState C G) (handed : ℕ) (ask : Ask) (result : Result Reply DeskFault)
+        (new : SharedState C G) : Type 0 where
       pub earlier : old.before ≤ length old.pass.mine
       pub sound : IsSoundPass old.pass
       pub learns : Learns old.pass new.pass

@@ -1,6 +1,7 @@
 ghost use Rattle.std.specs.Prelude.{◌≡◌, ◌≤◌, length};
 ghost use Rattle.rb_kept.specs.declared.kept.TheConstants.{MOST_CALLS};
-ghost use Rattle.rb_shared_desk.specs.SharedSteps.{SharedState, SharedName, SharedSteps, SetsShared, fault_of_wait, made_through, name_of};
+ghost use Rattle.rb_shared_desk.specs.SharedSteps.{SharedState, SharedName, SharedSteps, SetsShared};
+ghost use Rattle.rb_shared_desk.specs.SharedSteps.{fault_of_wait, made_through, name_of};
 ghost use Rattle.rb_shared_desk.specs.SharedLaws.{shared_makes, shared_gives_once, shared_refuses, shared_stays};
 
 use rb_blocking::{Bell, Clock, Gate, WaitFault, call_and_ring, call_and_wait};
@@ -45,7 +46,13 @@ impl<'a, T: Timer, C: Clock, G: Gate, R: Wait + time::Clock> SharedDesk<'a, T, C
     ) -> SharedDesk<'a, T, C, G, R>
         requires pass { pass.old.table ≡ shared.now }
         ensures state { ⟦<SharedDesk<'a, T, C, G, R> as Desk>⟧.state result
-            ≡ record { reference = pass.entry.ghost_name; pass = pass.old; clock = clock.now; gate = gate.old; before = length pass.old.mine } }
+            ≡ record {
+              reference = pass.entry.ghost_name;
+              pass = pass.old;
+              clock = clock.now;
+              gate = gate.old;
+              before = length pass.old.mine;
+            } }
         ensures few { length (made_through (⟦<SharedDesk<'a, T, C, G, R> as Desk>⟧.state result)) ≤ MOST_CALLS }
     {
         // For the proof: the pass has seen a legal history.
@@ -93,7 +100,13 @@ impl<'a, T: Timer, C: Clock, G: Gate, R: Wait + time::Clock> Drop for SharedDesk
 impl<'a, T: Timer, C: Clock, G: Gate, R: Wait + time::Clock> Desk for SharedDesk<'a, T, C, G, R> {
     ghost State = { SharedState C G };
 
-    ghost state = { λ desk. record { reference = desk.pass.ghost_name; pass = desk.pass.now; clock = desk.clock.now; gate = desk.gate.now; before = length desk.start.value.mine } };
+    ghost state = { λ desk. record {
+      reference = desk.pass.ghost_name;
+      pass = desk.pass.now;
+      clock = desk.clock.now;
+      gate = desk.gate.now;
+      before = length desk.start.value.mine;
+    } };
 
     ghost Name = { SharedName };
 
@@ -115,7 +128,14 @@ impl<'a, T: Timer, C: Clock, G: Gate, R: Wait + time::Clock> Desk for SharedDesk
         None
     }
 
-    #[tactic(auto, using(crate::proofs::SharedEndings::few_through, crate::proofs::SharedEndings::ends_refused, crate::proofs::SharedEndings::ends_replied))]
+    #[tactic(
+        auto,
+        using(
+            crate::proofs::SharedEndings::few_through,
+            crate::proofs::SharedEndings::ends_refused,
+            crate::proofs::SharedEndings::ends_replied
+        )
+    )]
     fn call(&mut self, asked: u64, ask: Ask) -> Result<Reply, DeskFault> {
         // For the proof: the pass has seen a legal history.
         let _ = self.pass.name();

@@ -15,7 +15,8 @@ pub fn run_timer<T: Timer>(
     timer: &mut T,
     commands: &[TimerCommand],
 ) -> Result<Vec<TimerAnswer>, AllocError>
-    ensures run { IfOk result (λ answers. Run (T.room timer.old) (T.content timer.old) commands.now answers.items (T.content timer.new)) }
+    ensures run { IfOk result (λ answers. Run (T.room timer.old) (T.content timer.old) commands.now answers.items
+        (T.content timer.new)) }
     ensures room { T.room timer.new ≡ T.room timer.old }
     ensures err { OnErr result (timer.new ≡ timer.old) }
 {
@@ -44,7 +45,8 @@ fn answer<T: Timer>(timer: &mut T, command: TimerCommand) -> TimerAnswer
 }
 
 fn insert<T: Timer>(timer: &mut T, slot: usize, expiry: u64) -> TimerAnswer
-    ensures step { Step (T.room timer.old) (T.content timer.old) (TimerCommand.Insert slot expiry) result (T.content timer.new) }
+    ensures step { Step (T.room timer.old) (T.content timer.old) (TimerCommand.Insert slot expiry) result
+        (T.content timer.new) }
     ensures room { T.room timer.new ≡ T.room timer.old }
 {
     if slot >= timer.room() || timer.get(slot).is_some() {
@@ -55,7 +57,8 @@ fn insert<T: Timer>(timer: &mut T, slot: usize, expiry: u64) -> TimerAnswer
 }
 
 fn remove<T: Timer>(timer: &mut T, slot: usize) -> TimerAnswer
-    ensures step { Step (T.room timer.old) (T.content timer.old) (TimerCommand.Remove slot) result (T.content timer.new) }
+    ensures step { Step (T.room timer.old) (T.content timer.old) (TimerCommand.Remove slot) result
+        (T.content timer.new) }
     ensures room { T.room timer.new ≡ T.room timer.old }
 {
     if timer.get(slot).is_none() {

@@ -31,7 +31,8 @@ pub record IsFirstCell (cells : List (Option ℕ)) (cell : ℕ) : Type 0 where
 pub record IsLeastIn (cells expiries : List (Option ℕ)) (cell slot expiry : ℕ) : Type 0 where
   pub lies : cell_at cells slot ≡ Some cell
   pub expires : slot_expiry expiries slot ≡ Some expiry
-  pub least : (other : ℕ) → cell_at cells other ≡ Some cell → IfSome (slot_expiry expiries other) (λ another. expiry ≤ another)
+  pub least : (other : ℕ) → cell_at cells other ≡ Some cell
+      → IfSome (slot_expiry expiries other) (λ another. expiry ≤ another)
 
 -- each slot of the cell has an expiry
 abbrev pub HasExpiries : List (Option ℕ) → List (Option ℕ) → ℕ → Type 0

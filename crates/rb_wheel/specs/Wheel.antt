@@ -1,5 +1,6 @@
 -- How the entries of a wheel lie, seen from its base.
-use Rattle.std.specs.Prelude.{◌≡◌, ◌≢◌, ◌^◌, ℕ, ◌<◌, ◌≤◌, List, length, Option, Some, None, IsSome, IfSome, IsSomeAnd, is_some, count_by}
+use Rattle.std.specs.Prelude.{◌≡◌, ◌≢◌, ◌^◌, ℕ, ◌<◌, ◌≤◌, List, length, Option, Some}
+use Rattle.std.specs.Prelude.{None, IsSome, IfSome, IsSomeAnd, is_some, count_by}
 use Rattle.std.specs.FinMap as map
 use Rattle.rb_timer.specs.Content.{Content}
 use Rattle.rb_wheel.specs.Cells.{IsCellOf}
@@ -21,9 +22,11 @@ pub record LieRight (base : ℕ) (expiries cells : List (Option ℕ)) : Type 0 w
 
 -- each entry lies right, except those of one cell, which belong in cells before it
 pub record MaySpread (base cell : ℕ) (expiries cells : List (Option ℕ)) : Type 0 where
-  pub others : (slot : ℕ) → cell_at cells slot ≢ Some cell → LiesRight base (slot_expiry expiries slot) (cell_at cells slot)
+  pub others : (slot : ℕ) → cell_at cells slot ≢ Some cell
+      → LiesRight base (slot_expiry expiries slot) (cell_at cells slot)
   pub inside : (slot : ℕ) → cell_at cells slot ≡ Some cell
-      → IsSomeAnd (slot_expiry expiries slot) (λ expiry. (base ≤ expiry) × ((lower : ℕ) → IsCellOf base expiry lower → lower < cell))
+      → IsSomeAnd (slot_expiry expiries slot)
+      (λ expiry. (base ≤ expiry) × ((lower : ℕ) → IsCellOf base expiry lower → lower < cell))
 
 -- the same slots lie in some cell
 pub record SameInCells (cells new_cells : List (Option ℕ)) : Type 0 where
@@ -39,7 +42,8 @@ ExpireTogether expiries cells cell = (slot other : ℕ) → cell_at cells slot �
 pub record IsLeastInCells (expiries cells : List (Option ℕ)) (slot expiry : ℕ) : Type 0 where
   pub lies : IsSome (cell_at cells slot)
   pub expires : slot_expiry expiries slot ≡ Some expiry
-  pub least : (other : ℕ) → IsSome (cell_at cells other) → IfSome (slot_expiry expiries other) (λ another. expiry ≤ another)
+  pub least : (other : ℕ) → IsSome (cell_at cells other)
+      → IfSome (slot_expiry expiries other) (λ another. expiry ≤ another)
 
 -- an entry of least expiry among those that lie in cells, or none if no entry lies in a cell
 abbrev pub IsFirst : List (Option ℕ) → List (Option ℕ) → Option (ℕ × ℕ) → Type 0
@@ -53,7 +57,8 @@ early_of expiry (Some cell) = None
 
 -- the wheel's parts agree: each entry lies right, in its cell or among the early ones, there is room
 -- for each in both, and the first entry is one of least expiry among those in cells
-pub record IsWheel (expiries cells : List (Option ℕ)) (early : Content) (room base len : ℕ) (first : Option (ℕ × ℕ)) : Type 0 where
+pub record IsWheel (expiries cells : List (Option ℕ)) (early : Content) (room base len : ℕ)
+    (first : Option (ℕ × ℕ)) : Type 0 where
   pub right : LieRight base expiries cells
   pub moments : AreMoments expiries
   pub early_entries : (slot : ℕ) → map.get early slot ≡ early_of (slot_expiry expiries slot) (cell_at cells slot)

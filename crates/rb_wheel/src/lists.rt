@@ -1,4 +1,5 @@
-ghost use Rattle.std.specs.Prelude.{◌≡◌, ◌≢◌, ◌⊎◌, ◌<◌, ◌≤◌, ◌-◌, ◌^◌, ◌++◌, ℕ, List, [], Option, Some, None, IsSome, OnOk, OnErr, IfSome, MatchOption, length, replicate, slice_set, slice_index_or};
+ghost use Rattle.std.specs.Prelude.{◌≡◌, ◌≢◌, ◌⊎◌, ◌<◌, ◌≤◌, ◌-◌, ◌^◌, ◌++◌, ℕ, List, [], Option, Some, None, IsSome};
+ghost use Rattle.std.specs.Prelude.{OnOk, OnErr, IfSome, MatchOption, length, replicate, slice_set, slice_index_or};
 ghost use Rattle.rb_wheel.specs.Nodes.{with_first};
 ghost use Rattle.rb_wheel.specs.Marks.{mark_at, mark_of, mark_with_first};
 ghost use Rattle.rb_wheel.specs.Lists.{cell_at, slot_expiry, IsHeld, IsVacant, IsFirstCell, IsLeastIn, HasExpiries};
@@ -64,8 +65,10 @@ impl Lists {
     /// Makes room for at least `wanted` slots. On `Err` there was not enough memory, and the slots are
     /// unchanged.
     pub(crate) fn reserve(&mut self, wanted: usize) -> Result<(), AllocError>
-        ensures expiries { OnOk result (self.new.expiries ≡ self.old.expiries ++ replicate (wanted - length self.old.expiries) None) }
-        ensures cells { OnOk result (self.new.cells ≡ self.old.cells ++ replicate (wanted - length self.old.cells) None) }
+        ensures expiries { OnOk result (self.new.expiries
+            ≡ self.old.expiries ++ replicate (wanted - length self.old.expiries) None) }
+        ensures cells { OnOk result (self.new.cells
+            ≡ self.old.cells ++ replicate (wanted - length self.old.cells) None) }
         ensures err { OnErr result (self.new ≡ self.old) }
     {
         if wanted > self.nodes.len() {
@@ -168,7 +171,8 @@ impl Lists {
     /// A slot of the cell, if it holds one, whose expiry is least among them, and that expiry.
     pub(crate) fn least_in(&self, cell: usize) -> Option<(usize, u64)>
         requires { HasExpiries self.now.cells self.now.expiries cell }
-        ensures { MatchOption result (IsVacant self.now.cells cell) (λ entry. IsLeastIn self.now.cells self.now.expiries cell entry.0 entry.1) }
+        ensures { MatchOption result (IsVacant self.now.cells cell)
+            (λ entry. IsLeastIn self.now.cells self.now.expiries cell entry.0 entry.1) }
     {
         let mut least: Option<(usize, u64)> = None;
         let mut cursor = head_of(&self.heads, cell);

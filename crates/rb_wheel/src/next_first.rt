@@ -51,7 +51,8 @@ fn next_first(lists: &mut Lists, base: &mut u64) -> Option<(usize, u64)>
 fn least_of(lists: &Lists, cell: usize) -> Option<(usize, u64)>
     requires expiries { HasExpiries lists.now.cells lists.now.expiries cell }
     requires together { cell < DIGITS → ExpireTogether lists.now.expiries lists.now.cells cell }
-    ensures { MatchOption result (IsVacant lists.now.cells cell) (λ entry. IsLeastIn lists.now.cells lists.now.expiries cell entry.0 entry.1) }
+    ensures { MatchOption result (IsVacant lists.now.cells cell)
+        (λ entry. IsLeastIn lists.now.cells lists.now.expiries cell entry.0 entry.1) }
 {
     if cell >= DIGITS {
         return lists.least_in(cell);

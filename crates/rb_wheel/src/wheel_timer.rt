@@ -43,7 +43,8 @@ impl<E: Timer> Model for Wheel<E> {
 
     ghost view = { λ wheel. wheel.lists.expiries };
 
-    ghost invariant = { λ wheel. IsWheel wheel.lists.expiries wheel.lists.cells (E.content wheel.early) (E.room wheel.early) wheel.base wheel.len wheel.first };
+    ghost invariant = { λ wheel. IsWheel wheel.lists.expiries wheel.lists.cells
+        (E.content wheel.early) (E.room wheel.early) wheel.base wheel.len wheel.first };
 }
 
 impl<E: Timer> Timer for Wheel<E> {
