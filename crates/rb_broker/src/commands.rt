@@ -95,7 +95,7 @@ fn serve_over<T: Timer + Send, R: Threads + Wait + time::Clock + Sync>(
     end_server(alloc, &report, &mut rt.stdout(), history.as_mut())
 }
 
-// Where a run begins: where the history in a file ends, if one is named.
+// The opening of a run: the one that the history in a file leads to, or if none is named the empty one.
 fn opening_behind(rt: &HostRuntime, from: Option<&str>) -> Result<Opening, BrokerFault> {
     match from {
         Some(path) => opening_in(rt.alloc(), &text_of(rt, path)?),

@@ -5,7 +5,7 @@
 //!
 //! | Command | Answer |
 //! |---|---|
-//! | `begin CAPACITY` | `begun`, or the fault's text; it comes before all the others, and begins anew |
+//! | `begin CAPACITY` | `begun`, or the fault's text; it comes before all the others, and starts over |
 //! | `SEAT ASKED ASK` | the step of a run of just this try |
 //! | `no try` | how many steps a run without tries has |
 //! | `given N` | the element at this place, from 0, among those of the last drain: ELEMENT, or `none` |

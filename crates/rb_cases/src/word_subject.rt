@@ -6,7 +6,7 @@
 //! | `no word` | what a command line without a word asks for |
 //! | `shows 'PART' rb_broker WORD..` | whether this part is in the text that is shown for these words: `yes` or `no` |
 //!
-//! A word with a space stands in quotes as a whole, as `'--from=a b'`. The answers:
+//! A word with a space is quoted as a whole, as `'--from=a b'`. The answers:
 //!
 //! | Answer |
 //! |---|

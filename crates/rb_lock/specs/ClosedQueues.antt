@@ -1,4 +1,4 @@
--- When a queue may be closed, and what a refused closing tells.
+-- When a queue may be closed, and what a refused closing says.
 use Rattle.std.specs.Prelude.{◌≡◌, ◌<◌, ◌≤◌, List, length}
 use Rattle.rb_ledger.specs.declared.totals.Totals.{Totals}
 use Rattle.rb_ledger.specs.declared.totals.TheConstants.{GREATEST_COUNT}
@@ -11,7 +11,7 @@ use Rattle.rb_lock.specs.declared.pass_record.PassRecord.{PassRecord}
 use Rattle.rb_lock.specs.declared.fault.CloseFault.{CloseFault}
 use Rattle.rb_lock.specs.declared.fault.CloseFault.TheVariants.{NotAll}
 
--- The history is legal and has each record's calls under its name, no name stands twice, and there is no
+-- The history is legal and has each record's calls under its name, no name occurs twice, and there is no
 -- other call: the history is as long as all these calls together.
 pub record HasCallsOf (log : Log) (records : List PassRecord) : Type 0 where
   pub legal : IsLegal log.opening log.history

@@ -23,7 +23,7 @@ use Rattle.rb_lock.specs.declared.stage.Stage.{Stage}
 use Rattle.rb_lock.specs.declared.stage.Stage.TheVariants.{Idle, Holds, Drew, Meets, Gone}
 use Rattle.rb_lock.specs.declared.view.View.{View}
 
--- what the rule tells of one view
+-- what the rule says of one view
 pub record Noted (log : Log) (names : ℕ) (v : View) : Type 0 where
   pub fits : Fits log names v
   pub few : names ≤ MOST_NAMES

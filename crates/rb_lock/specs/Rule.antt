@@ -61,7 +61,7 @@ module _ {T : Type 0} where
     pub one : total holders s.views ≡ 1
 
   -- The current log and the number of names are those of the pair at home or, while a seat holds, what that
-  -- seat noted. Each view fits them. No name stands twice among all records and drawn names; each of these
+  -- seat noted. Each view fits them. No name occurs twice among all records and drawn names; each of these
   -- is below the number, and so is each event's seat.
   pub record Locked (s : State (Option (Pair T)) View) : Type 0 where
     pub log : Log

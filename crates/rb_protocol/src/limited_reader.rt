@@ -6,7 +6,8 @@ use crate::limits::MOST_READS;
 use std::io;
 use std::io::Read;
 
-/// A reader that is read at most 10,000,000 times, so that an endless input ends.
+/// A reader that can be read at most 10,000,000 times, so that an input without end can't keep a run
+/// going.
 #[derive(Drop)]
 pub struct LimitedReader<'a, R: Read> {
     inner: &'a mut R,

@@ -17,11 +17,11 @@ times id ids = count_by (λ one. one == id) ids
 abbrev pub standing : ℕ → Bag → ℕ
 standing id bag = if is_some (map.get bag id) then 1 else 0
 
--- how often the id comes in by an effect
+-- how often the id comes in with an effect
 abbrev pub offers_of : ℕ → Effect → ℕ
 offers_of id effect = times id (ids_of (inserted effect))
 
--- how often the id leaves a bag by an effect
+-- how often the id leaves a bag with an effect
 abbrev pub leavings_of : ℕ → Bag → Effect → ℕ
 leavings_of id bag (inserts element) = 0
 leavings_of id bag (gives ids) = times id ids

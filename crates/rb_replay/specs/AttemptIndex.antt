@@ -47,7 +47,7 @@ offer_of attempts id = offer_at attempts.first_id attempts.offers.items id
 abbrev pub next_id_of : AttemptIndex → ℕ
 next_id_of attempts = attempts.first_id + length attempts.offers.items
 
--- an offer of the index stands at this place, and has this id
+-- an offer of the index is at this place, and has this id
 pub record IsPlaceOf (attempts : AttemptIndex) (id place : ℕ) : Type 0 where
   pub within : place < length attempts.offers.items
   pub placed : attempts.first_id + place ≡ id

@@ -12,7 +12,7 @@ abbrev pub AreFiled : ℕ → List (ℕ × Element) → Type 0
 AreFiled end [] = Unit {0}
 AreFiled end ((id, element) ∷ entries) = (element.id ≡ id) × (id < end) × AreFiled end entries
 
--- the map has each element of the bag, and no other, and each stands under its id
+-- the map has each element of the bag, and no other, each under its id
 pub record HasElements (bag : Bag) (end : ℕ) (elements : BTreeMap ℕ Element) : Type 0 where
   pub same : (id : ℕ) → tree.get nat_cmp elements id ≡ map.get bag id
   pub named : (id : ℕ) → IfSome (map.get bag id) (λ element. element.id ≡ id)

@@ -27,7 +27,7 @@ use Rattle.rb_queue.proofs.Leavings.{leaves_once}
 use Rattle.rb_retry.specs.Made.{Made, made_after, ids_given, ids_with, given_by, GivesOnce}
 use Rattle.rb_retry.specs.RecordLaws.{last_of, made_after-more}
 
--- each element of the bag stands under its own id
+-- each element of the bag is under its own id
 abbrev IsNamed : Bag → Type 0
 IsNamed bag = (id : ℕ) (element : Element) → map.get bag id ≡ Some element → element.id ≡ id
 
@@ -52,7 +52,7 @@ named_after all (gives ids) named = named
 named_after all (removes ids) named = named
 named_after all empties named = named
 
--- what was offered stands under its own id
+-- each offered element is under its own id
 named_offered : (all : Bag) (events : List Event) → IsNamed all → IsNamed (offered_from all events)
 named_offered all [] named = named
 named_offered all (event ∷ events) named =
