@@ -92,7 +92,7 @@ fn read_numbers(version: Version, text: &[u8]) -> Result<(OpenLine, &[u8]), Text
     Ok((told, behind))
 }
 
-// Whether the version has a line of these numbers: the empty opening is the first version's.
+// Whether the version has a line of these numbers: the second leaves the empty opening to the first.
 fn may_open(version: Version, told: OpenLine) -> bool
     requires { version ≢ Version.One }
     ensures { IsTrue result ↔ MayOpen version told.next_id told.last_at told.count }

@@ -13,7 +13,7 @@ pub record AreInOrder (elements : List Element) (end : ℕ) : Type 0 where
       → slice_index (ids_of elements) one < slice_index (ids_of elements) other
   pub below : (place : ℕ) → place < length elements → slice_index (ids_of elements) place < end
 
--- The elements are in rising order of their ids, all given before. Elements and ids are not too many.
+-- The elements are in rising order of their ids, all below `next_id`, and neither number is too great.
 pub record IsOpening (elements : List Element) (next_id : ℕ) : Type 0 where
   pub order : AreInOrder elements next_id
   pub few : length elements ≤ MOST_OPENING_ELEMENTS

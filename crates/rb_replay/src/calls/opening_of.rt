@@ -9,7 +9,7 @@ use rb_queue::Opening;
 use std::alloc::Global;
 
 /// The opening of a run that begins where this history ended: the elements that are left after its last
-/// event, the next id, and the moment of that event.
+/// event, the next id, and the last moment.
 ///
 /// The faults are `At`, as that of `check`; `TooLarge`, if a legal history leads past a limit of
 /// openings; and `Memory`, if there is not enough. Memory is taken for the elements in the queue.
