@@ -41,8 +41,8 @@ seen_code =
     (coded× table_id_coded (coded× coded_ℕ (coded× coded_ℕ (coded× opening.the_row.coded (coded× coded_ℕ
     (coded× (coded_list event.the_row.coded)
     (coded× (coded_list event.the_row.coded) (coded_list entry.the_row.coded))))))))
-    (λ pass. (pass.table, (pass.name, (pass.capacity, (pass.opening,
-    (pass.noted, (pass.seen, (pass.mine, pass.folded))))))))
+    (λ pass.
+    (pass.table, (pass.name, (pass.capacity, (pass.opening, (pass.noted, (pass.seen, (pass.mine, pass.folded))))))))
     (λ p. record {
       table = p.0;
       name = p.1.0;

@@ -192,7 +192,7 @@ given_along id opening before (event ∷ events) from =
       here,
       rest,
       times_append id (ids_with (reply_of opening (before ++ event ∷ [])))
-      (given_by (made_after opening (before ++ event ∷ []) events)),
+          (given_by (made_after opening (before ++ event ∷ []) events)),
     )
 
 -- so no id is given twice

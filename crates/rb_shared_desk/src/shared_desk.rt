@@ -128,14 +128,7 @@ impl<'a, T: Timer, C: Clock, G: Gate, R: Wait + time::Clock> Desk for SharedDesk
         None
     }
 
-    #[tactic(
-        auto,
-        using(
-            crate::proofs::SharedEndings::few_through,
-            crate::proofs::SharedEndings::ends_refused,
-            crate::proofs::SharedEndings::ends_replied
-        )
-    )]
+    #[tactic(auto, using(crate::proofs::SharedEndings::few_through, crate::proofs::SharedEndings::ends_refused, crate::proofs::SharedEndings::ends_replied))]
     fn call(&mut self, asked: u64, ask: Ask) -> Result<Reply, DeskFault> {
         // For the proof: the pass has seen a legal history.
         let _ = self.pass.name();
