@@ -1,5 +1,6 @@
 -- What is remembered of passes: their names, what they had seen, and their calls.
-use Rattle.std.specs.Prelude.{◌≡◌, ℕ, ◌+◌, ◌≤◌, ◌==◌, Bool, true, false, List, [], ◌∷◌, ◌++◌}
+use Rattle.std.specs.Prelude.{◌≡◌, ℕ, ◌+◌, ◌≤◌, ◌==◌, Bool, true, false, List, [], ◌∷◌, map}
+use Rattle.std.specs.List.{flat_map, AllByRecursion}
 use mathlib.Core.List.{IsPrefix}
 use Rattle.rb_queue.specs.Counts.{events_of}
 use Rattle.rb_queue.specs.declared.event.Event.{Event}
@@ -21,13 +22,11 @@ AreDifferent numbers = (number : ℕ) → times_in number numbers ≤ 1
 
 -- the names, in the order of the records
 abbrev pub names_of : List PassRecord → List ℕ
-names_of [] = []
-names_of (one ∷ records) = one.name ∷ names_of records
+names_of records = map (λ one. one.name) records
 
 -- the calls of all of them, one record after the other
 abbrev pub calls_of : List PassRecord → List Event
-calls_of [] = []
-calls_of (one ∷ records) = one.mine ++ calls_of records
+calls_of records = flat_map (λ one. one.mine) records
 
 -- The history begins with what was seen, and has under the name exactly the record's calls, all of which
 -- were seen.
@@ -38,5 +37,4 @@ pub record IsRecord (history : List Event) (one : PassRecord) : Type 0 where
 
 -- each of them is a record of the history
 abbrev pub AreRecords : List Event → List PassRecord → Type 0
-AreRecords history [] = Unit {0}
-AreRecords history (one ∷ records) = IsRecord history one × AreRecords history records
+AreRecords history records = AllByRecursion (IsRecord history) records
