@@ -2,7 +2,6 @@
 use Rattle.std.specs.Prelude.{◌≡◌, ℕ, zero, suc, ◌-◌, ◌^◌, min, Bool, true, false, Option, Some, None, Result, Ok, Err}
 use Rattle.rb_delayed.specs.declared.element.Element.{Element}
 use Rattle.rb_queue.specs.declared.ask.Ask.{Ask}
-use Rattle.rb_queue.specs.declared.ask.Ask.TheVariants.{Take, PollFor}
 use Rattle.rb_queue.specs.declared.reply.Reply.{Reply}
 use Rattle.rb_queue.specs.declared.reply.Reply.TheVariants.{Item, Nothing}
 use Rattle.rb_kept.specs.Log.{HasRoom, IsFull}
@@ -69,15 +68,12 @@ abbrev pub reply_with : Option Element → Reply
 reply_with (Some element) = Item element
 reply_with None = Nothing
 
--- how a take ended: its reply is the element
-abbrev pub TakeWaited : (ℕ → Type 0) → (ℕ → Bool → Type 0) → Seen → Seen → Result Element WaitFault → Type 0
-TakeWaited gives answers old new (Ok element) = Waited gives answers old new Take (Ok (Item element))
-TakeWaited gives answers old new (Err fault) = Waited gives answers old new Take (Err fault)
+-- a take's result, as that of its ask
+abbrev pub taken : Result Element WaitFault → Result Reply WaitFault
+taken (Ok element) = Ok (Item element)
+taken (Err fault) = Err fault
 
--- how a timed poll ended: its reply is the element, or that there is none
-abbrev pub PollForWaited : (ℕ → Type 0) → (ℕ → Bool → Type 0) → Seen → Seen → ℕ → ℕ
-    → Result (Option Element) WaitFault → Type 0
-PollForWaited gives answers old new start timeout (Ok got) =
-    Waited gives answers old new (PollFor start timeout) (Ok (reply_with got))
-PollForWaited gives answers old new start timeout (Err fault) =
-    Waited gives answers old new (PollFor start timeout) (Err fault)
+-- a timed poll's result, as that of its ask
+abbrev pub polled : Result (Option Element) WaitFault → Result Reply WaitFault
+polled (Ok got) = Ok (reply_with got)
+polled (Err fault) = Err fault

@@ -18,6 +18,7 @@ mod rests;
 #[cfg(test)]
 mod tests;
 mod turn_gate;
+mod waiter;
 mod waits;
 
 pub use bell::Bell;
@@ -28,4 +29,5 @@ pub use laws::bell_limits_have_their_values;
 pub use machine_clock::MachineClock;
 pub use offers::{call_and_ring, offer_ring};
 pub use turn_gate::TurnGate;
+pub use waiter::Waiter;
 pub use waits::{call_and_wait, poll_for, take};

@@ -2,13 +2,14 @@ ghost use Rattle.std.specs.Prelude.{◌≡◌, ◌↔◌, ℕ, Bool};
 ghost use Rattle.rb_queue.specs.declared.ask.Ask.TheVariants.{Take, PollFor};
 ghost use Rattle.rb_kept.specs.Tries.{TakesMemory};
 ghost use Rattle.rb_lock.specs.Passes.{Learns};
-ghost use Rattle.rb_blocking.specs.WaitingCalls.{Waited, TakeWaited, PollForWaited};
+ghost use Rattle.rb_blocking.specs.WaitingCalls.{Waited, taken, polled};
 
 use crate::bell::Bell;
 use crate::clock::Clock;
 use crate::fault::WaitFault;
 use crate::gate::Gate;
 use crate::rests::Rests;
+use crate::waiter::Waiter;
 use rb_delayed::Element;
 use rb_kept::{CallFault, Outcome};
 use rb_lock::{Pass, Shared};
@@ -36,10 +37,15 @@ pub fn take<T: Timer, C: Clock, G: Gate, R: Wait + time::Clock>(
 ) -> Result<Element, WaitFault>
     requires pass { pass.old.table ≡ shared.now }
     ensures learns { Learns pass.old pass.new }
-    ensures waited { TakeWaited (C.gives clock.now) (G.answers gate.old) pass.old pass.new result }
+    ensures waited { Waited (C.gives clock.now) (G.answers gate.old) pass.old pass.new Take (taken result) }
     ensures gate { (turns : ℕ) (goes_on : Bool) → G.answers gate.new turns goes_on ↔ G.answers gate.old turns goes_on }
 {
-    match call_and_wait(rt, shared, pass, clock, gate, bell, &Ask::Take)? {
+    let waiter = Waiter {
+        shared,
+        clock,
+        bell,
+    };
+    match call_and_wait(rt, &waiter, pass, gate, &Ask::Take)? {
         Reply::Item(element) => Ok(element),
         _ => unreachable!(),
     }
@@ -62,11 +68,16 @@ pub fn poll_for<T: Timer, C: Clock, G: Gate, R: Wait + time::Clock>(
 ) -> Result<Option<Element>, WaitFault>
     requires pass { pass.old.table ≡ shared.now }
     ensures learns { Learns pass.old pass.new }
-    ensures waited { PollForWaited (C.gives clock.now) (G.answers gate.old) pass.old pass.new start timeout result }
+    ensures waited { Waited (C.gives clock.now) (G.answers gate.old) pass.old pass.new (PollFor start timeout) (polled result) }
     ensures gate { (turns : ℕ) (goes_on : Bool) → G.answers gate.new turns goes_on ↔ G.answers gate.old turns goes_on }
 {
+    let waiter = Waiter {
+        shared,
+        clock,
+        bell,
+    };
     let ask = Ask::PollFor { start, timeout };
-    match call_and_wait(rt, shared, pass, clock, gate, bell, &ask)? {
+    match call_and_wait(rt, &waiter, pass, gate, &ask)? {
         Reply::Item(element) => Ok(Some(element)),
         Reply::Nothing => Ok(None),
         _ => unreachable!(),
@@ -78,22 +89,20 @@ pub fn poll_for<T: Timer, C: Clock, G: Gate, R: Wait + time::Clock>(
 /// `take` and `poll_for` make this call, and unwrap the reply. A call that was woken but takes nothing wakes another.
 pub fn call_and_wait<T: Timer, C: Clock, G: Gate, R: Wait + time::Clock>(
     rt: &R,
-    shared: &Shared<T>,
+    waiter: &Waiter<'_, T, C>,
     pass: &mut Pass<T>,
-    clock: &C,
     gate: &mut G,
-    bell: &Bell,
     ask: &Ask,
 ) -> Result<Reply, WaitFault>
-    requires pass { pass.old.table ≡ shared.now }
+    requires pass { pass.old.table ≡ waiter.now.shared.now }
     requires memory { TakesMemory ask.now → ⊥ }
     ensures learns { Learns pass.old pass.new }
-    ensures waited { Waited (C.gives clock.now) (G.answers gate.old) pass.old pass.new ask.now result }
+    ensures waited { Waited (C.gives waiter.now.clock.now) (G.answers gate.old) pass.old pass.new ask.now result }
     ensures gate { (turns : ℕ) (goes_on : Bool) → G.answers gate.new turns goes_on ↔ G.answers gate.old turns goes_on }
 {
-    let mut rests = Rests::new(ask, bell.count(rt));
-    let waited = try_often(rt, shared, pass, clock, gate, bell, ask, &mut rests);
-    rests.hand_on(rt, bell, &waited);
+    let mut rests = Rests::new(ask, waiter.bell.count(rt));
+    let waited = try_often(rt, waiter, pass, gate, ask, &mut rests);
+    rests.hand_on(rt, waiter.bell, &waited);
     waited
 }
 
@@ -103,26 +112,24 @@ pub fn call_and_wait<T: Timer, C: Clock, G: Gate, R: Wait + time::Clock>(
 // try and the rest is noticed.
 fn try_often<T: Timer, C: Clock, G: Gate, R: Wait + time::Clock>(
     rt: &R,
-    shared: &Shared<T>,
+    waiter: &Waiter<'_, T, C>,
     pass: &mut Pass<T>,
-    clock: &C,
     gate: &mut G,
-    bell: &Bell,
     ask: &Ask,
     rests: &mut Rests,
 ) -> Result<Reply, WaitFault>
-    requires pass { pass.old.table ≡ shared.now }
+    requires pass { pass.old.table ≡ waiter.now.shared.now }
     requires memory { TakesMemory ask.now → ⊥ }
     ensures learns { Learns pass.old pass.new }
-    ensures waited { Waited (C.gives clock.now) (G.answers gate.old) pass.old pass.new ask.now result }
+    ensures waited { Waited (C.gives waiter.now.clock.now) (G.answers gate.old) pass.old pass.new ask.now result }
     ensures gate { (turns : ℕ) (goes_on : Bool) → G.answers gate.new turns goes_on ↔ G.answers gate.old turns goes_on }
 {
     // For the proof: the pass has seen a legal history.
     let _ = pass.name();
     let mut turns: u64 = 0;
     for _ in rt.forever() {
-        let asked = clock.now();
-        let expiry = match shared.call(rt, pass, asked, *ask) {
+        let asked = waiter.clock.now();
+        let expiry = match waiter.shared.call(rt, pass, asked, *ask) {
             Ok(Outcome::Done(reply)) => return Ok(reply),
             Ok(Outcome::Later(expiry)) => expiry,
             Err(CallFault::Full) => return Err(WaitFault::Full),
@@ -133,7 +140,7 @@ fn try_often<T: Timer, C: Clock, G: Gate, R: Wait + time::Clock>(
             return Err(WaitFault::Stopped);
         }
         turns = turns.saturating_add(1);
-        rests.rest(rt, bell);
+        rests.rest(rt, waiter.bell);
     }
     unreachable!()
 }

@@ -4,7 +4,7 @@ ghost use Rattle.rb_shared_desk.specs.SharedSteps.{SharedState, SharedName, Shar
 ghost use Rattle.rb_shared_desk.specs.SharedSteps.{fault_of_wait, made_through, name_of};
 ghost use Rattle.rb_shared_desk.specs.SharedLaws.{shared_makes, shared_gives_once, shared_refuses, shared_stays};
 
-use rb_blocking::{Bell, Clock, Gate, WaitFault, call_and_ring, call_and_wait};
+use rb_blocking::{Bell, Clock, Gate, WaitFault, Waiter, call_and_ring, call_and_wait};
 use rb_kept::Outcome;
 use rb_lock::{Pass, Shared};
 use rb_queue::{Ask, Reply};
@@ -134,7 +134,12 @@ impl<'a, T: Timer, C: Clock, G: Gate, R: Wait + time::Clock> Desk for SharedDesk
         let _ = self.pass.name();
         let (rt, shared, clock, bell) = (self.rt, self.shared, self.clock, self.bell);
         if matches!(ask, Ask::Take | Ask::PollFor { .. }) {
-            let waited = call_and_wait(rt, shared, self.pass, clock, self.gate, bell, &ask);
+            let waiter = Waiter {
+                shared,
+                clock,
+                bell,
+            };
+            let waited = call_and_wait(rt, &waiter, self.pass, self.gate, &ask);
             return waited.map_err(desk_fault_of);
         }
         match call_and_ring(rt, shared, self.pass, asked, ask, bell) {

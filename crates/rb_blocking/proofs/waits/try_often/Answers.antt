@@ -21,7 +21,7 @@ loop-preserved g c =
     let later = subst (λ (r : Result Outcome CallFault). Answered c.loop.pass c.call.new.pass (try_of c.loop.pass c.now-asked.result c.args.ask.now) r)
     (c.in-Ok-Later.is ∙ ap Ok c.in-Ok-Later.field-0-is) c.call.ensures.answered in
     let (tries, told, waited) = before.3 in
-    let nothing : FindsNothing (g.C.Clock.gives c.args.clock.now) c.loop.pass c.call.new.pass c.args.ask.now = record {
+    let nothing : FindsNothing (g.C.Clock.gives c.args.waiter.now.clock.now) c.loop.pass c.call.new.pass c.args.ask.now = record {
       asked = c.now-asked.result;
       read = c.now-asked.ensures;
       expiry = c.in-Ok-Later.expiry;

@@ -11,4 +11,4 @@ invariant-loop g l =
     × (l.pass.mine ≡ l.initial.pass.mine)
     × ((n : ℕ) (goes_on : Bool) → g.G.Gate.answers l.gate n goes_on ↔ g.G.Gate.answers l.initial.gate n goes_on)
     × ((tries : ℕ) × (l.turns ≡ turns_told tries)
-    × WaitsOn (g.C.Clock.gives l.clock) (g.G.Gate.answers l.initial.gate) l.initial.pass l.ask tries l.pass)
+    × WaitsOn (g.C.Clock.gives l.waiter.clock.now) (g.G.Gate.answers l.initial.gate) l.initial.pass l.ask tries l.pass)
