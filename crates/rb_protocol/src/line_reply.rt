@@ -52,6 +52,8 @@ pub enum LineReply {
 
 impl LineReply {
     /// The reply's line, with its line feed: at most 117 bytes. It takes no memory.
+    // Its result would be copied at a call.
+    #[inline(always)]
     pub fn line(&self) -> ReplyLine
         ensures text { result ≡ text_of self.now }
         ensures longest { length result ≤ MOST_REPLY_BYTES }

@@ -80,6 +80,7 @@ pub(crate) fn drain_jobs<D: Desk>(
 }
 
 // Holds what was fetched, and gives its line.
+#[inline(always)]
 fn hold(held: &mut HeldJobs, fetched: Result<Option<Job>, DeskFault>) -> LineReply
     requires few { length held.old < MOST_HELD }
     requires fresh { AreNew held.old (fetched_by (answer_with fetched)) }

@@ -78,6 +78,7 @@ impl HeldJobs {
     }
 
     /// Holds a job after the others. Its id is not held.
+    #[inline(always)]
     pub(crate) fn hold(&mut self, job: Job)
         requires few { length self.old < MOST_HELD }
         requires fresh { AreNew self.old (job ∷ []) }
@@ -89,6 +90,7 @@ impl HeldJobs {
     }
 
     /// Takes out the job of this id, if it is held.
+    #[inline(always)]
     pub(crate) fn take_out(&mut self, id: u64) -> Option<Job>
         ensures { MatchOption (place_of self.old id)
             ((result ≡ None) × (self.new ≡ self.old))

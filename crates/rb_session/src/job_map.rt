@@ -35,6 +35,7 @@ impl JobMap {
     /// are dropped, while the jobs lie aside.
     ///
     /// That costs a pass over all entries, and comes after more jobs have ended than may be held.
+    #[inline(always)]
     pub(crate) fn make_room(&mut self, aside: &mut Vec<Job>, more: usize)
         requires roomy { IsRoomy self.old }
         requires few { length (held_in self.old) + more ≤ MOST_HELD }
@@ -87,6 +88,7 @@ impl JobMap {
     }
 
     /// Holds a job behind the others. There is room for it, and its id is not held.
+    #[inline(always)]
     pub(crate) fn hold(&mut self, job: Job)
         requires filed { AreFiled self.old.entries.entries }
         requires spare { 0 < spare self.old.entries }
