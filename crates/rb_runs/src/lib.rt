@@ -15,7 +15,7 @@ mod text_verdict;
 
 pub use laws::{recorded_is_read, script_is_read};
 pub use opening::opening_in;
-pub use reading::read_all;
+pub use reading::{read_all, read_all_limited};
 pub use recording::Recording;
 pub use replay::run_replay;
 pub use script::{run_script, run_script_delivered, run_script_gathered};

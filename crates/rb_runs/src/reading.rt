@@ -1,4 +1,4 @@
-ghost use Rattle.std.specs.Prelude.{◌≡◌, ◌<◌, Err, IfOk, length, vec_len};
+ghost use Rattle.std.specs.Prelude.{◌≡◌, ◌<◌, ◌≤◌, Err, IfOk, length, vec_len};
 ghost use Rattle.rb_runs.specs.FileText.{ReadsAll};
 
 use rb_ending::BrokerFault;
@@ -14,9 +14,25 @@ use std::io::{ErrorKind, Read};
 pub fn read_all<R: Read>(alloc: Global, reader: &mut R) -> Result<Vec<u8>, BrokerFault>
     ensures { ReadsAll (R.remaining reader.old) result (R.remaining reader.new) }
 {
-    let mut piece = empty_piece(alloc)?;
     let mut limited = LimitedReader::new(reader);
-    read_pieces(alloc, &mut limited, &mut piece)
+    read_all_limited(alloc, &mut limited)
+}
+
+/// Everything that a reader with a limited number of reads gives, like `read_all`.
+///
+/// Each read takes one of those that the reader has left, and `ReadTurns` comes only once none is left.
+/// So what is left afterwards tells how often it read.
+pub fn read_all_limited<R: Read>(
+    alloc: Global,
+    reader: &mut LimitedReader<'_, R>,
+) -> Result<Vec<u8>, BrokerFault>
+    ensures reads { ReadsAll (R.remaining reader.old.inner.now) result (R.remaining reader.new.inner.now) }
+    ensures used_up { result ≡ Err BrokerFault.ReadTurns → reader.new.left ≡ 0 }
+    ensures counted { reader.new.left ≤ reader.old.left }
+    ensures same_reference { reader.new.inner.ghost_name ≡ reader.old.inner.ghost_name }
+{
+    let mut piece = empty_piece(alloc)?;
+    read_pieces(alloc, reader, &mut piece)
 }
 
 // Reads piece after piece, until there is no more.
@@ -28,6 +44,7 @@ fn read_pieces<R: Read>(
     requires { 0 < length piece.old }
     ensures reads { ReadsAll (R.remaining reader.old.inner.now) result (R.remaining reader.new.inner.now) }
     ensures used_up { result ≡ Err BrokerFault.ReadTurns → reader.new.left ≡ 0 }
+    ensures counted { reader.new.left ≤ reader.old.left }
     ensures same_reference { reader.new.inner.ghost_name ≡ reader.old.inner.ghost_name }
 {
     let mut text = Vec::new(alloc);
