@@ -20,3 +20,4 @@ pub mod FileText
 pub mod Script
 pub mod ScriptRun
 pub mod WrittenRuns
+pub mod ScriptEvents

@@ -1,0 +1,22 @@
+-- The history of a script is what a run of a session adds to an empty one.
+use Rattle.std.proofs.Common.{◌≡◌, ℕ, List, [], ◌++◌, sym, ap, ◌∙◌}
+use Rattle.rb_queue.specs.declared.event.Event.{Event}
+use Rattle.rb_retry.specs.KeptSteps.{KeptState}
+use Rattle.rb_retry.specs.Made.{Made}
+use Rattle.rb_session.specs.Events.{made_events, latest}
+use Rattle.rb_session.proofs.RunEvents.{grows_so, records_by_run}
+use Rattle.rb_runs.specs.ScriptEvents.{RecordsByScript}
+
+-- what an empty history grows by is all of it
+grown_from_none : (from to : KeptState) (made : List Made) → from.log.history ≡ []
+    → to.log.history ≡ from.log.history ++ made_events made → to.log.history ≡ made_events made
+grown_from_none from to made none grows = grows ∙ ap (λ (events : List Event). events ++ made_events made) none
+
+pub records_by_script : RecordsByScript
+records_by_script policy calls delivery rest opening came sent session to ran =
+    let run = records_by_run policy delivery rest ran.from to came sent session ran.ran in
+    let so = grows_so (λ made grows. grown_from_none ran.from to made ran.new.log.history grows) run.0 in (
+      so.0,
+      run.2 ∙ ran.new.log.opening_is,
+      run.1 ∙ ap (λ (moment : ℕ). latest moment run.0.lines) ran.new.moment ∙ ap (latest opening.last_at) (sym so.1),
+    )
