@@ -1,4 +1,4 @@
--- Where a run begins that continues a history.
+-- The opening of a run that continues a history.
 use Rattle.std.specs.Prelude.{◌≡◌, ◌⊎◌, ℕ, List, Result, Ok, Err}
 use Rattle.rb_queue.specs.History.{IsLegal, state_of}
 use Rattle.rb_queue.specs.declared.event.Event.{Event}
@@ -29,7 +29,8 @@ IsUnreadable text = (line : ℕ) × (reason : TextReason) × HasFault text line 
 
 -- the text is of a history that a run continues so
 abbrev pub GoesOnIn : List ℕ → Result Opening BrokerFault → Type 0
-GoesOnIn text result = (from : Opening) × (events : List Event) × IsTextOf from events text × Continues from events result
+GoesOnIn text result =
+    (from : Opening) × (events : List Event) × IsTextOf from events text × Continues from events result
 
 -- the opening of a run that continues the text's history, or why there is none
 abbrev pub BeginsIn : List ℕ → Result Opening BrokerFault → Type 0

@@ -49,7 +49,8 @@ IsVerdictOn checked opening events (Accepted audit) =
 abbrev pub IsVerdictOf : Option Policy → List ℕ → TextVerdict → Type 0
 IsVerdictOf checked text (Unreadable line reason) = HasFault text line reason
 IsVerdictOf checked text verdict =
-    (opening : Opening) × (events : List Event) × IsTextOf opening events text × IsVerdictOn checked opening events verdict
+    (opening : Opening) × (events : List Event) × IsTextOf opening events text
+    × IsVerdictOn checked opening events verdict
 
 -- a word, where the fault is, and why
 abbrev pub fault_text : List ℕ → ℕ → List ℕ → List ℕ

@@ -22,10 +22,11 @@ pub fn run_replay(
     options: &ReplayOptions,
     text: &[u8],
 ) -> Result<(String, u8), BrokerFault>
-    ensures line { IfOk result (λ told. (verdict : TextVerdict) × IsVerdictOf options.now.chains text.now verdict × Tells verdict (string_bytes told.0) told.1) }
+    ensures line { IfOk result (λ told. (verdict : TextVerdict)
+        × IsVerdictOf options.now.chains text.now verdict × Tells verdict (string_bytes told.0) told.1) }
     ensures each { (opening : Opening) (events : List Event) → IsRightOpening opening → AreRightEvents events
-        → IsTextOf opening events text.now → IfOk result (λ told.
-        (verdict : TextVerdict) × IsVerdictOn options.now.chains opening events verdict × Tells verdict (string_bytes told.0) told.1) }
+        → IsTextOf opening events text.now → IfOk result (λ told. (verdict : TextVerdict)
+        × IsVerdictOn options.now.chains opening events verdict × Tells verdict (string_bytes told.0) told.1) }
     ensures fault { IfErr result (λ fault. fault ≡ BrokerFault.Memory) }
 {
     let verdict = verdict_of(alloc, options, text)?;
