@@ -10,3 +10,5 @@ pub mod Terms
 pub mod VisitCounts
 pub mod Visits
 pub mod Serving
+pub mod VisitEvents
+pub mod ServerEvents
