@@ -22,26 +22,26 @@ visits_text sessions faults lost =
 abbrev pub report_text : {T : Type 0} → ServeReport T → List ℕ
 report_text report = visits_text report.sessions report.faults report.lost ++ audit_text report.audit
 
--- The text was printed; or nothing, for want of memory; or a first part of it.
+-- The text was printed; or nothing, if memory was refused; or a first part of it.
 abbrev pub Prints : Result (Unit {0}) BrokerFault → Option (List ℕ) → List ℕ → Option (List ℕ) → Type 0
 Prints (Ok done) got text got' = Appends got got' text
 Prints (Err Memory) got text got' = Keeps got got'
 Prints (Err fault) got text got' =
     (fault ≡ Write) × ((sent : List ℕ) × (unsent : List ℕ) × (text ≡ sent ++ unsent) × Appends got got' sent)
 
--- the fault of the history is answered, where there is one, and else that of printing
+-- the fault of the history is answered, if there is one, and otherwise that of printing
 abbrev pub first_fault : Result (Unit {0}) HistoryFault → Result (Unit {0}) BrokerFault → Result (Unit {0}) BrokerFault
 first_fault (Ok done) printed = printed
 first_fault (Err fault) printed = Err (fault_of_history fault)
 
--- The report was printed. The fault of the history is answered, where there is one, and else that of printing.
+-- The report was printed. The fault of the history is answered, if there is one, and otherwise that of printing.
 pub record PrintsAfter (wrote : Result (Unit {0}) HistoryFault)
     (PrintsReport : Result (Unit {0}) BrokerFault → Type 0) (result : Result (Unit {0}) BrokerFault) : Type 0 where
   pub printed : Result (Unit {0}) BrokerFault
   pub prints : PrintsReport printed
   pub answers : result ≡ first_fault wrote printed
 
--- The history was written, where something is to have it, and the report printed, whatever came of that.
+-- The history was written, if there is a device for it, and the report printed, whatever came of that.
 pub record EndsServer (Records : Result (Unit {0}) HistoryFault → Type 0)
     (PrintsReport : Result (Unit {0}) BrokerFault → Type 0) (result : Result (Unit {0}) BrokerFault) : Type 0 where
   pub wrote : Result (Unit {0}) HistoryFault

@@ -45,7 +45,7 @@ module _ {I O G C : Type 0} (terms : Terms I O G C) where
     pub works : IsWorker terms worker visits pass
     pub counted : counts ≡ counts_of visits
 
-  -- The passes of so many workers were folded into the pass, which made no call itself. These are the counts of
+  -- The passes of this many workers were folded into the pass, which made no call itself. These are the counts of
   -- all visits.
   pub record FoldsWorkers (workers : ℕ) (old new : Seen) (counts : VisitCounts) : Type 0 where
     pub records : List PassRecord
@@ -59,11 +59,12 @@ module _ {I O G C : Type 0} (terms : Terms I O G C) where
     pub opening : new.opening ≡ old.opening
     pub mine : new.mine ≡ old.mine
 
-  -- The queue that a server gives back began with this opening and had room for so many calls as the options say. Its
+  -- The queue that a server gives back began with this opening and had room for as many calls as the options say. Its
   -- history is legal, and has the calls of as many workers and no other; the calls of each are those of the sessions
   -- that it served, one after the other, until the door had no more. The audit is that of this history, and the counts
   -- are those of all visits, for each of which the door was asked under another number.
-  pub record IsServersRun {T : Type 0} (begun : Opening) (options : ServerRunOptions) (report : ServeReport T) : Type 0 where
+  pub record IsServersRun {T : Type 0} (begun : Opening) (options : ServerRunOptions)
+      (report : ServeReport T) : Type 0 where
     pub opening : report.kept.opening ≡ begun
     pub capacity : report.kept.capacity ≡ options.calls
     pub audited : report.audit ≡ audit_of report.kept.opening report.kept.history

@@ -19,7 +19,7 @@ pub struct DoorFault;
 ///
 /// `lets_in` tells which visits the door may let in under a number, `turns_away` that it may refuse a visitor under
 /// it, and `has_no_more` that it may answer that there are no more. Code over any door learns them in no other way
-/// than by asking under that number: so where a contract says one of them, the door answered so.
+/// than by asking under that number: if a contract says one of them, the door gave that answer.
 pub trait Door {
     /// What a visitor's requests are read from.
     type Reader: Read + Drop + Send;

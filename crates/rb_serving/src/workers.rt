@@ -62,7 +62,7 @@ pub(crate) fn serve_all<
     )
 }
 
-// Starts so many workers, one after the other, waits for each, and folds its pass into this one.
+// Starts this many workers, one after the other, waits for each, and folds its pass into this one.
 #[tactic(auto, using(crate::proofs::FoldedWorkers::folds_none, crate::proofs::FoldedWorkers::folds_one_more))]
 fn start_all<
     's,
