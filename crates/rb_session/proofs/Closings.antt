@@ -2,13 +2,10 @@
 use Rattle.std.proofs.Common.{◌≡◌, ℕ, ◌+◌, List, [], ◌∷◌, ◌++◌, Result, Ok, Err, refl, subst, arith}
 use Rattle.std.specs.Prelude.{true, false, is_err}
 use Rattle.rb_delayed.specs.declared.element.Element.{Element}
-use Rattle.rb_queue.specs.declared.ask.Ask.{Ask}
-use Rattle.rb_queue.specs.declared.reply.Reply.{Reply}
 use Rattle.rb_kept.specs.declared.fault.CallFault.{CallFault}
 use Rattle.rb_retry.specs.Jobs.{FailsTo}
-use Rattle.rb_retry.specs.declared.desk_fault.DeskFault.{DeskFault}
-use Rattle.rb_retry.specs.declared.policy.Policy.{Policy}
 use Rattle.rb_retry.specs.declared.verdict.Verdict.{Verdict}
+use Rattle.rb_session.specs.Rules.{DeskRules}
 use Rattle.rb_session.specs.Closing.{Closes, lost_by}
 
 -- a refused retry is one that is lost
@@ -20,13 +17,18 @@ pub lost_none : (result : Result Verdict (Element × CallFault)) → is_err resu
 lost_none (Ok verdict) went = refl
 lost_none (Err refused) went = absurd (cc)
 
-module _ {S : Type 0} (gives : S → ℕ → Type 0) (Steps : S → ℕ → Ask → Result Reply DeskFault → S → Type 0) (policy : Policy) where
+module _ {S : Type 0} (rules : DeskRules S) where
   -- one more fails behind those that did
-  pub closes_more : (old last new : S) (held : List Element) (element : Element) (lost now : ℕ) (result : Result Verdict (Element × CallFault)) → Closes gives Steps policy old held lost last
-      → gives last now → FailsTo Steps policy element now last result new → Closes gives Steps policy old (held ++ element ∷ []) (lost + lost_by result) new
+  pub closes_more : (old last new : S) (held : List Element) (element : Element) (lost now : ℕ)
+      (result : Result Verdict (Element × CallFault)) → Closes rules old held lost last → rules.gives last now
+      → FailsTo rules.Steps rules.policy element now last result new
+      → Closes rules old (held ++ element ∷ []) (lost + lost_by result) new
   closes_more old last new [] element lost now result (none, same) given fails =
-      let from : FailsTo Steps policy element now old result new = subst (λ s. FailsTo Steps policy element now s result new) same fails in
-      let at : gives old now = subst (λ s. gives s now) same given in
+      let from : FailsTo rules.Steps rules.policy element now old result new =
+      subst (λ s. FailsTo rules.Steps rules.policy element now s result new) same fails in
+      let at : rules.gives old now = subst (λ s. rules.gives s now) same given in
       (now, at, result, new, from, 0, (refl, refl), omega (arith, none))
-  closes_more old last new (first ∷ held) element lost now result (then, given_first, ended, between, failed, more, rest, sum) given fails =
-      (then, given_first, ended, between, failed, more + lost_by result, closes_more between last new held element more now result rest given fails, omega (arith, sum))
+  closes_more old last new (first ∷ held) element lost now result
+      (then, given_first, ended, between, failed, more, rest, sum) given fails =
+      let others = closes_more between last new held element more now result rest given fails in
+      (then, given_first, ended, between, failed, more + lost_by result, others, omega (arith, sum))

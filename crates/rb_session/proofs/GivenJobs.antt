@@ -1,5 +1,6 @@
 -- Each job that is held was given by the desk. The desk gives no id twice, so what it gives next is not held.
-use Rattle.std.proofs.Common.{◌≡◌, ℕ, zero, suc, ◌+◌, ◌-◌, ◌<◌, ◌≤◌, List, [], ◌∷◌, ◌++◌, length, Option, Some, Result, Ok, Err, refl, sym, ap, subst, ◌∙◌, arith, remove, inl, inr, ◌⊎◌}
+use Rattle.std.proofs.Common.{◌≡◌, ℕ, zero, suc, ◌+◌, ◌-◌, ◌<◌, ◌≤◌, List, [], ◌∷◌, ◌++◌, length, Option, Some, Result}
+use Rattle.std.proofs.Common.{Ok, Err, refl, sym, ap, subst, ◌∙◌, arith, remove, inl, inr, ◌⊎◌}
 use Rattle.std.proofs.lemmas.Bool.{cases_lt}
 use Rattle.std.proofs.lemmas.List.{append-nil, map-append}
 use Rattle.std.specs.Prelude.{nat_le, nat_lt, min}
@@ -11,14 +12,14 @@ use Rattle.rb_queue.specs.declared.ask.Ask.{Ask}
 use Rattle.rb_queue.specs.declared.ask.Ask.TheVariants as asks
 use Rattle.rb_queue.specs.declared.event.Event.{Event}
 use Rattle.rb_queue.specs.declared.reply.Reply.{Reply}
-use Rattle.rb_queue.specs.declared.reply.Reply.TheVariants.{Offered, Item, Nothing, Head, Removed, Drained, Cleared, Size}
+use Rattle.rb_queue.specs.declared.reply.Reply.TheVariants.{Offered, Item, Nothing, Head, Removed, Drained, Cleared}
+use Rattle.rb_queue.specs.declared.reply.Reply.TheVariants.{Size}
 use Rattle.rb_queue.proofs.Effects.{times_cons}
 use Rattle.rb_retry.specs.Made.{Made, ids_given, given_by, GivesOnce}
 use Rattle.rb_retry.specs.GivenLaws.{times_append, times_given-append}
 use Rattle.rb_retry.specs.Asked.{Makes, MayGet}
 use Rattle.rb_retry.specs.KeptSteps.{fault_of}
 use Rattle.rb_retry.specs.declared.desk_fault.DeskFault.{DeskFault}
-use Rattle.rb_retry.specs.declared.policy.Policy.{Policy}
 use Rattle.rb_retry.specs.declared.verdict.Verdict.TheVariants.{Again, Dead}
 use Rattle.rb_protocol.specs.declared.request.Request.{Request}
 use Rattle.rb_protocol.specs.declared.request.Request.TheVariants as requests
@@ -26,10 +27,11 @@ use Rattle.rb_protocol.specs.declared.line_fault.LineFault.{LineFault}
 use Rattle.rb_protocol.specs.declared.line_reply.LineReply.{LineReply}
 use Rattle.rb_protocol.specs.declared.line_reply.LineReply.TheVariants as lines
 use Rattle.rb_protocol.specs.declared.error_word.ErrorWord.TheVariants as words
-use Rattle.rb_session.specs.Events.{HoldsOnce}
+use Rattle.rb_session.specs.Rules.{DeskRules}
 use Rattle.rb_session.specs.Held.{place_of, AreGiven, AreNew, AreHeldOnce}
 use Rattle.rb_session.specs.Session.{Turn, Serves}
-use Rattle.rb_session.specs.Turn.{Point, IsTurn, IsServed, IsCall, IsFetch, IsFailure, AnswersAlone, fetched_by, word_for}
+use Rattle.rb_session.specs.Turn.{Point, IsTurn, IsServed, IsCall, IsFetch, IsFailure, AnswersAlone, fetched_by}
+use Rattle.rb_session.specs.Turn.{word_for}
 use Rattle.rb_session.specs.declared.held_jobs.TheConstants.{MOST_HELD}
 use Rattle.rb_session.proofs.Events.{of_bool, of_place}
 
@@ -45,24 +47,29 @@ handed_ids Cleared = refl
 handed_ids (Size count) = refl
 
 -- elements, one behind the other
-pub times_held-append : (id : ℕ) (one two : List Element) → times id (ids_of (one ++ two)) ≡ times id (ids_of one) + times id (ids_of two)
-times_held-append id one two = ap (times id) (map-append (λ (element : Element). element.id) one two) ∙ times_append id (ids_of one) (ids_of two)
+pub times_held-append : (id : ℕ) (one two : List Element)
+    → times id (ids_of (one ++ two)) ≡ times id (ids_of one) + times id (ids_of two)
+times_held-append id one two = ap (times id) (map-append (λ (element : Element). element.id) one two)
+    ∙ times_append id (ids_of one) (ids_of two)
 
 -- what a call with a reply gave, behind what was given before
 given_one : (id : ℕ) (mades : List Made) (event : Event) (reply : Reply)
-    → times id (given_by (mades ++ record { event = event; reply = Some reply } ∷ [])) ≡ times id (given_by mades) + times id (ids_given reply)
+    → times id (given_by (mades ++ record { event = event; reply = Some reply } ∷ [])) ≡ times id
+    (given_by mades) + times id (ids_given reply)
 given_one id mades event reply =
     times_given-append id mades (record { event = event; reply = Some reply } ∷ [])
     ∙ ap (λ (ids : List ℕ). times id (given_by mades) + times id ids) (append-nil (ids_given reply))
 
 -- of elements that are new the first is new, and the others are new behind it
-pub first_new : (held : List Element) (element : Element) (others : List Element) → AreNew held (element ∷ others) → AreNew held (element ∷ [])
+pub first_new : (held : List Element) (element : Element) (others : List Element) → AreNew held (element ∷ others)
+    → AreNew held (element ∷ [])
 first_new held element others new id some =
     let one = times_cons id element.id [] in
     let all = times_cons id element.id (ids_of others) in
     omega (arith, new id (omega (arith, some, one, all)), one, all)
 
-pub others_new : (held : List Element) (element : Element) (others : List Element) → AreNew held (element ∷ others) → AreNew (held ++ element ∷ []) others
+pub others_new : (held : List Element) (element : Element) (others : List Element) → AreNew held (element ∷ others)
+    → AreNew (held ++ element ∷ []) others
 others_new held element others new id some =
     let one = times_cons id element.id [] in
     let all = times_cons id element.id (ids_of others) in
@@ -72,23 +79,33 @@ others_new held element others new id some =
 pub none_given : (mades : List Made) → AreGiven mades []
 none_given mades id = omega arith
 
-times_removed : (id : ℕ) (held : List Element) (place : ℕ) → times id (ids_of (remove held place)) ≤ times id (ids_of held)
+times_removed : (id : ℕ) (held : List Element) (place : ℕ)
+    → times id (ids_of (remove held place)) ≤ times id (ids_of held)
 times_removed id [] zero = omega arith
 times_removed id [] (suc place) = omega arith
 times_removed id (first ∷ held) zero = omega (arith, times_cons id first.id (ids_of held))
 times_removed id (first ∷ held) (suc place) =
-    omega (arith, times_removed id held place, times_cons id first.id (ids_of held), times_cons id first.id (ids_of (remove held place)))
+    omega (
+      arith,
+      times_removed id held place,
+      times_cons id first.id (ids_of held),
+      times_cons id first.id
+          (ids_of (remove held place)),
+    )
 
 -- of what was given one is held no longer
-given_removed : (mades : List Made) (held : List Element) (place : ℕ) → AreGiven mades held → AreGiven mades (remove held place)
+given_removed : (mades : List Made) (held : List Element) (place : ℕ) → AreGiven mades held
+    → AreGiven mades (remove held place)
 given_removed mades held place given id = omega (arith, given id, times_removed id held place)
 
-module _ {S : Type 0} (gives : S → ℕ → Type 0) (Sets : S → ℕ → Option ℕ → S → Type 0)
-    (Steps : S → ℕ → Ask → Result Reply DeskFault → S → Type 0) (mine : S → List Made)
-    (makes : (old new : S) (asked : ℕ) (ask : Ask) (reply : Reply) → Steps old asked ask (Ok reply) new → Makes (gives old) asked ask reply (mine old) (mine new))
-    (gives_once : (old new : S) (asked : ℕ) (ask : Ask) (reply : Reply) → Steps old asked ask (Ok reply) new → GivesOnce (mine new))
-    (refuses : (old new : S) (asked : ℕ) (ask : Ask) (fault : DeskFault) → Steps old asked ask (Err fault) new → MayGet ask fault × (mine new ≡ mine old))
-    (stays : (old new : S) (moment : ℕ) (result : Option ℕ) → Sets old moment result new → mine new ≡ mine old) where
+module _ {S : Type 0} (gives : S → ℕ → Type 0) (Steps : S → ℕ → Ask → Result Reply DeskFault → S → Type 0)
+    (mine : S → List Made)
+    (makes : (old new : S) (asked : ℕ) (ask : Ask) (reply : Reply) → Steps old asked ask (Ok reply) new
+    → Makes (gives old) asked ask reply (mine old) (mine new))
+    (gives_once : (old new : S) (asked : ℕ) (ask : Ask) (reply : Reply) → Steps old asked ask (Ok reply) new
+    → GivesOnce (mine new))
+    (refuses : (old new : S) (asked : ℕ) (ask : Ask) (fault : DeskFault) → Steps old asked ask (Err fault) new
+    → MayGet ask fault × (mine new ≡ mine old)) where
   -- what a call hands out is new to what is held
   pub call_new : (old new : S) (asked : ℕ) (ask : Ask) (answer : Result Reply DeskFault) (held : List Element)
       → Steps old asked ask answer new → AreGiven (mine old) held → AreNew held (fetched_by answer)
@@ -126,85 +143,107 @@ module _ {S : Type 0} (gives : S → ℕ → Type 0) (Sets : S → ℕ → Optio
       )
 
 -- What calls, removals and settings of the clock keep true of a desk and of what is held, a line keeps true.
-module _ {S : Type 0} (gives : S → ℕ → Type 0) (Sets : S → ℕ → Option ℕ → S → Type 0)
-    (Steps : S → ℕ → Ask → Result Reply DeskFault → S → Type 0) (Holds : S → List Element → Type 0)
-    (calls : (old new : S) (asked : ℕ) (ask : Ask) (answer : Result Reply DeskFault) (held : List Element) → Steps old asked ask answer new → Holds old held → Holds new (held ++ fetched_by answer))
+module _ {S : Type 0} (rules : DeskRules S) (Holds : S → List Element → Type 0)
+    (calls : (old new : S) (asked : ℕ) (ask : Ask) (answer : Result Reply DeskFault) (held : List Element)
+    → rules.Steps old asked ask answer new → Holds old held → Holds new (held ++ fetched_by answer))
     (removes : (desk : S) (held : List Element) (place : ℕ) → Holds desk held → Holds desk (remove held place))
-    (sets : (old new : S) (moment : ℕ) (result : Option ℕ) (held : List Element) → Sets old moment result new → Holds old held → Holds new held) where
+    (sets : (old new : S) (moment : ℕ) (result : Option ℕ) (held : List Element) → rules.Sets old moment result new
+    → Holds old held → Holds new held) where
   -- a call that hands nothing out
-  plain_call : (old new : S) (asked : ℕ) (ask : Ask) (answer : Result Reply DeskFault) (held : List Element) → fetched_by answer ≡ []
-      → Steps old asked ask answer new → Holds old held → Holds new held
+  plain_call : (old new : S) (asked : ℕ) (ask : Ask) (answer : Result Reply DeskFault) (held : List Element)
+      → fetched_by answer ≡ []
+      → rules.Steps old asked ask answer new → Holds old held → Holds new held
   plain_call old new asked ask answer held none steps holds =
-      subst (Holds new) (ap (λ (more : List Element). held ++ more) none ∙ append-nil held) (calls old new asked ask answer held steps holds)
+      subst (Holds new) (ap (λ (more : List Element). held ++ more) none ∙ append-nil held)
+      (calls old new asked ask answer held steps holds)
 
-  alone : (line : LineReply) (old new : Point S) (replies : List LineReply) → Holds old.desk old.held → AnswersAlone line old replies new → Holds new.desk new.held
+  alone : (line : LineReply) (old new : Point S) (replies : List LineReply) → Holds old.desk old.held
+      → AnswersAlone line old replies new → Holds new.desk new.held
   alone line old new replies holds (is, same) = subst (λ (p : Point S). Holds p.desk p.held) (sym same) holds
 
-  call : (ask : Ask) (old new : Point S) (handed : ℕ) (replies : List LineReply) → Holds old.desk old.held → IsCall Steps old handed ask replies new → Holds new.desk new.held
+  call : (ask : Ask) (old new : Point S) (handed : ℕ) (replies : List LineReply) → Holds old.desk old.held
+      → IsCall rules.Steps old handed ask replies new → Holds new.desk new.held
   call ask old new handed replies holds (answer, steps, are, held) =
       subst (Holds new.desk) (sym held) (calls old.desk new.desk handed ask answer old.held steps holds)
 
-  fetch : (ask : Ask) (old new : Point S) (handed : ℕ) (replies : List LineReply) → Holds old.desk old.held → IsFetch Steps old handed ask replies new → Holds new.desk new.held
+  fetch : (ask : Ask) (old new : Point S) (handed : ℕ) (replies : List LineReply) → Holds old.desk old.held
+      → IsFetch rules.Steps old handed ask replies new → Holds new.desk new.held
   fetch ask old new handed replies holds =
-      of_bool (nat_lt (length old.held) MOST_HELD) _ _ _ (call ask old new handed replies holds) (alone (lines.Error words.Held) old new replies holds)
+      of_bool (nat_lt (length old.held) MOST_HELD) _ _ _
+      (call ask old new handed replies holds) (alone (lines.Error words.Held) old new replies holds)
 
-  failure : (policy : Policy) (old new : Point S) (now place : ℕ) (replies : List LineReply) → Holds old.desk old.held
-      → IsFailure Steps policy old now place replies new → Holds new.desk new.held
-  failure policy old new now place replies holds (element, at, Ok (Again again), (draft, retry, steps), are, held) =
+  failure : (old new : Point S) (now place : ℕ) (replies : List LineReply) → Holds old.desk old.held
+      → IsFailure rules old now place replies new → Holds new.desk new.held
+  failure old new now place replies holds (element, at, Ok (Again again), (draft, retry, steps), are, held) =
       subst (Holds new.desk) (sym held)
-      (removes new.desk old.held place (plain_call old.desk new.desk now (asks.Offer draft) (Ok (Offered again)) old.held refl steps holds))
-  failure policy old new now place replies holds (element, at, Ok (Dead dead), (retry, is_dead, same), are, held) =
-      subst (Holds new.desk) (sym held) (removes new.desk old.held place (subst (λ (s : S). Holds s old.held) (sym same) holds))
-  failure policy old new now place replies holds (element, at, Err (back, fault), (draft, retry, steps, is_back), are, held) =
-      subst (Holds new.desk) (sym held) (plain_call old.desk new.desk now (asks.Offer draft) (Err (fault_of fault)) old.held refl steps holds)
+      (removes new.desk old.held place (plain_call old.desk new.desk now (asks.Offer draft)
+      (Ok (Offered again)) old.held refl steps holds))
+  failure old new now place replies holds (element, at, Ok (Dead dead), (retry, is_dead, same), are, held) =
+      subst (Holds new.desk) (sym held) (removes new.desk old.held place
+      (subst (λ (s : S). Holds s old.held) (sym same) holds))
+  failure old new now place replies holds (element, at, Err (back, fault), (draft, retry, steps, is_back), are, held) =
+      subst (Holds new.desk) (sym held) (plain_call old.desk new.desk now (asks.Offer draft)
+      (Err (fault_of fault)) old.held refl steps holds)
 
-  served : (policy : Policy) (request : Request) (old new : Point S) (now : ℕ) (replies : List LineReply) → Holds old.desk old.held
-      → IsServed gives Sets Steps policy old now request replies new → Holds new.desk new.held
-  served policy (requests.Offer delay payload) old new now replies holds =
+  served : (request : Request) (old new : Point S) (now : ℕ) (replies : List LineReply) → Holds old.desk old.held
+      → IsServed rules old now request replies new → Holds new.desk new.held
+  served (requests.Offer delay payload) old new now replies holds =
       of_bool (nat_le (now + delay) GREATEST_MOMENT) _ _ _
       (λ offers. call (asks.Offer offers.0) old new now replies holds offers.2)
       (alone (lines.Error words.Range) old new replies holds)
-  served policy (requests.OfferAt expiry payload) old new now replies holds = λ offers. call (asks.Offer offers.0) old new now replies holds offers.2
-  served policy requests.Poll old new now replies holds = fetch asks.Poll old new now replies holds
-  served policy (requests.PollFor timeout) old new now replies holds = fetch (asks.PollFor now timeout) old new now replies holds
-  served policy requests.Take old new now replies holds = fetch asks.Take old new 0 replies holds
-  served policy requests.Peek old new now replies holds = call asks.Peek old new now replies holds
-  served policy (requests.Remove id) old new now replies holds = call (asks.Remove id) old new now replies holds
-  served policy (requests.Drain most) old new now replies holds = call (asks.Drain (min most (MOST_HELD - length old.held))) old new now replies holds
-  served policy requests.Clear old new now replies holds = call asks.Clear old new now replies holds
-  served policy requests.Size old new now replies holds = call asks.Size old new now replies holds
-  served policy (requests.Done id) old new now replies holds =
+  served (requests.OfferAt expiry payload) old new now replies holds =
+      λ offers. call (asks.Offer offers.0) old new now replies holds offers.2
+  served requests.Poll old new now replies holds = fetch asks.Poll old new now replies holds
+  served (requests.PollFor timeout) old new now replies holds =
+      fetch (asks.PollFor now timeout) old new now replies holds
+  served requests.Take old new now replies holds = fetch asks.Take old new 0 replies holds
+  served requests.Peek old new now replies holds = call asks.Peek old new now replies holds
+  served (requests.Remove id) old new now replies holds = call (asks.Remove id) old new now replies holds
+  served (requests.Drain most) old new now replies holds =
+      call (asks.Drain (min most (MOST_HELD - length old.held))) old new now replies holds
+  served requests.Clear old new now replies holds = call asks.Clear old new now replies holds
+  served requests.Size old new now replies holds = call asks.Size old new now replies holds
+  served (requests.Done id) old new now replies holds =
       of_place (place_of old.held id) _ _ _
       (alone (lines.Error words.NotHeld) old new replies holds)
-      (λ place done. subst (Holds new.desk) (sym done.2) (removes new.desk old.held place (subst (λ (s : S). Holds s old.held) (sym done.1) holds)))
-  served policy (requests.Fail id) old new now replies holds =
-      of_place (place_of old.held id) _ _ _ (alone (lines.Error words.NotHeld) old new replies holds) (λ place. failure policy old new now place replies holds)
-  served policy (requests.At moment) old new now replies holds =
-      λ setting. subst (Holds new.desk) (sym setting.3) (sets old.desk new.desk moment setting.0 old.held setting.1 holds)
-  served policy requests.Quit old new now replies holds = alone lines.Bye old new replies holds
+      (λ place done. subst (Holds new.desk) (sym done.2)
+      (removes new.desk old.held place (subst (λ (s : S). Holds s old.held) (sym done.1) holds)))
+  served (requests.Fail id) old new now replies holds =
+      of_place (place_of old.held id) _ _ _ (alone (lines.Error words.NotHeld) old new replies holds)
+      (λ place. failure old new now place replies holds)
+  served (requests.At moment) old new now replies holds =
+      λ setting. subst (Holds new.desk) (sym setting.3)
+      (sets old.desk new.desk moment setting.0 old.held setting.1 holds)
+  served requests.Quit old new now replies holds = alone lines.Bye old new replies holds
 
-  of_turn : (policy : Policy) (reading : Result Request LineFault) (old new : Point S) (replies : List LineReply)
-      → IsTurn gives Sets Steps policy old reading replies new → Holds old.desk old.held → Holds new.desk new.held
-  of_turn policy (Err fault) old new replies turn holds = alone (lines.Error (word_for fault)) old new replies holds turn
-  of_turn policy (Ok request) old new replies turn holds = served policy request old new turn.0 replies holds turn.2
+  of_turn : (reading : Result Request LineFault) (old new : Point S) (replies : List LineReply)
+      → IsTurn rules old reading replies new → Holds old.desk old.held → Holds new.desk new.held
+  of_turn (Err fault) old new replies turn holds = alone (lines.Error (word_for fault)) old new replies holds turn
+  of_turn (Ok request) old new replies turn holds = served request old new turn.0 replies holds turn.2
 
-module _ {S : Type 0} (gives : S → ℕ → Type 0) (Sets : S → ℕ → Option ℕ → S → Type 0)
-    (Steps : S → ℕ → Ask → Result Reply DeskFault → S → Type 0) (mine : S → List Made)
-    (makes : (old new : S) (asked : ℕ) (ask : Ask) (reply : Reply) → Steps old asked ask (Ok reply) new → Makes (gives old) asked ask reply (mine old) (mine new))
-    (gives_once : (old new : S) (asked : ℕ) (ask : Ask) (reply : Reply) → Steps old asked ask (Ok reply) new → GivesOnce (mine new))
-    (refuses : (old new : S) (asked : ℕ) (ask : Ask) (fault : DeskFault) → Steps old asked ask (Err fault) new → MayGet ask fault × (mine new ≡ mine old))
-    (stays : (old new : S) (moment : ℕ) (result : Option ℕ) → Sets old moment result new → mine new ≡ mine old) where
+module _ {S : Type 0} (rules : DeskRules S) (mine : S → List Made)
+    (makes : (old new : S) (asked : ℕ) (ask : Ask) (reply : Reply) → rules.Steps old asked ask (Ok reply) new
+    → Makes (rules.gives old) asked ask reply (mine old) (mine new))
+    (gives_once : (old new : S) (asked : ℕ) (ask : Ask) (reply : Reply) → rules.Steps old asked ask (Ok reply) new
+    → GivesOnce (mine new))
+    (refuses : (old new : S) (asked : ℕ) (ask : Ask) (fault : DeskFault) → rules.Steps old asked ask (Err fault) new
+    → MayGet ask fault × (mine new ≡ mine old))
+    (stays : (old new : S) (moment : ℕ) (result : Option ℕ) → rules.Sets old moment result new
+    → mine new ≡ mine old) where
   abbrev Given : S → List Element → Type 0
   Given desk held = AreGiven (mine desk) held
 
-  set_given : (old new : S) (moment : ℕ) (result : Option ℕ) (held : List Element) → Sets old moment result new → Given old held → Given new held
-  set_given old new moment result held set given = subst (λ (mades : List Made). AreGiven mades held) (sym (stays old new moment result set)) given
+  set_given : (old new : S) (moment : ℕ) (result : Option ℕ) (held : List Element) → rules.Sets old moment result new
+      → Given old held → Given new held
+  set_given old new moment result held set given =
+      subst (λ (mades : List Made). AreGiven mades held) (sym (stays old new moment result set)) given
 
   -- a line leaves held only what was given
-  pub still_given : (policy : Policy) (reading : Result Request LineFault) (old new : Point S) (replies : List LineReply)
-      → IsTurn gives Sets Steps policy old reading replies new → AreGiven (mine old.desk) old.held → AreGiven (mine new.desk) new.held
+  pub still_given : (reading : Result Request LineFault) (old new : Point S) (replies : List LineReply)
+      → IsTurn rules old reading replies new → AreGiven (mine old.desk) old.held → AreGiven (mine new.desk) new.held
   still_given =
-      of_turn gives Sets Steps Given (call_given gives Sets Steps mine makes gives_once refuses stays) (λ desk held place given. given_removed (mine desk) held place given) set_given
+      of_turn rules Given (call_given rules.gives rules.Steps mine makes gives_once refuses)
+      (λ desk held place given. given_removed (mine desk) held place given) set_given
 
   -- and no id twice
   abbrev GivenOnce : S → List Element → Type 0
@@ -217,22 +256,30 @@ module _ {S : Type 0} (gives : S → ℕ → Type 0) (Sets : S → ℕ → Optio
       of_more (inl some) = omega (arith, new id some, times_held-append id held more)
       of_more (inr none) = omega (arith, once id, none, times_held-append id held more)
 
-  still_once : (policy : Policy) (reading : Result Request LineFault) (old new : Point S) (replies : List LineReply)
-      → IsTurn gives Sets Steps policy old reading replies new → GivenOnce old.desk old.held → GivenOnce new.desk new.held
+  still_once : (reading : Result Request LineFault) (old new : Point S) (replies : List LineReply)
+      → IsTurn rules old reading replies new → GivenOnce old.desk old.held → GivenOnce new.desk new.held
   still_once =
-      of_turn gives Sets Steps GivenOnce
+      of_turn rules GivenOnce
       (λ old new asked ask answer held steps both. (
-        call_given gives Sets Steps mine makes gives_once refuses stays old new asked ask answer held steps both.0,
-        once_more held (fetched_by answer) both.1 (call_new gives Sets Steps mine makes gives_once refuses stays old new asked ask answer held steps both.0),
+        call_given rules.gives rules.Steps mine makes gives_once refuses old new asked ask answer held steps both.0,
+        once_more held (fetched_by answer) both.1
+            (call_new rules.gives rules.Steps mine makes gives_once refuses old new asked ask answer held steps both.0),
       ))
-      (λ desk held place both. (given_removed (mine desk) held place both.0, λ id. omega (arith, both.1 id, times_removed id held place)))
+      (λ desk held place both. (
+        given_removed (mine desk) held place both.0,
+        λ id. omega
+            (arith, both.1 id, times_removed id held place),
+      ))
       (λ old new moment result held set both. (set_given old new moment result held set both.0, both.1))
 
-  once_along : (policy : Policy) (from to : Point S) (turns : List Turn) → GivenOnce from.desk from.held → Serves gives Sets Steps policy from turns to → AreHeldOnce to.held
-  once_along policy from to [] both same = subst (λ (p : Point S). AreHeldOnce p.held) (sym same) both.1
-  once_along policy from to (turn ∷ turns) both (between, is_line, goes_on, is_turn, rest) =
-      once_along policy between to turns (still_once policy turn.reading from between turn.replies is_turn both) rest
+  once_along : (from to : Point S) (turns : List Turn) → GivenOnce from.desk from.held → Serves rules from turns to
+      → AreHeldOnce to.held
+  once_along from to [] both same = subst (λ (p : Point S). AreHeldOnce p.held) (sym same) both.1
+  once_along from to (turn ∷ turns) both (between, is_line, goes_on, is_turn, rest) =
+      once_along between to turns (still_once turn.reading from between turn.replies is_turn both) rest
 
-  pub holds_once : HoldsOnce gives Sets Steps
-  holds_once policy from to turns none serves =
-      once_along policy from to turns (subst (λ (held : List Element). GivenOnce from.desk held) (sym none) (none_given (mine from.desk), λ id. omega arith)) serves
+  pub holds_once : (from to : Point S) (turns : List Turn) → from.held ≡ [] → Serves rules from turns to
+      → AreHeldOnce to.held
+  holds_once from to turns none serves =
+      once_along from to turns (subst (λ (held : List Element). GivenOnce from.desk held) (sym none)
+      (none_given (mine from.desk), λ id. omega arith)) serves

@@ -19,6 +19,7 @@ use Rattle.rb_delayed.specs.declared.element.Element.{Element}
 use Rattle.rb_protocol.specs.declared.request.Request.{Request}
 use Rattle.rb_protocol.specs.declared.line_fault.LineFault.{LineFault}
 use Rattle.rb_protocol.specs.declared.line_reply.LineReply.{LineReply}
+use Rattle.rb_session.specs.Rules.{kept_rules}
 use Rattle.rb_session.specs.Turn.{Point}
 use Rattle.rb_session.specs.Session.{Turn, Serves}
 use Rattle.rb_session.specs.Closing.{Closes}
@@ -43,7 +44,8 @@ steps_whole old new handed ask result steps = record {
 -- the events of what was made are the events that it was made of
 events_in : (opening : Opening) (before events : List Event) → made_events (made_after opening before events) ≡ events
 events_in opening before [] = refl
-events_in opening before (event ∷ events) = ap (λ (rest : List Event). event ∷ rest) (events_in opening (before ++ event ∷ []) events)
+events_in opening before (event ∷ events) = ap (λ (rest : List Event). event ∷ rest)
+    (events_in opening (before ++ event ∷ []) events)
 
 abbrev pub kept_gives : KeptState → ℕ → Type 0
 kept_gives state moment = moment ≡ state.moment
@@ -54,56 +56,69 @@ whole_mine state = made_at (whole state)
 
 pub makes_whole : (old new : KeptState) (asked : ℕ) (ask : Ask) (reply : Reply) → KeptSteps old asked ask (Ok reply) new
     → Makes (kept_gives old) asked ask reply (whole_mine old) (whole_mine new)
-makes_whole old new asked ask reply steps = kept_makes (whole old) (whole new) asked ask reply (steps_whole old new asked ask (Ok reply) steps)
+makes_whole old new asked ask reply steps = kept_makes (whole old) (whole new) asked ask reply
+    (steps_whole old new asked ask (Ok reply) steps)
 
-pub refuses_whole : (old new : KeptState) (asked : ℕ) (ask : Ask) (fault : DeskFault) → KeptSteps old asked ask (Err fault) new
+pub refuses_whole : (old new : KeptState) (asked : ℕ) (ask : Ask) (fault : DeskFault)
+    → KeptSteps old asked ask (Err fault) new
     → MayGet ask fault × (whole_mine new ≡ whole_mine old)
-refuses_whole old new asked ask fault steps = kept_refuses (whole old) (whole new) asked ask fault (steps_whole old new asked ask (Err fault) steps)
+refuses_whole old new asked ask fault steps =
+    kept_refuses (whole old) (whole new) asked ask fault (steps_whole old new asked ask (Err fault) steps)
 
-pub stays_whole : (old new : KeptState) (moment : ℕ) (result : Option ℕ) → SetsKept old moment result new → whole_mine new ≡ whole_mine old
+pub stays_whole : (old new : KeptState) (moment : ℕ) (result : Option ℕ) → SetsKept old moment result new
+    → whole_mine new ≡ whole_mine old
 stays_whole old new moment result sets = ap whole_mine sets.1
 
 -- what was made makes the history grow
-pub history_grows : (from to : KeptState) (made : List Made) → whole_mine to ≡ whole_mine from ++ made → to.log.history ≡ from.log.history ++ made_events made
+pub history_grows : (from to : KeptState) (made : List Made) → whole_mine to ≡ whole_mine from ++ made
+    → to.log.history ≡ from.log.history ++ made_events made
 history_grows from to made is =
     sym (events_in to.log.opening [] to.log.history) ∙ ap made_events is
     ∙ map-append (λ (m : Made). m.event) (whole_mine from) made
     ∙ ap (λ (events : List Event). events ++ made_events made) (events_in from.log.opening [] from.log.history)
 
 -- the moment after one line
-pub moment_of : (reading : Result Request LineFault) (replies : List LineReply) (old new : KeptState)
-    → Way kept_gives SetsKept KeptSteps reading replies old new → new.moment ≡ moment_after old.moment reading
-moment_of reading replies old new (inl leaves) = ap (λ (s : KeptState). s.moment) leaves.same ∙ sym (leaves.stands old.moment)
-moment_of reading replies old new (inr (inl calls)) = ap (λ (s : KeptState). s.moment) calls.steps.stays ∙ sym (calls.stands old.moment)
-moment_of reading replies old new (inr (inr sets)) = ap (λ (s : KeptState). s.moment) sets.sets.1 ∙ ap (moment_after old.moment) (sym sets.read)
+pub moment_of : (policy : Policy) (reading : Result Request LineFault) (replies : List LineReply) (old new : KeptState)
+    → Way (kept_rules policy) reading replies old new → new.moment ≡ moment_after old.moment reading
+moment_of policy reading replies old new (inl leaves) = ap (λ (s : KeptState). s.moment) leaves.same
+    ∙ sym (leaves.stands old.moment)
+moment_of policy reading replies old new (inr (inl calls)) = ap (λ (s : KeptState). s.moment) calls.steps.stays
+    ∙ sym (calls.stands old.moment)
+moment_of policy reading replies old new (inr (inr sets)) = ap (λ (s : KeptState). s.moment) sets.sets.1
+    ∙ ap (moment_after old.moment) (sym sets.read)
 
 pub latest_moment : (policy : Policy) (from to : Point KeptState) (turns : List Turn)
-    → Serves kept_gives SetsKept KeptSteps policy from turns to → to.desk.moment ≡ latest from.desk.moment turns
+    → Serves (kept_rules policy) from turns to → to.desk.moment ≡ latest from.desk.moment turns
 latest_moment policy from to [] same = ap (λ (p : Point KeptState). p.desk.moment) same
 latest_moment policy from to (turn ∷ turns) (between, is_line, goes_on, is_turn, rest) =
     latest_moment policy between to turns rest
-    ∙ ap (λ (m : ℕ). latest m turns) (moment_of turn.reading turn.replies from.desk between.desk
-    (way_of kept_gives SetsKept KeptSteps policy turn.reading from between turn.replies is_turn))
+    ∙ ap (λ (m : ℕ). latest m turns) (moment_of policy turn.reading turn.replies from.desk between.desk
+    (way_of (kept_rules policy) turn.reading from between turn.replies is_turn))
 
-pub records_by_lines : RecordsByLines kept_gives SetsKept KeptSteps
+pub records_by_lines : RecordsByLines kept_rules
 records_by_lines policy from to turns serves =
-    let made = makes_by_lines kept_gives SetsKept KeptSteps whole_mine makes_whole refuses_whole stays_whole policy from to turns serves in
+    let made = makes_by_lines (kept_rules policy) whole_mine makes_whole refuses_whole stays_whole from to turns
+    serves in
     (made.0, history_grows from.desk to.desk made.0 made.1, made.2, latest_moment policy from to turns serves)
 
 -- no failure sets the clock
-same_moment : (policy : Policy) (element : Element) (now : ℕ) (old new : KeptState) (result : Result Verdict (Element × CallFault))
+same_moment : (policy : Policy) (element : Element) (now : ℕ) (old new : KeptState)
+    (result : Result Verdict (Element × CallFault))
     → FailsTo KeptSteps policy element now old result new → new.moment ≡ old.moment
-same_moment policy element now old new (Ok (Again again)) (draft, retry, steps) = ap (λ (s : KeptState). s.moment) steps.stays
+same_moment policy element now old new (Ok (Again again)) (draft, retry, steps) =
+    ap (λ (s : KeptState). s.moment) steps.stays
 same_moment policy element now old new (Ok (Dead dead)) (retry, is_dead, same) = ap (λ (s : KeptState). s.moment) same
-same_moment policy element now old new (Err (back, fault)) (draft, retry, steps, is_back) = ap (λ (s : KeptState). s.moment) steps.stays
+same_moment policy element now old new (Err (back, fault)) (draft, retry, steps, is_back) =
+    ap (λ (s : KeptState). s.moment) steps.stays
 
 pub closing_moment : (policy : Policy) (from to : KeptState) (held : List Element) (lost : ℕ)
-    → Closes kept_gives KeptSteps policy from held lost to → to.moment ≡ from.moment
+    → Closes (kept_rules policy) from held lost to → to.moment ≡ from.moment
 closing_moment policy from to [] lost (zero, same) = ap (λ (s : KeptState). s.moment) same
 closing_moment policy from to (element ∷ held) lost (now, is_now, result, between, fails, fewer, rest, sum) =
     closing_moment policy between to held fewer rest ∙ same_moment policy element now from between result fails
 
-pub records_by_closing : RecordsByClosing kept_gives SetsKept KeptSteps
+pub records_by_closing : RecordsByClosing kept_rules
 records_by_closing policy from to held lost closes =
-    let made = makes_by_closing kept_gives SetsKept KeptSteps whole_mine makes_whole refuses_whole stays_whole policy from to held lost closes in
+    let made =
+    makes_by_closing (kept_rules policy) whole_mine makes_whole refuses_whole stays_whole from to held lost closes in
     (made.0, history_grows from to made.0 made.1, made.2, closing_moment policy from to held lost closes)

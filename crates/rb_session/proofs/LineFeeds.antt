@@ -1,5 +1,6 @@
 -- Line feeds in lists of bytes, as a search for the first of them finds them.
-use Rattle.std.proofs.Common.{◌≡◌, ◌≢◌, ℕ, zero, suc, ◌<◌, List, [], ◌∷◌, length, take, get_or, arith, Option, Some, None}
+use Rattle.std.proofs.Common.{◌≡◌, ◌≢◌, ℕ, zero, suc, ◌<◌, List, [], ◌∷◌, length, take, get_or, arith, Option, Some}
+use Rattle.std.proofs.Common.{None}
 use Rattle.std.proofs.lemmas.Bool.{eq-eqb, eqb-true}
 use Rattle.std.proofs.lemmas.List.Elements.{All-nil, All-cons}
 use Rattle.std.specs.Prelude.{MatchOption}
@@ -28,6 +29,7 @@ none_in (byte ∷ rest) none =
 
 -- what a search for a line feed tells of the bytes
 pub first_feed : (held : List ℕ) (found : Option ℕ) → IsFirstByte (is_byte LINE_FEED) held found
-    → MatchOption found (HasNoLineFeed held) (λ len. (len < length held) × HasNoLineFeed (take len held) × (get_or held len 0 ≡ LINE_FEED))
+    → MatchOption found (HasNoLineFeed held) (λ len. (len < length held) × HasNoLineFeed (take len held)
+    × (get_or held len 0 ≡ LINE_FEED))
 first_feed held None none = none_in held none
 first_feed held (Some len) (first, feed) = (first.high, none_among held len first.before, eqb-true _ LINE_FEED feed)

@@ -5,7 +5,8 @@ use Rattle.std.proofs.KnownBytes.{Appends-trans, Appends-kept, Consumes-trans, C
 use Rattle.rb_session.specs.Exchange.{Exchanges}
 
 -- the writer has got no more since then
-module _ {P Q : List ℕ → List ℕ → Type 0} {left0 left1 left2 got0 got1 : Option (List ℕ)} (so_far : Exchanges left0 left1 got0 got1 P) (got2 : Option (List ℕ)) (kept : Keeps got1 got2) where
+module _ {P Q : List ℕ → List ℕ → Type 0} {left0 left1 left2 got0 got1 : Option (List ℕ)}
+    (so_far : Exchanges left0 left1 got0 got1 P) (got2 : Option (List ℕ)) (kept : Keeps got1 got2) where
   -- nothing more came
   pub exchanges_same : Keeps left1 left2 → Q so_far.came so_far.sent → Exchanges left0 left2 got0 got2 Q
   exchanges_same unread holds = record {
@@ -17,12 +18,14 @@ module _ {P Q : List ℕ → List ℕ → Type 0} {left0 left1 left2 got0 got1 :
   }
 
   -- more came, and more was sent
-  pub exchanges_more : (more text : List ℕ) (got3 : Option (List ℕ)) → Consumes left1 left2 more → Appends got2 got3 text → Q (so_far.came ++ more) (so_far.sent ++ text)
+  pub exchanges_more : (more text : List ℕ) (got3 : Option (List ℕ)) → Consumes left1 left2 more
+      → Appends got2 got3 text → Q (so_far.came ++ more) (so_far.sent ++ text)
       → Exchanges left0 left2 got0 got3 Q
   exchanges_more more text got3 consumed appended holds = record {
     came = so_far.came ++ more;
     sent = so_far.sent ++ text;
     consumed = Consumes-trans left0 left1 left2 so_far.came more so_far.consumed consumed;
-    appended = Appends-trans got0 got2 got3 so_far.sent text (Appends-kept got0 got1 got2 so_far.sent so_far.appended kept) appended;
+    appended = Appends-trans got0 got2 got3 so_far.sent text
+        (Appends-kept got0 got1 got2 so_far.sent so_far.appended kept) appended;
     holds = holds;
   }

@@ -1,16 +1,14 @@
 -- Sessions through an outlet: what was served, where what answers it could not be handed on.
-use Rattle.std.proofs.Common.{◌≡◌, ◌≢◌, ℕ, List, [], Option, Some, Result, Ok, Err, true, false, refl, sym, ◌∙◌, inl, inr}
-use Rattle.std.proofs.lemmas.List.{append-nil}
+use Rattle.std.proofs.Common.{◌≡◌, ◌≢◌, ℕ, List, [], Some, Result, Ok, Err, true, false, refl, inl, inr}
 use Rattle.std.specs.Prelude.{OnOk, OnErr, is_err}
-use Rattle.rb_queue.specs.declared.ask.Ask.{Ask}
-use Rattle.rb_queue.specs.declared.reply.Reply.{Reply}
-use Rattle.rb_retry.specs.declared.desk_fault.DeskFault.{DeskFault}
-use Rattle.rb_retry.specs.declared.policy.Policy.{Policy}
+use Rattle.rb_session.specs.Rules.{SessionRules}
 use Rattle.rb_session.specs.Turn.{Point}
-use Rattle.rb_session.specs.Session.{answers_of}
-use Rattle.rb_session.specs.Ran.{BreaksOff, Ran}
-use Rattle.rb_session.specs.Outlet.{ServesSome, FailsToSend, RanThrough, HandedOn}
-use Rattle.rb_session.specs.Progress.{Stands, Stops, IsClearAt, IsClearAtRead, AnswersEnd, ServesLines, end_of}
+use Rattle.rb_session.specs.Served.{Served}
+use Rattle.rb_session.specs.Session.{ServesFirst}
+use Rattle.rb_session.specs.Ran.{BreaksOff, RanUntil}
+use Rattle.rb_session.specs.Gathered.{ServesSome}
+use Rattle.rb_session.specs.Outlet.{FailsThrough, RanThroughUntil, HandedOn}
+use Rattle.rb_session.specs.Progress.{Stops, IsClearAt, IsClearAtRead, AnswersEnd, ServesLines, end_of}
 use Rattle.rb_session.specs.declared.line_buffer.LineBuffer.{LineBuffer}
 use Rattle.rb_session.specs.declared.ended.Ended.{Ended}
 use Rattle.rb_session.specs.declared.ended.Ended.TheVariants as ends
@@ -37,7 +35,8 @@ handed_on clear stops.Write lost is = tt
 handed_on clear stops.ReadTurns lost is = is
 
 -- the end of the input is no failing read
-pub clear_at_end : (clear : Type 0) (stop : Stop) (bytes sent : List ℕ) → AnswersEnd stop bytes sent → IsClearAtRead clear stop
+pub clear_at_end : (clear : Type 0) (stop : Stop) (bytes sent : List ℕ) → AnswersEnd stop bytes sent
+    → IsClearAtRead clear stop
 clear_at_end clear stops.Quit bytes sent ends = tt
 clear_at_end clear stops.EndOfInput bytes sent ends = tt
 clear_at_end clear stops.Read bytes sent ends = absurd ends
@@ -52,11 +51,20 @@ unused_at_end stops.Read bytes sent ends is = absurd ends
 unused_at_end stops.Write bytes sent ends is = absurd (cc)
 unused_at_end stops.ReadTurns bytes sent ends is = absurd ends
 
-module _ {S : Type 0} (gives : S → ℕ → Type 0) (Sets : S → ℕ → Option ℕ → S → Type 0)
-    (Steps : S → ℕ → Ask → Result Reply DeskFault → S → Type 0) (policy : Policy) where
+-- a session that made too many reads stopped for that
+pub stopped_used_up : (stop : Stop) (lost other : ℕ) → end_of stop lost ≡ Err (faults.ReadTurns other)
+    → stop ≡ stops.ReadTurns
+stopped_used_up stops.Quit lost other is = absurd (cc)
+stopped_used_up stops.EndOfInput lost other is = absurd (cc)
+stopped_used_up stops.Read lost other is = absurd (cc)
+stopped_used_up stops.Write lost other is = absurd (cc)
+stopped_used_up stops.ReadTurns lost other is = refl
+
+module _ {S : Type 0} (rules : SessionRules S) where
   -- nor is a line
-  pub unused_at_line : (HoldsBack : Type 0) (from to : Point S) (bytes sent : List ℕ) (stop : Stop) (buffer : LineBuffer)
-      → ServesLines gives Sets Steps policy HoldsBack from bytes sent (Some stop) buffer to → stop ≢ stops.ReadTurns
+  pub unused_at_line : (HoldsBack : Type 0) (from to : Point S) (bytes sent : List ℕ) (stop : Stop)
+      (buffer : LineBuffer)
+      → ServesLines rules HoldsBack from bytes sent (Some stop) buffer to → stop ≢ stops.ReadTurns
   unused_at_line HoldsBack from to bytes sent stops.Quit buffer served is = absurd (cc)
   unused_at_line HoldsBack from to bytes sent stops.EndOfInput buffer served is = absurd served
   unused_at_line HoldsBack from to bytes sent stops.Read buffer served is = absurd served
@@ -64,55 +72,45 @@ module _ {S : Type 0} (gives : S → ℕ → Type 0) (Sets : S → ℕ → Optio
   unused_at_line HoldsBack from to bytes sent stops.ReadTurns buffer served is = absurd served
 
   -- nor a failing read
-  pub clear_at_line : (clear HoldsBack : Type 0) (from to : Point S) (bytes sent : List ℕ) (stop : Stop) (buffer : LineBuffer)
-      → ServesLines gives Sets Steps policy HoldsBack from bytes sent (Some stop) buffer to → IsClearAtRead clear stop
+  pub clear_at_line : (clear HoldsBack : Type 0) (from to : Point S) (bytes sent : List ℕ) (stop : Stop)
+      (buffer : LineBuffer) → ServesLines rules HoldsBack from bytes sent (Some stop) buffer to
+      → IsClearAtRead clear stop
   clear_at_line clear HoldsBack from to bytes sent stops.Quit buffer served = tt
   clear_at_line clear HoldsBack from to bytes sent stops.EndOfInput buffer served = tt
   clear_at_line clear HoldsBack from to bytes sent stops.Read buffer served = absurd served
   clear_at_line clear HoldsBack from to bytes sent stops.Write buffer served = tt
   clear_at_line clear HoldsBack from to bytes sent stops.ReadTurns buffer served = tt
 
-  -- the lines so far, where what answers them could not be handed on
-  pub stands_late : (Over : Type 0) (from to : Point S) (came sent : List ℕ) → Stands gives Sets Steps policy from came sent to
-      → ServesSome gives Sets Steps policy Over from came sent to
-  stands_late Over from to came sent stands = inr (inr (record {
-    turns = stands.turns;
-    unserved = stands.rest;
-    split = stands.split;
-    before_last = to;
-    serves = stands.serves;
-    replies = [];
-    last = inl (refl, refl);
-    answers = stands.answers ∙ sym (append-nil (answers_of stands.turns));
-  }))
-
   -- the lines before the input broke off
-  breaks_late : (Over : Type 0) (from to : Point S) (came sent : List ℕ) → BreaksOff gives Sets Steps policy from came sent to
-      → ServesSome gives Sets Steps policy Over from came sent to
-  breaks_late Over from to came sent breaks = stands_late Over from to came sent (record {
+  breaks_late : (Over : Type 0) (from to : Point S) (came sent : List ℕ) → BreaksOff rules from came sent to
+      → ServesSome rules Over from came sent to
+  breaks_late Over from to came sent breaks = inr (inr (record {
     turns = breaks.turns;
-    rest = breaks.unserved;
+    unserved = breaks.unserved;
     split = breaks.split;
     serves = breaks.serves;
+    waits = breaks.waits;
     answers = breaks.answers;
-  })
+  }))
 
   -- what was served, where it could not be handed on
   pub stops_late : (HoldsBack Over : Type 0) → HoldsBack → (stop : Stop) (from to : Point S) (came sent : List ℕ)
-      → Stops gives Sets Steps policy HoldsBack Over from came sent stop to → FailsToSend gives Sets Steps policy HoldsBack Over from came sent to
+      → Stops rules HoldsBack Over from came sent stop to → FailsThrough rules HoldsBack Over from came sent to
   stops_late HoldsBack Over late stops.Quit from to came sent stopped = inr (late, inl stopped)
   stops_late HoldsBack Over late stops.EndOfInput from to came sent stopped = inr (late, inr (inl stopped))
-  stops_late HoldsBack Over late stops.Read from to came sent stopped = inr (late, breaks_late Over from to came sent stopped)
-  stops_late HoldsBack Over late stops.ReadTurns from to came sent stopped = inr (late, breaks_late Over from to came sent stopped)
+  stops_late HoldsBack Over late stops.Read from to came sent stopped =
+      inr (late, breaks_late Over from to came sent stopped)
+  stops_late HoldsBack Over late stops.ReadTurns from to came sent stopped =
+      inr (late, breaks_late Over from to came sent stopped)
   stops_late HoldsBack Over late stops.Write from to came sent stopped = stopped
 
   -- a session whose outlet holds nothing back
-  pub ran_direct : (Over : Type 0) (from to : S) (came sent : List ℕ) (ended : Result Ended SessionFault)
-      → RanThrough gives Sets Steps policy ⊥ Over from came sent ended to → Ran gives Sets Steps policy Over from came sent ended to
-  ran_direct Over from to came sent (Ok (ends.Quit lost)) ran = ran
-  ran_direct Over from to came sent (Ok (ends.EndOfInput lost)) ran = ran
-  ran_direct Over from to came sent (Err (faults.Read lost)) ran = ran
-  ran_direct Over from to came sent (Err (faults.ReadTurns lost)) ran = ran
-  ran_direct Over from to came sent (Err faults.Memory) ran = ran
-  ran_direct Over from to came sent (Err (faults.Write lost)) (last, inl fails, closes) = (last, fails, closes)
-  ran_direct Over from to came sent (Err (faults.Write lost)) (last, inr late, closes) = absurd late.0
+  pub ran_direct : (Over : Type 0) (from to : S) (served : Served) (ended : Result Ended SessionFault)
+      → RanThroughUntil rules ⊥ Over from served ended to → RanUntil rules Over from served ended to
+  ran_direct Over from to served (Ok (ends.Quit lost)) ran = ran
+  ran_direct Over from to served (Ok (ends.EndOfInput lost)) ran = ran
+  ran_direct Over from to served (Err (faults.Read lost)) ran = ran
+  ran_direct Over from to served (Err (faults.ReadTurns lost)) ran = ran
+  ran_direct Over from to served (Err faults.Memory) ran = ran
+  ran_direct Over from to served (Err (faults.Write lost)) (last, inl fails, closes) = (last, fails, closes)
+  ran_direct Over from to served (Err (faults.Write lost)) (last, inr late, closes) = absurd late.0

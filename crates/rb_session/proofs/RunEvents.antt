@@ -1,5 +1,6 @@
 -- What a whole run of a session makes: what its lines made, and then what the jobs made that were still held.
-use Rattle.std.proofs.Common.{◌≡◌, ℕ, ◌<◌, List, [], ◌∷◌, ◌++◌, length, Option, Result, Ok, Err, refl, sym, ap, subst, ◌∙◌, append-nil, append_assoc, inl, inr, arith}
+use Rattle.std.proofs.Common.{◌≡◌, ℕ, ◌<◌, List, [], ◌∷◌, ◌++◌, length, Option, Result, Ok, Err, inl, inr}
+use Rattle.std.proofs.Common.{refl, sym, ap, subst, ◌∙◌, append-nil, append_assoc, arith}
 use Rattle.std.specs.Prelude.{◌⊎◌}
 use Rattle.std.specs.Io.KnownBytes.{IsAtEnd}
 use Rattle.rb_delayed.specs.declared.element.Element.{Element}
@@ -31,15 +32,17 @@ use Rattle.rb_protocol.specs.declared.line_reply.LineReply.TheVariants as lines
 use Rattle.rb_protocol.specs.declared.request.Request.{Request}
 use Rattle.rb_protocol.specs.declared.request.Request.TheVariants as requests
 use Rattle.rb_protocol.specs.Line.{HasNoLineFeed}
+use Rattle.rb_session.specs.Rules.{DeskRules, SessionRules, kept_rules, session_rules, HadGotBehind}
+use Rattle.rb_session.specs.Served.{Served}
 use Rattle.rb_session.specs.Turn.{Point, point, IsTurn}
-use Rattle.rb_session.specs.Session.{Turn, IsLine, Serves, ServesToEnd, ServesToQuit, bytes_of, answers_of, texts_of, rest_text}
+use Rattle.rb_session.specs.Session.{Turn, IsLine, Serves, ServesFirst, ServesToEnd, ServesToQuit}
+use Rattle.rb_session.specs.Session.{bytes_of, answers_of, texts_of, rest_text}
 use Rattle.rb_session.specs.Closing.{Closes}
-use Rattle.rb_session.specs.Ran.{BeginsWith, BreaksOff, FailsToWrite, Ran}
-use Rattle.rb_session.specs.Outlet.{FailsToSend, ServesFirst, ServesOneMore, ServesSome}
-use Rattle.rb_session.specs.Gathered.{LosesReplies, RanGathered}
-use Rattle.rb_session.specs.Delivered.{RanDelivered}
-use Rattle.rb_session.specs.Events.{AreOfLine, AreOfLines, AreOfClosing, made_events, latest, moment_after}
-use Rattle.rb_session.specs.RunEvents.{AreSomeOf, StandFirst, SendsAll, MadeByRun, MakesByRun, RecordsByRun, handed_by, handed_out}
+use Rattle.rb_session.specs.Ran.{BeginsWith, BreaksOff, FailsToWrite, RanUntil}
+use Rattle.rb_session.specs.Gathered.{FailsToSend, LosesReplies, RanGatheredUntil, ServesSome}
+use Rattle.rb_session.specs.Delivered.{RanDelivered, gathering_rules}
+use Rattle.rb_session.specs.Events.{AreOfLines, AreOfClosing, made_events, latest}
+use Rattle.rb_session.specs.RunEvents.{AreSomeOf, StandFirst, SendsAll, MadeByRun, RecordsByRun, handed_by, handed_out}
 use Rattle.rb_session.specs.declared.delivery.Delivery.{Delivery}
 use Rattle.rb_session.specs.declared.delivery.Delivery.TheVariants.{AtOnce, Gathered}
 use Rattle.rb_session.specs.declared.ended.Ended.{Ended}
@@ -48,7 +51,8 @@ use Rattle.rb_session.specs.declared.session_fault.SessionFault.{SessionFault}
 use Rattle.rb_session.specs.declared.session_fault.SessionFault.TheVariants as faults
 use Rattle.rb_session.proofs.HandedOut.{holds_lines, holds_turn, some_all, some_both, some_more, some_trans}
 use Rattle.rb_session.proofs.Events.{Way, way_of, of_way, makes_by_closing}
-use Rattle.rb_session.proofs.KeptEvents.{kept_gives, whole_mine, makes_whole, refuses_whole, stays_whole, history_grows, moment_of, closing_moment}
+use Rattle.rb_session.proofs.KeptEvents.{whole_mine, makes_whole, refuses_whole, stays_whole}
+use Rattle.rb_session.proofs.KeptEvents.{history_grows, moment_of, closing_moment}
 
 -- the answers to some lines and to more
 answers_append : (turns more : List Turn) → answers_of (turns ++ more) ≡ answers_of turns ++ answers_of more
@@ -72,13 +76,12 @@ answers_one turn = append-nil (texts_of turn.replies)
 texts_one : (reply : LineReply) → texts_of (reply ∷ []) ≡ text_of reply
 texts_one reply = append-nil (text_of reply)
 
-module _ {S : Type 0} (gives : S → ℕ → Type 0) (Sets : S → ℕ → Option ℕ → S → Type 0)
-    (Steps : S → ℕ → Ask → Result Reply DeskFault → S → Type 0) where
+module _ {S : Type 0} (rules : DeskRules S) where
   -- these lines did something at the desk, one after the other
   abbrev pub WaysAlong : S → List Turn → S → Type 0
   WaysAlong old [] new = new ≡ old
   WaysAlong old (turn ∷ turns) new =
-      (between : S) × Way gives Sets Steps turn.reading turn.replies old between × WaysAlong between turns new
+      (between : S) × Way rules turn.reading turn.replies old between × WaysAlong between turns new
 
   -- These lines were served, stand first in what came, and are answered by this text. What is held then was handed out.
   pub record Path (Over : Type 0) (from : S) (came text : List ℕ) (to : Point S) : Type 0 where
@@ -88,233 +91,181 @@ module _ {S : Type 0} (gives : S → ℕ → Type 0) (Sets : S → ℕ → Optio
     pub ways : WaysAlong from lines to.desk
     pub handed : AreSomeOf to.held (handed_out lines)
 
-  ways_append : (one two three : S) (turns more : List Turn) → WaysAlong one turns two → WaysAlong two more three → WaysAlong one (turns ++ more) three
+  -- What a run comes to: a path to where serving stopped, and the end of the jobs that were held there.
+  pub record Ends (Over : Type 0) (from : S) (served : Served) (ended : Result Ended SessionFault)
+      (to : S) : Type 0 where
+    pub unsent : List ℕ
+    pub all_sent : SendsAll ended unsent
+    pub last : Point S
+    pub path : Path Over from served.came (served.sent ++ unsent) last
+    pub lost : ℕ
+    pub closes : Closes rules last.desk last.held lost to
+
+  ways_append : (one two three : S) (turns more : List Turn) → WaysAlong one turns two → WaysAlong two more three
+      → WaysAlong one (turns ++ more) three
   ways_append one two three [] more same ways = subst (λ at. WaysAlong at more three) same ways
-  ways_append one two three (turn ∷ turns) more (between, way, rest) ways = (between, way, ways_append between two three turns more rest ways)
+  ways_append one two three (turn ∷ turns) more (between, way, rest) ways =
+      (between, way, ways_append between two three turns more rest ways)
 
-  module _ (policy : Policy) (Over : Type 0) where
-    ways_of : (from to : Point S) (turns : List Turn) → Serves gives Sets Steps policy from turns to → WaysAlong from.desk turns to.desk
-    ways_of from to [] same = ap (λ (p : Point S). p.desk) same
-    ways_of from to (turn ∷ turns) (between, is_line, goes_on, is_turn, rest) = (
-      between.desk,
-      way_of gives Sets Steps policy turn.reading from between turn.replies is_turn,
-      ways_of between to turns rest,
-    )
+  ways_of : (from to : Point S) (turns : List Turn) → Serves rules from turns to → WaysAlong from.desk turns to.desk
+  ways_of from to [] same = ap (λ (p : Point S). p.desk) same
+  ways_of from to (turn ∷ turns) (between, is_line, goes_on, is_turn, rest) = (
+    between.desk,
+    way_of rules turn.reading from between turn.replies is_turn,
+    ways_of between to turns rest,
+  )
 
+  module _ (Over : Type 0) where
     -- lines that are served stand before the bytes behind them
-    stands : (from to : Point S) (turns more : List Turn) (bytes : List ℕ) → Serves gives Sets Steps policy from turns to
+    stands : (from to : Point S) (turns more : List Turn) (bytes : List ℕ) → Serves rules from turns to
         → StandFirst Over bytes more → StandFirst Over (bytes_of turns ++ bytes) (turns ++ more)
     stands from to [] more bytes same stand = stand
-    stands from to (turn ∷ turns) more bytes (between, is_line, goes_on, is_turn, rest) stand =
-        inl (bytes_of turns ++ bytes, append_assoc turn.raw (LINE_FEED ∷ bytes_of turns) bytes, is_line, stands between to turns more bytes rest stand)
+    stands from to (turn ∷ turns) more bytes (between, is_line, goes_on, is_turn, rest) stand = inl (
+      bytes_of turns ++ bytes,
+      append_assoc turn.raw (LINE_FEED ∷ bytes_of turns) bytes,
+      is_line,
+      stands between to turns more bytes rest stand,
+    )
 
     -- lines that are served, and more of them
     path : (from : S) (to : Point S) (came : List ℕ) (turns more : List Turn) (bytes text : List ℕ) (last : Point S)
-        → Serves gives Sets Steps policy (point from []) turns to → came ≡ bytes_of turns ++ bytes → StandFirst Over bytes more
+        → Serves rules (point from []) turns to → came ≡ bytes_of turns ++ bytes → StandFirst Over bytes more
         → answers_of more ≡ text → WaysAlong to.desk more last.desk → AreSomeOf last.held (to.held ++ handed_out more)
         → Path Over from came (answers_of turns ++ text) last
     path from to came turns more bytes text last serves split stand answers ways handed = record {
       lines = turns ++ more;
-      stand = subst (λ all. StandFirst Over all (turns ++ more)) (sym split) (stands (point from []) to turns more bytes serves stand);
+      stand = subst (λ all. StandFirst Over all (turns ++ more)) (sym split)
+          (stands (point from []) to turns more bytes serves stand);
       answers = answers_append turns more ∙ ap (λ (rest : List ℕ). answers_of turns ++ rest) answers;
       ways = ways_append from to.desk last.desk turns more (ways_of (point from []) to turns serves) ways;
       handed = subst (λ all. AreSomeOf last.held all) (sym (handed_append turns more))
           (some_trans last.held (to.held ++ handed_out more) (handed_out turns ++ handed_out more) handed
-          (some_both to.held (handed_out turns) (handed_out more) (holds_lines gives Sets Steps policy (point from []) to turns serves)));
+          (some_both to.held (handed_out turns) (handed_out more)
+          (holds_lines rules (point from []) to turns serves)));
     }
 
     -- lines that hand out nothing, and leave the desk alone
     path_quiet : (from : S) (to : Point S) (came : List ℕ) (turns more : List Turn) (bytes text : List ℕ)
-        → Serves gives Sets Steps policy (point from []) turns to → came ≡ bytes_of turns ++ bytes → StandFirst Over bytes more
+        → Serves rules (point from []) turns to → came ≡ bytes_of turns ++ bytes → StandFirst Over bytes more
         → answers_of more ≡ text → WaysAlong to.desk more to.desk → Path Over from came (answers_of turns ++ text) to
     path_quiet from to came turns more bytes text serves split stand answers ways =
-        path from to came turns more bytes text to serves split stand answers ways (some_more to.held to.held (handed_out more) (some_all to.held))
+        path from to came turns more bytes text to serves split stand answers ways
+        (some_more to.held to.held (handed_out more) (some_all to.held))
 
     -- no more of them
-    path_none : (from : S) (to : Point S) (came : List ℕ) (turns : List Turn) (bytes : List ℕ) → Serves gives Sets Steps policy (point from []) turns to
-        → came ≡ bytes_of turns ++ bytes → Path Over from came (answers_of turns) to
+    path_none : (from : S) (to : Point S) (came : List ℕ) (turns : List Turn) (bytes : List ℕ)
+        → Serves rules (point from []) turns to → came ≡ bytes_of turns ++ bytes
+        → Path Over from came (answers_of turns) to
     path_none from to came turns bytes serves split =
         subst (λ text. Path Over from came text to) (append-nil (answers_of turns))
         (path_quiet from to came turns [] bytes [] serves split tt refl refl)
 
     -- a line that begins the bytes
-    begins_stand : (bytes : List ℕ) (reading : Result Request LineFault) (replies : List LineReply) → BeginsWith Over bytes reading
+    begins_stand : (bytes : List ℕ) (reading : Result Request LineFault) (replies : List LineReply)
+        → BeginsWith Over bytes reading
         → (raw : List ℕ) × StandFirst Over bytes (record { raw = raw; reading = reading; replies = replies } ∷ [])
     begins_stand bytes reading replies (inl (raw, rest, split, is_line)) = (raw, inl (rest, split, is_line, tt))
-    begins_stand bytes reading replies (inr (over, some, no_line, is)) = (bytes, inr (over, refl, some, no_line, is, refl))
+    begins_stand bytes reading replies (inr (over, some, no_line, is)) =
+        (bytes, inr (over, refl, some, no_line, is, refl))
 
     -- one more line
-    path_one : (from : S) (to : Point S) (came : List ℕ) (turns : List Turn) (bytes : List ℕ) (reading : Result Request LineFault) (replies : List LineReply) (last : Point S)
-        → Serves gives Sets Steps policy (point from []) turns to → came ≡ bytes_of turns ++ bytes → BeginsWith Over bytes reading
-        → IsTurn gives Sets Steps policy to reading replies last → Path Over from came (answers_of turns ++ texts_of replies) last
+    path_one : (from : S) (to : Point S) (came : List ℕ) (turns : List Turn) (bytes : List ℕ)
+        (reading : Result Request LineFault) (replies : List LineReply) (last : Point S)
+        → Serves rules (point from []) turns to → came ≡ bytes_of turns ++ bytes → BeginsWith Over bytes reading
+        → IsTurn rules to reading replies last → Path Over from came (answers_of turns ++ texts_of replies) last
     path_one from to came turns bytes reading replies last serves split begins is_turn =
         let stand = begins_stand bytes reading replies begins in
         let turn : Turn = record { raw = stand.0; reading = reading; replies = replies } in
         path from to came turns (turn ∷ []) bytes (texts_of replies) last serves split stand.1 (answers_one turn)
-        (last.desk, way_of gives Sets Steps policy reading to last replies is_turn, refl)
-        (subst (λ all. AreSomeOf last.held (to.held ++ all)) (sym (append-nil (handed_by replies))) (holds_turn gives Sets Steps policy to last reading replies is_turn))
-
-    path_to_quit : (from : S) (to : Point S) (came sent : List ℕ) → ServesToQuit gives Sets Steps policy (point from []) came sent to → Path Over from came sent to
-    path_to_quit from to came sent quits =
-        let turn : Turn = record { raw = quits.raw; reading = Ok requests.Quit; replies = lines.Bye ∷ [] } in
-        subst (λ text. Path Over from came text to) (sym quits.answers)
-        (path_quiet from to came quits.turns (turn ∷ []) (quits.raw ++ LINE_FEED ∷ quits.unserved) (text_of lines.Bye) quits.serves quits.split
-        (inl (quits.unserved, refl, quits.quit, tt))
-        (answers_one turn ∙ texts_one lines.Bye)
-        (to.desk, inl (record { line = lines.Bye; is = refl; none = tt; same = refl; stands = λ moment. refl }), refl))
+        (last.desk, way_of rules reading to last replies is_turn, refl)
+        (subst (λ all. AreSomeOf last.held (to.held ++ all)) (sym (append-nil (handed_by replies)))
+        (holds_turn rules to last reading replies is_turn))
 
     -- what stands behind the last line feed
-    path_rest : (from : S) (to : Point S) (came : List ℕ) (turns : List Turn) (rest : List ℕ) → Serves gives Sets Steps policy (point from []) turns to
-        → came ≡ bytes_of turns ++ rest → HasNoLineFeed rest → Over → Path Over from came (answers_of turns ++ rest_text rest) to
-    path_rest from to came turns [] serves split no_line over = path_quiet from to came turns [] [] [] serves split tt refl refl
+    path_rest : (from : S) (to : Point S) (came : List ℕ) (turns : List Turn) (rest : List ℕ)
+        → Serves rules (point from []) turns to → came ≡ bytes_of turns ++ rest → HasNoLineFeed rest → Over
+        → Path Over from came (answers_of turns ++ rest_text rest) to
+    path_rest from to came turns [] serves split no_line over =
+        path_quiet from to came turns [] [] [] serves split tt refl refl
     path_rest from to came turns (byte ∷ rest) serves split no_line over =
         let turn : Turn = record { raw = byte ∷ rest; reading = Err Line; replies = lines.Error words.Line ∷ [] } in
         path_quiet from to came turns (turn ∷ []) (byte ∷ rest) (text_of (lines.Error words.Line)) serves split
         (inr (over, refl, omega arith, no_line, refl, refl))
-        (answers_one turn ∙ texts_one (lines.Error words.Line))
-        (to.desk, inl (record { line = lines.Error words.Line; is = refl; none = tt; same = refl; stands = λ moment. refl }), refl)
-
-    path_to_end : (from : S) (to : Point S) (came sent : List ℕ) → ServesToEnd gives Sets Steps policy Over (point from []) came sent to → Path Over from came sent to
-    path_to_end from to came sent ending =
-        subst (λ text. Path Over from came text to) (sym ending.answers)
-        (path_rest from to came ending.turns ending.rest ending.serves ending.split ending.no_line ending.over)
-
-    path_to_break : (from : S) (to : Point S) (came sent : List ℕ) → BreaksOff gives Sets Steps policy (point from []) came sent to → Path Over from came sent to
-    path_to_break from to came sent breaks =
-        subst (λ text. Path Over from came text to) (sym breaks.answers)
-        (path_none from to came breaks.turns breaks.unserved breaks.serves breaks.split)
-
-    -- the text of the line whose reply failed was sent in part
-    path_to_fault : (from : S) (to : Point S) (came sent : List ℕ) → FailsToWrite gives Sets Steps policy Over (point from []) came sent to
-        → (unsent : List ℕ) × Path Over from came (sent ++ unsent) to
-    path_to_fault from to came sent fails =
-        let whole : answers_of fails.turns ++ texts_of fails.replies ≡ sent ++ fails.unsent =
-        ap (λ (text : List ℕ). answers_of fails.turns ++ text) fails.parts
-        ∙ sym (append_assoc (answers_of fails.turns) fails.first fails.unsent)
-        ∙ ap (λ (text : List ℕ). text ++ fails.unsent) (sym fails.answers) in (
-          fails.unsent,
-          subst (λ text. Path Over from came text to) whole
-              (path_one from fails.before_last came fails.turns fails.unserved fails.reading fails.replies to fails.serves fails.split fails.begins fails.turn),
+        (answers_one turn ∙ texts_one (lines.Error words.Line)) (
+          to.desk,
+          inl (record {
+            line = lines.Error words.Line;
+            is = refl;
+            none = tt;
+            same = refl;
+            stands = λ moment. refl;
+          }),
+          refl,
         )
-
-    path_to_first : (from : S) (to : Point S) (came text : List ℕ) → ServesFirst gives Sets Steps policy Over (point from []) came text to → Path Over from came text to
-    path_to_first from to came text firsts = subst (λ all. Path Over from came all to) (sym firsts.answers) (more firsts.replies firsts.last)
-      where
-        more : (replies : List LineReply) → ServesOneMore gives Sets Steps policy Over firsts.before_last firsts.unserved replies to
-            → Path Over from came (answers_of firsts.turns ++ texts_of replies) to
-        more replies (inl (none, same)) =
-            subst (λ (p : Point S). Path Over from came (answers_of firsts.turns ++ texts_of replies) p) (sym same)
-            (subst (λ (r : List LineReply). Path Over from came (answers_of firsts.turns ++ texts_of r) firsts.before_last) (sym none)
-            (path_quiet from firsts.before_last came firsts.turns [] firsts.unserved [] firsts.serves firsts.split tt refl refl))
-        more replies (inr (reading, begins, is_turn)) =
-            path_one from firsts.before_last came firsts.turns firsts.unserved reading replies to firsts.serves firsts.split begins is_turn
-
-    path_to_some : (from : S) (to : Point S) (came text : List ℕ) → ServesSome gives Sets Steps policy Over (point from []) came text to → Path Over from came text to
-    path_to_some from to came text (inl quits) = path_to_quit from to came text quits
-    path_to_some from to came text (inr (inl ending)) = path_to_end from to came text ending
-    path_to_some from to came text (inr (inr firsts)) = path_to_first from to came text firsts
-
-    path_to_late_fault : (from : S) (to : Point S) (came sent : List ℕ) → LosesReplies gives Sets Steps policy Over (point from []) came sent to
-        → (unsent : List ℕ) × Path Over from came (sent ++ unsent) to
-    path_to_late_fault from to came sent loses = late loses.passed loses.parts loses.fails
-      where
-        late : (passed : List ℕ) → passed ≡ sent ++ loses.gathered → FailsToSend gives Sets Steps policy (Unit {0}) Over (point from []) came passed to
-            → (unsent : List ℕ) × Path Over from came (sent ++ unsent) to
-        late passed parts (inl fails) =
-            let found = path_to_fault from to came passed fails in (
-              loses.gathered ++ found.0,
-              subst (λ text. Path Over from came text to)
-                  (ap (λ (text : List ℕ). text ++ found.0) parts ∙ append_assoc sent loses.gathered found.0) found.1,
-            )
-        late passed parts (inr (holds, some)) = (
-          loses.gathered,
-          subst (λ text. Path Over from came text to) parts (path_to_some from to came passed some),
-        )
-
-    -- What a run comes to: a path to where serving stopped, and the end of the jobs that were held there.
-    pub record Ends (from : S) (came sent : List ℕ) (ended : Result Ended SessionFault) (to : S) : Type 0 where
-      pub unsent : List ℕ
-      pub all_sent : SendsAll ended unsent
-      pub last : Point S
-      pub path : Path Over from came (sent ++ unsent) last
-      pub lost : ℕ
-      pub closes : Closes gives Steps policy last.desk last.held lost to
 
     -- all was sent
-    ends_whole : (from : S) (came sent : List ℕ) (ended : Result Ended SessionFault) (to : S) (last : Point S) (lost : ℕ) → SendsAll ended []
-        → Path Over from came sent last → Closes gives Steps policy last.desk last.held lost to → Ends from came sent ended to
-    ends_whole from came sent ended to last lost all way closes = record {
+    ends_whole : (from : S) (served : Served) (ended : Result Ended SessionFault) (to : S) (last : Point S) (lost : ℕ)
+        → SendsAll ended [] → Path Over from served.came served.sent last → Closes rules last.desk last.held lost to
+        → Ends Over from served ended to
+    ends_whole from served ended to last lost all way closes = record {
       unsent = [];
       all_sent = all;
       last = last;
-      path = subst (λ text. Path Over from came text last) (sym (append-nil sent)) way;
+      path = subst (λ text. Path Over from served.came text last) (sym (append-nil served.sent)) way;
       lost = lost;
       closes = closes;
     }
 
     -- nothing was done
-    ends_unbegun : (from to : S) (came sent : List ℕ) → to ≡ from → came ≡ [] → sent ≡ [] → Ends from came sent (Err faults.Memory) to
-    ends_unbegun from to came sent same nothing silent = record {
+    ends_unbegun : (from to : S) (served : Served) → to ≡ from → served.sent ≡ []
+        → Ends Over from served (Err faults.Memory) to
+    ends_unbegun from to served same silent = record {
       unsent = [];
       all_sent = refl;
       last = point from [];
-      path = record { lines = []; stand = tt; answers = sym silent ∙ sym (append-nil sent); ways = refl; handed = tt };
+      path = record {
+        lines = [];
+        stand = tt;
+        answers = sym silent ∙ sym (append-nil served.sent);
+        ways = refl;
+        handed = tt;
+      };
       lost = 0;
       closes = (refl, same);
     }
 
     -- the first part of the replies was sent
-    ends_part : (from : S) (came sent : List ℕ) (to : S) (last : Point S) (lost : ℕ) → ((unsent : List ℕ) × Path Over from came (sent ++ unsent) last)
-        → Closes gives Steps policy last.desk last.held lost to → Ends from came sent (Err (faults.Write lost)) to
-    ends_part from came sent to last lost (unsent, way) closes =
+    ends_part : (from : S) (served : Served) (to : S) (last : Point S) (lost : ℕ)
+        → ((unsent : List ℕ) × Path Over from served.came (served.sent ++ unsent) last)
+        → Closes rules last.desk last.held lost to → Ends Over from served (Err (faults.Write lost)) to
+    ends_part from served to last lost (unsent, way) closes =
         record { unsent = unsent; all_sent = tt; last = last; path = way; lost = lost; closes = closes }
-
-    ends_at_once : (from to : S) (came sent : List ℕ) (ended : Result Ended SessionFault) → Ran gives Sets Steps policy Over from came sent ended to
-        → Ends from came sent ended to
-    ends_at_once from to came sent (Ok (ends.Quit lost)) (last, quits, closes) =
-        ends_whole from came sent (Ok (ends.Quit lost)) to last lost refl (path_to_quit from last came sent quits) closes
-    ends_at_once from to came sent (Ok (ends.EndOfInput lost)) (last, ending, closes) =
-        ends_whole from came sent (Ok (ends.EndOfInput lost)) to last lost refl (path_to_end from last came sent ending) closes
-    ends_at_once from to came sent (Err (faults.Read lost)) (last, breaks, closes) =
-        ends_whole from came sent (Err (faults.Read lost)) to last lost refl (path_to_break from last came sent breaks) closes
-    ends_at_once from to came sent (Err (faults.ReadTurns lost)) (last, breaks, closes) =
-        ends_whole from came sent (Err (faults.ReadTurns lost)) to last lost refl (path_to_break from last came sent breaks) closes
-    ends_at_once from to came sent (Err (faults.Write lost)) (last, fails, closes) =
-        ends_part from came sent to last lost (path_to_fault from last came sent fails) closes
-    ends_at_once from to came sent (Err faults.Memory) (same, nothing, silent) = ends_unbegun from to came sent same nothing silent
-
-    ends_gathered : (from to : S) (came sent : List ℕ) (ended : Result Ended SessionFault) → RanGathered gives Sets Steps policy Over from came sent ended to
-        → Ends from came sent ended to
-    ends_gathered from to came sent (Ok ended) ran = ends_at_once from to came sent (Ok ended) ran
-    ends_gathered from to came sent (Err (faults.Read lost)) ran = ends_at_once from to came sent (Err (faults.Read lost)) ran
-    ends_gathered from to came sent (Err (faults.ReadTurns lost)) ran = ends_at_once from to came sent (Err (faults.ReadTurns lost)) ran
-    ends_gathered from to came sent (Err faults.Memory) ran = ends_at_once from to came sent (Err faults.Memory) ran
-    ends_gathered from to came sent (Err (faults.Write lost)) (last, loses, closes) =
-        ends_part from came sent to last lost (path_to_late_fault from last came sent loses) closes
-
-    pub ends_of : (delivery : Delivery) (from to : S) (came sent : List ℕ) (ended : Result Ended SessionFault)
-        → RanDelivered gives Sets Steps policy delivery Over from came sent ended to → Ends from came sent ended to
-    ends_of AtOnce from to came sent ended ran = ends_at_once from to came sent ended ran
-    ends_of (Gathered hands_on) from to came sent ended ran = ends_gathered from to came sent ended ran
 
   -- what lines and a closing add to what a desk made
   module _ (mine : S → List Made)
-      (makes : (old new : S) (asked : ℕ) (ask : Ask) (reply : Reply) → Steps old asked ask (Ok reply) new → Makes (gives old) asked ask reply (mine old) (mine new))
-      (refuses : (old new : S) (asked : ℕ) (ask : Ask) (fault : DeskFault) → Steps old asked ask (Err fault) new → MayGet ask fault × (mine new ≡ mine old))
-      (stays : (old new : S) (moment : ℕ) (result : Option ℕ) → Sets old moment result new → mine new ≡ mine old) where
-    ways_make : (old new : S) (turns : List Turn) → WaysAlong old turns new → (made : List Made) × (mine new ≡ mine old ++ made) × AreOfLines turns made
+      (makes : (old new : S) (asked : ℕ) (ask : Ask) (reply : Reply) → rules.Steps old asked ask (Ok reply) new
+      → Makes (rules.gives old) asked ask reply (mine old) (mine new))
+      (refuses : (old new : S) (asked : ℕ) (ask : Ask) (fault : DeskFault) → rules.Steps old asked ask (Err fault) new
+      → MayGet ask fault × (mine new ≡ mine old))
+      (stays : (old new : S) (moment : ℕ) (result : Option ℕ) → rules.Sets old moment result new
+      → mine new ≡ mine old) where
+    ways_make : (old new : S) (turns : List Turn) → WaysAlong old turns new
+        → (made : List Made) × (mine new ≡ mine old ++ made) × AreOfLines turns made
     ways_make old new [] same = ([], ap mine same ∙ sym (append-nil (mine old)), refl)
     ways_make old new (turn ∷ turns) (between, way, rest) =
-        let here = of_way gives Sets Steps mine makes refuses stays turn.reading turn.replies old between way in
-        let more = ways_make between new turns rest in
-        (here.0 ++ more.0, more.1 ∙ ap (λ (m : List Made). m ++ more.0) here.1 ∙ append_assoc (mine old) here.0 more.0, (here.0, more.0, refl, here.2, more.2))
+        let here = of_way rules mine makes refuses stays turn.reading turn.replies old between way in
+        let more = ways_make between new turns rest in (
+          here.0 ++ more.0,
+          more.1 ∙ ap (λ (m : List Made). m ++ more.0) here.1 ∙ append_assoc (mine old) here.0 more.0,
+          (here.0, more.0, refl, here.2, more.2),
+        )
 
-    pub made_by_ends : (policy : Policy) (Over : Type 0) (from to : S) (came sent : List ℕ) (ended : Result Ended SessionFault)
-        → (run : Ends policy Over from came sent ended to)
-        → (made : MadeByRun Over came sent ended (λ made. mine to ≡ mine from ++ made)) × (made.lines ≡ run.path.lines)
-    made_by_ends policy Over from to came sent ended run =
+    pub made_by_ends : (Over : Type 0) (from to : S) (served : Served) → (run : Ends Over from served served.ended to)
+        → (made : MadeByRun Over served (λ made. mine to ≡ mine from ++ made)) × (made.lines ≡ run.path.lines)
+    made_by_ends Over from to served run =
         let by_lines = ways_make from run.last.desk run.path.lines run.path.ways in
-        let by_closing = makes_by_closing gives Sets Steps mine makes refuses stays policy run.last.desk to run.last.held run.lost run.closes in (
+        let by_closing =
+        makes_by_closing rules mine makes refuses stays run.last.desk to run.last.held run.lost run.closes in (
           record {
             lines = run.path.lines;
             stand = run.path.stand;
@@ -327,19 +278,124 @@ module _ {S : Type 0} (gives : S → ℕ → Type 0) (Sets : S → ℕ → Optio
             handed = run.path.handed;
             by_closing = by_closing.0;
             of_closing = by_closing.2;
-            grows = by_closing.1 ∙ ap (λ (m : List Made). m ++ by_closing.0) by_lines.1 ∙ append_assoc (mine from) by_lines.0 by_closing.0;
+            grows = by_closing.1 ∙ ap (λ (m : List Made). m ++ by_closing.0) by_lines.1
+                ∙ append_assoc (mine from) by_lines.0 by_closing.0;
           },
           refl,
         )
 
-    pub makes_by_run : MakesByRun gives Sets Steps mine
-    makes_by_run policy delivery rest from to came sent ended ran =
-        (made_by_ends policy (IsAtEnd rest) from to came sent ended (ends_of policy (IsAtEnd rest) delivery from to came sent ended ran)).0
+module _ {S : Type 0} (rules : SessionRules S) (Over : Type 0) (from : S) where
+  path_to_quit : (to : Point S) (came sent : List ℕ) → ServesToQuit rules (point from []) came sent to
+      → Path rules.desk Over from came sent to
+  path_to_quit to came sent quits =
+      let turn : Turn = record { raw = quits.raw; reading = Ok requests.Quit; replies = lines.Bye ∷ [] } in
+      subst (λ text. Path rules.desk Over from came text to) (sym quits.answers)
+      (path_quiet rules.desk Over from to came quits.turns (turn ∷ []) (quits.raw ++ LINE_FEED ∷ quits.unserved)
+      (text_of lines.Bye) quits.serves quits.split (inl (quits.unserved, refl, quits.quit, tt))
+      (answers_one turn ∙ texts_one lines.Bye) (
+        to.desk,
+        inl (record { line = lines.Bye; is = refl; none = tt; same = refl; stands = λ moment. refl }),
+        refl,
+      ))
+
+  path_to_end : (to : Point S) (came sent : List ℕ) → ServesToEnd rules Over (point from []) came sent to
+      → Path rules.desk Over from came sent to
+  path_to_end to came sent ending =
+      subst (λ text. Path rules.desk Over from came text to) (sym ending.answers)
+      (path_rest rules.desk Over from to came ending.turns ending.rest ending.serves ending.split ending.no_line
+      ending.over)
+
+  path_to_break : (to : Point S) (came sent : List ℕ) → BreaksOff rules (point from []) came sent to
+      → Path rules.desk Over from came sent to
+  path_to_break to came sent breaks =
+      subst (λ text. Path rules.desk Over from came text to) (sym breaks.answers)
+      (path_none rules.desk Over from to came breaks.turns breaks.unserved breaks.serves breaks.split)
+
+  path_to_first : (to : Point S) (came text : List ℕ) → ServesFirst rules (point from []) came text to
+      → Path rules.desk Over from came text to
+  path_to_first to came text first =
+      subst (λ all. Path rules.desk Over from came all to) (sym first.answers)
+      (path_none rules.desk Over from to came first.turns first.unserved first.serves first.split)
+
+  -- the text of the line whose reply failed was sent in part
+  path_to_fault : (to : Point S) (came sent : List ℕ) → FailsToWrite rules Over (point from []) came sent to
+      → (unsent : List ℕ) × Path rules.desk Over from came (sent ++ unsent) to
+  path_to_fault to came sent fails =
+      let whole : answers_of fails.turns ++ texts_of fails.replies ≡ sent ++ fails.unsent =
+      ap (λ (text : List ℕ). answers_of fails.turns ++ text) fails.parts
+      ∙ sym (append_assoc (answers_of fails.turns) fails.first fails.unsent)
+      ∙ ap (λ (text : List ℕ). text ++ fails.unsent) (sym fails.answers) in (
+        fails.unsent,
+        subst (λ text. Path rules.desk Over from came text to) whole
+            (path_one rules.desk Over from fails.before_last came fails.turns fails.unserved fails.reading fails.replies
+            to
+            fails.serves fails.split fails.begins fails.turn),
+      )
+
+  path_to_some : (to : Point S) (came text : List ℕ) → ServesSome rules Over (point from []) came text to
+      → Path rules.desk Over from came text to
+  path_to_some to came text (inl quits) = path_to_quit to came text quits
+  path_to_some to came text (inr (inl ending)) = path_to_end to came text ending
+  path_to_some to came text (inr (inr first)) = path_to_first to came text first
+
+  path_to_late_fault : (to : Point S) (came sent : List ℕ) → LosesReplies rules Over (point from []) came sent to
+      → (unsent : List ℕ) × Path rules.desk Over from came (sent ++ unsent) to
+  path_to_late_fault to came sent loses = late loses.passed loses.parts loses.fails
+    where
+      late : (passed : List ℕ) → passed ≡ sent ++ loses.gathered
+          → FailsToSend rules Over (point from []) came passed to
+          → (unsent : List ℕ) × Path rules.desk Over from came (sent ++ unsent) to
+      late passed parts (inl fails) =
+          let found = path_to_fault to came passed fails in (
+            loses.gathered ++ found.0,
+            subst (λ text. Path rules.desk Over from came text to)
+                (ap (λ (text : List ℕ). text ++ found.0) parts ∙ append_assoc sent loses.gathered found.0) found.1,
+          )
+      late passed parts (inr some) = (
+        loses.gathered,
+        subst (λ text. Path rules.desk Over from came text to) parts (path_to_some to came passed some),
+      )
+
+  pub ends_at_once : (to : S) (served : Served) (ended : Result Ended SessionFault)
+      → RanUntil rules Over from served ended to → Ends rules.desk Over from served ended to
+  ends_at_once to served (Ok (ends.Quit lost)) (last, quits, closes) =
+      ends_whole rules.desk Over from served (Ok (ends.Quit lost)) to last lost refl
+      (path_to_quit last served.came served.sent quits) closes
+  ends_at_once to served (Ok (ends.EndOfInput lost)) (last, ending, closes) =
+      ends_whole rules.desk Over from served (Ok (ends.EndOfInput lost)) to last lost refl
+      (path_to_end last served.came served.sent ending) closes
+  ends_at_once to served (Err (faults.Read lost)) (last, breaks, closes) =
+      ends_whole rules.desk Over from served (Err (faults.Read lost)) to last lost refl
+      (path_to_break last served.came served.sent breaks) closes
+  ends_at_once to served (Err (faults.ReadTurns lost)) (last, breaks, closes) =
+      ends_whole rules.desk Over from served (Err (faults.ReadTurns lost)) to last lost refl
+      (path_to_break last served.came served.sent breaks) closes
+  ends_at_once to served (Err (faults.Write lost)) (last, fails, closes) =
+      ends_part rules.desk Over from served to last lost (path_to_fault last served.came served.sent fails) closes
+  ends_at_once to served (Err faults.Memory) (same, nothing, silent) =
+      ends_unbegun rules.desk Over from to served same silent
+
+  pub ends_gathered : (to : S) (served : Served) (ended : Result Ended SessionFault)
+      → RanGatheredUntil rules Over from served ended to → Ends rules.desk Over from served ended to
+  ends_gathered to served (Ok ended) ran = ends_at_once to served (Ok ended) ran
+  ends_gathered to served (Err (faults.Read lost)) ran = ends_at_once to served (Err (faults.Read lost)) ran
+  ends_gathered to served (Err (faults.ReadTurns lost)) ran = ends_at_once to served (Err (faults.ReadTurns lost)) ran
+  ends_gathered to served (Err faults.Memory) ran = ends_at_once to served (Err faults.Memory) ran
+  ends_gathered to served (Err (faults.Write lost)) (last, loses, closes) =
+      ends_part rules.desk Over from served to last lost (path_to_late_fault last served.came served.sent loses) closes
+
+-- whichever way the replies go
+pub ends_of : {S : Type 0} (rules : SessionRules S) (delivery : Delivery) (Over : Type 0) (from to : S)
+    (served : Served)
+    → RanDelivered rules delivery Over from served to → Ends rules.desk Over from served served.ended to
+ends_of rules AtOnce Over from to served ran = ends_at_once rules Over from to served served.ended ran
+ends_of rules (Gathered hands_on) Over from to served ran =
+    ends_gathered (gathering_rules rules hands_on) Over from to served served.ended ran
 
 -- a run's growth in other words
-pub grows_so : {Over : Type 0} {came sent : List ℕ} {ended : Result Ended SessionFault} {Grows More : List Made → Type 0}
-    → ((made : List Made) → Grows made → More made) → (run : MadeByRun Over came sent ended Grows)
-    → (so : MadeByRun Over came sent ended More) × (so.lines ≡ run.lines)
+pub grows_so : {Over : Type 0} {served : Served} {Grows More : List Made → Type 0}
+    → ((made : List Made) → Grows made → More made) → (run : MadeByRun Over served Grows)
+    → (so : MadeByRun Over served More) × (so.lines ≡ run.lines)
 grows_so implies run = (
   record {
     lines = run.lines;
@@ -359,7 +415,8 @@ grows_so implies run = (
 )
 
 -- no try changes what a log began with
-same_opening : (old new : Log) (try : Try) (outcome : Result Outcome CallFault) → StepsTo old try outcome new → new.opening ≡ old.opening
+same_opening : (old new : Log) (try : Try) (outcome : Result Outcome CallFault) → StepsTo old try outcome new
+    → new.opening ≡ old.opening
 same_opening old new try (Ok (Done reply)) (room, (event, is, records)) = ap (λ (log : Log). log.opening) is
 same_opening old new try (Ok (Later next)) (room, (waits, is)) = ap (λ (log : Log). log.opening) is
 same_opening old new try (Err refusals.Full) (full, is) = ap (λ (log : Log). log.opening) is
@@ -369,42 +426,52 @@ step_opening : (old new : KeptState) (handed : ℕ) (ask : Ask) (result : Result
     → KeptSteps old handed ask result new → new.log.opening ≡ old.log.opening
 step_opening old new handed ask result steps = same_opening old.log new.log _ steps.outcome steps.steps
 
-way_opening : (reading : Result Request LineFault) (replies : List LineReply) (old new : KeptState)
-    → Way kept_gives SetsKept KeptSteps reading replies old new → new.log.opening ≡ old.log.opening
-way_opening reading replies old new (inl leaves) = ap (λ (s : KeptState). s.log.opening) leaves.same
-way_opening reading replies old new (inr (inl calls)) = step_opening old new calls.handed calls.ask calls.answer calls.steps
-way_opening reading replies old new (inr (inr sets)) = ap (λ (s : KeptState). s.log.opening) sets.sets.1
+way_opening : (policy : Policy) (reading : Result Request LineFault) (replies : List LineReply) (old new : KeptState)
+    → Way (kept_rules policy) reading replies old new → new.log.opening ≡ old.log.opening
+way_opening policy reading replies old new (inl leaves) = ap (λ (s : KeptState). s.log.opening) leaves.same
+way_opening policy reading replies old new (inr (inl calls)) =
+    step_opening old new calls.handed calls.ask calls.answer calls.steps
+way_opening policy reading replies old new (inr (inr sets)) = ap (λ (s : KeptState). s.log.opening) sets.sets.1
 
-fails_opening : (policy : Policy) (element : Element) (now : ℕ) (old new : KeptState) (result : Result Verdict (Element × CallFault))
+fails_opening : (policy : Policy) (element : Element) (now : ℕ) (old new : KeptState)
+    (result : Result Verdict (Element × CallFault))
     → FailsTo KeptSteps policy element now old result new → new.log.opening ≡ old.log.opening
 fails_opening policy element now old new (Ok (Again again)) (draft, retry, steps) = step_opening old new now _ _ steps
-fails_opening policy element now old new (Ok (Dead dead)) (retry, is_dead, same) = ap (λ (s : KeptState). s.log.opening) same
-fails_opening policy element now old new (Err (back, fault)) (draft, retry, steps, is_back) = step_opening old new now _ _ steps
+fails_opening policy element now old new (Ok (Dead dead)) (retry, is_dead, same) =
+    ap (λ (s : KeptState). s.log.opening) same
+fails_opening policy element now old new (Err (back, fault)) (draft, retry, steps, is_back) =
+    step_opening old new now _ _ steps
 
 closes_opening : (policy : Policy) (from to : KeptState) (held : List Element) (lost : ℕ)
-    → Closes kept_gives KeptSteps policy from held lost to → to.log.opening ≡ from.log.opening
+    → Closes (kept_rules policy) from held lost to → to.log.opening ≡ from.log.opening
 closes_opening policy from to [] lost (zero, same) = ap (λ (s : KeptState). s.log.opening) same
 closes_opening policy from to (element ∷ held) lost (now, is_now, result, between, fails, fewer, rest, sum) =
     closes_opening policy between to held fewer rest ∙ fails_opening policy element now from between result fails
 
 -- along these lines the clock comes to the latest moment, and what the log began with stays
-ways_moment : (old new : KeptState) (turns : List Turn) → WaysAlong kept_gives SetsKept KeptSteps old turns new → new.moment ≡ latest old.moment turns
-ways_moment old new [] same = ap (λ (s : KeptState). s.moment) same
-ways_moment old new (turn ∷ turns) (between, way, rest) =
-    ways_moment between new turns rest ∙ ap (λ (m : ℕ). latest m turns) (moment_of turn.reading turn.replies old between way)
+ways_moment : (policy : Policy) (old new : KeptState) (turns : List Turn) → WaysAlong (kept_rules policy) old turns new
+    → new.moment ≡ latest old.moment turns
+ways_moment policy old new [] same = ap (λ (s : KeptState). s.moment) same
+ways_moment policy old new (turn ∷ turns) (between, way, rest) =
+    ways_moment policy between new turns rest
+    ∙ ap (λ (m : ℕ). latest m turns) (moment_of policy turn.reading turn.replies old between way)
 
-ways_opening : (old new : KeptState) (turns : List Turn) → WaysAlong kept_gives SetsKept KeptSteps old turns new → new.log.opening ≡ old.log.opening
-ways_opening old new [] same = ap (λ (s : KeptState). s.log.opening) same
-ways_opening old new (turn ∷ turns) (between, way, rest) = ways_opening between new turns rest ∙ way_opening turn.reading turn.replies old between way
+ways_opening : (policy : Policy) (old new : KeptState) (turns : List Turn) → WaysAlong (kept_rules policy) old turns new
+    → new.log.opening ≡ old.log.opening
+ways_opening policy old new [] same = ap (λ (s : KeptState). s.log.opening) same
+ways_opening policy old new (turn ∷ turns) (between, way, rest) =
+    ways_opening policy between new turns rest ∙ way_opening policy turn.reading turn.replies old between way
 
-pub records_by_run : RecordsByRun kept_gives SetsKept KeptSteps
-records_by_run policy delivery rest from to came sent ended ran =
-    let run = ends_of kept_gives SetsKept KeptSteps policy (IsAtEnd rest) delivery from to came sent ended ran in
-    let made = made_by_ends kept_gives SetsKept KeptSteps whole_mine makes_whole refuses_whole stays_whole policy (IsAtEnd rest) from to came sent ended run in
+pub records_by_run : {W : Type 0} (contents : W → Option (List ℕ)) → RecordsByRun kept_rules contents
+records_by_run contents policy got delivery rest from to served ran =
+    let desk = kept_rules policy in
+    let run = ends_of (session_rules desk (HadGotBehind contents got)) delivery (IsAtEnd rest) from to served ran in
+    let made = made_by_ends desk whole_mine makes_whole refuses_whole stays_whole (IsAtEnd rest) from to served run in
     let so = grows_so (λ events is. history_grows from to events is) made.0 in (
       so.0,
       closing_moment policy run.last.desk to run.last.held run.lost run.closes
-          ∙ ways_moment from run.last.desk run.path.lines run.path.ways
+          ∙ ways_moment policy from run.last.desk run.path.lines run.path.ways
           ∙ ap (latest from.moment) (sym (so.1 ∙ made.1)),
-      closes_opening policy run.last.desk to run.last.held run.lost run.closes ∙ ways_opening from run.last.desk run.path.lines run.path.ways,
+      closes_opening policy run.last.desk to run.last.held run.lost run.closes
+          ∙ ways_opening policy from run.last.desk run.path.lines run.path.ways,
     )

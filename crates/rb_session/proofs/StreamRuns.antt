@@ -1,66 +1,70 @@
 -- A run of a session: each read brings more, and each end of the run is one that the session has.
-use Rattle.std.proofs.Common.{◌≡◌, ℕ, ◌<◌, List, [], ◌∷◌, ◌++◌, Option, Some, Result, Err, refl, sym, ap, ◌∙◌, append_assoc, inl, inr, length, arith}
+use Rattle.std.proofs.Common.{◌≡◌, ℕ, ◌<◌, List, [], ◌∷◌, ◌++◌, length, Some, Err, inl, inr}
+use Rattle.std.proofs.Common.{refl, sym, ap, subst, ◌∙◌, append_assoc, arith}
 use Rattle.std.proofs.lemmas.List.{append-nil}
-use Rattle.rb_queue.specs.declared.ask.Ask.{Ask}
-use Rattle.rb_queue.specs.declared.reply.Reply.{Reply}
-use Rattle.rb_retry.specs.declared.desk_fault.DeskFault.{DeskFault}
-use Rattle.rb_retry.specs.declared.policy.Policy.{Policy}
 use Rattle.rb_protocol.specs.ReplyText.{text_of}
 use Rattle.rb_protocol.specs.declared.format.TheConstants.{LINE_FEED}
 use Rattle.rb_protocol.specs.declared.line_fault.LineFault.TheVariants.{Line}
 use Rattle.rb_protocol.specs.declared.line_reply.LineReply.TheVariants as lines
 use Rattle.rb_protocol.specs.declared.error_word.ErrorWord.TheVariants as words
 use Rattle.rb_protocol.specs.Line.{HasNoLineFeed}
+use Rattle.rb_session.specs.Rules.{DeskRules, SessionRules, session_rules}
 use Rattle.rb_session.specs.Turn.{Point}
-use Rattle.rb_session.specs.Session.{Turn, ServesToQuit, bytes_of, answers_of, rest_text}
+use Rattle.rb_session.specs.Session.{Turn, GotBeforeWaits, ServesFirst, ServesToQuit}
+use Rattle.rb_session.specs.Session.{bytes_of, answers_of, rest_text}
 use Rattle.rb_session.specs.Ran.{BreaksOff, FailsToWrite}
-use Rattle.rb_session.specs.Progress.{Stands, FailsAtLine, ServesLines, AnswersEnd, Stops}
+use Rattle.rb_session.specs.Progress.{FailsAtLine, ServesLines, AnswersEnd, Stops}
 use Rattle.rb_session.specs.declared.line_buffer.LineBuffer.{LineBuffer}
 use Rattle.rb_session.specs.declared.stop.Stop.{Stop}
 use Rattle.rb_session.specs.declared.stop.Stop.TheVariants as stops
-use Rattle.rb_session.proofs.Turns.{bytes_of-append, answers_of-append, serves_on}
-use Rattle.rb_session.proofs.Outlets.{stands_late}
+use Rattle.rb_session.proofs.Turns.{bytes_of-append, answers_of-append, serves_on, waits_on, waits_behind}
 
-module _ {S : Type 0} (gives : S → ℕ → Type 0) (Sets : S → ℕ → Option ℕ → S → Type 0)
-    (Steps : S → ℕ → Ask → Result Reply DeskFault → S → Type 0) (policy : Policy)
-    (from here : Point S) (came sent : List ℕ) (stands : Stands gives Sets Steps policy from came sent here) where
+module _ {S : Type 0} (desk : DeskRules S) (HadGot : List ℕ → Type 0) (from here : Point S) (came sent : List ℕ)
+    (start : ServesFirst (session_rules desk HadGot) from came sent here) where
+  abbrev rules : SessionRules S
+  rules = session_rules desk HadGot
+
   -- the input breaks off
-  pub breaks_off : HasNoLineFeed stands.rest → BreaksOff gives Sets Steps policy from came sent here
+  pub breaks_off : HasNoLineFeed start.unserved → BreaksOff rules from came sent here
   breaks_off no_feed = record {
-    turns = stands.turns;
-    unserved = stands.rest;
-    split = stands.split;
+    turns = start.turns;
+    unserved = start.unserved;
+    split = start.split;
     no_line = no_feed;
-    serves = stands.serves;
-    answers = stands.answers;
+    serves = start.serves;
+    waits = start.waits;
+    answers = start.answers;
   }
 
   -- the input ends
-  pub ran_end : (HoldsBack Over : Type 0) → Over → HasNoLineFeed stands.rest → (stop : Stop) (more : List ℕ) → AnswersEnd stop stands.rest more
-      → Stops gives Sets Steps policy HoldsBack Over from came (sent ++ more) stop here
+  pub ran_end : (HoldsBack Over : Type 0) → Over → HasNoLineFeed start.unserved → (stop : Stop) (more : List ℕ)
+      → AnswersEnd stop start.unserved more → Stops rules HoldsBack Over from came (sent ++ more) stop here
   ran_end HoldsBack Over over no_feed stops.EndOfInput more is = record {
     over = over;
-    turns = stands.turns;
-    rest = stands.rest;
-    split = stands.split;
+    turns = start.turns;
+    rest = start.unserved;
+    split = start.split;
     no_line = no_feed;
-    serves = stands.serves;
-    answers = ap (λ t. t ++ more) stands.answers ∙ ap (λ t. answers_of stands.turns ++ t) is;
+    serves = start.serves;
+    waits = start.waits;
+    answers = ap (λ t. t ++ more) start.answers ∙ ap (λ t. answers_of start.turns ++ t) is;
   }
   ran_end HoldsBack Over over no_feed stops.Write more (some, unsent, parts) = inl (record {
-    turns = stands.turns;
-    unserved = stands.rest;
-    split = stands.split;
+    turns = start.turns;
+    unserved = start.unserved;
+    split = start.split;
     before_last = here;
-    serves = stands.serves;
+    serves = start.serves;
+    waits = start.waits;
     reading = Err Line;
     begins = inr (over, some, no_feed, refl);
+    last_waits = λ waits. absurd waits;
     replies = lines.Error words.Line ∷ [];
     turn = (refl, refl);
     first = more;
     unsent = unsent;
-    parts = append-nil (text_of (lines.Error words.Line)) ∙ sym (rest_is stands.rest some) ∙ parts;
-    answers = ap (λ t. t ++ more) stands.answers;
+    parts = append-nil (text_of (lines.Error words.Line)) ∙ sym (rest_is start.unserved some) ∙ parts;
+    answers = ap (λ t. t ++ more) start.answers;
   })
     where
       rest_is : (rest : List ℕ) → 0 < length rest → rest_text rest ≡ text_of (lines.Error words.Line)
@@ -70,53 +74,83 @@ module _ {S : Type 0} (gives : S → ℕ → Type 0) (Sets : S → ℕ → Optio
   ran_end HoldsBack Over over no_feed stops.Read more ends = absurd ends
   ran_end HoldsBack Over over no_feed stops.ReadTurns more ends = absurd ends
 
-  module _ (more sent' : List ℕ) (to : Point S) where
+  -- More came, and more was sent. What the writer had got since, it had got behind what was sent so far.
+  module _ (HadSince : List ℕ → Type 0) (since : (text : List ℕ) → HadSince text → HadGot (sent ++ text))
+      (more sent' : List ℕ) (to : Point S) where
+    abbrev rules' : SessionRules S
+    rules' = session_rules desk HadSince
+
     -- what came so far, and more, is the lines that were served and the bytes behind them
-    pub later : (turns : List Turn) (tail : List ℕ) → stands.rest ++ more ≡ bytes_of turns ++ tail → came ++ more ≡ bytes_of (stands.turns ++ turns) ++ tail
+    pub later : (turns : List Turn) (tail : List ℕ) → start.unserved ++ more ≡ bytes_of turns ++ tail
+        → came ++ more ≡ bytes_of (start.turns ++ turns) ++ tail
     later turns tail is =
-        ap (λ b. b ++ more) stands.split ∙ append_assoc (bytes_of stands.turns) stands.rest more ∙ ap (λ b. bytes_of stands.turns ++ b) is
-        ∙ sym (append_assoc (bytes_of stands.turns) (bytes_of turns) tail) ∙ ap (λ b. b ++ tail) (sym (bytes_of-append stands.turns turns))
+        ap (λ b. b ++ more) start.split ∙ append_assoc (bytes_of start.turns) start.unserved more
+        ∙ ap (λ b. bytes_of start.turns ++ b) is ∙ sym (append_assoc (bytes_of start.turns) (bytes_of turns) tail)
+        ∙ ap (λ b. b ++ tail) (sym (bytes_of-append start.turns turns))
 
     -- and their text
-    text_later : (turns : List Turn) (tail : List ℕ) → sent' ≡ answers_of turns ++ tail → sent ++ sent' ≡ answers_of (stands.turns ++ turns) ++ tail
+    text_later : (turns : List Turn) (tail : List ℕ) → sent' ≡ answers_of turns ++ tail
+        → sent ++ sent' ≡ answers_of (start.turns ++ turns) ++ tail
     text_later turns tail is =
-        ap (λ t. t ++ sent') stands.answers ∙ ap (λ t. answers_of stands.turns ++ t) is
-        ∙ sym (append_assoc (answers_of stands.turns) (answers_of turns) tail) ∙ ap (λ t. t ++ tail) (sym (answers_of-append stands.turns turns))
+        ap (λ t. t ++ sent') start.answers ∙ ap (λ t. answers_of start.turns ++ t) is
+        ∙ sym (append_assoc (answers_of start.turns) (answers_of turns) tail)
+        ∙ ap (λ t. t ++ tail) (sym (answers_of-append start.turns turns))
+
+    -- and what had been got before their waits
+    pub waits_later : (turns : List Turn) → GotBeforeWaits HadSince [] turns
+        → GotBeforeWaits HadGot [] (start.turns ++ turns)
+    waits_later turns waits =
+        waits_on HadGot [] start.turns turns start.waits
+        (subst (λ text. GotBeforeWaits HadGot text turns) (append-nil sent ∙ start.answers)
+        (waits_behind HadSince HadGot sent since [] turns waits))
+
+    last_later : (turns : List Turn) → HadSince (answers_of turns) → HadGot (answers_of (start.turns ++ turns))
+    last_later turns got =
+        subst HadGot
+        (ap (λ t. t ++ answers_of turns) start.answers ∙ sym (answers_of-append start.turns turns))
+        (since (answers_of turns) got)
 
     -- whole lines were served
-    unfoldable pub stands_on : Stands gives Sets Steps policy here (stands.rest ++ more) sent' to → Stands gives Sets Steps policy from (came ++ more) (sent ++ sent') to
-    stands_on on = record {
-      turns = stands.turns ++ on.turns;
-      rest = on.rest;
-      split = later on.turns on.rest on.split;
-      serves = serves_on gives Sets Steps policy from here to stands.turns on.turns stands.serves on.serves;
-      answers = ap (λ t. t ++ sent') stands.answers ∙ ap (λ t. answers_of stands.turns ++ t) on.answers ∙ sym (answers_of-append stands.turns on.turns);
+    unfoldable pub serves_more : ServesFirst rules' here (start.unserved ++ more) sent' to
+        → ServesFirst rules from (came ++ more) (sent ++ sent') to
+    serves_more on = record {
+      turns = start.turns ++ on.turns;
+      unserved = on.unserved;
+      split = later on.turns on.unserved on.split;
+      serves = serves_on desk from here to start.turns on.turns start.serves on.serves;
+      waits = waits_later on.turns on.waits;
+      answers = ap (λ t. t ++ sent') start.answers ∙ ap (λ t. answers_of start.turns ++ t) on.answers
+          ∙ sym (answers_of-append start.turns on.turns);
     }
 
     -- a line ended the session
-    ran_quit : ServesToQuit gives Sets Steps policy here (stands.rest ++ more) sent' to → ServesToQuit gives Sets Steps policy from (came ++ more) (sent ++ sent') to
+    ran_quit : ServesToQuit rules' here (start.unserved ++ more) sent' to
+        → ServesToQuit rules from (came ++ more) (sent ++ sent') to
     ran_quit session = record {
-      turns = stands.turns ++ session.turns;
+      turns = start.turns ++ session.turns;
       raw = session.raw;
       unserved = session.unserved;
       split = later session.turns _ session.split;
       few = session.few;
       quit = session.quit;
-      serves = serves_on gives Sets Steps policy from here to stands.turns session.turns stands.serves session.serves;
+      serves = serves_on desk from here to start.turns session.turns start.serves session.serves;
+      waits = waits_later session.turns session.waits;
       answers = text_later session.turns _ session.answers;
     }
 
     -- a write failed
-    ran_fails : (Over : Type 0) → FailsAtLine gives Sets Steps policy here (stands.rest ++ more) sent' to
-        → FailsToWrite gives Sets Steps policy Over from (came ++ more) (sent ++ sent') to
+    ran_fails : (Over : Type 0) → FailsAtLine rules' here (start.unserved ++ more) sent' to
+        → FailsToWrite rules Over from (came ++ more) (sent ++ sent') to
     ran_fails Over fails = record {
-      turns = stands.turns ++ fails.turns;
+      turns = start.turns ++ fails.turns;
       unserved = fails.raw ++ LINE_FEED ∷ fails.rest;
       split = later fails.turns _ fails.split;
       before_last = fails.before_last;
-      serves = serves_on gives Sets Steps policy from here fails.before_last stands.turns fails.turns stands.serves fails.serves;
+      serves = serves_on desk from here fails.before_last start.turns fails.turns start.serves fails.serves;
+      waits = waits_later fails.turns fails.waits;
       reading = fails.reading;
       begins = inl (fails.raw, fails.rest, refl, fails.line);
+      last_waits = λ waits. last_later fails.turns (fails.last_waits waits);
       replies = fails.replies;
       turn = fails.turn;
       first = fails.first;
@@ -127,12 +161,11 @@ module _ {S : Type 0} (gives : S → ℕ → Type 0) (Sets : S → ℕ → Optio
 
     -- a line stopped the session
     pub stopped : (HoldsBack Over : Type 0) (stop : Stop) (buffer : LineBuffer)
-        → ServesLines gives Sets Steps policy HoldsBack here (stands.rest ++ more) sent' (Some stop) buffer to
-        → Stops gives Sets Steps policy HoldsBack Over from (came ++ more) (sent ++ sent') stop to
+        → ServesLines rules' HoldsBack here (start.unserved ++ more) sent' (Some stop) buffer to
+        → Stops rules HoldsBack Over from (came ++ more) (sent ++ sent') stop to
     stopped HoldsBack Over stops.Quit buffer served = ran_quit served
     stopped HoldsBack Over stops.Write buffer (inl fails) = inl (ran_fails Over fails)
-    stopped HoldsBack Over stops.Write buffer (inr (late, on)) =
-        inr (late, stands_late gives Sets Steps policy Over from to (came ++ more) (sent ++ sent') (stands_on on))
+    stopped HoldsBack Over stops.Write buffer (inr (late, on)) = inr (late, inr (inr (serves_more on)))
     stopped HoldsBack Over stops.EndOfInput buffer served = absurd served
     stopped HoldsBack Over stops.Read buffer served = absurd served
     stopped HoldsBack Over stops.ReadTurns buffer served = absurd served

@@ -1,24 +1,22 @@
 -- What becomes of the jobs that a session still holds when it ends.
 use Rattle.std.specs.Prelude.{◌≡◌, ℕ, ◌+◌, List, [], ◌∷◌, Result, Ok, Err}
 use Rattle.rb_delayed.specs.declared.element.Element.{Element}
-use Rattle.rb_queue.specs.declared.ask.Ask.{Ask}
-use Rattle.rb_queue.specs.declared.reply.Reply.{Reply}
 use Rattle.rb_kept.specs.declared.fault.CallFault.{CallFault}
 use Rattle.rb_retry.specs.Jobs.{FailsTo}
-use Rattle.rb_retry.specs.declared.desk_fault.DeskFault.{DeskFault}
-use Rattle.rb_retry.specs.declared.policy.Policy.{Policy}
 use Rattle.rb_retry.specs.declared.verdict.Verdict.{Verdict}
+use Rattle.rb_session.specs.Rules.{DeskRules}
 
--- a job is lost where its next attempt was refused
+-- a job is lost if its next attempt was refused
 abbrev pub lost_by : Result Verdict (Element × CallFault) → ℕ
 lost_by (Ok verdict) = 0
 lost_by (Err refused) = 1
 
-module _ {S : Type 0} (gives : S → ℕ → Type 0) (Steps : S → ℕ → Ask → Result Reply DeskFault → S → Type 0) (policy : Policy) where
-  -- Each of them fails, in this order, at the desk's moment, and so many are lost.
+module _ {S : Type 0} (rules : DeskRules S) where
+  -- Each of these jobs fails, in this order, at the desk's moment, and this many are lost.
   abbrev pub Closes : S → List Element → ℕ → S → Type 0
   Closes old [] lost new = (lost ≡ 0) × (new ≡ old)
   Closes old (element ∷ held) lost new =
-      (now : ℕ) × gives old now
-      × (result : Result Verdict (Element × CallFault)) × (between : S) × FailsTo Steps policy element now old result between
+      (now : ℕ) × rules.gives old now
+      × (result : Result Verdict (Element × CallFault)) × (between : S)
+      × FailsTo rules.Steps rules.policy element now old result between
       × (more : ℕ) × Closes between held more new × (lost ≡ lost_by result + more)

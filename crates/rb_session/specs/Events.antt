@@ -9,7 +9,7 @@ use Rattle.rb_queue.specs.declared.reply.Reply.TheVariants.{Offered}
 use Rattle.rb_kept.specs.Tries.{IsActOf}
 use Rattle.rb_retry.specs.Made.{Made}
 use Rattle.rb_retry.specs.KeptSteps.{KeptState}
-use Rattle.rb_retry.specs.declared.desk_fault.DeskFault.{DeskFault}
+use Rattle.rb_retry.specs.declared.desk.Desk as Desk
 use Rattle.rb_retry.specs.declared.policy.Policy.{Policy}
 use Rattle.rb_protocol.specs.declared.request.Request.{Request}
 use Rattle.rb_protocol.specs.declared.request.Request.TheVariants as requests
@@ -20,6 +20,7 @@ use Rattle.rb_session.specs.Held.{AreHeldOnce}
 use Rattle.rb_session.specs.Turn.{Point, IsFirstDraft, lines_for}
 use Rattle.rb_session.specs.Session.{Turn, Serves}
 use Rattle.rb_session.specs.Closing.{Closes}
+use Rattle.rb_session.specs.Rules.{DeskRules, desk_rules}
 
 -- the ask is one that the request makes
 abbrev pub IsAskOf : Request → Ask → Type 0
@@ -98,38 +99,44 @@ abbrev pub latest : ℕ → List Turn → ℕ
 latest moment [] = moment
 latest moment (turn ∷ turns) = latest (moment_after moment turn.reading) turns
 
-module _ {S : Type 0} (gives : S → ℕ → Type 0) (Sets : S → ℕ → Option ℕ → S → Type 0)
-    (Steps : S → ℕ → Ask → Result Reply DeskFault → S → Type 0) (mine : S → List Made) where
+module _ {D : Type 0} (words : Desk.Ghosts D) where
   -- the law of lines that are served: what the desk made is what these lines made
   abbrev pub MakesByLines : Type 0
-  MakesByLines = (policy : Policy) (from to : Point S) (turns : List Turn) → Serves gives Sets Steps policy from turns to
-      → (made : List Made) × (mine to.desk ≡ mine from.desk ++ made) × AreOfLines turns made
+  MakesByLines =
+      (policy : Policy) (from to : Point words.State) (turns : List Turn)
+      → Serves (desk_rules words policy) from turns to
+      → (made : List Made) × (words.mine to.desk ≡ words.mine from.desk ++ made) × AreOfLines turns made
 
   -- the law of jobs that are held at the end
   abbrev pub MakesByClosing : Type 0
-  MakesByClosing = (policy : Policy) (from to : S) (held : List Element) (lost : ℕ) → Closes gives Steps policy from held lost to
-      → (made : List Made) × (mine to ≡ mine from ++ made) × AreOfClosing held made
+  MakesByClosing =
+      (policy : Policy) (from to : words.State) (held : List Element) (lost : ℕ)
+      → Closes (desk_rules words policy) from held lost to
+      → (made : List Made) × (words.mine to ≡ words.mine from ++ made) × AreOfClosing held made
 
-module _ {S : Type 0} (gives : S → ℕ → Type 0) (Sets : S → ℕ → Option ℕ → S → Type 0)
-    (Steps : S → ℕ → Ask → Result Reply DeskFault → S → Type 0) where
   -- the law of what is held: a session that begins with nothing never holds two jobs of one id
   abbrev pub HoldsOnce : Type 0
-  HoldsOnce = (policy : Policy) (from to : Point S) (turns : List Turn) → from.held ≡ []
-      → Serves gives Sets Steps policy from turns to → AreHeldOnce to.held
+  HoldsOnce =
+      (policy : Policy) (from to : Point words.State) (turns : List Turn) → from.held ≡ []
+      → Serves (desk_rules words policy) from turns to → AreHeldOnce to.held
 
 -- the events of what was made
 abbrev pub made_events : List Made → List Event
 made_events mades = map (λ (made : Made). made.event) mades
 
-module _ (gives : KeptState → ℕ → Type 0) (Sets : KeptState → ℕ → Option ℕ → KeptState → Type 0)
-    (Steps : KeptState → ℕ → Ask → Result Reply DeskFault → KeptState → Type 0) where
-  -- the law of lines at a kept desk: the history grows by what they made, and the clock stands at the latest moment
+-- at a desk over a kept queue, by its rules under each policy
+module _ (rules : Policy → DeskRules KeptState) where
+  -- the law of lines: the history grows by what they made, and the clock stands at the latest moment
   abbrev pub RecordsByLines : Type 0
-  RecordsByLines = (policy : Policy) (from to : Point KeptState) (turns : List Turn) → Serves gives Sets Steps policy from turns to
-      → (made : List Made) × (to.desk.log.history ≡ from.desk.log.history ++ made_events made) × AreOfLines turns made
-      × (to.desk.moment ≡ latest from.desk.moment turns)
+  RecordsByLines =
+      (policy : Policy) (from to : Point KeptState) (turns : List Turn) → Serves (rules policy) from turns to
+      → (made : List Made) × (to.desk.log.history ≡ from.desk.log.history ++ made_events made)
+      × AreOfLines turns made × (to.desk.moment ≡ latest from.desk.moment turns)
 
-  -- the law of jobs that are held at the end of a session at a kept desk
+  -- the law of jobs that are held at the end
   abbrev pub RecordsByClosing : Type 0
-  RecordsByClosing = (policy : Policy) (from to : KeptState) (held : List Element) (lost : ℕ) → Closes gives Steps policy from held lost to
-      → (made : List Made) × (to.log.history ≡ from.log.history ++ made_events made) × AreOfClosing held made × (to.moment ≡ from.moment)
+  RecordsByClosing =
+      (policy : Policy) (from to : KeptState) (held : List Element) (lost : ℕ)
+      → Closes (rules policy) from held lost to
+      → (made : List Made) × (to.log.history ≡ from.log.history ++ made_events made)
+      × AreOfClosing held made × (to.moment ≡ from.moment)

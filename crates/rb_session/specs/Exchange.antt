@@ -19,4 +19,5 @@ CameFirst = (stream came : List ℕ) (left' : Option (List ℕ)) → Consumes (S
 
 -- the law of writers that tell what they have got: that is what they had got, and then what was sent
 abbrev pub SentLast : Type 0
-SentLast = (before sent : List ℕ) (got' : Option (List ℕ)) → Appends (Some before) got' sent → got' ≡ Some (before ++ sent)
+SentLast = (before sent : List ℕ) (got' : Option (List ℕ))
+    → Appends (Some before) got' sent → got' ≡ Some (before ++ sent)

@@ -1,7 +1,9 @@
 -- What a writer has got only grows.
-use Rattle.std.specs.Prelude.{ℕ, List, [], ◌++◌, Option}
-use Rattle.std.specs.Io.KnownBytes.{Appends}
+use Rattle.std.specs.Prelude.{◌≡◌, ℕ, List, [], ◌++◌, Option, Some, None}
+use Rattle.std.specs.Io.KnownBytes.{Appends, append_known}
+use Rattle.std.proofs.Common.{sym, ap, ◌∙◌, append-nil}
 use Rattle.std.proofs.KnownBytes.{Appends-nil, Appends-trans}
+use Rattle.rb_session.specs.Rules.{HadGotBehind}
 
 -- known bytes stay at the front
 abbrev pub KeepsFront : Option (List ℕ) → Option (List ℕ) → Type 0
@@ -14,3 +16,16 @@ grows_same known = ([], Appends-nil known)
 -- and then by more
 pub grows_on : (one two three : Option (List ℕ)) → KeepsFront one two → KeepsFront two three → KeepsFront one three
 grows_on one two three (some, first) (more, second) = (some ++ more, Appends-trans one two three some more first second)
+
+-- what a writer had got behind these known bytes, it had got behind earlier ones, after what lies between
+pub had_more : {W : Type 0} (contents : W → Option (List ℕ)) (old new : Option (List ℕ)) (before text : List ℕ)
+    → Appends old new before → HadGotBehind contents new text → HadGotBehind contents old (before ++ text)
+had_more contents old new before text sent (writer, got) =
+    (writer, Appends-trans old new (contents writer) before text sent got)
+
+-- a writer has got all that was sent, if nothing of it is gathered
+pub all_got : (old got : Option (List ℕ)) (gathered text : List ℕ) → gathered ≡ []
+    → Appends old (append_known got gathered) text → Appends old got text
+all_got None got gathered text none sent = tt
+all_got (Some xs) None gathered text none sent = absurd sent
+all_got (Some xs) (Some ys) gathered text none sent = sym (append-nil ys) ∙ ap (λ b. ys ++ b) (sym none) ∙ sent

@@ -6,6 +6,8 @@ pub use Rattle.rb_retry.specs.Asked
 pub use Rattle.rb_retry.specs.Jobs
 pub use Rattle.rb_retry.specs.Made
 pub mod Lines
+pub mod Rules
+pub mod Served
 pub mod Held
 pub mod JobMap
 pub mod Turn
@@ -14,10 +16,10 @@ pub mod Exchange
 pub mod Closing
 pub mod Events
 pub mod Ran
+pub mod Gathered
 pub mod Outlet
 pub mod Buffer
 pub mod Progress
 pub mod Growth
-pub mod Gathered
 pub mod Delivered
 pub mod RunEvents

@@ -1,5 +1,6 @@
 -- How far a session has come. No public clause cites this module.
-use Rattle.std.specs.Prelude.{◌≡◌, ℕ, ◌-◌, ◌<◌, ◌⊎◌, List, [], ◌∷◌, ◌++◌, length, map, drop, Option, Some, None, Result, Ok, Err, slice_get}
+use Rattle.std.specs.Prelude.{◌≡◌, ℕ, ◌-◌, ◌<◌, ◌⊎◌, Option, Some, None, Result, Ok, Err}
+use Rattle.std.specs.Prelude.{List, [], ◌∷◌, ◌++◌, length, map, drop, slice_get}
 use Rattle.rb_delayed.specs.declared.element.Element.{Element}
 use Rattle.rb_queue.specs.declared.ask.Ask.{Ask}
 use Rattle.rb_queue.specs.declared.reply.Reply.{Reply}
@@ -15,10 +16,13 @@ use Rattle.rb_session.specs.Buffer.{IsUnserved}
 use Rattle.rb_protocol.specs.declared.format.TheConstants.{LINE_FEED}
 use Rattle.rb_protocol.specs.declared.request.Request.{Request}
 use Rattle.rb_protocol.specs.declared.line_fault.LineFault.{LineFault}
-use Rattle.rb_session.specs.Turn.{Point, IsTurn, fault_line, reply_line, lines_for, fetched_by, held_after}
-use Rattle.rb_session.specs.Session.{Turn, IsLine, Serves, ServesToEnd, ServesToQuit, bytes_of, answers_of, texts_of, rest_text}
+use Rattle.rb_session.specs.Rules.{SessionRules}
+use Rattle.rb_session.specs.Turn.{Point, IsTurn, AsksToWait}
+use Rattle.rb_session.specs.Turn.{fault_line, reply_line, lines_for, fetched_by, held_after}
+use Rattle.rb_session.specs.Session.{Turn, IsLine, Serves, GotBeforeWaits, ServesFirst, ServesToEnd, ServesToQuit}
+use Rattle.rb_session.specs.Session.{bytes_of, answers_of, texts_of, rest_text}
 use Rattle.rb_session.specs.Ran.{BreaksOff}
-use Rattle.rb_session.specs.Outlet.{FailsToSend}
+use Rattle.rb_session.specs.Outlet.{FailsThrough}
 use Rattle.rb_session.specs.declared.line_buffer.LineBuffer.{LineBuffer}
 use Rattle.rb_session.specs.declared.ended.Ended.{Ended}
 use Rattle.rb_session.specs.declared.ended.Ended.TheVariants as ends
@@ -38,7 +42,8 @@ replies_of (lines.Drained count) held = lines.Drained count ∷ map lines.Item (
 replies_of reply held = reply ∷ []
 
 -- what an answer hands out is held, and this is its line
-pub record IsHolding (old : List Element) (answer : Result Reply DeskFault) (reply : LineReply) (new : List Element) : Type 0 where
+pub record IsHolding (old : List Element) (answer : Result Reply DeskFault) (reply : LineReply)
+    (new : List Element) : Type 0 where
   pub lines : replies_of reply new ≡ lines_for answer
   pub held : new ≡ old ++ fetched_by answer
 
@@ -83,16 +88,7 @@ end_of Read lost = Err (faults.Read lost)
 end_of Write lost = Err (faults.Write lost)
 end_of ReadTurns lost = Err (faults.ReadTurns lost)
 
-module _ {S : Type 0} (gives : S → ℕ → Type 0) (Sets : S → ℕ → Option ℕ → S → Type 0)
-    (Steps : S → ℕ → Ask → Result Reply DeskFault → S → Type 0) (policy : Policy) where
-  -- of these bytes some lines are served and answered, and the rest is not
-  pub record Stands (from : Point S) (bytes sent : List ℕ) (to : Point S) : Type 0 where
-    pub turns : List Turn
-    pub rest : List ℕ
-    pub split : bytes ≡ bytes_of turns ++ rest
-    pub serves : Serves gives Sets Steps policy from turns to
-    pub answers : sent ≡ answers_of turns
-
+module _ {S : Type 0} (rules : SessionRules S) where
   -- the reply of a whole line could not be sent
   pub record FailsAtLine (from : Point S) (bytes sent : List ℕ) (to : Point S) : Type 0 where
     pub turns : List Turn
@@ -100,30 +96,33 @@ module _ {S : Type 0} (gives : S → ℕ → Type 0) (Sets : S → ℕ → Optio
     pub rest : List ℕ
     pub split : bytes ≡ bytes_of turns ++ (raw ++ LINE_FEED ∷ rest)
     pub before_last : Point S
-    pub serves : Serves gives Sets Steps policy from turns before_last
+    pub serves : Serves rules.desk from turns before_last
+    pub waits : GotBeforeWaits rules.HadGot [] turns
     pub reading : Result Request LineFault
     pub line : IsLine raw reading
+    pub last_waits : AsksToWait reading → rules.HadGot (answers_of turns)
     pub replies : List LineReply
-    pub turn : IsTurn gives Sets Steps policy before_last reading replies to
+    pub turn : IsTurn rules.desk before_last reading replies to
     pub first : List ℕ
     pub unsent : List ℕ
     pub parts : texts_of replies ≡ first ++ unsent
     pub answers : sent ≡ answers_of turns ++ first
 
-  -- What serving the whole lines of a buffer comes to. Where a write failed a reply could not be sent,
+  -- What serving the whole lines of a buffer comes to. If a write failed, a reply could not be sent,
   -- or what answers the lines so far could not be handed on before a request that may wait.
   abbrev pub ServesLines : Type 0 → Point S → List ℕ → List ℕ → Option Stop → LineBuffer → Point S → Type 0
   ServesLines HoldsBack from bytes sent None buffer to =
-      (stands : Stands from bytes sent to) × HasNoLineFeed stands.rest × IsUnserved buffer stands.rest
-  ServesLines HoldsBack from bytes sent (Some Quit) buffer to = ServesToQuit gives Sets Steps policy from bytes sent to
+      (served : ServesFirst rules from bytes sent to)
+      × HasNoLineFeed served.unserved × IsUnserved buffer served.unserved
+  ServesLines HoldsBack from bytes sent (Some Quit) buffer to = ServesToQuit rules from bytes sent to
   ServesLines HoldsBack from bytes sent (Some Write) buffer to =
-      FailsAtLine from bytes sent to ⊎ (HoldsBack × Stands from bytes sent to)
+      FailsAtLine from bytes sent to ⊎ (HoldsBack × ServesFirst rules from bytes sent to)
   ServesLines HoldsBack from bytes sent (Some _) buffer to = ⊥
 
   -- what serving what comes leads to
   abbrev pub Stops : Type 0 → Type 0 → Point S → List ℕ → List ℕ → Stop → Point S → Type 0
-  Stops HoldsBack Over from came sent Quit to = ServesToQuit gives Sets Steps policy from came sent to
-  Stops HoldsBack Over from came sent EndOfInput to = ServesToEnd gives Sets Steps policy Over from came sent to
-  Stops HoldsBack Over from came sent Read to = BreaksOff gives Sets Steps policy from came sent to
-  Stops HoldsBack Over from came sent ReadTurns to = BreaksOff gives Sets Steps policy from came sent to
-  Stops HoldsBack Over from came sent Write to = FailsToSend gives Sets Steps policy HoldsBack Over from came sent to
+  Stops HoldsBack Over from came sent Quit to = ServesToQuit rules from came sent to
+  Stops HoldsBack Over from came sent EndOfInput to = ServesToEnd rules Over from came sent to
+  Stops HoldsBack Over from came sent Read to = BreaksOff rules from came sent to
+  Stops HoldsBack Over from came sent ReadTurns to = BreaksOff rules from came sent to
+  Stops HoldsBack Over from came sent Write to = FailsThrough rules HoldsBack Over from came sent to

@@ -2,17 +2,17 @@
 use Rattle.std.specs.Prelude.{◌≡◌, ℕ, ◌<◌, ◌⊎◌, List, [], ◌∷◌, ◌++◌, length, Option, Result, Err}
 use Rattle.std.specs.Io.KnownBytes.{IsAtEnd}
 use Rattle.rb_delayed.specs.declared.element.Element.{Element}
-use Rattle.rb_queue.specs.declared.ask.Ask.{Ask}
-use Rattle.rb_queue.specs.declared.reply.Reply.{Reply}
 use Rattle.rb_retry.specs.Made.{Made}
 use Rattle.rb_retry.specs.KeptSteps.{KeptState}
-use Rattle.rb_retry.specs.declared.desk_fault.DeskFault.{DeskFault}
+use Rattle.rb_retry.specs.declared.desk.Desk as Desk
 use Rattle.rb_retry.specs.declared.policy.Policy.{Policy}
 use Rattle.rb_protocol.specs.declared.format.TheConstants.{LINE_FEED}
 use Rattle.rb_protocol.specs.declared.line_fault.LineFault.TheVariants.{Line}
 use Rattle.rb_protocol.specs.declared.line_reply.LineReply.{LineReply}
 use Rattle.rb_protocol.specs.declared.line_reply.LineReply.TheVariants as lines
 use Rattle.rb_protocol.specs.Line.{HasNoLineFeed}
+use Rattle.rb_session.specs.Rules.{DeskRules, desk_rules, session_rules, HadGotBehind}
+use Rattle.rb_session.specs.Served.{Served}
 use Rattle.rb_session.specs.Session.{Turn, IsLine, answers_of}
 use Rattle.rb_session.specs.Delivered.{RanDelivered}
 use Rattle.rb_session.specs.Events.{AreOfLines, AreOfClosing, made_events, latest}
@@ -26,8 +26,10 @@ use Rattle.rb_session.specs.declared.session_fault.SessionFault.TheVariants.{Wri
 abbrev pub StandFirst : Type 0 → List ℕ → List Turn → Type 0
 StandFirst Over bytes [] = Unit {0}
 StandFirst Over bytes (turn ∷ turns) =
-    ((rest : List ℕ) × (bytes ≡ turn.raw ++ LINE_FEED ∷ rest) × IsLine turn.raw turn.reading × StandFirst Over rest turns)
-    ⊎ (Over × (bytes ≡ turn.raw) × (0 < length bytes) × HasNoLineFeed bytes × (turn.reading ≡ Err Line) × (turns ≡ []))
+    ((rest : List ℕ) × (bytes ≡ turn.raw ++ LINE_FEED ∷ rest) × IsLine turn.raw turn.reading
+    × StandFirst Over rest turns)
+    ⊎ (Over × (bytes ≡ turn.raw) × (0 < length bytes) × HasNoLineFeed bytes
+    × (turn.reading ≡ Err Line) × (turns ≡ []))
 
 -- the elements that these replies hand out
 abbrev pub handed_by : List LineReply → List Element
@@ -44,7 +46,8 @@ handed_out (turn ∷ turns) = handed_by turn.replies ++ handed_out turns
 abbrev pub AreSomeOf : List Element → List Element → Type 0
 AreSomeOf [] all = Unit {0}
 AreSomeOf (element ∷ elements) [] = ⊥
-AreSomeOf (element ∷ elements) (first ∷ all) = ((element ≡ first) × AreSomeOf elements all) ⊎ AreSomeOf (element ∷ elements) all
+AreSomeOf (element ∷ elements) (first ∷ all) =
+    ((element ≡ first) × AreSomeOf elements all) ⊎ AreSomeOf (element ∷ elements) all
 
 -- nothing was left unsent, unless a write failed
 abbrev pub SendsAll : Result Ended SessionFault → List ℕ → Type 0
@@ -55,12 +58,12 @@ SendsAll ended unsent = unsent ≡ []
 -- what was sent and, after a failing write, what was not. Each line made one event, of which its replies tell, or
 -- none; then each job that was still held, of those that the replies handed out, made at most one, the offer of its
 -- next attempt. By these it grew.
-pub record MadeByRun (Over : Type 0) (came sent : List ℕ) (ended : Result Ended SessionFault) (Grows : List Made → Type 0) : Type 0 where
+pub record MadeByRun (Over : Type 0) (served : Served) (Grows : List Made → Type 0) : Type 0 where
   pub lines : List Turn
-  pub stand : StandFirst Over came lines
+  pub stand : StandFirst Over served.came lines
   pub unsent : List ℕ
-  pub answers : answers_of lines ≡ sent ++ unsent
-  pub all_sent : SendsAll ended unsent
+  pub answers : answers_of lines ≡ served.sent ++ unsent
+  pub all_sent : SendsAll served.ended unsent
   pub by_lines : List Made
   pub of_lines : AreOfLines lines by_lines
   pub held : List Element
@@ -69,20 +72,22 @@ pub record MadeByRun (Over : Type 0) (came sent : List ℕ) (ended : Result Ende
   pub of_closing : AreOfClosing held by_closing
   pub grows : Grows (by_lines ++ by_closing)
 
-module _ {S : Type 0} (gives : S → ℕ → Type 0) (Sets : S → ℕ → Option ℕ → S → Type 0)
-    (Steps : S → ℕ → Ask → Result Reply DeskFault → S → Type 0) (mine : S → List Made) where
-  -- the law of runs: what was made through the desk grows by just what the run made
-  abbrev pub MakesByRun : Type 0
-  MakesByRun = (policy : Policy) (delivery : Delivery) (rest : Option (List ℕ)) (from to : S) (came sent : List ℕ) (ended : Result Ended SessionFault)
-      → RanDelivered gives Sets Steps policy delivery (IsAtEnd rest) from came sent ended to
-      → MadeByRun (IsAtEnd rest) came sent ended (λ made. mine to ≡ mine from ++ made)
+-- the law of runs: what was made through the desk grows by just what the run made
+abbrev pub MakesByRun : {D W : Type 0} → Desk.Ghosts D → (W → Option (List ℕ)) → Type 0
+MakesByRun words contents =
+    (policy : Policy) (got : Option (List ℕ)) (delivery : Delivery) (rest : Option (List ℕ))
+    (from to : words.State) (served : Served)
+    → RanDelivered (session_rules (desk_rules words policy) (HadGotBehind contents got)) delivery
+    (IsAtEnd rest) from served to
+    → MadeByRun (IsAtEnd rest) served (λ made. words.mine to ≡ words.mine from ++ made)
 
-module _ (gives : KeptState → ℕ → Type 0) (Sets : KeptState → ℕ → Option ℕ → KeptState → Type 0)
-    (Steps : KeptState → ℕ → Ask → Result Reply DeskFault → KeptState → Type 0) where
-  -- the law of runs at a kept desk: the history grows by just the events of what the run made, and the clock stands at
-  -- the latest moment
-  abbrev pub RecordsByRun : Type 0
-  RecordsByRun = (policy : Policy) (delivery : Delivery) (rest : Option (List ℕ)) (from to : KeptState) (came sent : List ℕ) (ended : Result Ended SessionFault)
-      → RanDelivered gives Sets Steps policy delivery (IsAtEnd rest) from came sent ended to
-      → (run : MadeByRun (IsAtEnd rest) came sent ended (λ made. to.log.history ≡ from.log.history ++ made_events made))
-      × (to.moment ≡ latest from.moment run.lines) × (to.log.opening ≡ from.log.opening)
+-- the law of runs at a desk over a kept queue, by its rules under each policy: the history grows by just the events of
+-- what the run made, the clock stands at the latest moment, and what the log began with stays
+abbrev pub RecordsByRun : {W : Type 0} → (Policy → DeskRules KeptState) → (W → Option (List ℕ)) → Type 0
+RecordsByRun rules contents =
+    (policy : Policy) (got : Option (List ℕ)) (delivery : Delivery) (rest : Option (List ℕ))
+    (from to : KeptState) (served : Served)
+    → RanDelivered (session_rules (rules policy) (HadGotBehind contents got)) delivery
+    (IsAtEnd rest) from served to
+    → (run : MadeByRun (IsAtEnd rest) served (λ made. to.log.history ≡ from.log.history ++ made_events made))
+    × (to.moment ≡ latest from.moment run.lines) × (to.log.opening ≡ from.log.opening)

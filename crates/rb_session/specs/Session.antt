@@ -1,9 +1,5 @@
 -- What a session answers to the bytes that it reads.
-use Rattle.std.specs.Prelude.{◌≡◌, ◌≢◌, ℕ, ◌<◌, List, [], ◌∷◌, ◌++◌, length, Option, Result, Ok}
-use Rattle.rb_queue.specs.declared.ask.Ask.{Ask}
-use Rattle.rb_queue.specs.declared.reply.Reply.{Reply}
-use Rattle.rb_retry.specs.declared.desk_fault.DeskFault.{DeskFault}
-use Rattle.rb_retry.specs.declared.policy.Policy.{Policy}
+use Rattle.std.specs.Prelude.{◌≡◌, ◌≢◌, ℕ, ◌<◌, List, [], ◌∷◌, ◌++◌, length, Result, Ok}
 use Rattle.rb_protocol.specs.Reading.{IsReading}
 use Rattle.rb_protocol.specs.ReplyText.{text_of}
 use Rattle.rb_protocol.specs.declared.format.TheConstants.{LINE_FEED}
@@ -16,7 +12,8 @@ use Rattle.rb_protocol.specs.declared.error_word.ErrorWord.TheVariants as words
 use Rattle.rb_protocol.specs.Line.{HasNoLineFeed}
 use Rattle.rb_session.specs.Lines.{line_of}
 use Rattle.rb_protocol.specs.declared.limits.TheConstants.{BUFFER_BYTES}
-use Rattle.rb_session.specs.Turn.{Point, IsTurn}
+use Rattle.rb_session.specs.Rules.{DeskRules, SessionRules}
+use Rattle.rb_session.specs.Turn.{Point, IsTurn, AsksToWait}
 
 -- A line that was served: its bytes before the line feed, what they were read as, and its replies.
 pub record Turn : Type 0 where
@@ -48,14 +45,31 @@ abbrev pub rest_text : List ℕ → List ℕ
 rest_text [] = []
 rest_text (byte ∷ rest) = text_of (lines.Error words.Line)
 
-module _ {S : Type 0} (gives : S → ℕ → Type 0) (Sets : S → ℕ → Option ℕ → S → Type 0)
-    (Steps : S → ℕ → Ask → Result Reply DeskFault → S → Type 0) (policy : Policy) where
+module _ {S : Type 0} (rules : DeskRules S) where
   -- These lines are served one after the other. None of them ends the session.
   abbrev pub Serves : Point S → List Turn → Point S → Type 0
   Serves old [] new = new ≡ old
   Serves old (turn ∷ turns) new =
       (between : Point S) × IsLine turn.raw turn.reading × (turn.reading ≢ Ok Quit)
-      × IsTurn gives Sets Steps policy old turn.reading turn.replies between × Serves between turns new
+      × IsTurn rules old turn.reading turn.replies between × Serves between turns new
+
+-- Before each of these lines that may wait, the writer had got what answers the lines before it: this text, and then
+-- their replies.
+abbrev pub GotBeforeWaits : (List ℕ → Type 0) → List ℕ → List Turn → Type 0
+GotBeforeWaits HadGot earlier [] = Unit {0}
+GotBeforeWaits HadGot earlier (turn ∷ turns) =
+    (AsksToWait turn.reading → HadGot earlier) × GotBeforeWaits HadGot (earlier ++ texts_of turn.replies) turns
+
+module _ {S : Type 0} (rules : SessionRules S) where
+  -- The first lines of what came are served, and this is the text that answers them. What came behind them is not
+  -- served.
+  pub record ServesFirst (from : Point S) (came text : List ℕ) (to : Point S) : Type 0 where
+    pub turns : List Turn
+    pub unserved : List ℕ
+    pub split : came ≡ bytes_of turns ++ unserved
+    pub serves : Serves rules.desk from turns to
+    pub waits : GotBeforeWaits rules.HadGot [] turns
+    pub answers : text ≡ answers_of turns
 
   -- What came is served to its end, and the input is over. What stands behind its last line feed is a
   -- truncated line.
@@ -65,7 +79,8 @@ module _ {S : Type 0} (gives : S → ℕ → Type 0) (Sets : S → ℕ → Optio
     pub rest : List ℕ
     pub split : came ≡ bytes_of turns ++ rest
     pub no_line : HasNoLineFeed rest
-    pub serves : Serves from turns to
+    pub serves : Serves rules.desk from turns to
+    pub waits : GotBeforeWaits rules.HadGot [] turns
     pub answers : sent ≡ answers_of turns ++ rest_text rest
 
   -- What came is served to a line that ends the session. What came behind that one is not served, and is less
@@ -77,5 +92,6 @@ module _ {S : Type 0} (gives : S → ℕ → Type 0) (Sets : S → ℕ → Optio
     pub split : came ≡ bytes_of turns ++ (raw ++ LINE_FEED ∷ unserved)
     pub few : length unserved < BUFFER_BYTES
     pub quit : IsLine raw (Ok Quit)
-    pub serves : Serves from turns to
+    pub serves : Serves rules.desk from turns to
+    pub waits : GotBeforeWaits rules.HadGot [] turns
     pub answers : sent ≡ answers_of turns ++ text_of lines.Bye

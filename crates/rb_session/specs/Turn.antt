@@ -1,18 +1,19 @@
 -- What a session answers to one line, at a desk of any kind.
-use Rattle.std.specs.Prelude.{◌≡◌, ℕ, ◌+◌, ◌-◌, min, nat_le, nat_lt, List, [], ◌∷◌, ◌++◌, length, map, remove, Option, Some, None, MatchBool, MatchOption, Result, Ok, Err, slice_get}
+use Rattle.std.specs.Prelude.{◌≡◌, ℕ, ◌+◌, ◌-◌, min, nat_le, nat_lt, MatchBool, MatchOption, Result, Ok, Err}
+use Rattle.std.specs.Prelude.{List, [], ◌∷◌, ◌++◌, length, map, remove, slice_get, Option, Some, None}
 use Rattle.rb_delayed.specs.declared.element.Element.{Element}
 use Rattle.rb_delayed.specs.declared.moment.TheConstants.{GREATEST_MOMENT}
 use Rattle.rb_queue.specs.declared.draft.Draft.{Draft}
 use Rattle.rb_queue.specs.declared.ask.Ask.{Ask}
 use Rattle.rb_queue.specs.declared.ask.Ask.TheVariants as asks
 use Rattle.rb_queue.specs.declared.reply.Reply.{Reply}
-use Rattle.rb_queue.specs.declared.reply.Reply.TheVariants.{Offered, Item, Nothing, Head, Removed, Drained, Cleared, Size}
+use Rattle.rb_queue.specs.declared.reply.Reply.TheVariants.{Offered, Item, Nothing, Head}
+use Rattle.rb_queue.specs.declared.reply.Reply.TheVariants.{Removed, Drained, Cleared, Size}
 use Rattle.rb_kept.specs.declared.fault.CallFault.{CallFault}
 use Rattle.rb_kept.specs.declared.fault.CallFault.TheVariants as refusals
 use Rattle.rb_retry.specs.Jobs.{FailsTo}
 use Rattle.rb_retry.specs.declared.desk_fault.DeskFault.{DeskFault}
 use Rattle.rb_retry.specs.declared.desk_fault.DeskFault.TheVariants.{Full, Memory, Stopped}
-use Rattle.rb_retry.specs.declared.policy.Policy.{Policy}
 use Rattle.rb_retry.specs.declared.verdict.Verdict.{Verdict}
 use Rattle.rb_retry.specs.declared.verdict.Verdict.TheVariants.{Again, Dead}
 use Rattle.rb_protocol.specs.declared.request.Request.{Request}
@@ -24,6 +25,7 @@ use Rattle.rb_protocol.specs.declared.line_reply.LineReply.TheVariants as lines
 use Rattle.rb_protocol.specs.declared.error_word.ErrorWord.{ErrorWord}
 use Rattle.rb_protocol.specs.declared.error_word.ErrorWord.TheVariants as words
 use Rattle.rb_session.specs.Held.{place_of}
+use Rattle.rb_session.specs.Rules.{DeskRules}
 use Rattle.rb_session.specs.declared.held_jobs.TheConstants.{MOST_HELD}
 
 -- the word for a line that is no request
@@ -39,7 +41,7 @@ fault_line Full = lines.Error words.Full
 fault_line Memory = lines.Error words.Memory
 fault_line Stopped = lines.Stopped
 
--- the line for a reply, where a drain's items come behind it
+-- the first line for a reply: a drain's items come behind it
 abbrev pub reply_line : Reply → LineReply
 reply_line (Offered element) = lines.Offered element.id element.expiry
 reply_line (Item element) = lines.Item element
@@ -133,46 +135,45 @@ module _ {S : Type 0} (Steps : S → ℕ → Ask → Result Reply DeskFault → 
       (IsCall old handed ask replies new)
       (AnswersAlone (lines.Error words.Held) old replies new)
 
-  -- a first element that expires at this moment is offered
-  abbrev pub IsOffer : Point S → ℕ → ℕ → List ℕ → List LineReply → Point S → Type 0
-  IsOffer old now expiry payload replies new =
-      (draft : Draft) × IsFirstDraft draft expiry payload × IsCall old now (asks.Offer draft) replies new
-
+module _ {S : Type 0} (rules : DeskRules S) where
   -- the job at this place fails
-  abbrev pub IsFailure : Policy → Point S → ℕ → ℕ → List LineReply → Point S → Type 0
-  IsFailure policy old now place replies new =
+  abbrev pub IsFailure : Point S → ℕ → ℕ → List LineReply → Point S → Type 0
+  IsFailure old now place replies new =
       (element : Element) × (slice_get old.held place ≡ Some element)
-      × (result : Result Verdict (Element × CallFault)) × FailsTo Steps policy element now old.desk result new.desk
+      × (result : Result Verdict (Element × CallFault))
+      × FailsTo rules.Steps rules.policy element now old.desk result new.desk
       × (replies ≡ verdict_line result ∷ []) × (new.held ≡ held_after result old.held place)
 
-module _ {S : Type 0} (gives : S → ℕ → Type 0) (Sets : S → ℕ → Option ℕ → S → Type 0)
-    (Steps : S → ℕ → Ask → Result Reply DeskFault → S → Type 0) (policy : Policy) where
   -- What a request gets at one reading of the desk's clock: the lines, and the point after it. A take
   -- hands in no moment.
   abbrev pub IsServed : Point S → ℕ → Request → List LineReply → Point S → Type 0
   IsServed old now (requests.Offer delay payload) replies new = MatchBool (nat_le (now + delay) GREATEST_MOMENT)
-      (IsOffer Steps old now (now + delay) payload replies new)
+      ((draft : Draft) × IsFirstDraft draft (now + delay) payload
+      × IsCall rules.Steps old now (asks.Offer draft) replies new)
       (AnswersAlone (lines.Error words.Range) old replies new)
-  IsServed old now (requests.OfferAt expiry payload) replies new = IsOffer Steps old now expiry payload replies new
-  IsServed old now requests.Poll replies new = IsFetch Steps old now asks.Poll replies new
-  IsServed old now (requests.PollFor timeout) replies new = IsFetch Steps old now (asks.PollFor now timeout) replies new
-  IsServed old now requests.Take replies new = IsFetch Steps old 0 asks.Take replies new
-  IsServed old now requests.Peek replies new = IsCall Steps old now asks.Peek replies new
-  IsServed old now (requests.Remove id) replies new = IsCall Steps old now (asks.Remove id) replies new
+  IsServed old now (requests.OfferAt expiry payload) replies new =
+      (draft : Draft) × IsFirstDraft draft expiry payload
+      × IsCall rules.Steps old now (asks.Offer draft) replies new
+  IsServed old now requests.Poll replies new = IsFetch rules.Steps old now asks.Poll replies new
+  IsServed old now (requests.PollFor timeout) replies new =
+      IsFetch rules.Steps old now (asks.PollFor now timeout) replies new
+  IsServed old now requests.Take replies new = IsFetch rules.Steps old 0 asks.Take replies new
+  IsServed old now requests.Peek replies new = IsCall rules.Steps old now asks.Peek replies new
+  IsServed old now (requests.Remove id) replies new = IsCall rules.Steps old now (asks.Remove id) replies new
   IsServed old now (requests.Drain most) replies new =
-      IsCall Steps old now (asks.Drain (min most (MOST_HELD - length old.held))) replies new
-  IsServed old now requests.Clear replies new = IsCall Steps old now asks.Clear replies new
-  IsServed old now requests.Size replies new = IsCall Steps old now asks.Size replies new
+      IsCall rules.Steps old now (asks.Drain (min most (MOST_HELD - length old.held))) replies new
+  IsServed old now requests.Clear replies new = IsCall rules.Steps old now asks.Clear replies new
+  IsServed old now requests.Size replies new = IsCall rules.Steps old now asks.Size replies new
   IsServed old now (requests.Done id) replies new = MatchOption (place_of old.held id)
       (AnswersAlone (lines.Error words.NotHeld) old replies new)
       (λ place. IsDone old id place replies new)
   IsServed old now (requests.Fail id) replies new = MatchOption (place_of old.held id)
       (AnswersAlone (lines.Error words.NotHeld) old replies new)
-      (λ place. IsFailure Steps policy old now place replies new)
-  IsServed old now (requests.At moment) replies new = IsSetting Sets old moment replies new
+      (λ place. IsFailure old now place replies new)
+  IsServed old now (requests.At moment) replies new = IsSetting rules.Sets old moment replies new
   IsServed old now requests.Quit replies new = AnswersAlone lines.Bye old replies new
 
   -- What a line gets, by what it is read as.
   abbrev pub IsTurn : Point S → Result Request LineFault → List LineReply → Point S → Type 0
   IsTurn old (Err fault) replies new = AnswersAlone (lines.Error (word_for fault)) old replies new
-  IsTurn old (Ok request) replies new = (now : ℕ) × gives old.desk now × IsServed old now request replies new
+  IsTurn old (Ok request) replies new = (now : ℕ) × rules.gives old.desk now × IsServed old now request replies new

@@ -1,6 +1,7 @@
 ghost use Rattle.std.specs.Prelude.{◌≡◌, ℕ, ◌<◌, ◌≤◌, ◌++◌, [], ◌∷◌, List, length, Option, Result};
 ghost use Rattle.rb_queue.specs.declared.reply.Reply.{Reply};
 ghost use Rattle.rb_session.specs.Held.{AreGiven};
+ghost use Rattle.rb_session.specs.Rules.{desk_rules};
 ghost use Rattle.rb_session.specs.Turn.{word_for, point, moment_line, AsksToWait, IsTurn, IsServed};
 ghost use Rattle.rb_session.specs.Progress.{replies_of};
 
@@ -16,8 +17,8 @@ use rb_retry::{Desk, Policy};
 /// Answers one line with the first line of its reply. If that is a drain's, the elements that it
 /// took are the last that are held.
 ///
-/// The desk's clock is read once for each request. If the request may wait, nothing that the client
-/// may need may be held back.
+/// The desk's clock is read once for each request. If the request may wait, all replies that the
+/// client may need meanwhile were handed on.
 pub(crate) fn answer<O: Outlet, D: Desk>(
     _outlet: &O,
     desk: &mut D,
@@ -27,8 +28,8 @@ pub(crate) fn answer<O: Outlet, D: Desk>(
 ) -> LineReply
     requires clear { AsksToWait reading → O.IsClearForWait _outlet.now }
     requires given { AreGiven (D.mine (D.state desk.old)) held.old }
-    ensures turn { IsTurn D.gives D.Sets D.Steps policy.now
-        (point (D.state desk.old) held.old) reading (replies_of result held.new) (point (D.state desk.new) held.new) }
+    ensures turn { IsTurn (desk_rules D.Desk policy.now) (point (D.state desk.old) held.old)
+        reading (replies_of result held.new) (point (D.state desk.new) held.new) }
     ensures name { D.name (D.state desk.new) ≡ D.name (D.state desk.old) }
 {
     match reading {
@@ -48,8 +49,8 @@ fn serve<D: Desk>(
     request: Request,
 ) -> LineReply
     requires given { AreGiven (D.mine (D.state desk.old)) held.old }
-    ensures served { IsServed D.gives D.Sets D.Steps policy.now
-        (point (D.state desk.old) held.old) now request (replies_of result held.new) (point (D.state desk.new) held.new) }
+    ensures served { IsServed (desk_rules D.Desk policy.now) (point (D.state desk.old) held.old) now
+        request (replies_of result held.new) (point (D.state desk.new) held.new) }
     ensures name { D.name (D.state desk.new) ≡ D.name (D.state desk.old) }
 {
     match request {
@@ -70,9 +71,10 @@ fn serve<D: Desk>(
     }
 }
 
-// Sets the desk's clock, where it can be set.
+// Sets the desk's clock, if it can be set.
 fn set_moment<D: Desk>(desk: &mut D, moment: u64) -> LineReply
-    ensures set { (set_to : Option ℕ) × D.Sets (D.state desk.old) moment set_to (D.state desk.new) × (result ≡ moment_line set_to) }
+    ensures set { (set_to : Option ℕ) × D.Sets (D.state desk.old) moment set_to (D.state desk.new)
+        × (result ≡ moment_line set_to) }
     ensures name { D.name (D.state desk.new) ≡ D.name (D.state desk.old) }
 {
     match desk.set(moment) {

@@ -30,7 +30,8 @@ pub(crate) fn call<D: Desk>(desk: &mut D, now: u64, ask: Ask) -> LineReply
 pub(crate) fn offer<D: Desk>(desk: &mut D, now: u64, delay: u64, payload: Payload) -> LineReply
     ensures offered { MatchBool (nat_le (now + delay) GREATEST_MOMENT)
         ((draft : Draft) × IsFirstDraft draft (now + delay) payload
-        × (answer : Result Reply DeskFault) × D.Steps (D.state desk.old) now (asks.Offer draft) answer (D.state desk.new)
+        × (answer : Result Reply DeskFault)
+        × D.Steps (D.state desk.old) now (asks.Offer draft) answer (D.state desk.new)
         × (result ≡ answer_line answer))
         ((result ≡ lines.Error words.Range) × (D.state desk.new ≡ D.state desk.old)) }
     ensures name { D.name (D.state desk.new) ≡ D.name (D.state desk.old) }
@@ -44,7 +45,8 @@ pub(crate) fn offer<D: Desk>(desk: &mut D, now: u64, delay: u64, payload: Payloa
 /// An offer that expires at this moment.
 pub(crate) fn offer_at<D: Desk>(desk: &mut D, now: u64, expiry: u64, payload: Payload) -> LineReply
     ensures offered { (draft : Draft) × IsFirstDraft draft expiry payload
-        × (answer : Result Reply DeskFault) × D.Steps (D.state desk.old) now (asks.Offer draft) answer (D.state desk.new)
+        × (answer : Result Reply DeskFault)
+        × D.Steps (D.state desk.old) now (asks.Offer draft) answer (D.state desk.new)
         × (result ≡ answer_line answer) }
     ensures name { D.name (D.state desk.new) ≡ D.name (D.state desk.old) }
 {

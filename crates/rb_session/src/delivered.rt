@@ -1,16 +1,45 @@
-ghost use Rattle.std.specs.Prelude.{◌≡◌};
+ghost use Rattle.std.specs.Prelude.{◌≡◌, ◌≤◌, ℕ, Err};
 ghost use Rattle.std.specs.Io.KnownBytes.{IsAtEnd};
 ghost use Rattle.rb_session.specs.Exchange.{Exchanges};
+ghost use Rattle.rb_session.specs.Rules.{desk_rules, session_rules, HadGotBehind};
+ghost use Rattle.rb_session.specs.Ran.{Ran};
 ghost use Rattle.rb_session.specs.Delivered.{RanDelivered};
+ghost use Rattle.rb_session.specs.declared.session_fault.SessionFault.TheVariants.{ReadTurns};
 
 use crate::delivery::Delivery;
 use crate::ended::Ended;
 use crate::gathered::run_gathered;
-use crate::run::run_session;
+use crate::run::run_at_once;
 use crate::session_fault::SessionFault;
+use rb_protocol::LimitedReader;
 use rb_retry::{Desk, Policy};
 use std::alloc::Global;
 use std::io::{Read, Write};
+
+/// Serves the lines of a reader until one of them is `QUIT`, or there are no more.
+///
+/// However the session ends, the jobs that it holds then fail at the desk's moment, in the order in
+/// which they were fetched, and no reply reports that. All memory except that for what is offered
+/// and drained is taken before the first read. Each reply line is one write, and each request's
+/// replies are flushed. The reader is read 10,000,000 times at most.
+pub fn run_session<R: Read, W: Write, D: Desk>(
+    alloc: Global,
+    reader: &mut R,
+    writer: &mut W,
+    desk: &mut D,
+    policy: &Policy,
+) -> Result<Ended, SessionFault>
+    ensures ran { Exchanges
+        (R.remaining reader.old) (R.remaining reader.new)
+        (W.contents writer.old) (W.contents writer.new)
+        (λ came sent. Ran
+        (session_rules (desk_rules D.Desk policy.now) (HadGotBehind W.contents (W.contents writer.old)))
+        (IsAtEnd (R.remaining reader.new))
+        (D.state desk.old) (record { came = came; sent = sent; ended = result }) (D.state desk.new)) }
+    ensures name { D.name (D.state desk.new) ≡ D.name (D.state desk.old) }
+{
+    run_delivered(alloc, reader, writer, desk, policy, Delivery::AtOnce)
+}
 
 /// Runs a session like `run_session`, whose replies are written when `delivery` says so.
 ///
@@ -27,13 +56,47 @@ pub fn run_delivered<R: Read, W: Write, D: Desk>(
     policy: &Policy,
     delivery: Delivery,
 ) -> Result<Ended, SessionFault>
-    ensures ran { Exchanges (R.remaining reader.old) (R.remaining reader.new) (W.contents writer.old) (W.contents writer.new) (λ came sent.
-        RanDelivered D.gives D.Sets D.Steps policy.now delivery (IsAtEnd (R.remaining reader.new))
-        (D.state desk.old) came sent result (D.state desk.new)) }
+    ensures ran { Exchanges
+        (R.remaining reader.old) (R.remaining reader.new)
+        (W.contents writer.old) (W.contents writer.new)
+        (λ came sent. RanDelivered
+        (session_rules (desk_rules D.Desk policy.now) (HadGotBehind W.contents (W.contents writer.old)))
+        delivery
+        (IsAtEnd (R.remaining reader.new))
+        (D.state desk.old) (record { came = came; sent = sent; ended = result }) (D.state desk.new)) }
+    ensures name { D.name (D.state desk.new) ≡ D.name (D.state desk.old) }
+{
+    let mut limited = LimitedReader::new(reader);
+    run_limited(alloc, &mut limited, writer, desk, policy, delivery)
+}
+
+/// Runs a session like `run_delivered`, over a reader that counts its reads.
+///
+/// The session makes at most as many reads as this one has left, and `ReadTurns` means that it made
+/// all of them.
+pub fn run_limited<R: Read, W: Write, D: Desk>(
+    alloc: Global,
+    reader: &mut LimitedReader<'_, R>,
+    writer: &mut W,
+    desk: &mut D,
+    policy: &Policy,
+    delivery: Delivery,
+) -> Result<Ended, SessionFault>
+    ensures ran { Exchanges
+        (R.remaining reader.old.inner.now) (R.remaining reader.new.inner.now)
+        (W.contents writer.old) (W.contents writer.new)
+        (λ came sent. RanDelivered
+        (session_rules (desk_rules D.Desk policy.now) (HadGotBehind W.contents (W.contents writer.old)))
+        delivery
+        (IsAtEnd (R.remaining reader.new.inner.now))
+        (D.state desk.old) (record { came = came; sent = sent; ended = result }) (D.state desk.new)) }
+    ensures used_up { (lost : ℕ) → result ≡ Err (ReadTurns lost) → reader.new.left ≡ 0 }
+    ensures counted { reader.new.left ≤ reader.old.left }
+    ensures same_reference { reader.new.inner.ghost_name ≡ reader.old.inner.ghost_name }
     ensures name { D.name (D.state desk.new) ≡ D.name (D.state desk.old) }
 {
     match delivery {
-        Delivery::AtOnce => run_session(alloc, reader, writer, desk, policy),
+        Delivery::AtOnce => run_at_once(alloc, reader, writer, desk, policy),
         Delivery::Gathered(hands_on) => {
             run_gathered(alloc, reader, writer, desk, policy, hands_on)
         }

@@ -1,5 +1,7 @@
 ghost use Rattle.std.specs.Prelude.{◌≡◌};
 ghost use Rattle.std.proofs.Common.{refl, ◌∙◌};
+ghost use Rattle.rb_session.specs.Growth.{had_more};
+ghost use Rattle.rb_session.specs.Rules.{HadGotBehind};
 
 use crate::outlet::Outlet;
 use rb_protocol::{WriteFault, flush, send_line};
@@ -17,6 +19,8 @@ impl<W: Write> Outlet for Direct<'_, W> {
     ghost IsClear = { λ outlet. Unit {0} };
 
     ghost IsClearForWait = { λ outlet. Unit {0} };
+
+    ghost HadGot = { λ outlet text. HadGotBehind W.contents (W.contents outlet.writer.now) text };
 
     ghost HoldsBack = { ⊥ };
 
@@ -37,6 +41,11 @@ impl<W: Write> Outlet for Direct<'_, W> {
     fn before_wait(&mut self) -> Result<(), WriteFault> {
         Ok(())
     }
+
+    ghost gets = { λ old new text becomes clear sent. (new.writer.now, sent) };
+
+    ghost gets_on = { λ old new before text becomes sent got.
+        had_more W.contents (W.contents old.writer.now) (W.contents new.writer.now) before text sent got };
 
     ghost stays = { λ outlet. refl };
 

@@ -15,7 +15,8 @@ use rb_retry::{Desk, DeskFault, Job, poll, poll_for, take};
 pub(crate) fn poll_job<D: Desk>(desk: &mut D, held: &mut HeldJobs, now: u64) -> LineReply
     requires given { AreGiven (D.mine (D.state desk.old)) held.old }
     ensures fetched { IsFetch D.Steps
-        (point (D.state desk.old) held.old) now asks.Poll (replies_of result held.new) (point (D.state desk.new) held.new) }
+        (point (D.state desk.old) held.old) now asks.Poll
+        (replies_of result held.new) (point (D.state desk.new) held.new) }
     ensures name { D.name (D.state desk.new) ≡ D.name (D.state desk.old) }
 {
     if held.free() == 0 {
@@ -34,7 +35,8 @@ pub(crate) fn poll_job_for<D: Desk>(
 ) -> LineReply
     requires given { AreGiven (D.mine (D.state desk.old)) held.old }
     ensures fetched { IsFetch D.Steps
-        (point (D.state desk.old) held.old) now (asks.PollFor now timeout) (replies_of result held.new) (point (D.state desk.new) held.new) }
+        (point (D.state desk.old) held.old) now (asks.PollFor now timeout)
+        (replies_of result held.new) (point (D.state desk.new) held.new) }
     ensures name { D.name (D.state desk.new) ≡ D.name (D.state desk.old) }
 {
     if held.free() == 0 {
@@ -48,7 +50,8 @@ pub(crate) fn poll_job_for<D: Desk>(
 pub(crate) fn take_job<D: Desk>(desk: &mut D, held: &mut HeldJobs) -> LineReply
     requires given { AreGiven (D.mine (D.state desk.old)) held.old }
     ensures fetched { IsFetch D.Steps
-        (point (D.state desk.old) held.old) 0 asks.Take (replies_of result held.new) (point (D.state desk.new) held.new) }
+        (point (D.state desk.old) held.old) 0 asks.Take
+        (replies_of result held.new) (point (D.state desk.new) held.new) }
     ensures name { D.name (D.state desk.new) ≡ D.name (D.state desk.old) }
 {
     if held.free() == 0 {

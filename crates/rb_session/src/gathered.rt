@@ -1,13 +1,17 @@
-ghost use Rattle.std.specs.Prelude.{◌≡◌};
+ghost use Rattle.std.specs.Prelude.{◌≡◌, ◌≤◌, ℕ, Err};
 ghost use Rattle.std.specs.Io.KnownBytes.{IsAtEnd};
 ghost use Rattle.rb_session.specs.Exchange.{Exchanges};
+ghost use Rattle.rb_session.specs.Rules.{desk_rules, session_rules, HadGotBehind};
 ghost use Rattle.rb_session.specs.Gathered.{RanGathered};
+ghost use Rattle.rb_session.specs.Delivered.{gathering_rules};
+ghost use Rattle.rb_session.specs.declared.session_fault.SessionFault.TheVariants.{ReadTurns};
 
 use crate::ended::Ended;
 use crate::gathering::{GATHERED_BYTES, Gathering};
 use crate::hands_on::HandsOn;
 use crate::run::run_session_through;
 use crate::session_fault::SessionFault;
+use rb_protocol::LimitedReader;
 use rb_retry::{Desk, Policy};
 use std::alloc::Global;
 use std::io::{Read, Write};
@@ -15,15 +19,23 @@ use std::io::{Read, Write};
 /// Runs a session whose replies are gathered, as `run_delivered` says.
 pub(crate) fn run_gathered<R: Read, W: Write, D: Desk>(
     alloc: Global,
-    reader: &mut R,
+    reader: &mut LimitedReader<'_, R>,
     writer: &mut W,
     desk: &mut D,
     policy: &Policy,
     hands_on: HandsOn,
 ) -> Result<Ended, SessionFault>
-    ensures ran { Exchanges (R.remaining reader.old) (R.remaining reader.new) (W.contents writer.old) (W.contents writer.new) (λ came sent.
-        RanGathered D.gives D.Sets D.Steps policy.now (IsAtEnd (R.remaining reader.new))
-        (D.state desk.old) came sent result (D.state desk.new)) }
+    ensures ran { Exchanges
+        (R.remaining reader.old.inner.now) (R.remaining reader.new.inner.now)
+        (W.contents writer.old) (W.contents writer.new)
+        (λ came sent. RanGathered (gathering_rules
+        (session_rules (desk_rules D.Desk policy.now) (HadGotBehind W.contents (W.contents writer.old)))
+        hands_on)
+        (IsAtEnd (R.remaining reader.new.inner.now))
+        (D.state desk.old) (record { came = came; sent = sent; ended = result }) (D.state desk.new)) }
+    ensures used_up { (lost : ℕ) → result ≡ Err (ReadTurns lost) → reader.new.left ≡ 0 }
+    ensures counted { reader.new.left ≤ reader.old.left }
+    ensures same_reference { reader.new.inner.ghost_name ≡ reader.old.inner.ghost_name }
     ensures name { D.name (D.state desk.new) ≡ D.name (D.state desk.old) }
 {
     let Ok(room) = Vec::with_capacity(alloc, GATHERED_BYTES) else {

@@ -2,7 +2,8 @@ ghost use Rattle.std.specs.Prelude.{◌≡◌, ◌≤◌, ◌+◌, [], OnOk, dro
 ghost use Rattle.rb_session.specs.declared.gathering.TheConstants.{GATHERED_BYTES};
 ghost use Rattle.std.specs.Io.KnownBytes.{append_known, Keeps};
 ghost use Rattle.std.proofs.Common.{refl, ◌∙◌};
-ghost use Rattle.rb_session.specs.Growth.{KeepsFront, grows_same, grows_on};
+ghost use Rattle.rb_session.specs.Growth.{KeepsFront, all_got, had_more, grows_same, grows_on};
+ghost use Rattle.rb_session.specs.Rules.{HadGotBehind};
 ghost use Rattle.rb_session.specs.declared.hands_on.HandsOn.TheVariants.{BeforeReadsAndWaits};
 
 use crate::hands_on::HandsOn;
@@ -87,6 +88,9 @@ impl<W: Write> Outlet for Gathering<'_, W> {
 
     ghost IsClearForWait = { λ outlet. outlet.hands_on ≡ BeforeReadsAndWaits → outlet.gathered.items ≡ [] };
 
+    ghost HadGot = { λ outlet text. outlet.hands_on ≡ BeforeReadsAndWaits → HadGotBehind W.contents
+        (append_known (W.contents outlet.writer.now) outlet.gathered.items) text };
+
     ghost HoldsBack = { Unit {0} };
 
     ghost Becomes = { λ old new. (new.writer.ghost_name ≡ old.writer.ghost_name)
@@ -119,9 +123,16 @@ impl<W: Write> Outlet for Gathering<'_, W> {
         }
     }
 
+    ghost gets = { λ old new text becomes clear sent waits.
+        (new.writer.now, all_got _ _ new.gathered.items text (clear (becomes.2 ∙ waits)) sent) };
+
+    ghost gets_on = { λ old new before text becomes sent got waits.
+        had_more W.contents _ _ before text sent (got (becomes.2 ∙ waits)) };
+
     ghost stays = { λ outlet. (refl, grows_same _, refl) };
 
-    ghost goes_on = { λ one two three first second. (second.0 ∙ first.0, grows_on _ _ _ first.1 second.1, second.2 ∙ first.2) };
+    ghost goes_on = { λ one two three first second.
+        (second.0 ∙ first.0, grows_on _ _ _ first.1 second.1, second.2 ∙ first.2) };
 }
 
 // Drops the first bytes.

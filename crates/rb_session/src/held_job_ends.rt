@@ -2,6 +2,7 @@ ghost use Rattle.std.specs.Prelude.{◌≡◌, ◌∷◌, [], MatchOption, remov
 ghost use Rattle.rb_protocol.specs.declared.line_reply.LineReply.TheVariants as lines;
 ghost use Rattle.rb_protocol.specs.declared.error_word.ErrorWord.TheVariants as words;
 ghost use Rattle.rb_session.specs.Held.{place_of};
+ghost use Rattle.rb_session.specs.Rules.{desk_rules};
 ghost use Rattle.rb_session.specs.Turn.{point, refusal_word, AnswersAlone, IsFailure};
 ghost use Rattle.rb_session.specs.Closing.{Closes};
 ghost use Rattle.rb_session.specs.Progress.{replies_of};
@@ -38,8 +39,8 @@ pub(crate) fn fail_job<D: Desk>(
     ensures failed { MatchOption (place_of held.old id)
         (AnswersAlone (lines.Error words.NotHeld)
         (point (D.state desk.old) held.old) (replies_of result held.new) (point (D.state desk.new) held.new))
-        (λ place. IsFailure D.Steps policy.now
-        (point (D.state desk.old) held.old) now place (replies_of result held.new) (point (D.state desk.new) held.new)) }
+        (λ place. IsFailure (desk_rules D.Desk policy.now) (point (D.state desk.old) held.old) now place
+        (replies_of result held.new) (point (D.state desk.new) held.new)) }
     ensures name { D.name (D.state desk.new) ≡ D.name (D.state desk.old) }
 {
     let Some(failed) = held.fail(desk, policy, now, id) else {
@@ -68,7 +69,7 @@ fn refusal_word(fault: CallFault) -> ErrorWord
 /// Lets every job that is held fail at the desk's moment, in the order in which they were fetched.
 /// Returns how many are lost, since their next attempt was refused.
 pub(crate) fn fail_all<D: Desk>(desk: &mut D, policy: &Policy, held: HeldJobs) -> u64
-    ensures closes { Closes D.gives D.Steps policy.now (D.state desk.old) held result (D.state desk.new) }
+    ensures closes { Closes (desk_rules D.Desk policy.now) (D.state desk.old) held result (D.state desk.new) }
     ensures name { D.name (D.state desk.new) ≡ D.name (D.state desk.old) }
 {
     let mut lost = 0;

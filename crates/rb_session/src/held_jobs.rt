@@ -1,4 +1,5 @@
-ghost use Rattle.std.specs.Prelude.{◌≡◌, ◌+◌, ◌-◌, ◌<◌, ◌≤◌, ◌∷◌, ◌++◌, [], List, Option, length, drop, remove, slice_get, MatchOption, Some, None, IfOk, MatchResult, Ok, Err};
+ghost use Rattle.std.specs.Prelude.{◌≡◌, ◌+◌, ◌-◌, ◌<◌, ◌≤◌, ◌∷◌, ◌++◌, [], List, Option, Some, None, Ok, Err};
+ghost use Rattle.std.specs.Prelude.{length, drop, remove, slice_get, MatchOption, IfOk, MatchResult};
 ghost use Rattle.rb_delayed.specs.declared.element.Element.{Element};
 ghost use Rattle.rb_queue.specs.declared.ask.Ask.TheVariants as asks;
 ghost use Rattle.rb_queue.specs.declared.reply.Reply.TheVariants as replies;

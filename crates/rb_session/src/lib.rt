@@ -27,7 +27,7 @@ mod session;
 mod session_fault;
 mod stop;
 
-pub use delivered::run_delivered;
+pub use delivered::{run_delivered, run_limited, run_session};
 pub use delivery::Delivery;
 pub use ended::Ended;
 pub use hands_on::HandsOn;
@@ -36,6 +36,5 @@ pub use laws::{
     came_first, each_id_held_once, events_of_session, history_of_session, sent_last,
     session_limits_have_their_values,
 };
-pub use run::run_session;
 pub use run_laws::{events_of_run, history_of_run};
 pub use session_fault::SessionFault;

@@ -1,4 +1,5 @@
-ghost use Rattle.std.specs.Prelude.{◌≡◌, ℕ, ◌+◌, ◌<◌, ◌≤◌, List, [], ◌∷◌, ◌++◌, ◌↔◌, length, take, slice_index, ◌-◌, IfOk, IfSome, IsTrue, MatchOption, vec_len};
+ghost use Rattle.std.specs.Prelude.{◌≡◌, ℕ, ◌+◌, ◌-◌, ◌<◌, ◌≤◌, List, [], ◌∷◌, ◌++◌, ◌↔◌};
+ghost use Rattle.std.specs.Prelude.{length, take, slice_index, vec_len, IfOk, IfSome, IsTrue, MatchOption};
 ghost use Rattle.rb_protocol.specs.Line.{HasNoLineFeed};
 ghost use Rattle.rb_session.specs.Lines.{line_of};
 ghost use Rattle.rb_protocol.specs.Reading.{IsReading};

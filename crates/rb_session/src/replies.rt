@@ -20,7 +20,8 @@ pub(crate) fn send_replies<O: Outlet>(
     reply: &LineReply,
     held: &HeldJobs,
 ) -> Result<(), WriteFault>
-    ensures sent { Sends result (O.contents outlet.old) (texts_of (replies_of reply.now held.now)) (O.contents outlet.new) }
+    ensures sent { Sends result
+        (O.contents outlet.old) (texts_of (replies_of reply.now held.now)) (O.contents outlet.new) }
     ensures becomes { O.Becomes outlet.old outlet.new }
 {
     send_lines(outlet, reply, held)?;
@@ -33,7 +34,8 @@ fn send_lines<O: Outlet>(
     reply: &LineReply,
     held: &HeldJobs,
 ) -> Result<(), WriteFault>
-    ensures sent { Sends result (O.contents outlet.old) (texts_of (replies_of reply.now held.now)) (O.contents outlet.new) }
+    ensures sent { Sends result
+        (O.contents outlet.old) (texts_of (replies_of reply.now held.now)) (O.contents outlet.new) }
     ensures becomes { O.Becomes outlet.old outlet.new }
 {
     send_reply(outlet, reply)?;
@@ -45,7 +47,8 @@ fn send_lines<O: Outlet>(
 
 // Sends a line for each job of these entries.
 fn send_items<O: Outlet>(outlet: &mut O, entries: &[Option<Job>]) -> Result<(), WriteFault>
-    ensures sent { Sends result (O.contents outlet.old) (texts_of (map lines.Item (present entries.now))) (O.contents outlet.new) }
+    ensures sent { Sends result
+        (O.contents outlet.old) (texts_of (map lines.Item (present entries.now))) (O.contents outlet.new) }
     ensures becomes { O.Becomes outlet.old outlet.new }
 {
     for entry in entries {

@@ -1,9 +1,11 @@
-ghost use Rattle.std.specs.Prelude.{◌≡◌};
+ghost use Rattle.std.specs.Prelude.{◌≡◌, ◌≤◌, ℕ, Err};
 ghost use Rattle.std.specs.Io.KnownBytes.{IsAtEnd};
 ghost use Rattle.rb_session.specs.Exchange.{Exchanges};
+ghost use Rattle.rb_session.specs.Rules.{desk_rules, session_rules, HadGotBehind};
 ghost use Rattle.rb_session.specs.Ran.{Ran};
 ghost use Rattle.rb_session.specs.Outlet.{RanThrough, HandedOn};
 ghost use Rattle.rb_session.specs.Progress.{end_of};
+ghost use Rattle.rb_session.specs.declared.session_fault.SessionFault.TheVariants.{ReadTurns};
 
 use crate::direct::Direct;
 use crate::ended::Ended;
@@ -17,31 +19,31 @@ use rb_retry::{Desk, Policy};
 use std::alloc::Global;
 use std::io::{Read, Write};
 
-/// Serves the lines of a reader until one of them is `QUIT`, or there are no more.
-///
-/// However the session ends, the jobs that it holds then fail at the desk's moment, in the order in
-/// which they were fetched, and no reply reports that. All memory except that for what is offered
-/// and drained is taken before the first read. Each reply line is one write, and each request's
-/// replies are flushed.
-pub fn run_session<R: Read, W: Write, D: Desk>(
+/// Runs a session each of whose replies is written when its request is served.
+pub(crate) fn run_at_once<R: Read, W: Write, D: Desk>(
     alloc: Global,
-    reader: &mut R,
+    reader: &mut LimitedReader<'_, R>,
     writer: &mut W,
     desk: &mut D,
     policy: &Policy,
 ) -> Result<Ended, SessionFault>
     ensures ran { Exchanges
-        (R.remaining reader.old) (R.remaining reader.new)
+        (R.remaining reader.old.inner.now) (R.remaining reader.new.inner.now)
         (W.contents writer.old) (W.contents writer.new)
-        (λ came sent. Ran D.gives D.Sets D.Steps policy.now (IsAtEnd (R.remaining reader.new))
-        (D.state desk.old) came sent result (D.state desk.new)) }
+        (λ came sent. Ran
+        (session_rules (desk_rules D.Desk policy.now) (HadGotBehind W.contents (W.contents writer.old)))
+        (IsAtEnd (R.remaining reader.new.inner.now))
+        (D.state desk.old) (record { came = came; sent = sent; ended = result }) (D.state desk.new)) }
+    ensures used_up { (lost : ℕ) → result ≡ Err (ReadTurns lost) → reader.new.left ≡ 0 }
+    ensures counted { reader.new.left ≤ reader.old.left }
+    ensures same_reference { reader.new.inner.ghost_name ≡ reader.old.inner.ghost_name }
     ensures name { D.name (D.state desk.new) ≡ D.name (D.state desk.old) }
 {
     let mut outlet = Direct { writer };
     run_session_through(alloc, reader, &mut outlet, desk, policy)
 }
 
-/// Runs a session like `run_session`, but sends its replies through an outlet.
+/// Runs a session that sends its replies through an outlet.
 ///
 /// What the outlet holds back is handed on before each read, and at the end. So nothing is held
 /// back when a read fails, nor after an end that is no fault. The outlet is told before each
@@ -49,25 +51,28 @@ pub fn run_session<R: Read, W: Write, D: Desk>(
 /// and that request is not served.
 pub(crate) fn run_session_through<R: Read, O: Outlet, D: Desk>(
     alloc: Global,
-    reader: &mut R,
+    reader: &mut LimitedReader<'_, R>,
     outlet: &mut O,
     desk: &mut D,
     policy: &Policy,
 ) -> Result<Ended, SessionFault>
     ensures ran { Exchanges
-        (R.remaining reader.old) (R.remaining reader.new)
+        (R.remaining reader.old.inner.now) (R.remaining reader.new.inner.now)
         (O.contents outlet.old) (O.contents outlet.new)
-        (λ came sent. RanThrough D.gives D.Sets D.Steps policy.now O.HoldsBack (IsAtEnd (R.remaining reader.new))
-        (D.state desk.old) came sent result (D.state desk.new)) }
+        (λ came sent. RanThrough (session_rules (desk_rules D.Desk policy.now) (O.HadGot outlet.old)) O.HoldsBack
+        (IsAtEnd (R.remaining reader.new.inner.now))
+        (D.state desk.old) (record { came = came; sent = sent; ended = result }) (D.state desk.new)) }
     ensures handed_on { HandedOn (O.IsClear outlet.new) result }
     ensures becomes { O.Becomes outlet.old outlet.new }
+    ensures used_up { (lost : ℕ) → result ≡ Err (ReadTurns lost) → reader.new.left ≡ 0 }
+    ensures counted { reader.new.left ≤ reader.old.left }
+    ensures same_reference { reader.new.inner.ghost_name ≡ reader.old.inner.ghost_name }
     ensures name { D.name (D.state desk.new) ≡ D.name (D.state desk.old) }
 {
     let Ok(mut session) = Session::new(alloc) else {
         return Err(SessionFault::Memory);
     };
-    let mut limited = LimitedReader::new(reader);
-    let stop = session.serve(&mut limited, outlet, desk, policy);
+    let stop = session.serve(reader, outlet, desk, policy);
     let lost = fail_all(desk, policy, session.held);
     end_of(stop, lost)
 }

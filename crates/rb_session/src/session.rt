@@ -1,8 +1,9 @@
-ghost use Rattle.std.specs.Prelude.{◌≡◌, ◌↔◌, ℕ, List, [], Ok, IfOk, IfNone, OnOk, OnErr, IsTrue};
+ghost use Rattle.std.specs.Prelude.{◌≡◌, ◌≤◌, ◌↔◌, ℕ, List, [], Ok, IfOk, IfNone, OnOk, OnErr, IsTrue};
 ghost use Rattle.std.specs.Io.KnownBytes.{Appends, IsAtEnd, Keeps};
 ghost use Rattle.rb_protocol.specs.declared.request.Request.TheVariants.{Quit};
 ghost use Rattle.rb_session.specs.Buffer.{IsUnserved};
 ghost use Rattle.rb_session.specs.Held.{AreGiven};
+ghost use Rattle.rb_session.specs.Rules.{desk_rules, session_rules};
 ghost use Rattle.rb_session.specs.Turn.{point, AsksToWait};
 ghost use Rattle.rb_session.specs.Exchange.{Exchanges};
 ghost use Rattle.rb_session.specs.Progress.{ServesLines, AnswersEnd, Stops, IsClearAt, IsClearAtRead};
@@ -52,9 +53,11 @@ impl Session {
         ensures stops { Exchanges
             (R.remaining reader.old.inner.now) (R.remaining reader.new.inner.now)
             (O.contents outlet.old) (O.contents outlet.new)
-            (λ came sent. Stops D.gives D.Sets D.Steps policy.now O.HoldsBack (IsAtEnd (R.remaining reader.new.inner.now))
-            (point (D.state desk.old) self.old.held) came sent result (point (D.state desk.new) self.new.held)) }
+            (λ came sent. Stops (session_rules (desk_rules D.Desk policy.now) (O.HadGot outlet.old)) O.HoldsBack
+            (IsAtEnd (R.remaining reader.new.inner.now)) (point (D.state desk.old) self.old.held)
+            came sent result (point (D.state desk.new) self.new.held)) }
         ensures used_up { result ≡ Stop.ReadTurns → reader.new.left ≡ 0 }
+        ensures counted { reader.new.left ≤ reader.old.left }
         ensures same_reference { reader.new.inner.ghost_name ≡ reader.old.inner.ghost_name }
         ensures clear { IsClearAt (O.IsClear outlet.new) result }
         ensures becomes { O.Becomes outlet.old outlet.new }
@@ -83,9 +86,11 @@ impl Session {
         ensures stops { Exchanges
             (R.remaining reader.old.inner.now) (R.remaining reader.new.inner.now)
             (O.contents outlet.old) (O.contents outlet.new)
-            (λ came sent. Stops D.gives D.Sets D.Steps policy.now O.HoldsBack (IsAtEnd (R.remaining reader.new.inner.now))
-            (point (D.state desk.old) self.old.held) came sent result (point (D.state desk.new) self.new.held)) }
+            (λ came sent. Stops (session_rules (desk_rules D.Desk policy.now) (O.HadGot outlet.old)) O.HoldsBack
+            (IsAtEnd (R.remaining reader.new.inner.now)) (point (D.state desk.old) self.old.held)
+            came sent result (point (D.state desk.new) self.new.held)) }
         ensures used_up { result ≡ Stop.ReadTurns → reader.new.left ≡ 0 }
+        ensures counted { reader.new.left ≤ reader.old.left }
         ensures same_reference { reader.new.inner.ghost_name ≡ reader.old.inner.ghost_name }
         ensures clear { IsClearAtRead (O.IsClear outlet.new) result }
         ensures becomes { O.Becomes outlet.old outlet.new }
@@ -118,8 +123,9 @@ impl Session {
         requires given { AreGiven (D.mine (D.state desk.old)) self.old.held }
         ensures served { (bytes : List ℕ) → IsUnserved self.old.buffer bytes
             → (sent : List ℕ) × Appends (O.contents outlet.old) (O.contents outlet.new) sent
-            × ServesLines D.gives D.Sets D.Steps policy.now O.HoldsBack (point (D.state desk.old) self.old.held)
-            bytes sent result self.new.buffer (point (D.state desk.new) self.new.held) }
+            × ServesLines (session_rules (desk_rules D.Desk policy.now) (O.HadGot outlet.old)) O.HoldsBack
+            (point (D.state desk.old) self.old.held) bytes sent result
+            self.new.buffer (point (D.state desk.new) self.new.held) }
         ensures given { IfNone result (AreGiven (D.mine (D.state desk.new)) self.new.held) }
         ensures becomes { O.Becomes outlet.old outlet.new }
         ensures name { D.name (D.state desk.new) ≡ D.name (D.state desk.old) }
@@ -141,7 +147,7 @@ impl Session {
     }
 }
 
-// Tells the outlet where the line's request may wait.
+// Tells the outlet if the line's request may wait.
 fn clear_for_wait<O: Outlet>(
     outlet: &mut O,
     reading: &Result<Request, LineFault>,
@@ -167,7 +173,8 @@ fn is_quit(reading: &Result<Request, LineFault>) -> bool
 // The input is over: bytes that no line feed ends are answered once.
 fn finish<O: Outlet>(buffer: &LineBuffer, outlet: &mut O, held: &HeldJobs) -> Stop
     ensures ends { (bytes : List ℕ) → IsUnserved buffer.now bytes
-        → (sent : List ℕ) × Appends (O.contents outlet.old) (O.contents outlet.new) sent × AnswersEnd result bytes sent }
+        → (sent : List ℕ) × Appends (O.contents outlet.old) (O.contents outlet.new) sent
+        × AnswersEnd result bytes sent }
     ensures becomes { O.Becomes outlet.old outlet.new }
 {
     if buffer.has_rest() {

@@ -8,20 +8,32 @@ use Rattle.rb_session.proofs.PlainCalls.{offer_call}
 use Rattle.rb_session.proofs.answer.serve.Goals as goal
 
 -- what holds in each of the two cases
-both_cases : (test : Bool) (One Other One' Other' : Type 0) → (One → One') → (Other → Other') → MatchBool test One Other → MatchBool test One' Other'
+both_cases : (test : Bool) (One Other One' Other' : Type 0) → (One → One') → (Other → Other') → MatchBool test One Other
+    → MatchBool test One' Other'
 both_cases true One Other One' Other' first second holds = first holds
 both_cases false One Other One' Other' first second holds = second holds
 
 pub returns-in-Offer-clause-served : goal.returns-in-Offer-clause-served
 returns-in-Offer-clause-served g c =
-    let call = offer_call g.D.Desk.gives g.D.Desk.Steps g.D.Desk.mine g.met.D.Desk.makes (g.D.Desk.state c.args.desk.now) (g.D.Desk.state c.offer.new.desk) c.args.now in
+    let call = offer_call g.D.Desk.gives g.D.Desk.Steps g.D.Desk.mine g.met.D.Desk.makes
+    (g.D.Desk.state c.args.desk.now) (g.D.Desk.state c.offer.new.desk) c.args.now in
     rw c.in-Offer.is (both_cases (nat_le (c.args.now + c.in-Offer.delay) GREATEST_MOMENT) _ _ _ _
     (λ offered. (offered.0, offered.1, call offered.0 c.args.held.now c.offer.result offered.2 offered.3 offered.4))
-    (λ refused. (ap (λ line. replies_of line c.args.held.now) refused.0, ap (λ desk. point desk c.args.held.now) refused.1))
+    (λ refused. (
+      ap (λ line. replies_of line c.args.held.now) refused.0,
+      ap
+          (λ desk. point desk c.args.held.now) refused.1,
+    ))
     c.offer.ensures.offered)
 
 pub returns-in-OfferAt-clause-served : goal.returns-in-OfferAt-clause-served
 returns-in-OfferAt-clause-served g c =
-    let call = offer_call g.D.Desk.gives g.D.Desk.Steps g.D.Desk.mine g.met.D.Desk.makes (g.D.Desk.state c.args.desk.now) (g.D.Desk.state c.offer_at.new.desk) c.args.now in
+    let call = offer_call g.D.Desk.gives g.D.Desk.Steps g.D.Desk.mine g.met.D.Desk.makes
+    (g.D.Desk.state c.args.desk.now) (g.D.Desk.state c.offer_at.new.desk) c.args.now in
     let offered = c.offer_at.ensures.offered in
-    rw c.in-OfferAt.is (offered.0, offered.1, call offered.0 c.args.held.now c.offer_at.result offered.2 offered.3 offered.4)
+    rw c.in-OfferAt.is (
+      offered.0,
+      offered.1,
+      call offered.0 c.args.held.now c.offer_at.result offered.2 offered.3
+          offered.4,
+    )

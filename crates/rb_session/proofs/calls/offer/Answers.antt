@@ -12,7 +12,8 @@ use Rattle.rb_session.specs.Progress.{answer_line}
 use Rattle.rb_session.proofs.calls.offer.Goals as goal
 
 -- a test that is passed leaves its first case
-within_range : (moment : ℕ) (Then Else : Type 0) → moment ≤ GREATEST_MOMENT → Then → MatchBool (nat_le moment GREATEST_MOMENT) Then Else
+within_range : (moment : ℕ) (Then Else : Type 0) → moment ≤ GREATEST_MOMENT → Then
+    → MatchBool (nat_le moment GREATEST_MOMENT) Then Else
 within_range moment Then Else within holds =
     let test : nat_le moment GREATEST_MOMENT ≡ true = grind (arith, nat_tests, within) in
     subst (λ b. MatchBool b Then Else) (sym test) holds
@@ -22,5 +23,6 @@ returns-in-Some-clause-offered g c =
     within_range (c.args.now + c.args.delay) _ _ c.in-Some.ensures.0
     (subst
     (λ expiry. (draft : Draft) × IsFirstDraft draft expiry c.args.payload
-    × (answer : Result Reply DeskFault) × g.D.Desk.Steps (g.D.Desk.state c.args.desk.now) c.args.now (asks.Offer draft) answer (g.D.Desk.state c.offer_at.new.desk) × (c.offer_at.result ≡ answer_line answer))
+    × (answer : Result Reply DeskFault) × g.D.Desk.Steps (g.D.Desk.state c.args.desk.now) c.args.now
+    (asks.Offer draft) answer (g.D.Desk.state c.offer_at.new.desk) × (c.offer_at.result ≡ answer_line answer))
     c.in-Some.ensures.1 c.offer_at.ensures.offered)

@@ -9,4 +9,5 @@ use Rattle.rb_session.proofs.fetches.hold.Goals as goal
 
 pub hold-requires-clause-fresh : goal.hold-requires-clause-fresh
 hold-requires-clause-fresh c =
-    subst (λ (fetched : Result (Option Element) DeskFault). AreNew c.args.held.now (fetched_by (answer_with fetched))) (c.in-Ok-Some.is ∙ ap Ok c.in-Ok-Some.field-0-is) c.requires.fresh
+    subst (λ (fetched : Result (Option Element) DeskFault). AreNew c.args.held.now (fetched_by (answer_with fetched)))
+    (c.in-Ok-Some.is ∙ ap Ok c.in-Ok-Some.field-0-is) c.requires.fresh

@@ -1,13 +1,14 @@
 -- The jobs that were taken out so far have failed, and the lost among them are counted.
 use Rattle.std.proofs.Common.{◌≡◌, ◌≤◌, length}
 use Rattle.rb_session.specs.Closing.{Closes}
+use Rattle.rb_session.specs.Rules.{desk_rules}
 use Rattle.rb_session.proofs.held_job_ends.fail_all.Given as goal
 
 abbrev pub invariant-loop-job : goal.invariant-loop-job
 invariant-loop-job g l = record {
   can : (goal.iterator-loop-job g).can_next l.job-iterator;
   ends : (goal.iterator-loop-job g).is_finite l.job-iterator;
-  closes : Closes g.D.Desk.gives g.D.Desk.Steps l.policy (g.D.Desk.state l.fn.desk) l.yielded l.lost (g.D.Desk.state l.desk);
+  closes : Closes (desk_rules g.D.Desk l.policy) (g.D.Desk.state l.fn.desk) l.yielded l.lost (g.D.Desk.state l.desk);
   counted : l.lost ≤ length l.yielded;
   name : g.D.Desk.name (g.D.Desk.state l.desk) ≡ g.D.Desk.name (g.D.Desk.state l.fn.desk);
 }

@@ -6,12 +6,9 @@ use Rattle.rb_kept.specs.declared.fault.CallFault.{CallFault}
 use Rattle.rb_protocol.specs.declared.error_word.ErrorWord.{ErrorWord}
 use Rattle.rb_protocol.specs.declared.line_reply.LineReply.{LineReply}
 use Rattle.rb_protocol.specs.declared.line_reply.LineReply.TheVariants as lines
-use Rattle.rb_queue.specs.declared.ask.Ask.{Ask}
-use Rattle.rb_queue.specs.declared.reply.Reply.{Reply}
-use Rattle.rb_retry.specs.declared.desk_fault.DeskFault.{DeskFault}
-use Rattle.rb_retry.specs.declared.policy.Policy.{Policy}
 use Rattle.rb_retry.specs.declared.verdict.Verdict.{Verdict}
 use Rattle.rb_retry.specs.declared.verdict.Verdict.TheVariants.{Again, Dead}
+use Rattle.rb_session.specs.Rules.{DeskRules, desk_rules}
 use Rattle.rb_session.specs.Turn.{point, refusal_word, verdict_line, IsFailure}
 use Rattle.rb_session.specs.Progress.{replies_of, told, FailsAt}
 use Rattle.rb_session.proofs.held_job_ends.fail_job.Goals as goal
@@ -30,33 +27,41 @@ line_told (Err (back, fault)) = refl
 same_told : (one other : Result Verdict CallFault) → Some one ≡ Some other → one ≡ other
 same_told one other same = cc
 
-module _ {S : Type 0} (Steps : S → ℕ → Ask → Result Reply DeskFault → S → Type 0) (policy : Policy) (held left : List Element) (now : ℕ) (old new : S) where
+module _ {S : Type 0} (rules : DeskRules S) (held left : List Element) (now : ℕ) (old new : S) where
   -- what failed at its place was told so
-  failed_at : (place : Option ℕ) (None' : Type 0) (verdict : Result Verdict CallFault) (replies : List LineReply) → replies ≡ told_line verdict ∷ []
-      → MatchOption place ((Some verdict ≡ None) × (left ≡ held) × (new ≡ old)) (λ p. FailsAt Steps policy held p now old (Some verdict) left new)
-      → MatchOption place None' (λ p. IsFailure Steps policy (point old held) now p replies (point new left))
+  failed_at : (place : Option ℕ) (None' : Type 0) (verdict : Result Verdict CallFault) (replies : List LineReply)
+      → replies ≡ told_line verdict ∷ []
+      → MatchOption place ((Some verdict ≡ None) × (left ≡ held) × (new ≡ old))
+      (λ p. FailsAt rules.Steps rules.policy held p now old (Some verdict) left new)
+      → MatchOption place None' (λ p. IsFailure rules (point old held) now p replies (point new left))
   failed_at None None' verdict replies are (clash, same, still) = absurd (cc)
   failed_at (Some p) None' verdict replies are fails = (
     fails.element,
     fails.there,
     fails.result,
     fails.fails,
-    are ∙ ap (λ (line : LineReply). line ∷ []) (ap told_line (same_told _ _ fails.is_told) ∙ line_told fails.result),
+    are ∙ ap (λ (line : LineReply). line ∷ [])
+        (ap told_line (same_told _ _ fails.is_told) ∙ line_told fails.result),
     fails.held_on,
   )
 
 pub returns-in-Ok-Again-clause-failed : goal.returns-in-Ok-Again-clause-failed
 returns-in-Ok-Again-clause-failed g c =
-    failed_at g.D.Desk.Steps c.args.policy.now c.args.held.now c.fail.new.self c.args.now (g.D.Desk.state c.args.desk.now) (g.D.Desk.state c.fail.new.desk) _ _ c.in-Some.failed _
-    (sym (ap (λ (v : Result Verdict CallFault). told_line v ∷ []) (c.in-Ok-Again.is ∙ ap Ok c.in-Ok-Again.field-0-is))) c.in-Some.ensures.failed
+    failed_at (desk_rules g.D.Desk c.args.policy.now) c.args.held.now c.fail.new.self c.args.now
+    (g.D.Desk.state c.args.desk.now) (g.D.Desk.state c.fail.new.desk) _ _ c.in-Some.failed _
+    (sym (ap (λ (v : Result Verdict CallFault). told_line v ∷ [])
+    (c.in-Ok-Again.is ∙ ap Ok c.in-Ok-Again.field-0-is))) c.in-Some.ensures.failed
 
 pub returns-in-Ok-Dead-clause-failed : goal.returns-in-Ok-Dead-clause-failed
 returns-in-Ok-Dead-clause-failed g c =
-    failed_at g.D.Desk.Steps c.args.policy.now c.args.held.now c.fail.new.self c.args.now (g.D.Desk.state c.args.desk.now) (g.D.Desk.state c.fail.new.desk) _ _ c.in-Some.failed _
-    (sym (ap (λ (v : Result Verdict CallFault). told_line v ∷ []) (c.in-Ok-Dead.is ∙ ap Ok c.in-Ok-Dead.field-0-is))) c.in-Some.ensures.failed
+    failed_at (desk_rules g.D.Desk c.args.policy.now) c.args.held.now c.fail.new.self c.args.now
+    (g.D.Desk.state c.args.desk.now) (g.D.Desk.state c.fail.new.desk) _ _ c.in-Some.failed _
+    (sym (ap (λ (v : Result Verdict CallFault). told_line v ∷ [])
+    (c.in-Ok-Dead.is ∙ ap Ok c.in-Ok-Dead.field-0-is))) c.in-Some.ensures.failed
 
 pub returns-in-Err-clause-failed : goal.returns-in-Err-clause-failed
 returns-in-Err-clause-failed g c =
-    failed_at g.D.Desk.Steps c.args.policy.now c.args.held.now c.fail.new.self c.args.now (g.D.Desk.state c.args.desk.now) (g.D.Desk.state c.fail.new.desk) _ _ c.in-Some.failed _
+    failed_at (desk_rules g.D.Desk c.args.policy.now) c.args.held.now c.fail.new.self c.args.now
+    (g.D.Desk.state c.args.desk.now) (g.D.Desk.state c.fail.new.desk) _ _ c.in-Some.failed _
     (ap (λ (word : ErrorWord). replies_of (lines.Error word) c.fail.new.self) c.refusal_word.ensures
     ∙ sym (ap (λ (v : Result Verdict CallFault). told_line v ∷ []) c.in-Err.is)) c.in-Some.ensures.failed

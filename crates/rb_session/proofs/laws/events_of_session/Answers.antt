@@ -1,11 +1,13 @@
 -- The laws of a desk say what each call of it makes.
+use Rattle.rb_session.specs.Rules.{desk_rules}
 use Rattle.rb_session.proofs.Events.{makes_by_lines, makes_by_closing}
 use Rattle.rb_session.proofs.laws.events_of_session.Goals as goal
 
 pub returns-clause-lines : goal.returns-clause-lines
-returns-clause-lines g c =
-    makes_by_lines g.D.Desk.gives g.D.Desk.Sets g.D.Desk.Steps g.D.Desk.mine g.met.D.Desk.makes g.met.D.Desk.refuses g.met.D.Desk.stays
+returns-clause-lines g c policy =
+    makes_by_lines (desk_rules g.D.Desk policy) g.D.Desk.mine g.met.D.Desk.makes g.met.D.Desk.refuses g.met.D.Desk.stays
 
 pub returns-clause-closing : goal.returns-clause-closing
-returns-clause-closing g c =
-    makes_by_closing g.D.Desk.gives g.D.Desk.Sets g.D.Desk.Steps g.D.Desk.mine g.met.D.Desk.makes g.met.D.Desk.refuses g.met.D.Desk.stays
+returns-clause-closing g c policy =
+    makes_by_closing (desk_rules g.D.Desk policy) g.D.Desk.mine g.met.D.Desk.makes g.met.D.Desk.refuses
+    g.met.D.Desk.stays

@@ -8,6 +8,7 @@ use Rattle.rb_session.proofs.replies.send_items.Given as goal
 
 abbrev pub invariant-loop-entry : goal.invariant-loop-entry
 invariant-loop-entry g l = record {
-  sent : Appends (g.O.Outlet.contents l.fn.outlet) (g.O.Outlet.contents l.outlet) (texts_of (map lines.Item (present (take l.entry-index l.entries))));
+  sent : Appends (g.O.Outlet.contents l.fn.outlet) (g.O.Outlet.contents l.outlet)
+      (texts_of (map lines.Item (present (take l.entry-index l.entries))));
   becomes : g.O.Outlet.Becomes l.fn.outlet l.outlet;
 }

@@ -12,7 +12,8 @@ use Rattle.rb_protocol.proofs.Sending.{sends_then, sends_part}
 use Rattle.rb_session.proofs.replies.send_lines.Goals as goal
 
 -- what comes behind the first line of a reply
-rest_of : (reply : LineReply) (held : List Element) → (rest : List ℕ) × (texts_of (replies_of reply held) ≡ text_of reply ++ rest)
+rest_of : (reply : LineReply) (held : List Element) → (rest : List ℕ)
+    × (texts_of (replies_of reply held) ≡ text_of reply ++ rest)
 rest_of (lines.Drained count) held = (texts_of (map lines.Item (drop (length held - count) held)), refl)
 rest_of (lines.Offered id expiry) held = ([], refl)
 rest_of (lines.Item element) held = ([], refl)
@@ -32,11 +33,15 @@ rest_of (lines.Error word) held = ([], refl)
 pub returns-in_err-send_reply-clause-sent : goal.returns-in_err-send_reply-clause-sent
 returns-in_err-send_reply-clause-sent g c =
     let rest = rest_of c.args.reply.now c.args.held.now in
-    rw rest.1 (sends_part c.from_residual.result _ _ (text_of c.args.reply.now) rest.0 c.from_residual.ensures.0 c.in_err-send_reply.ensures.sent)
+    rw rest.1 (sends_part c.from_residual.result _ _ (text_of c.args.reply.now) rest.0 c.from_residual.ensures.0
+    c.in_err-send_reply.ensures.sent)
 
 pub returns-in-Drained-clause-sent : goal.returns-in-Drained-clause-sent
 returns-in-Drained-clause-sent g c =
-    let first = subst (λ (reply : LineReply). Appends (g.O.Outlet.contents c.args.outlet.now) (g.O.Outlet.contents c.send_reply.new.outlet) (text_of reply)) c.in-Drained.is c.in_ok-send_reply.ensures.sent in
-    let items = subst (λ (held : List Element). Sends c.send_items.result (g.O.Outlet.contents c.send_reply.new.outlet) (texts_of (map lines.Item held)) (g.O.Outlet.contents c.send_items.new.outlet))
+    let first = subst (λ (reply : LineReply). Appends (g.O.Outlet.contents c.args.outlet.now)
+    (g.O.Outlet.contents c.send_reply.new.outlet) (text_of reply)) c.in-Drained.is
+    c.in_ok-send_reply.ensures.sent in
+    let items = subst (λ (held : List Element). Sends c.send_items.result (g.O.Outlet.contents c.send_reply.new.outlet)
+    (texts_of (map lines.Item held)) (g.O.Outlet.contents c.send_items.new.outlet))
     c.last.ensures c.send_items.ensures.sent in
     rw c.in-Drained.is (sends_then c.send_items.result _ _ _ (text_of (lines.Drained c.in-Drained.count)) _ first items)

@@ -1,7 +1,12 @@
 -- The laws of a desk say what each call of it makes.
-use Rattle.rb_session.proofs.RunEvents.{makes_by_run}
+use Rattle.std.specs.Io.KnownBytes.{IsAtEnd}
+use Rattle.rb_session.specs.Rules.{desk_rules, session_rules, HadGotBehind}
+use Rattle.rb_session.proofs.RunEvents.{ends_of, made_by_ends}
 use Rattle.rb_session.proofs.run_laws.events_of_run.Goals as goal
 
 pub returns : goal.returns
-returns g c =
-    makes_by_run g.D.Desk.gives g.D.Desk.Sets g.D.Desk.Steps g.D.Desk.mine g.met.D.Desk.makes g.met.D.Desk.refuses g.met.D.Desk.stays
+returns g c policy got delivery rest from to served ran =
+    let desk = desk_rules g.D.Desk policy in
+    let rules = session_rules desk (HadGotBehind g.W.Write.contents got) in
+    (made_by_ends desk g.D.Desk.mine g.met.D.Desk.makes g.met.D.Desk.refuses g.met.D.Desk.stays (IsAtEnd rest) from to
+    served (ends_of rules delivery (IsAtEnd rest) from to served ran)).0

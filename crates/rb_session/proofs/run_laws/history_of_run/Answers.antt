@@ -3,4 +3,4 @@ use Rattle.rb_session.proofs.RunEvents.{records_by_run}
 use Rattle.rb_session.proofs.run_laws.history_of_run.Goals as goal
 
 pub returns : goal.returns
-returns g c = records_by_run
+returns g c = records_by_run g.W.Write.contents

@@ -16,10 +16,15 @@ rest_is (byte ∷ rest) some = append-nil (text_of (lines.Error words.Line))
 pub returns-then-is_err-clause-ends : goal.returns-then-is_err-clause-ends
 returns-then-is_err-clause-ends g c bytes unserved =
     let some : 0 < length bytes = (c.has_rest.ensures bytes unserved).0 c.if-has_rest.true in
-    let failed = sends_failed c.send_replies.result _ _ _ (sym c.is_err.ensures.value ∙ c.if-is_err.true) c.send_replies.ensures.sent in
+    let failed = sends_failed c.send_replies.result _ _ _
+    (sym c.is_err.ensures.value ∙ c.if-is_err.true) c.send_replies.ensures.sent in
     (failed.0, failed.3, (some, failed.1, sym (rest_is bytes some) ∙ failed.2))
 
 pub returns-else-is_err-clause-ends : goal.returns-else-is_err-clause-ends
 returns-else-is_err-clause-ends g c bytes unserved =
-    let some : 0 < length bytes = (c.has_rest.ensures bytes unserved).0 c.if-has_rest.true in
-    (_, sends_done c.send_replies.result _ _ _ (sym c.is_err.ensures.value ∙ c.if-is_err.false) c.send_replies.ensures.sent, rest_is bytes some)
+    let some : 0 < length bytes = (c.has_rest.ensures bytes unserved).0 c.if-has_rest.true in (
+      _,
+      sends_done c.send_replies.result _ _ _ (sym c.is_err.ensures.value ∙ c.if-is_err.false)
+          c.send_replies.ensures.sent,
+      rest_is bytes some,
+    )

@@ -4,22 +4,29 @@ use Rattle.rb_session.specs.Growth.{grows_on}
 use Rattle.rb_protocol.proofs.Sending.{sends_nothing}
 use Rattle.rb_session.proofs.Gatherings.{sends_grow, sends_past}
 use Rattle.rb_session.proofs.gathering.GatheringOutlet.send.Goals as goal
-use Rattle.rb_session.proofs.gathering.GatheringOutlet.send.Goals.{then-line-room+in_ok-empty+else-line-room-2, else-line-room}
+use Rattle.rb_session.proofs.gathering.GatheringOutlet.send.Goals.{then-line-room+in_ok-empty+else-line-room-2}
+use Rattle.rb_session.proofs.gathering.GatheringOutlet.send.Goals.{else-line-room}
 
 pub returns-in_err-empty-clause-sent : goal.returns-in_err-empty-clause-sent
-returns-in_err-empty-clause-sent g c = sends_nothing c.from_residual.result _ _ _ c.from_residual.ensures.0 c.empty.ensures.kept
+returns-in_err-empty-clause-sent g c = sends_nothing c.from_residual.result _ _ _ c.from_residual.ensures.0
+    c.empty.ensures.kept
 
 pub returns-then-line-room-2-clause-sent : goal.returns-then-line-room-2-clause-sent
 returns-then-line-room-2-clause-sent g c =
     sends_past c.send_at_once.result _ _ _ _ _ _ c.empty.ensures.kept c.in_ok-empty.ensures.empty c.send_at_once.ensures
 
 pub returns-then-line-room-2-clause-becomes : goal.returns-then-line-room-2-clause-becomes
-returns-then-line-room-2-clause-becomes g c =
-    (c.empty.ensures.same_reference, grows_on _ _ _ c.empty.ensures.grows (sends_grow c.send_at_once.result _ _ _ c.send_at_once.ensures), c.empty.ensures.hands_on)
+returns-then-line-room-2-clause-becomes g c = (
+  c.empty.ensures.same_reference,
+  grows_on _ _ _ c.empty.ensures.grows
+      (sends_grow c.send_at_once.result _ _ _ c.send_at_once.ensures),
+  c.empty.ensures.hands_on,
+)
 
 pub unwrap-requires : goal.unwrap-requires
 unwrap-requires g c =
     c.extend_from_slice.ensures.succeeds (elim c.if-line-room.branch [
-      | then-line-room+in_ok-empty+else-line-room-2 w ↦ rw w.self-is (omega (arith, w.room-then-line-room.ensures.taken, w.if-line-room-2.false))
+      | then-line-room+in_ok-empty+else-line-room-2 w ↦ rw w.self-is
+          (omega (arith, w.room-then-line-room.ensures.taken, w.if-line-room-2.false))
       | else-line-room w ↦ rw w.self-is (omega (arith, c.room.ensures.taken, w.if-line-room.false))
     ])

@@ -10,7 +10,11 @@ use Rattle.rb_session.proofs.held_jobs.HeldJobs.drain.Goals as goal
 pub hold_all-requires-clause-fresh : goal.hold_all-requires-clause-fresh
 hold_all-requires-clause-fresh g c =
     let drained = c.in_ok-drain.ensures.drained in
-    let new = call_new g.D.Desk.gives g.D.Desk.Sets g.D.Desk.Steps g.D.Desk.mine g.met.D.Desk.makes g.met.D.Desk.gives_once g.met.D.Desk.refuses g.met.D.Desk.stays
-    (g.D.Desk.state c.args.desk.now) (g.D.Desk.state c.drain.new.desk) c.args.asked (asks.Drain c.args.max) (Ok (Drained drained.0)) c.args.self.now drained.2 c.requires.given in
-    subst (λ (held : List Element). AreNew held c.drain.new.jobs.items) (sym (c.make_room.ensures.held ∙ c.self.view_is))
-    (subst (AreNew c.args.self.now) (sym (drained.1 ∙ ap (λ (jobs : List Element). jobs ++ drained.0) c.make_room.ensures.empty)) new)
+    let new = call_new g.D.Desk.gives g.D.Desk.Steps g.D.Desk.mine g.met.D.Desk.makes g.met.D.Desk.gives_once
+    g.met.D.Desk.refuses
+    (g.D.Desk.state c.args.desk.now) (g.D.Desk.state c.drain.new.desk) c.args.asked (asks.Drain c.args.max)
+    (Ok (Drained drained.0)) c.args.self.now drained.2 c.requires.given in
+    subst (λ (held : List Element). AreNew held c.drain.new.jobs.items)
+    (sym (c.make_room.ensures.held ∙ c.self.view_is))
+    (subst (AreNew c.args.self.now) (sym (drained.1
+    ∙ ap (λ (jobs : List Element). jobs ++ drained.0) c.make_room.ensures.empty)) new)

@@ -13,5 +13,6 @@ hold_all-requires-clause-fresh c id some =
       arith,
       filed_once c.args.self.now.entries.entries id c.requires.roomy.filed c.len.ensures.unique,
       ap (λ (entries : List (ℕ × Option Element)). times id (ids_of (jobs_of entries))) c.clear.ensures.empty,
-      ap (λ (jobs : List Element). times id (ids_of jobs)) (c.take_all.ensures.taken ∙ ap (λ (jobs : List Element). jobs ++ held_in c.args.self.now) c.requires.empty),
+      ap (λ (jobs : List Element). times id (ids_of jobs))
+          (c.take_all.ensures.taken ∙ ap (λ (jobs : List Element). jobs ++ held_in c.args.self.now) c.requires.empty),
     )

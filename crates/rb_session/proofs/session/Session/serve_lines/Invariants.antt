@@ -3,15 +3,18 @@ use Rattle.std.proofs.Common.{◌≡◌, ℕ, ◌-◌, List}
 use Rattle.std.specs.Io.KnownBytes.{Appends}
 use Rattle.rb_session.specs.Buffer.{IsUnserved}
 use Rattle.rb_session.specs.Held.{AreGiven}
+use Rattle.rb_session.specs.Rules.{desk_rules, session_rules}
+use Rattle.rb_session.specs.Session.{ServesFirst}
 use Rattle.rb_session.specs.Turn.{point}
-use Rattle.rb_session.specs.Progress.{Stands}
 use Rattle.rb_session.proofs.session.Session.serve_lines.Given as goal
 
 abbrev pub invariant-loop-reading : goal.invariant-loop-reading
 invariant-loop-reading g l = record {
-  stands : (bytes : List ℕ) → IsUnserved l.fn.self.buffer bytes → (sent : List ℕ) × Appends (g.O.Outlet.contents l.fn.outlet) (g.O.Outlet.contents l.outlet) sent
-      × (stands : Stands g.D.Desk.gives g.D.Desk.Sets g.D.Desk.Steps l.policy (point (g.D.Desk.state l.fn.desk) l.fn.self.held) bytes sent (point (g.D.Desk.state l.desk) l.self.held))
-      × IsUnserved l.self.buffer stands.rest;
+  served : (bytes : List ℕ) → IsUnserved l.fn.self.buffer bytes
+      → (sent : List ℕ) × Appends (g.O.Outlet.contents l.fn.outlet) (g.O.Outlet.contents l.outlet) sent
+      × (first : ServesFirst (session_rules (desk_rules g.D.Desk l.policy) (g.O.Outlet.HadGot l.fn.outlet))
+      (point (g.D.Desk.state l.fn.desk) l.fn.self.held) bytes sent (point (g.D.Desk.state l.desk) l.self.held))
+      × IsUnserved l.self.buffer first.unserved;
   given : AreGiven (g.D.Desk.mine (g.D.Desk.state l.desk)) l.self.held;
   becomes : g.O.Outlet.Becomes l.fn.outlet l.outlet;
   name : g.D.Desk.name (g.D.Desk.state l.desk) ≡ g.D.Desk.name (g.D.Desk.state l.fn.desk);

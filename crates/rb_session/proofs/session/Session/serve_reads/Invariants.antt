@@ -1,19 +1,23 @@
 -- Of what came the whole lines are served, and the buffer has the rest.
-use Rattle.std.proofs.Common.{◌≡◌}
+use Rattle.std.proofs.Common.{◌≡◌, ◌≤◌}
 use Rattle.rb_session.specs.Exchange.{Exchanges}
 use Rattle.rb_session.specs.Buffer.{IsUnserved}
 use Rattle.rb_session.specs.Held.{AreGiven}
 use Rattle.rb_protocol.specs.Line.{HasNoLineFeed}
+use Rattle.rb_session.specs.Rules.{desk_rules, session_rules}
+use Rattle.rb_session.specs.Session.{ServesFirst}
 use Rattle.rb_session.specs.Turn.{point}
-use Rattle.rb_session.specs.Progress.{Stands}
 use Rattle.rb_session.proofs.session.Session.serve_reads.Given as goal
 
 abbrev pub invariant-loop-outlet : goal.invariant-loop-outlet
 invariant-loop-outlet g l = record {
-  stands : Exchanges (g.R.Read.remaining l.fn.reader.inner.now) (g.R.Read.remaining l.reader.inner.now) (g.O.Outlet.contents l.fn.outlet) (g.O.Outlet.contents l.outlet) (λ came sent.
-      (stands : Stands g.D.Desk.gives g.D.Desk.Sets g.D.Desk.Steps l.policy (point (g.D.Desk.state l.fn.desk) l.fn.self.held) came sent (point (g.D.Desk.state l.desk) l.self.held))
-      × HasNoLineFeed stands.rest × IsUnserved l.self.buffer stands.rest);
+  served : Exchanges (g.R.Read.remaining l.fn.reader.inner.now) (g.R.Read.remaining l.reader.inner.now)
+      (g.O.Outlet.contents l.fn.outlet) (g.O.Outlet.contents l.outlet) (λ came sent.
+      (first : ServesFirst (session_rules (desk_rules g.D.Desk l.policy) (g.O.Outlet.HadGot l.fn.outlet))
+      (point (g.D.Desk.state l.fn.desk) l.fn.self.held) came sent (point (g.D.Desk.state l.desk) l.self.held))
+      × HasNoLineFeed first.unserved × IsUnserved l.self.buffer first.unserved);
   given : AreGiven (g.D.Desk.mine (g.D.Desk.state l.desk)) l.self.held;
+  counted : l.reader.left ≤ l.fn.reader.left;
   same_reference : l.reader.inner.ghost_name ≡ l.fn.reader.inner.ghost_name;
   becomes : g.O.Outlet.Becomes l.fn.outlet l.outlet;
   name : g.D.Desk.name (g.D.Desk.state l.desk) ≡ g.D.Desk.name (g.D.Desk.state l.fn.desk);

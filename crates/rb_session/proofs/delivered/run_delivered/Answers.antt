@@ -1,0 +1,28 @@
+-- The counting reader is the reader that it was made of.
+use Rattle.std.proofs.Common.{rules, Option, List, ℕ, sym, ap, subst, ◌∙◌}
+use Rattle.std.specs.Io.KnownBytes.{Consumes, IsAtEnd}
+use Rattle.rb_session.specs.Delivered.{RanDelivered}
+use Rattle.rb_session.specs.Exchange.{Exchanges}
+use Rattle.rb_session.specs.Rules.{desk_rules, session_rules, HadGotBehind}
+use Rattle.rb_session.proofs.delivered.run_delivered.Goals as goal
+
+pub returns-clause-ran : goal.returns-clause-ran
+returns-clause-ran g c =
+    let limited = c.run_limited in
+    let ran = limited.ensures.ran in
+    let got = g.W.Write.contents c.args.writer.now in
+    let left = g.R.Read.remaining limited.new.reader.inner.now in
+    let name = sym (limited.ensures.same_reference ∙ c.new-limited.ensures.same_reference) in
+    let whole : Exchanges (g.R.Read.remaining c.args.reader.now) left got (g.W.Write.contents limited.new.writer)
+    (λ came sent. RanDelivered
+    (session_rules (desk_rules g.D.Desk c.args.policy.now) (HadGotBehind g.W.Write.contents got)) c.args.delivery
+    (IsAtEnd left) (g.D.Desk.state c.args.desk.now) (record { came = came; sent = sent; ended = limited.result })
+    (g.D.Desk.state limited.new.desk)) = record {
+      came = ran.came;
+      sent = ran.sent;
+      consumed = subst (λ (first : Option (List ℕ)). Consumes first left ran.came)
+          (ap g.R.Read.remaining c.new-limited.ensures.same) ran.consumed;
+      appended = ran.appended;
+      holds = ran.holds;
+    } in
+    search rules
