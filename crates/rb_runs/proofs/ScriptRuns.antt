@@ -4,9 +4,10 @@ use Rattle.rb_ledger.specs.Totals.{nothing}
 use Rattle.rb_ledger.specs.declared.totals.Totals.{Totals}
 use Rattle.rb_queue.specs.declared.opening.Opening.{Opening}
 use Rattle.rb_kept.specs.Log.{Log}
-use Rattle.rb_retry.specs.KeptSteps.{KeptState, KeptSteps, SetsKept}
-use Rattle.rb_retry.specs.declared.policy.Policy.{Policy}
+use Rattle.rb_retry.specs.KeptSteps.{KeptState}
 use Rattle.rb_session.specs.Delivered.{RanDelivered}
+use Rattle.rb_session.specs.Rules.{SessionRules}
+use Rattle.rb_session.specs.Served.{Served}
 use Rattle.rb_session.specs.declared.delivery.Delivery.{Delivery}
 use Rattle.rb_session.specs.declared.delivery.Delivery.TheVariants.{AtOnce, Gathered}
 use Rattle.rb_session.specs.declared.ended.Ended.{Ended}
@@ -48,31 +49,31 @@ desk_over name calls opening log share fresh none = record {
 }
 
 -- a session that found no memory did nothing, whichever way its replies go
-unbegun_at : (policy : Policy) (delivery : Delivery) (Over : Type 0) (desk : KeptState)
-    → RanDelivered (λ desk moment. moment ≡ desk.moment) SetsKept KeptSteps policy delivery Over desk [] [] (Err Memory) desk
-unbegun_at policy AtOnce Over desk = (refl, refl, refl)
-unbegun_at policy (Gathered _) Over desk = (refl, refl, refl)
+unbegun_at : (rules : SessionRules KeptState) (delivery : Delivery) (Over : Type 0) (desk : KeptState)
+    → RanDelivered rules delivery Over desk (record { came = []; sent = []; ended = Err Memory }) desk
+unbegun_at rules AtOnce Over desk = (refl, refl, refl)
+unbegun_at rules (Gathered _) Over desk = (refl, refl, refl)
 
-pub unbegun : (policy : Policy) (calls : ℕ) (delivery : Delivery) (Over : Type 0) (opening : Opening)
-    → RanSession policy calls delivery Over opening [] [] (Err Memory) (new_desk opening calls)
-unbegun policy calls delivery Over opening = record {
+pub unbegun : (rules : SessionRules KeptState) (calls : ℕ) (delivery : Delivery) (Over : Type 0) (opening : Opening)
+    → RanSession rules calls delivery Over opening (record { came = []; sent = []; ended = Err Memory }) (new_desk opening calls)
+unbegun rules calls delivery Over opening = record {
   from = new_desk opening calls;
   new = is_new opening calls;
-  ran = unbegun_at policy delivery Over (new_desk opening calls);
+  ran = unbegun_at rules delivery Over (new_desk opening calls);
 }
 
 -- where nothing came and was sent
-unbegun_so : (policy : Policy) (calls : ℕ) (delivery : Delivery) (Over : Type 0) (opening : Opening) (came sent : List ℕ) → came ≡ [] → sent ≡ []
-    → RanSession policy calls delivery Over opening came sent (Err Memory) (new_desk opening calls)
-unbegun_so policy calls delivery Over opening came sent nothing silent =
-    subst (λ c. RanSession policy calls delivery Over opening c sent (Err Memory) (new_desk opening calls)) (sym nothing)
-    (subst (λ s. RanSession policy calls delivery Over opening [] s (Err Memory) (new_desk opening calls)) (sym silent) (unbegun policy calls delivery Over opening))
+unbegun_so : (rules : SessionRules KeptState) (calls : ℕ) (delivery : Delivery) (Over : Type 0) (opening : Opening) (came sent : List ℕ) → came ≡ [] → sent ≡ []
+    → RanSession rules calls delivery Over opening (record { came = came; sent = sent; ended = Err Memory }) (new_desk opening calls)
+unbegun_so rules calls delivery Over opening came sent nothing silent =
+    subst (λ c. RanSession rules calls delivery Over opening (record { came = c; sent = sent; ended = Err Memory }) (new_desk opening calls)) (sym nothing)
+    (subst (λ s. RanSession rules calls delivery Over opening (record { came = []; sent = s; ended = Err Memory }) (new_desk opening calls)) (sym silent) (unbegun rules calls delivery Over opening))
 
-module _ (policy : Policy) (calls : ℕ) (delivery : Delivery) (Over : Type 0) (opening : Opening) (came sent : List ℕ) where
+module _ (rules : SessionRules KeptState) (calls : ℕ) (delivery : Delivery) (Over : Type 0) (opening : Opening) (came sent : List ℕ) where
   -- a session ran, and this became of its history
   pub recorded_behind : {H : Type 0} (contents : H → Option (List ℕ)) (kept : Log) (session : Result Ended SessionFault) (recording : Recording) (device left : Option H)
-      → (to : KeptState) × RanSession policy calls delivery Over opening came sent session to × (kept ≡ to.log) → IsRecording contents kept session recording device left
-      → RanScript contents policy calls delivery Over opening came sent (record { session = session; recording = recording }) device left
+      → (to : KeptState) × RanSession rules calls delivery Over opening (record { came = came; sent = sent; ended = session }) to × (kept ≡ to.log) → IsRecording contents kept session recording device left
+      → RanScript contents rules calls delivery Over opening came sent (record { session = session; recording = recording }) device left
   recorded_behind contents kept session recording device left (to, ran, is) recorded = record {
     to = to;
     session = ran;
@@ -81,21 +82,21 @@ module _ (policy : Policy) (calls : ℕ) (delivery : Delivery) (Over : Type 0) (
 
   -- there was no memory for a queue
   pub recorded_unbegun : {H : Type 0} (contents : H → Option (List ℕ)) (device : H) → (came ≡ []) × (sent ≡ [])
-      → RanScript contents policy calls delivery Over opening came sent (record { session = Err Memory; recording = NotBegun }) (Some device) (Some device)
+      → RanScript contents rules calls delivery Over opening came sent (record { session = Err Memory; recording = NotBegun }) (Some device) (Some device)
   recorded_unbegun contents device (nothing, silent) = record {
     to = new_desk opening calls;
-    session = unbegun_so policy calls delivery Over opening came sent nothing silent;
+    session = unbegun_so rules calls delivery Over opening came sent nothing silent;
     recorded = (refl, refl, refl);
   }
 
   -- there was no device
-  pub unrecorded_unbegun : (came ≡ []) × (sent ≡ []) → RanUnrecorded policy calls delivery Over opening came sent (record { session = Err Memory; recording = NotAsked })
-  unrecorded_unbegun (nothing, silent) = (new_desk opening calls, unbegun_so policy calls delivery Over opening came sent nothing silent, refl)
+  pub unrecorded_unbegun : (came ≡ []) × (sent ≡ []) → RanUnrecorded rules calls delivery Over opening came sent (record { session = Err Memory; recording = NotAsked })
+  unrecorded_unbegun (nothing, silent) = (new_desk opening calls, unbegun_so rules calls delivery Over opening came sent nothing silent, refl)
 
 -- a script that had no device for its history is one whose history nobody asked for
-pub unrecorded : {H : Type 0} (contents : H → Option (List ℕ)) (policy : Policy) (calls : ℕ) (delivery : Delivery) (Over : Type 0) (opening : Opening) (came sent : List ℕ) (report : ScriptReport)
-    → RanUnrecorded policy calls delivery Over opening came sent report → RanScript contents policy calls delivery Over opening came sent report None None
-unrecorded contents policy calls delivery Over opening came sent report (to, session, is) = record {
+pub unrecorded : {H : Type 0} (contents : H → Option (List ℕ)) (rules : SessionRules KeptState) (calls : ℕ) (delivery : Delivery) (Over : Type 0) (opening : Opening) (came sent : List ℕ) (report : ScriptReport)
+    → RanUnrecorded rules calls delivery Over opening came sent report → RanScript contents rules calls delivery Over opening came sent report None None
+unrecorded contents rules calls delivery Over opening came sent report (to, session, is) = record {
   to = to;
   session = session;
   recorded = subst (λ recording. IsRecording contents to.log report.session recording None None) (sym is) (refl, refl);

@@ -3,9 +3,11 @@ use Rattle.std.specs.Prelude.{◌≡◌, ◌≢◌, ℕ, List, [], Option, None,
 use Rattle.rb_ledger.specs.Totals.{nothing}
 use Rattle.rb_queue.specs.declared.opening.Opening.{Opening}
 use Rattle.rb_kept.specs.Log.{Log}
-use Rattle.rb_retry.specs.KeptSteps.{KeptState, KeptSteps, SetsKept}
+use Rattle.rb_retry.specs.KeptSteps.{KeptState}
 use Rattle.rb_retry.specs.declared.policy.Policy.{Policy}
 use Rattle.rb_session.specs.Delivered.{RanDelivered}
+use Rattle.rb_session.specs.Rules.{SessionRules, session_rules, kept_rules, HadGotBehind}
+use Rattle.rb_session.specs.Served.{Served}
 use Rattle.rb_session.specs.declared.delivery.Delivery.{Delivery}
 use Rattle.rb_session.specs.declared.ended.Ended.{Ended}
 use Rattle.rb_session.specs.declared.session_fault.SessionFault.{SessionFault}
@@ -30,12 +32,16 @@ pub record IsNew (desk : KeptState) (opening : Opening) (calls : ℕ) : Type 0 w
   pub moment : desk.moment ≡ opening.last_at
   pub before : desk.before ≡ 0
 
--- The session went from a new desk to some other, and ended so. What came and what was sent are those of a
--- session on this way, whose replies were delivered so.
-pub record RanSession (policy : Policy) (calls : ℕ) (delivery : Delivery) (Over : Type 0) (opening : Opening) (came sent : List ℕ) (session : Result Ended SessionFault) (to : KeptState) : Type 0 where
+-- the rules of a script's session under this policy, whose writer had got this at first
+abbrev pub script_rules : {W : Type 0} → (W → Option (List ℕ)) → Option (List ℕ) → Policy → SessionRules KeptState
+script_rules contents got policy = session_rules (kept_rules policy) (HadGotBehind contents got)
+
+-- The session went from a new desk to some other, and was served so. Its replies were delivered so.
+pub record RanSession (rules : SessionRules KeptState) (calls : ℕ) (delivery : Delivery) (Over : Type 0)
+    (opening : Opening) (served : Served) (to : KeptState) : Type 0 where
   pub from : KeptState
   pub new : IsNew from opening calls
-  pub ran : RanDelivered (λ desk moment. moment ≡ desk.moment) SetsKept KeptSteps policy delivery Over from came sent session to
+  pub ran : RanDelivered rules delivery Over from served to
 
 -- What became of the history: there is no device for it; or the session found no memory and was not begun, and
 -- the device is as it was; or the text was written to the device, whole or not.
@@ -48,9 +54,12 @@ IsRecording contents log session (Failed fault) device left =
     (session ≢ Err Memory) × RecordsRun contents log (Err fault) device left
 
 -- The session was such a one, and this became of the history of the log that it led to.
-pub record RanScript {H : Type 0} (contents : H → Option (List ℕ)) (policy : Policy) (calls : ℕ) (delivery : Delivery) (Over : Type 0) (opening : Opening) (came sent : List ℕ) (report : ScriptReport) (device left : Option H) : Type 0 where
+pub record RanScript {H : Type 0} (contents : H → Option (List ℕ)) (rules : SessionRules KeptState) (calls : ℕ)
+    (delivery : Delivery) (Over : Type 0) (opening : Opening) (came sent : List ℕ) (report : ScriptReport)
+    (device left : Option H) : Type 0 where
   pub to : KeptState
-  pub session : RanSession policy calls delivery Over opening came sent report.session to
+  pub session : RanSession rules calls delivery Over opening
+      (record { came = came; sent = sent; ended = report.session }) to
   pub recorded : IsRecording contents to.log report.session report.recording device left
 
 -- the session's fault is answered, if it has one, and otherwise that of writing the history
@@ -60,7 +69,8 @@ result_of (Ok ended) (Failed fault) = Err (fault_of_history fault)
 result_of (Ok ended) _ = Ok ended
 
 -- a script ran, and this is answered
-abbrev pub EndsScript : {H : Type 0} → (H → Option (List ℕ)) → Policy → ℕ → Delivery → Type 0 → Opening → List ℕ → List ℕ → Result Ended BrokerFault → Option H → Option H → Type 0
-EndsScript contents policy calls delivery Over opening came sent result device left =
-    (report : ScriptReport) × RanScript contents policy calls delivery Over opening came sent report device left
+abbrev pub EndsScript : {H : Type 0} → (H → Option (List ℕ)) → SessionRules KeptState → ℕ → Delivery → Type 0
+    → Opening → List ℕ → List ℕ → Result Ended BrokerFault → Option H → Option H → Type 0
+EndsScript contents rules calls delivery Over opening came sent result device left =
+    (report : ScriptReport) × RanScript contents rules calls delivery Over opening came sent report device left
     × (result ≡ result_of report.session report.recording)

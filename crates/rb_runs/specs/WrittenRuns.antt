@@ -12,7 +12,7 @@ use Rattle.rb_history.specs.HistoryText.{history_text}
 use Rattle.rb_replay.specs.WrittenHistories.{IsReadAgain}
 use Rattle.rb_ending.specs.AuditText.{audit_text}
 use Rattle.rb_ending.specs.Recording.{RecordsLog}
-use Rattle.rb_runs.specs.Script.{EndsScript, RanSession}
+use Rattle.rb_runs.specs.Script.{EndsScript, RanSession, script_rules}
 use Rattle.rb_runs.specs.TextVerdict.{IsVerdictOn, Tells}
 use Rattle.rb_runs.specs.declared.text_verdict.TextVerdict.{TextVerdict}
 
@@ -32,9 +32,13 @@ abbrev pub RecordedIsRead : Type 0
 RecordedIsRead = (log : Log) (got got' : Option (List ℕ)) → RecordsLog log (Ok tt) got got' → HoldsText log got got' × IsReplayed log
 
 -- the law of each script that ended without a fault and had a device for its history
-abbrev pub ScriptIsRead : {H : Type 0} → (H → Option (List ℕ)) → Type 0
-ScriptIsRead {H = H} contents = (policy : Policy) (calls : ℕ) (delivery : Delivery) (rest : Option (List ℕ)) (opening : Opening) (came sent : List ℕ)
-    (ended : Ended) (device left : H)
-    → EndsScript contents policy calls delivery (IsAtEnd rest) opening came sent (Ok ended) (Some device) (Some left)
-    → (to : KeptState) × RanSession policy calls delivery (IsAtEnd rest) opening came sent (Ok ended) to
+abbrev pub ScriptIsRead : {W H : Type 0} → (W → Option (List ℕ)) → (H → Option (List ℕ)) → Type 0
+ScriptIsRead {H = H} sends contents =
+    (got : Option (List ℕ)) (policy : Policy) (calls : ℕ) (delivery : Delivery) (rest : Option (List ℕ))
+    (opening : Opening) (came sent : List ℕ) (ended : Ended) (device left : H)
+    → EndsScript contents (script_rules sends got policy) calls delivery (IsAtEnd rest) opening came sent (Ok ended)
+    (Some device) (Some left)
+    → (to : KeptState)
+    × RanSession (script_rules sends got policy) calls delivery (IsAtEnd rest) opening
+    (record { came = came; sent = sent; ended = Ok ended }) to
     × HoldsText to.log (contents device) (contents left) × IsReplayed to.log

@@ -11,6 +11,6 @@ pub fn recorded_is_read()
 
 /// The history of a script that ended without a fault was written whole, if there is a device for it, and is
 /// read again as that of just this session.
-pub fn script_is_read<H: Write>()
-    ensures { ScriptIsRead H.contents }
+pub fn script_is_read<W: Write, H: Write>()
+    ensures { ScriptIsRead W.contents H.contents }
 {}

@@ -3,7 +3,7 @@ ghost use Rattle.rb_session.specs.Exchange.{Exchanges};
 ghost use Rattle.rb_session.specs.declared.delivery.Delivery.TheVariants.{AtOnce, Gathered};
 ghost use Rattle.rb_session.specs.declared.hands_on.HandsOn.TheVariants.{BeforeReads};
 ghost use Rattle.rb_ending.specs.Recording.{lent, given_back};
-ghost use Rattle.rb_runs.specs.Script.{EndsScript, RanScript};
+ghost use Rattle.rb_runs.specs.Script.{EndsScript, RanScript, script_rules};
 
 use crate::script_report::ScriptReport;
 use crate::script_run::{run_recorded, run_unrecorded};
@@ -32,8 +32,10 @@ pub fn run_script<R: Read, W: Write, H: Write>(
     writer: &mut W,
     history: Option<&mut H>,
 ) -> Result<Ended, BrokerFault>
-    ensures { Exchanges (R.remaining reader.old) (R.remaining reader.new) (W.contents writer.old) (W.contents writer.new) (λ came sent.
-        EndsScript H.contents options.now.policy options.now.calls AtOnce (IsAtEnd (R.remaining reader.new))
+    ensures { Exchanges
+        (R.remaining reader.old) (R.remaining reader.new) (W.contents writer.old) (W.contents writer.new) (λ came sent.
+        EndsScript H.contents (script_rules W.contents (W.contents writer.old) options.now.policy)
+        options.now.calls AtOnce (IsAtEnd (R.remaining reader.new))
         opening came sent result (lent history.entry) (given_back history.exit)) }
 {
     let delivery = Delivery::AtOnce;
@@ -58,8 +60,10 @@ pub fn run_script_gathered<R: Read, W: Write, H: Write>(
     writer: &mut W,
     history: Option<&mut H>,
 ) -> Result<Ended, BrokerFault>
-    ensures { Exchanges (R.remaining reader.old) (R.remaining reader.new) (W.contents writer.old) (W.contents writer.new) (λ came sent.
-        EndsScript H.contents options.now.policy options.now.calls (Gathered BeforeReads) (IsAtEnd (R.remaining reader.new))
+    ensures { Exchanges
+        (R.remaining reader.old) (R.remaining reader.new) (W.contents writer.old) (W.contents writer.new) (λ came sent.
+        EndsScript H.contents (script_rules W.contents (W.contents writer.old) options.now.policy)
+        options.now.calls (Gathered BeforeReads) (IsAtEnd (R.remaining reader.new))
         opening came sent result (lent history.entry) (given_back history.exit)) }
 {
     let delivery = Delivery::Gathered(HandsOn::BeforeReads);
@@ -82,8 +86,10 @@ pub fn run_script_delivered<R: Read, W: Write, H: Write>(
     writer: &mut W,
     history: Option<&mut H>,
 ) -> ScriptReport
-    ensures { Exchanges (R.remaining reader.old) (R.remaining reader.new) (W.contents writer.old) (W.contents writer.new) (λ came sent.
-        RanScript H.contents options.now.policy options.now.calls delivery (IsAtEnd (R.remaining reader.new))
+    ensures { Exchanges
+        (R.remaining reader.old) (R.remaining reader.new) (W.contents writer.old) (W.contents writer.new) (λ came sent.
+        RanScript H.contents (script_rules W.contents (W.contents writer.old) options.now.policy)
+        options.now.calls delivery (IsAtEnd (R.remaining reader.new))
         opening came sent result (lent history.entry) (given_back history.exit)) }
 {
     match history {

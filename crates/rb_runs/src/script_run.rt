@@ -2,7 +2,7 @@ ghost use Rattle.std.specs.Prelude.{◌≤◌};
 ghost use Rattle.std.specs.Io.KnownBytes.{IsAtEnd};
 ghost use Rattle.rb_kept.specs.declared.kept.TheConstants.{MOST_CALLS};
 ghost use Rattle.rb_session.specs.Exchange.{Exchanges};
-ghost use Rattle.rb_runs.specs.Script.{IsRecording, RanScript};
+ghost use Rattle.rb_runs.specs.Script.{IsRecording, RanScript, script_rules};
 ghost use Rattle.rb_runs.specs.ScriptRun.{RanOver, RanUnrecorded};
 
 use crate::over_timer;
@@ -28,8 +28,10 @@ pub(crate) fn run_recorded<R: Read, W: Write, H: Write>(
     writer: &mut W,
     device: &mut H,
 ) -> ScriptReport
-    ensures { Exchanges (R.remaining reader.old) (R.remaining reader.new) (W.contents writer.old) (W.contents writer.new) (λ came sent.
-        RanScript H.contents options.now.policy options.now.calls delivery (IsAtEnd (R.remaining reader.new))
+    ensures { Exchanges
+        (R.remaining reader.old) (R.remaining reader.new) (W.contents writer.old) (W.contents writer.new) (λ came sent.
+        RanScript H.contents (script_rules W.contents (W.contents writer.old) options.now.policy)
+        options.now.calls delivery (IsAtEnd (R.remaining reader.new))
         opening came sent result (Some device.old) (Some device.new)) }
 {
     let calls = options.calls;
@@ -51,8 +53,10 @@ pub(crate) fn run_unrecorded<R: Read, W: Write>(
     reader: &mut R,
     writer: &mut W,
 ) -> ScriptReport
-    ensures { Exchanges (R.remaining reader.old) (R.remaining reader.new) (W.contents writer.old) (W.contents writer.new) (λ came sent.
-        RanUnrecorded options.now.policy options.now.calls delivery (IsAtEnd (R.remaining reader.new)) opening came sent result) }
+    ensures { Exchanges
+        (R.remaining reader.old) (R.remaining reader.new) (W.contents writer.old) (W.contents writer.new) (λ came sent.
+        RanUnrecorded (script_rules W.contents (W.contents writer.old) options.now.policy) options.now.calls delivery
+        (IsAtEnd (R.remaining reader.new)) opening came sent result) }
 {
     let calls = options.calls;
     let policy = &options.policy;
@@ -74,8 +78,10 @@ fn recorded_over<T: Timer, R: Read, W: Write, H: Write>(
 ) -> ScriptReport
     requires from_one { 1 ≤ calls }
     requires in_range { calls ≤ MOST_CALLS }
-    ensures { Exchanges (R.remaining reader.old) (R.remaining reader.new) (W.contents writer.old) (W.contents writer.new) (λ came sent.
-        RanScript H.contents policy.now calls delivery (IsAtEnd (R.remaining reader.new))
+    ensures { Exchanges
+        (R.remaining reader.old) (R.remaining reader.new) (W.contents writer.old) (W.contents writer.new) (λ came sent.
+        RanScript H.contents (script_rules W.contents (W.contents writer.old) policy.now)
+        calls delivery (IsAtEnd (R.remaining reader.new))
         opening came sent result (Some device.old) (Some device.new)) }
 {
     let Ok((kept, session)) = run_over::<T, R, W>(
@@ -101,8 +107,10 @@ fn unrecorded_over<T: Timer, R: Read, W: Write>(
 ) -> ScriptReport
     requires from_one { 1 ≤ calls }
     requires in_range { calls ≤ MOST_CALLS }
-    ensures { Exchanges (R.remaining reader.old) (R.remaining reader.new) (W.contents writer.old) (W.contents writer.new) (λ came sent.
-        RanUnrecorded policy.now calls delivery (IsAtEnd (R.remaining reader.new)) opening came sent result) }
+    ensures { Exchanges
+        (R.remaining reader.old) (R.remaining reader.new) (W.contents writer.old) (W.contents writer.new) (λ came sent.
+        RanUnrecorded (script_rules W.contents (W.contents writer.old) policy.now)
+        calls delivery (IsAtEnd (R.remaining reader.new)) opening came sent result) }
 {
     let recording = Recording::NotAsked;
     let Ok((_, session)) = run_over::<T, R, W>(
@@ -129,8 +137,10 @@ fn run_over<T: Timer, R: Read, W: Write>(
 ) -> Result<(Kept<T>, Result<Ended, SessionFault>), AllocError>
     requires from_one { 1 ≤ calls }
     requires in_range { calls ≤ MOST_CALLS }
-    ensures { Exchanges (R.remaining reader.old) (R.remaining reader.new) (W.contents writer.old) (W.contents writer.new) (λ came sent.
-        RanOver policy.now calls delivery (IsAtEnd (R.remaining reader.new)) opening came sent result) }
+    ensures { Exchanges
+        (R.remaining reader.old) (R.remaining reader.new) (W.contents writer.old) (W.contents writer.new) (λ came sent.
+        RanOver (script_rules W.contents (W.contents writer.old) policy.now)
+        calls delivery (IsAtEnd (R.remaining reader.new)) opening came sent result) }
 {
     // The number of calls is in range, so only memory can be missing.
     let Ok((mut kept, mut tally)) = Kept::<T>::new_from(alloc, calls, opening) else {

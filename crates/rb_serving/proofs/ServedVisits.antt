@@ -6,12 +6,13 @@ use Rattle.rb_ledger.specs.Totals.{capped_sum}
 use Rattle.rb_ledger.specs.declared.totals.TheConstants.{GREATEST_COUNT}
 use Rattle.rb_lock.specs.Passes.{Seen, record_of}
 use Rattle.rb_lock.specs.declared.pass_record.PassRecord.{PassRecord}
+use Rattle.rb_session.specs.Served.{Served}
 use Rattle.rb_session.specs.declared.ended.Ended.{Ended}
 use Rattle.rb_session.specs.declared.session_fault.SessionFault.{SessionFault}
 use Rattle.rb_serving.specs.Terms.{Terms}
 use Rattle.rb_serving.specs.VisitCounts.{both_counts, ended_visit, refused_visit, lost_in, faults_in}
 use Rattle.rb_serving.specs.Serving.{WorksOff}
-use Rattle.rb_serving.specs.Visits.{Served, RanVisit, AreVisits, IsVisit, IsWorker, AreWorkers}
+use Rattle.rb_serving.specs.Visits.{RanVisit, AreVisits, IsVisit, IsWorker, AreWorkers}
 use Rattle.rb_serving.specs.Visits.{all_visits, counts_of, faults_of, lost_of, number_of}
 use Rattle.rb_serving.specs.declared.visit.Visit.{Visit}
 use Rattle.rb_serving.specs.declared.visit_counts.VisitCounts.{VisitCounts}

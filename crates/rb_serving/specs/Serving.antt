@@ -8,9 +8,10 @@ use Rattle.rb_lock.specs.declared.pass_record.PassRecord.{PassRecord}
 use Rattle.rb_arguments.specs.declared.server_run_options.ServerRunOptions.{ServerRunOptions}
 use Rattle.rb_ending.specs.declared.broker_fault.BrokerFault.{BrokerFault}
 use Rattle.rb_ending.specs.declared.broker_fault.BrokerFault.TheVariants as Broker
+use Rattle.rb_session.specs.Served.{Served}
 use Rattle.rb_serving.specs.Terms.{Terms}
 use Rattle.rb_serving.specs.VisitCounts.{counts_in}
-use Rattle.rb_serving.specs.Visits.{Served, AreVisits, IsWorker, AreWorkers, counts_of, all_visits, number_of}
+use Rattle.rb_serving.specs.Visits.{AreVisits, IsWorker, AreWorkers, counts_of, all_visits, number_of}
 use Rattle.rb_serving.specs.declared.serve_report.ServeReport.{ServeReport}
 use Rattle.rb_serving.specs.declared.visit_counts.VisitCounts.{VisitCounts}
 

@@ -1,24 +1,18 @@
 -- What became of those who came to a door, and of the pass of the worker that served them.
-use Rattle.std.specs.Prelude.{◌≡◌, ℕ, ◌+◌, min, List, [], ◌∷◌, ◌++◌, length, Option, None, Some, Result}
+use Rattle.std.specs.Prelude.{◌≡◌, ℕ, ◌+◌, min, List, [], ◌∷◌, ◌++◌, length, Option, None, Some}
 use Rattle.std.specs.Io.KnownBytes.{Appends, Consumes, IsAtEnd}
 use Rattle.rb_ledger.specs.declared.totals.TheConstants.{GREATEST_COUNT}
 use Rattle.rb_lock.specs.Passes.{Seen, record_of}
 use Rattle.rb_lock.specs.declared.pass_record.PassRecord.{PassRecord}
 use Rattle.rb_shared_desk.specs.SharedSteps.{SharedState, SharedSteps, SetsShared}
-use Rattle.rb_session.specs.declared.ended.Ended.{Ended}
-use Rattle.rb_session.specs.declared.session_fault.SessionFault.{SessionFault}
+use Rattle.rb_session.specs.Rules.{SessionRules, session_rules, HadGotBehind}
+use Rattle.rb_session.specs.Served.{Served}
 use Rattle.rb_session.specs.Delivered.{RanDelivered}
 use Rattle.rb_serving.specs.Terms.{Terms}
 use Rattle.rb_serving.specs.VisitCounts.{lost_in, faults_in}
 use Rattle.rb_serving.specs.declared.visit.Visit.{Visit}
 use Rattle.rb_serving.specs.declared.visit_counts.VisitCounts.{VisitCounts}
 use Rattle.rb_serving.specs.declared.visit_number.VisitNumber.{VisitNumber}
-
--- A visit that was served: what came of the client, what it was sent, and how the session ended.
-pub record Served : Type 0 where
-  pub came : List ℕ
-  pub sent : List ℕ
-  pub ended : Result Ended SessionFault
 
 -- how many visits were refused at the door or ended by a fault
 abbrev pub faults_of : List (Option Served) → ℕ
@@ -57,12 +51,22 @@ pub record IsDeskOf {C G : Type 0} (clock : C) (gate : G) (pass : Seen) (desk : 
   pub before : desk.before ≡ length pass.mine
 
 module _ {I O G C : Type 0} (terms : Terms I O G C) where
-  -- At a desk, a session was run over what came until it was over, and its replies were delivered as the rules say.
-  abbrev pub RanSession : Type 0 → SharedState C G → Served → SharedState C G → Type 0
-  RanSession Over from served to =
+  -- the rules of the session of a visit with this writer
+  abbrev pub visit_rules : O → SessionRules (SharedState C G)
+  visit_rules writer =
       let rules = terms.rules in
-      RanDelivered (λ desk moment. rules.gives desk.clock moment) SetsShared (SharedSteps rules.gives terms.answers)
-      rules.policy rules.delivery Over from served.came served.sent served.ended to
+      session_rules (record {
+        gives = λ desk moment. rules.gives desk.clock moment;
+        Sets = SetsShared;
+        Steps = SharedSteps rules.gives terms.answers;
+        policy = rules.policy;
+      }) (HadGotBehind terms.contents (terms.contents writer))
+
+  -- At a desk, a session was run over what came until it was over, and its replies were delivered to this writer as
+  -- the rules say.
+  abbrev pub RanSession : O → Type 0 → SharedState C G → Served → SharedState C G → Type 0
+  RanSession writer Over from served to =
+      RanDelivered (visit_rules writer) terms.rules.delivery Over from served to
 
   -- The session of this visit was run at a new desk of the pass. What came was read from the visit's reader, what
   -- was sent went to its writer, and its gate could end the waits. `left` has what is left of the two.
@@ -72,7 +76,7 @@ module _ {I O G C : Type 0} (terms : Terms I O G C) where
     pub from : SharedState C G
     pub begun : IsDeskOf terms.rules.clock visit.gate old from
     pub to : SharedState C G
-    pub ran : RanSession (IsAtEnd (terms.remaining left.reader)) from served to
+    pub ran : RanSession visit.writer (IsAtEnd (terms.remaining left.reader)) from served to
     pub seen : to.pass ≡ new
 
   -- A visitor was let in under this number, and the session of this visit was run.

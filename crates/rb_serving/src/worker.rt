@@ -1,7 +1,8 @@
 ghost use Rattle.std.specs.Prelude.{◌≡◌};
 ghost use Rattle.rb_serving.specs.Serving.{IsWorked, WorksOff};
 ghost use Rattle.rb_serving.specs.Terms.{service_terms};
-ghost use Rattle.rb_serving.specs.Visits.{Served, RanVisit};
+ghost use Rattle.rb_serving.specs.Visits.{RanVisit};
+ghost use Rattle.rb_session.specs.Served.{Served};
 
 use crate::door::{Door, DoorFault};
 use crate::service::Service;

@@ -3,4 +3,4 @@ use Rattle.rb_runs.proofs.WrittenRuns.{script_is_read}
 use Rattle.rb_runs.proofs.laws.script_is_read.Goals as goal
 
 pub returns : goal.returns
-returns g c = script_is_read g.H.Write.contents
+returns g c = script_is_read g.W.Write.contents g.H.Write.contents

@@ -4,7 +4,8 @@ use Rattle.std.specs.Io.KnownBytes.{Appends, Consumes, IsAtEnd}
 use Rattle.rb_lock.specs.Passes.{Seen}
 use Rattle.rb_shared_desk.specs.SharedSteps.{SharedState, name_of}
 use Rattle.rb_serving.specs.Terms.{Terms, service_terms}
-use Rattle.rb_serving.specs.Visits.{Served, RanSession, RanVisit}
+use Rattle.rb_session.specs.Served.{Served}
+use Rattle.rb_serving.specs.Visits.{RanSession, RanVisit}
 use Rattle.rb_serving.specs.declared.visit.Visit.{Visit}
 use Rattle.rb_serving.proofs.worker.serve_visit.Goals as goal
 
@@ -20,7 +21,7 @@ ran_visit : {I O G C : Type 0} (terms : Terms I O G C) (visit left : Visit I O G
       gate = visit.gate;
       before = length old.mine;
     }
-    → RanSession terms (IsAtEnd (terms.remaining left.reader)) from served to → to.pass ≡ new
+    → RanSession terms visit.writer (IsAtEnd (terms.remaining left.reader)) from served to → to.pass ≡ new
     → RanVisit terms visit left old served new
 ran_visit {G = G} {C = C} terms visit left reference old new served from to consumed appended is ran seen = record {
   consumed = consumed;
