@@ -1,5 +1,5 @@
 -- The history of a script is what a run of a session adds to an empty one.
-use Rattle.std.proofs.Common.{◌≡◌, ℕ, List, [], ◌++◌, sym, ap, ◌∙◌}
+use Rattle.std.proofs.Common.{◌≡◌, ℕ, List, [], ◌++◌, Option, sym, ap, ◌∙◌}
 use Rattle.rb_queue.specs.declared.event.Event.{Event}
 use Rattle.rb_retry.specs.KeptSteps.{KeptState}
 use Rattle.rb_retry.specs.Made.{Made}
@@ -12,9 +12,9 @@ grown_from_none : (from to : KeptState) (made : List Made) → from.log.history 
     → to.log.history ≡ from.log.history ++ made_events made → to.log.history ≡ made_events made
 grown_from_none from to made none grows = grows ∙ ap (λ (events : List Event). events ++ made_events made) none
 
-pub records_by_script : RecordsByScript
-records_by_script policy calls delivery rest opening came sent session to ran =
-    let run = records_by_run policy delivery rest ran.from to came sent session ran.ran in
+pub records_by_script : {W : Type 0} (sends : W → Option (List ℕ)) → RecordsByScript sends
+records_by_script sends got policy calls delivery rest opening served to ran =
+    let run = records_by_run sends policy got delivery rest ran.from to served ran.ran in
     let so = grows_so (λ made grows. grown_from_none ran.from to made ran.new.log.history grows) run.0 in (
       so.0,
       run.2 ∙ ran.new.log.opening_is,

@@ -13,11 +13,12 @@ use Rattle.rb_lock.specs.Records.{AreRecords, IsRecord, names_of, times_in}
 use Rattle.rb_lock.specs.declared.pass_record.PassRecord.{PassRecord}
 use Rattle.rb_lock.proofs.Sums.{bit_apart}
 use Rattle.rb_retry.specs.Made.{Made}
+use Rattle.rb_session.specs.Served.{Served}
 use Rattle.rb_session.specs.Events.{made_events}
 use Rattle.rb_session.proofs.RunEvents.{grows_so}
 use Rattle.rb_serving.specs.Terms.{Terms}
 use Rattle.rb_serving.specs.ServerEvents.{GathersSessions, GrowsByVisits, IsOfOne, MadeByVisit}
-use Rattle.rb_serving.specs.Visits.{Served, AreVisits, AreWorkers, IsWorker, all_visits}
+use Rattle.rb_serving.specs.Visits.{AreVisits, AreWorkers, IsWorker, all_visits}
 use Rattle.rb_serving.proofs.GatheredNames.{contained, named_behind, of_its_seat}
 use Rattle.rb_serving.proofs.VisitEvents.{calls_by_visit}
 

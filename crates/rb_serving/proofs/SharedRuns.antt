@@ -27,8 +27,9 @@ use Rattle.rb_session.specs.Events.{made_events}
 use Rattle.rb_session.specs.RunEvents.{MadeByRun}
 use Rattle.rb_session.specs.Session.{Turn}
 use Rattle.rb_session.specs.declared.delivery.Delivery.{Delivery}
-use Rattle.rb_session.specs.declared.ended.Ended.{Ended}
-use Rattle.rb_session.specs.declared.session_fault.SessionFault.{SessionFault}
+use Rattle.rb_session.specs.Rules.{session_rules}
+use Rattle.rb_session.specs.Served.{Served}
+use Rattle.rb_serving.specs.Visits.{shared_rules}
 use Rattle.rb_session.proofs.Events.{Way}
 use Rattle.rb_session.proofs.RunEvents.{WaysAlong, ends_of, made_by_ends, grows_so}
 use Rattle.rb_shared_desk.specs.SharedSteps.{SharedState, SharedSteps, SetsShared, made_through}
@@ -115,17 +116,18 @@ module _ {C G : Type 0} where
     stays_whole old new moment result sets = ap whole_mine sets.1
 
     -- what a line and the failure of a job do
-    knows_way : (reading : Result Request LineFault) (replies : List LineReply) (old new : SharedState C G)
-        → Way desk_gives SetsShared (SharedSteps gives answers) reading replies old new → Knows old new
-    knows_way reading replies old new (inl leaves) = inl leaves.same
-    knows_way reading replies old new (inr (inl calls)) = inr (calls.steps.sound, calls.steps.learns.sound)
-    knows_way reading replies old new (inr (inr sets)) = inl sets.sets.1
+    knows_way : (policy : Policy) (reading : Result Request LineFault) (replies : List LineReply) (old new : SharedState C G)
+        → Way (shared_rules gives answers policy) reading replies old new → Knows old new
+    knows_way policy reading replies old new (inl leaves) = inl leaves.same
+    knows_way policy reading replies old new (inr (inl calls)) = inr (calls.steps.sound, calls.steps.learns.sound)
+    knows_way policy reading replies old new (inr (inr sets)) = inl sets.sets.1
 
-    knows_ways : (old new : SharedState C G) (turns : List Turn) → WaysAlong desk_gives SetsShared (SharedSteps gives answers) old turns new
+    knows_ways : (policy : Policy) (old new : SharedState C G) (turns : List Turn)
+        → WaysAlong (shared_rules gives answers policy) old turns new
         → Knows old new
-    knows_ways old new [] same = inl same
-    knows_ways old new (turn ∷ turns) (between, way, rest) =
-        knows_more old between new (knows_way turn.reading turn.replies old between way) (knows_ways between new turns rest)
+    knows_ways policy old new [] same = inl same
+    knows_ways policy old new (turn ∷ turns) (between, way, rest) =
+        knows_more old between new (knows_way policy turn.reading turn.replies old between way) (knows_ways policy between new turns rest)
 
     knows_failure : (policy : Policy) (element : Element) (now : ℕ) (old new : SharedState C G) (result : Result Verdict (Element × CallFault))
         → FailsTo (SharedSteps gives answers) policy element now old result new → Knows old new
@@ -134,17 +136,19 @@ module _ {C G : Type 0} where
     knows_failure policy element now old new (Err (back, fault)) (draft, retry, steps, is_back) = inr (steps.sound, steps.learns.sound)
 
     knows_closing : (policy : Policy) (from to : SharedState C G) (held : List Element) (lost : ℕ)
-        → Closes desk_gives (SharedSteps gives answers) policy from held lost to → Knows from to
+        → Closes (shared_rules gives answers policy) from held lost to → Knows from to
     knows_closing policy from to [] lost (zero, same) = inl same
     knows_closing policy from to (element ∷ held) lost (now, is_now, result, between, fails, fewer, rest, sum) =
         knows_more from between to (knows_failure policy element now from between result fails) (knows_closing policy between to held fewer rest)
 
-    pub calls_by_run : (policy : Policy) (delivery : Delivery) (Over : Type 0) (from to : SharedState C G) (came sent : List ℕ) (ended : Result Ended SessionFault)
-        → RanDelivered desk_gives SetsShared (SharedSteps gives answers) policy delivery Over from came sent ended to
-        → MadeByRun Over came sent ended (λ made. to.pass.mine ≡ from.pass.mine ++ made_events made)
-    calls_by_run policy delivery Over from to came sent ended ran =
-        let run = ends_of desk_gives SetsShared (SharedSteps gives answers) policy Over delivery from to came sent ended ran in
-        let made = made_by_ends desk_gives SetsShared (SharedSteps gives answers) whole_mine makes_whole refuses_whole stays_whole policy Over from to came sent ended run in
-        let knows = knows_more from run.last.desk to (knows_ways from run.last.desk run.path.lines run.path.ways)
+    pub calls_by_run : (policy : Policy) (HadGot : List ℕ → Type 0) (delivery : Delivery) (Over : Type 0)
+        (from to : SharedState C G) (served : Served)
+        → RanDelivered (session_rules (shared_rules gives answers policy) HadGot) delivery Over from served to
+        → MadeByRun Over served (λ made. to.pass.mine ≡ from.pass.mine ++ made_events made)
+    calls_by_run policy HadGot delivery Over from to served ran =
+        let desk = shared_rules gives answers policy in
+        let run = ends_of (session_rules desk HadGot) delivery Over from to served ran in
+        let made = made_by_ends desk whole_mine makes_whole refuses_whole stays_whole Over from to served run in
+        let knows = knows_more from run.last.desk to (knows_ways policy from run.last.desk run.path.lines run.path.ways)
         (knows_closing policy run.last.desk to run.last.held run.lost run.closes) in
         (grows_so (λ all grows. mine_grows from to all knows grows) made.0).0

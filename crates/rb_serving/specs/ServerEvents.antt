@@ -9,16 +9,17 @@ use Rattle.rb_lock.specs.Records.{AreDifferent}
 use Rattle.rb_retry.specs.Made.{Made}
 use Rattle.rb_session.specs.Events.{made_events}
 use Rattle.rb_session.specs.RunEvents.{MadeByRun}
+use Rattle.rb_session.specs.Served.{Served}
 use Rattle.rb_arguments.specs.declared.server_run_options.ServerRunOptions.{ServerRunOptions}
 use Rattle.rb_serving.specs.Terms.{Terms}
 use Rattle.rb_serving.specs.Serving.{IsServersRun}
-use Rattle.rb_serving.specs.Visits.{Served, all_visits}
+use Rattle.rb_serving.specs.Visits.{all_visits}
 use Rattle.rb_serving.specs.declared.serve_report.ServeReport.{ServeReport}
 
 -- the session of this visit made something, of which this holds
 abbrev pub MadeByVisit : Served → (List Made → Type 0) → Type 0
 MadeByVisit served Holds =
-    (rest : Option (List ℕ)) × MadeByRun (IsAtEnd rest) served.came served.sent served.ended Holds
+    (rest : Option (List ℕ)) × MadeByRun (IsAtEnd rest) served Holds
 
 -- the calls grew from these to those by what the first of these visits made, then by what the next made, and so on
 abbrev pub GrowsByVisits : List Event → List (Option Served) → List Event → Type 0

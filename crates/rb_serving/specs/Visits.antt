@@ -1,11 +1,12 @@
 -- What became of those who came to a door, and of the pass of the worker that served them.
-use Rattle.std.specs.Prelude.{◌≡◌, ℕ, ◌+◌, min, List, [], ◌∷◌, ◌++◌, length, Option, None, Some}
+use Rattle.std.specs.Prelude.{◌≡◌, Bool, ℕ, ◌+◌, min, List, [], ◌∷◌, ◌++◌, length, Option, None, Some}
 use Rattle.std.specs.Io.KnownBytes.{Appends, Consumes, IsAtEnd}
 use Rattle.rb_ledger.specs.declared.totals.TheConstants.{GREATEST_COUNT}
 use Rattle.rb_lock.specs.Passes.{Seen, record_of}
 use Rattle.rb_lock.specs.declared.pass_record.PassRecord.{PassRecord}
 use Rattle.rb_shared_desk.specs.SharedSteps.{SharedState, SharedSteps, SetsShared}
-use Rattle.rb_session.specs.Rules.{SessionRules, session_rules, HadGotBehind}
+use Rattle.rb_retry.specs.declared.policy.Policy.{Policy}
+use Rattle.rb_session.specs.Rules.{DeskRules, SessionRules, session_rules, HadGotBehind}
 use Rattle.rb_session.specs.Served.{Served}
 use Rattle.rb_session.specs.Delivered.{RanDelivered}
 use Rattle.rb_serving.specs.Terms.{Terms}
@@ -50,17 +51,22 @@ pub record IsDeskOf {C G : Type 0} (clock : C) (gate : G) (pass : Seen) (desk : 
   pub gate_is : desk.gate ≡ gate
   pub before : desk.before ≡ length pass.mine
 
+-- the rules of a desk over a shared queue, by what its clock and its gate say
+abbrev pub shared_rules : {C G : Type 0} → (C → ℕ → Type 0) → (G → ℕ → Bool → Type 0) → Policy
+    → DeskRules (SharedState C G)
+shared_rules gives answers policy = record {
+  gives = λ desk moment. gives desk.clock moment;
+  Sets = SetsShared;
+  Steps = SharedSteps gives answers;
+  policy = policy;
+}
+
 module _ {I O G C : Type 0} (terms : Terms I O G C) where
   -- the rules of the session of a visit with this writer
   abbrev pub visit_rules : O → SessionRules (SharedState C G)
   visit_rules writer =
-      let rules = terms.rules in
-      session_rules (record {
-        gives = λ desk moment. rules.gives desk.clock moment;
-        Sets = SetsShared;
-        Steps = SharedSteps rules.gives terms.answers;
-        policy = rules.policy;
-      }) (HadGotBehind terms.contents (terms.contents writer))
+      session_rules (shared_rules terms.rules.gives terms.answers terms.rules.policy)
+      (HadGotBehind terms.contents (terms.contents writer))
 
   -- At a desk, a session was run over what came until it was over, and its replies were delivered to this writer as
   -- the rules say.

@@ -3,4 +3,4 @@ use Rattle.rb_runs.proofs.ScriptEvents.{records_by_script}
 use Rattle.rb_runs.proofs.script_laws.history_of_script.Goals as goal
 
 pub returns : goal.returns
-returns c = records_by_script
+returns g c = records_by_script g.W.Write.contents
