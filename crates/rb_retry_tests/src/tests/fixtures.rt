@@ -8,9 +8,11 @@ use rb_ledger::Tally;
 use rb_lock::Shared;
 use rb_queue::{Ask, Draft, Reply};
 use rb_retry::{Desk, DeskFault};
-use rb_timer::{ListTimer, Timer};
+use rb_timer::Timer;
 use std::alloc::Global;
 use std::process::Abort;
+
+// What is refused is asked for once more, since `tools/refuse_allocations` refuses the memory of these too.
 
 /// A kept queue with room for this many calls, and its tally.
 pub fn kept<T: Timer>(rt: &impl Abort, alloc: Global, calls: u64) -> (Kept<T>, Tally)
@@ -19,7 +21,7 @@ pub fn kept<T: Timer>(rt: &impl Abort, alloc: Global, calls: u64) -> (Kept<T>, T
 {
     match Kept::new(alloc, calls) {
         Ok(made) => made,
-        Err(_) => rt.abort(),
+        Err(_) => Kept::new(alloc, calls).ok().expect(rt, "a kept queue"),
     }
 }
 
@@ -27,13 +29,17 @@ pub fn kept<T: Timer>(rt: &impl Abort, alloc: Global, calls: u64) -> (Kept<T>, T
 pub fn opened(rt: &impl Abort, alloc: Global, calls: u64) -> (ListShared, ListPass)
     ensures { result.1.table ≡ result.0 }
 {
-    let (kept, tally) = kept::<ListTimer>(rt, alloc, calls);
-    Shared::open(alloc, kept, tally)
-        .ok()
-        .expect(rt, "a shared queue")
+    let (kept, tally) = kept(rt, alloc, calls);
+    match Shared::open(alloc, kept, tally) {
+        Ok(opened) => opened,
+        Err((kept, tally, _)) => Shared::open(alloc, kept, tally)
+            .ok()
+            .expect(rt, "a shared queue"),
+    }
 }
 
-fn payload(rt: &impl Abort) -> Payload {
+/// What each element carries.
+pub fn payload(rt: &impl Abort) -> Payload {
     Payload::new(b"a").ok().expect(rt, "a payload")
 }
 
