@@ -68,7 +68,8 @@ pub fn poll_for<T: Timer, C: Clock, G: Gate, R: Wait + time::Clock>(
 ) -> Result<Option<Element>, WaitFault>
     requires pass { pass.old.table ≡ shared.now }
     ensures learns { Learns pass.old pass.new }
-    ensures waited { Waited (C.gives clock.now) (G.answers gate.old) pass.old pass.new (PollFor start timeout) (polled result) }
+    ensures waited { Waited (C.gives clock.now) (G.answers gate.old)
+        pass.old pass.new (PollFor start timeout) (polled result) }
     ensures gate { (turns : ℕ) (goes_on : Bool) → G.answers gate.new turns goes_on ↔ G.answers gate.old turns goes_on }
 {
     let waiter = Waiter {

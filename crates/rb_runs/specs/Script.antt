@@ -45,7 +45,8 @@ pub record RanSession (rules : SessionRules KeptState) (calls : ℕ) (delivery :
 
 -- What became of the history: there is no device for it; or the session found no memory and was not begun, and
 -- the device is as it was; or the text was written to the device, whole or not.
-abbrev pub IsRecording : {H : Type 0} → (H → Option (List ℕ)) → Log → Result Ended SessionFault → Recording → Option H → Option H → Type 0
+abbrev pub IsRecording : {H : Type 0} → (H → Option (List ℕ)) → Log → Result Ended SessionFault → Recording
+    → Option H → Option H → Type 0
 IsRecording contents log session NotAsked device left = (device ≡ None) × (left ≡ None)
 IsRecording contents log session NotBegun device left = IsSome device × (session ≡ Err Memory) × (left ≡ device)
 IsRecording contents log session Written device left =

@@ -25,11 +25,14 @@ pub record IsReplayed (log : Log) : Type 0 where
 
 -- a device that tells its bytes has got the text of the log's history behind what it had got
 abbrev pub HoldsText : Log → Option (List ℕ) → Option (List ℕ) → Type 0
-HoldsText log got got' = (before : List ℕ) → got ≡ Some before → got' ≡ Some (before ++ history_text log.opening log.history)
+HoldsText log got got' =
+    (before : List ℕ) → got ≡ Some before → got' ≡ Some (before ++ history_text log.opening log.history)
 
 -- the law of each history that was written whole, be it a script's or a server's
 abbrev pub RecordedIsRead : Type 0
-RecordedIsRead = (log : Log) (got got' : Option (List ℕ)) → RecordsLog log (Ok tt) got got' → HoldsText log got got' × IsReplayed log
+RecordedIsRead =
+    (log : Log) (got got' : Option (List ℕ)) → RecordsLog log (Ok tt) got got'
+    → HoldsText log got got' × IsReplayed log
 
 -- the law of each script that ended without a fault and had a device for its history
 abbrev pub ScriptIsRead : {W H : Type 0} → (W → Option (List ℕ)) → (H → Option (List ℕ)) → Type 0
