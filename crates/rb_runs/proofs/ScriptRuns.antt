@@ -13,7 +13,7 @@ use Rattle.rb_session.specs.declared.delivery.Delivery.TheVariants.{AtOnce, Gath
 use Rattle.rb_session.specs.declared.ended.Ended.{Ended}
 use Rattle.rb_session.specs.declared.session_fault.SessionFault.{SessionFault}
 use Rattle.rb_session.specs.declared.session_fault.SessionFault.TheVariants.{Memory}
-use Rattle.rb_runs.specs.Script.{IsFresh, IsNew, IsRecording, RanScript, RanSession}
+use Rattle.rb_runs.specs.Script.{IsFresh, IsNew, IsRecording, RanScript, RanSession, ScriptTerms, device_of}
 use Rattle.rb_runs.specs.ScriptRun.{RanUnrecorded}
 use Rattle.rb_runs.specs.declared.recording.Recording.{Recording}
 use Rattle.rb_runs.specs.declared.recording.Recording.TheVariants.{NotAsked, NotBegun}
@@ -54,26 +54,26 @@ unbegun_at : (rules : SessionRules KeptState) (delivery : Delivery) (Over : Type
 unbegun_at rules AtOnce Over desk = (refl, refl, refl)
 unbegun_at rules (Gathered _) Over desk = (refl, refl, refl)
 
-pub unbegun : (rules : SessionRules KeptState) (calls : ℕ) (delivery : Delivery) (Over : Type 0) (opening : Opening)
-    → RanSession rules calls delivery Over opening (record { came = []; sent = []; ended = Err Memory }) (new_desk opening calls)
-unbegun rules calls delivery Over opening = record {
-  from = new_desk opening calls;
-  new = is_new opening calls;
-  ran = unbegun_at rules delivery Over (new_desk opening calls);
+pub unbegun : (terms : ScriptTerms) (Over : Type 0)
+    → RanSession terms Over (record { came = []; sent = []; ended = Err Memory }) (new_desk terms.opening terms.calls)
+unbegun terms Over = record {
+  from = new_desk terms.opening terms.calls;
+  new = is_new terms.opening terms.calls;
+  ran = unbegun_at terms.rules terms.delivery Over (new_desk terms.opening terms.calls);
 }
 
 -- where nothing came and was sent
-unbegun_so : (rules : SessionRules KeptState) (calls : ℕ) (delivery : Delivery) (Over : Type 0) (opening : Opening) (came sent : List ℕ) → came ≡ [] → sent ≡ []
-    → RanSession rules calls delivery Over opening (record { came = came; sent = sent; ended = Err Memory }) (new_desk opening calls)
-unbegun_so rules calls delivery Over opening came sent nothing silent =
-    subst (λ c. RanSession rules calls delivery Over opening (record { came = c; sent = sent; ended = Err Memory }) (new_desk opening calls)) (sym nothing)
-    (subst (λ s. RanSession rules calls delivery Over opening (record { came = []; sent = s; ended = Err Memory }) (new_desk opening calls)) (sym silent) (unbegun rules calls delivery Over opening))
+unbegun_so : (terms : ScriptTerms) (Over : Type 0) (came sent : List ℕ) → came ≡ [] → sent ≡ []
+    → RanSession terms Over (record { came = came; sent = sent; ended = Err Memory }) (new_desk terms.opening terms.calls)
+unbegun_so terms Over came sent nothing silent =
+    subst (λ c. RanSession terms Over (record { came = c; sent = sent; ended = Err Memory }) (new_desk terms.opening terms.calls)) (sym nothing)
+    (subst (λ s. RanSession terms Over (record { came = []; sent = s; ended = Err Memory }) (new_desk terms.opening terms.calls)) (sym silent) (unbegun terms Over))
 
-module _ (rules : SessionRules KeptState) (calls : ℕ) (delivery : Delivery) (Over : Type 0) (opening : Opening) (came sent : List ℕ) where
+module _ (terms : ScriptTerms) (Over : Type 0) (came sent : List ℕ) where
   -- a session ran, and this became of its history
   pub recorded_behind : {H : Type 0} (contents : H → Option (List ℕ)) (kept : Log) (session : Result Ended SessionFault) (recording : Recording) (device left : Option H)
-      → (to : KeptState) × RanSession rules calls delivery Over opening (record { came = came; sent = sent; ended = session }) to × (kept ≡ to.log) → IsRecording contents kept session recording device left
-      → RanScript contents rules calls delivery Over opening came sent (record { session = session; recording = recording }) device left
+      → (to : KeptState) × RanSession terms Over (record { came = came; sent = sent; ended = session }) to × (kept ≡ to.log) → IsRecording contents kept session recording device left
+      → RanScript terms Over came sent (record { session = session; recording = recording }) (device_of contents device left)
   recorded_behind contents kept session recording device left (to, ran, is) recorded = record {
     to = to;
     session = ran;
@@ -82,21 +82,21 @@ module _ (rules : SessionRules KeptState) (calls : ℕ) (delivery : Delivery) (O
 
   -- there was no memory for a queue
   pub recorded_unbegun : {H : Type 0} (contents : H → Option (List ℕ)) (device : H) → (came ≡ []) × (sent ≡ [])
-      → RanScript contents rules calls delivery Over opening came sent (record { session = Err Memory; recording = NotBegun }) (Some device) (Some device)
+      → RanScript terms Over came sent (record { session = Err Memory; recording = NotBegun }) (device_of contents (Some device) (Some device))
   recorded_unbegun contents device (nothing, silent) = record {
-    to = new_desk opening calls;
-    session = unbegun_so rules calls delivery Over opening came sent nothing silent;
+    to = new_desk terms.opening terms.calls;
+    session = unbegun_so terms Over came sent nothing silent;
     recorded = (refl, refl, refl);
   }
 
   -- there was no device
-  pub unrecorded_unbegun : (came ≡ []) × (sent ≡ []) → RanUnrecorded rules calls delivery Over opening came sent (record { session = Err Memory; recording = NotAsked })
-  unrecorded_unbegun (nothing, silent) = (new_desk opening calls, unbegun_so rules calls delivery Over opening came sent nothing silent, refl)
+  pub unrecorded_unbegun : (came ≡ []) × (sent ≡ []) → RanUnrecorded terms Over came sent (record { session = Err Memory; recording = NotAsked })
+  unrecorded_unbegun (nothing, silent) = (new_desk terms.opening terms.calls, unbegun_so terms Over came sent nothing silent, refl)
 
 -- a script that had no device for its history is one whose history nobody asked for
-pub unrecorded : {H : Type 0} (contents : H → Option (List ℕ)) (rules : SessionRules KeptState) (calls : ℕ) (delivery : Delivery) (Over : Type 0) (opening : Opening) (came sent : List ℕ) (report : ScriptReport)
-    → RanUnrecorded rules calls delivery Over opening came sent report → RanScript contents rules calls delivery Over opening came sent report None None
-unrecorded contents rules calls delivery Over opening came sent report (to, session, is) = record {
+pub unrecorded : {H : Type 0} (contents : H → Option (List ℕ)) (terms : ScriptTerms) (Over : Type 0) (came sent : List ℕ) (report : ScriptReport)
+    → RanUnrecorded terms Over came sent report → RanScript terms Over came sent report (device_of contents None None)
+unrecorded contents terms Over came sent report (to, session, is) = record {
   to = to;
   session = session;
   recorded = subst (λ recording. IsRecording contents to.log report.session recording None None) (sym is) (refl, refl);

@@ -12,7 +12,7 @@ use Rattle.rb_replay.proofs.ReadAgain.{written_is_read}
 use Rattle.rb_replay.specs.declared.replay_fault.ReplayFault.TheVariants as check
 use Rattle.rb_ending.specs.AuditText.{audit_text}
 use Rattle.rb_ending.specs.Recording.{IsReadable, RecordsLog}
-use Rattle.rb_runs.specs.Script.{IsRecording, RanSession, result_of, script_rules}
+use Rattle.rb_runs.specs.Script.{IsRecording, RanSession, result_of, script_terms}
 use Rattle.rb_runs.specs.TextVerdict.{IsVerdictOn, Tells}
 use Rattle.rb_runs.specs.WrittenRuns.{IsReplayed, RecordedIsRead, ScriptIsRead}
 use Rattle.rb_runs.specs.declared.recording.Recording.{Recording}
@@ -57,7 +57,7 @@ script_is_read sends contents got policy calls delivery rest opening came sent e
     let whole = wrote_whole contents ran.to.log report.session report.recording ended device left answered ran.recorded in
     let read = recorded_is_read ran.to.log (contents device) (contents left) whole.1 in (
       ran.to,
-      subst (λ session. RanSession (script_rules sends got policy) calls delivery (IsAtEnd rest) opening
+      subst (λ session. RanSession (script_terms sends got policy calls delivery opening) (IsAtEnd rest)
           (record { came = came; sent = sent; ended = session }) ran.to) whole.0 ran.session,
       read.0,
       read.1,

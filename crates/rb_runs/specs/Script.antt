@@ -36,12 +36,34 @@ pub record IsNew (desk : KeptState) (opening : Opening) (calls : ℕ) : Type 0 w
 abbrev pub script_rules : {W : Type 0} → (W → Option (List ℕ)) → Option (List ℕ) → Policy → SessionRules KeptState
 script_rules contents got policy = session_rules (kept_rules policy) (HadGotBehind contents got)
 
--- The session went from a new desk to some other, and was served so. Its replies were delivered so.
-pub record RanSession (rules : SessionRules KeptState) (calls : ℕ) (delivery : Delivery) (Over : Type 0)
-    (opening : Opening) (served : Served) (to : KeptState) : Type 0 where
+-- The terms of a script: the rules of its session, for how many calls its history has room, when its replies are
+-- written, and what its queue begins with.
+pub record ScriptTerms : Type 1 where
+  pub rules : SessionRules KeptState
+  pub calls : ℕ
+  pub delivery : Delivery
+  pub opening : Opening
+
+-- those of a script whose writer tells its bytes so, and had got these at first
+abbrev pub script_terms : {W : Type 0} → (W → Option (List ℕ)) → Option (List ℕ) → Policy → ℕ → Delivery → Opening
+    → ScriptTerms
+script_terms sends got policy calls delivery opening =
+    record { rules = script_rules sends got policy; calls = calls; delivery = delivery; opening = opening }
+
+-- The session went from a new desk to some other, and was served so.
+pub record RanSession (terms : ScriptTerms) (Over : Type 0) (served : Served) (to : KeptState) : Type 0 where
   pub from : KeptState
-  pub new : IsNew from opening calls
-  pub ran : RanDelivered rules delivery Over from served to
+  pub new : IsNew from terms.opening terms.calls
+  pub ran : RanDelivered terms.rules terms.delivery Over from served to
+
+-- The device for a history, if there is one: what it tells that it has got, as it was, and as it was left.
+pub record HistoryDevice (H : Type 0) : Type 0 where
+  pub contents : H → Option (List ℕ)
+  pub before : Option H
+  pub after : Option H
+
+abbrev pub device_of : {H : Type 0} → (H → Option (List ℕ)) → Option H → Option H → HistoryDevice H
+device_of contents before after = record { contents = contents; before = before; after = after }
 
 -- What became of the history: there is no device for it; or the session found no memory and was not begun, and
 -- the device is as it was; or the text was written to the device, whole or not.
@@ -55,13 +77,12 @@ IsRecording contents log session (Failed fault) device left =
     (session ≢ Err Memory) × RecordsRun contents log (Err fault) device left
 
 -- The session was such a one, and this became of the history of the log that it led to.
-pub record RanScript {H : Type 0} (contents : H → Option (List ℕ)) (rules : SessionRules KeptState) (calls : ℕ)
-    (delivery : Delivery) (Over : Type 0) (opening : Opening) (came sent : List ℕ) (report : ScriptReport)
-    (device left : Option H) : Type 0 where
+pub record RanScript {H : Type 0} (terms : ScriptTerms) (Over : Type 0) (came sent : List ℕ) (report : ScriptReport)
+    (history : HistoryDevice H) : Type 0 where
   pub to : KeptState
-  pub session : RanSession rules calls delivery Over opening
-      (record { came = came; sent = sent; ended = report.session }) to
-  pub recorded : IsRecording contents to.log report.session report.recording device left
+  pub session : RanSession terms Over (record { came = came; sent = sent; ended = report.session }) to
+  pub recorded :
+      IsRecording history.contents to.log report.session report.recording history.before history.after
 
 -- the session's fault is answered, if it has one, and otherwise that of writing the history
 abbrev pub result_of : Result Ended SessionFault → Recording → Result Ended BrokerFault
@@ -70,8 +91,8 @@ result_of (Ok ended) (Failed fault) = Err (fault_of_history fault)
 result_of (Ok ended) _ = Ok ended
 
 -- a script ran, and this is answered
-abbrev pub EndsScript : {H : Type 0} → (H → Option (List ℕ)) → SessionRules KeptState → ℕ → Delivery → Type 0
-    → Opening → List ℕ → List ℕ → Result Ended BrokerFault → Option H → Option H → Type 0
-EndsScript contents rules calls delivery Over opening came sent result device left =
-    (report : ScriptReport) × RanScript contents rules calls delivery Over opening came sent report device left
+abbrev pub EndsScript : {H : Type 0} → ScriptTerms → Type 0 → List ℕ → List ℕ → Result Ended BrokerFault
+    → HistoryDevice H → Type 0
+EndsScript terms Over came sent result history =
+    (report : ScriptReport) × RanScript terms Over came sent report history
     × (result ≡ result_of report.session report.recording)

@@ -8,7 +8,7 @@ use Rattle.rb_session.specs.Events.{made_events, latest}
 use Rattle.rb_session.specs.RunEvents.{MadeByRun}
 use Rattle.rb_session.specs.declared.delivery.Delivery.{Delivery}
 use Rattle.rb_session.specs.Served.{Served}
-use Rattle.rb_runs.specs.Script.{RanSession, script_rules}
+use Rattle.rb_runs.specs.Script.{RanSession, script_terms}
 
 -- the law of scripts: the history begins with the opening, and has the events of the lines that were served and of the
 -- jobs that were still held, and no other; the clock stands at the latest moment
@@ -16,6 +16,6 @@ abbrev pub RecordsByScript : {W : Type 0} → (W → Option (List ℕ)) → Type
 RecordsByScript sends =
     (got : Option (List ℕ)) (policy : Policy) (calls : ℕ) (delivery : Delivery) (rest : Option (List ℕ))
     (opening : Opening) (served : Served) (to : KeptState)
-    → RanSession (script_rules sends got policy) calls delivery (IsAtEnd rest) opening served to
+    → RanSession (script_terms sends got policy calls delivery opening) (IsAtEnd rest) served to
     → (run : MadeByRun (IsAtEnd rest) served (λ made. to.log.history ≡ made_events made))
     × (to.log.opening ≡ opening) × (to.moment ≡ latest opening.last_at run.lines)

@@ -12,7 +12,7 @@ use Rattle.rb_history.specs.HistoryText.{history_text}
 use Rattle.rb_replay.specs.WrittenHistories.{IsReadAgain}
 use Rattle.rb_ending.specs.AuditText.{audit_text}
 use Rattle.rb_ending.specs.Recording.{RecordsLog}
-use Rattle.rb_runs.specs.Script.{EndsScript, RanSession, script_rules}
+use Rattle.rb_runs.specs.Script.{EndsScript, RanSession, script_terms, device_of}
 use Rattle.rb_runs.specs.TextVerdict.{IsVerdictOn, Tells}
 use Rattle.rb_runs.specs.declared.text_verdict.TextVerdict.{TextVerdict}
 
@@ -39,9 +39,9 @@ abbrev pub ScriptIsRead : {W H : Type 0} → (W → Option (List ℕ)) → (H �
 ScriptIsRead {H = H} sends contents =
     (got : Option (List ℕ)) (policy : Policy) (calls : ℕ) (delivery : Delivery) (rest : Option (List ℕ))
     (opening : Opening) (came sent : List ℕ) (ended : Ended) (device left : H)
-    → EndsScript contents (script_rules sends got policy) calls delivery (IsAtEnd rest) opening came sent (Ok ended)
-    (Some device) (Some left)
+    → EndsScript (script_terms sends got policy calls delivery opening) (IsAtEnd rest) came sent (Ok ended)
+    (device_of contents (Some device) (Some left))
     → (to : KeptState)
-    × RanSession (script_rules sends got policy) calls delivery (IsAtEnd rest) opening
+    × RanSession (script_terms sends got policy calls delivery opening) (IsAtEnd rest)
     (record { came = came; sent = sent; ended = Ok ended }) to
     × HoldsText to.log (contents device) (contents left) × IsReplayed to.log

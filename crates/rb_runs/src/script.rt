@@ -3,7 +3,7 @@ ghost use Rattle.rb_session.specs.Exchange.{Exchanges};
 ghost use Rattle.rb_session.specs.declared.delivery.Delivery.TheVariants.{AtOnce, Gathered};
 ghost use Rattle.rb_session.specs.declared.hands_on.HandsOn.TheVariants.{BeforeReads};
 ghost use Rattle.rb_ending.specs.Recording.{lent, given_back};
-ghost use Rattle.rb_runs.specs.Script.{EndsScript, RanScript, script_rules};
+ghost use Rattle.rb_runs.specs.Script.{EndsScript, RanScript, script_terms, device_of};
 
 use crate::script_report::ScriptReport;
 use crate::script_run::{run_recorded, run_unrecorded};
@@ -34,9 +34,9 @@ pub fn run_script<R: Read, W: Write, H: Write>(
 ) -> Result<Ended, BrokerFault>
     ensures { Exchanges
         (R.remaining reader.old) (R.remaining reader.new) (W.contents writer.old) (W.contents writer.new) (λ came sent.
-        EndsScript H.contents (script_rules W.contents (W.contents writer.old) options.now.policy)
-        options.now.calls AtOnce (IsAtEnd (R.remaining reader.new))
-        opening came sent result (lent history.entry) (given_back history.exit)) }
+        EndsScript (script_terms W.contents (W.contents writer.old) options.now.policy options.now.calls AtOnce opening)
+        (IsAtEnd (R.remaining reader.new)) came sent result
+        (device_of H.contents (lent history.entry) (given_back history.exit))) }
 {
     let delivery = Delivery::AtOnce;
     match history {
@@ -62,9 +62,10 @@ pub fn run_script_gathered<R: Read, W: Write, H: Write>(
 ) -> Result<Ended, BrokerFault>
     ensures { Exchanges
         (R.remaining reader.old) (R.remaining reader.new) (W.contents writer.old) (W.contents writer.new) (λ came sent.
-        EndsScript H.contents (script_rules W.contents (W.contents writer.old) options.now.policy)
-        options.now.calls (Gathered BeforeReads) (IsAtEnd (R.remaining reader.new))
-        opening came sent result (lent history.entry) (given_back history.exit)) }
+        EndsScript (script_terms W.contents (W.contents writer.old)
+        options.now.policy options.now.calls (Gathered BeforeReads) opening)
+        (IsAtEnd (R.remaining reader.new)) came sent result
+        (device_of H.contents (lent history.entry) (given_back history.exit))) }
 {
     let delivery = Delivery::Gathered(HandsOn::BeforeReads);
     match history {
@@ -88,9 +89,10 @@ pub fn run_script_delivered<R: Read, W: Write, H: Write>(
 ) -> ScriptReport
     ensures { Exchanges
         (R.remaining reader.old) (R.remaining reader.new) (W.contents writer.old) (W.contents writer.new) (λ came sent.
-        RanScript H.contents (script_rules W.contents (W.contents writer.old) options.now.policy)
-        options.now.calls delivery (IsAtEnd (R.remaining reader.new))
-        opening came sent result (lent history.entry) (given_back history.exit)) }
+        RanScript (script_terms W.contents (W.contents writer.old)
+        options.now.policy options.now.calls delivery opening)
+        (IsAtEnd (R.remaining reader.new)) came sent result
+        (device_of H.contents (lent history.entry) (given_back history.exit))) }
 {
     match history {
         Some(device) => run_recorded(alloc, options, delivery, opening, reader, writer, device),

@@ -2,7 +2,7 @@ ghost use Rattle.std.specs.Prelude.{◌≤◌};
 ghost use Rattle.std.specs.Io.KnownBytes.{IsAtEnd};
 ghost use Rattle.rb_kept.specs.declared.kept.TheConstants.{MOST_CALLS};
 ghost use Rattle.rb_session.specs.Exchange.{Exchanges};
-ghost use Rattle.rb_runs.specs.Script.{IsRecording, RanScript, script_rules};
+ghost use Rattle.rb_runs.specs.Script.{IsRecording, RanScript, script_terms, device_of};
 ghost use Rattle.rb_runs.specs.ScriptRun.{RanOver, RanUnrecorded};
 
 use crate::over_timer;
@@ -30,9 +30,10 @@ pub(crate) fn run_recorded<R: Read, W: Write, H: Write>(
 ) -> ScriptReport
     ensures { Exchanges
         (R.remaining reader.old) (R.remaining reader.new) (W.contents writer.old) (W.contents writer.new) (λ came sent.
-        RanScript H.contents (script_rules W.contents (W.contents writer.old) options.now.policy)
-        options.now.calls delivery (IsAtEnd (R.remaining reader.new))
-        opening came sent result (Some device.old) (Some device.new)) }
+        RanScript (script_terms W.contents (W.contents writer.old)
+        options.now.policy options.now.calls delivery opening)
+        (IsAtEnd (R.remaining reader.new)) came sent result
+        (device_of H.contents (Some device.old) (Some device.new))) }
 {
     let calls = options.calls;
     let policy = &options.policy;
@@ -55,8 +56,9 @@ pub(crate) fn run_unrecorded<R: Read, W: Write>(
 ) -> ScriptReport
     ensures { Exchanges
         (R.remaining reader.old) (R.remaining reader.new) (W.contents writer.old) (W.contents writer.new) (λ came sent.
-        RanUnrecorded (script_rules W.contents (W.contents writer.old) options.now.policy) options.now.calls delivery
-        (IsAtEnd (R.remaining reader.new)) opening came sent result) }
+        RanUnrecorded
+        (script_terms W.contents (W.contents writer.old) options.now.policy options.now.calls delivery opening)
+        (IsAtEnd (R.remaining reader.new)) came sent result) }
 {
     let calls = options.calls;
     let policy = &options.policy;
@@ -80,9 +82,9 @@ fn recorded_over<T: Timer, R: Read, W: Write, H: Write>(
     requires in_range { calls ≤ MOST_CALLS }
     ensures { Exchanges
         (R.remaining reader.old) (R.remaining reader.new) (W.contents writer.old) (W.contents writer.new) (λ came sent.
-        RanScript H.contents (script_rules W.contents (W.contents writer.old) policy.now)
-        calls delivery (IsAtEnd (R.remaining reader.new))
-        opening came sent result (Some device.old) (Some device.new)) }
+        RanScript (script_terms W.contents (W.contents writer.old) policy.now calls delivery opening)
+        (IsAtEnd (R.remaining reader.new)) came sent result
+        (device_of H.contents (Some device.old) (Some device.new))) }
 {
     let Ok((kept, session)) = run_over::<T, R, W>(
         alloc, calls, policy, delivery, opening, reader, writer,
@@ -109,8 +111,8 @@ fn unrecorded_over<T: Timer, R: Read, W: Write>(
     requires in_range { calls ≤ MOST_CALLS }
     ensures { Exchanges
         (R.remaining reader.old) (R.remaining reader.new) (W.contents writer.old) (W.contents writer.new) (λ came sent.
-        RanUnrecorded (script_rules W.contents (W.contents writer.old) policy.now)
-        calls delivery (IsAtEnd (R.remaining reader.new)) opening came sent result) }
+        RanUnrecorded (script_terms W.contents (W.contents writer.old) policy.now calls delivery opening)
+        (IsAtEnd (R.remaining reader.new)) came sent result) }
 {
     let recording = Recording::NotAsked;
     let Ok((_, session)) = run_over::<T, R, W>(
@@ -139,8 +141,8 @@ fn run_over<T: Timer, R: Read, W: Write>(
     requires in_range { calls ≤ MOST_CALLS }
     ensures { Exchanges
         (R.remaining reader.old) (R.remaining reader.new) (W.contents writer.old) (W.contents writer.new) (λ came sent.
-        RanOver (script_rules W.contents (W.contents writer.old) policy.now)
-        calls delivery (IsAtEnd (R.remaining reader.new)) opening came sent result) }
+        RanOver (script_terms W.contents (W.contents writer.old) policy.now calls delivery opening)
+        (IsAtEnd (R.remaining reader.new)) came sent result) }
 {
     // The number of calls is in range, so only memory can be missing.
     let Ok((mut kept, mut tally)) = Kept::<T>::new_from(alloc, calls, opening) else {

@@ -21,5 +21,5 @@ returns-in-None g c =
       sent = ran.sent;
       consumed = ran.consumed;
       appended = ran.appended;
-      holds = (c.run_unrecorded.result, unrecorded g.H.Write.contents _ _ _ _ _ _ _ _ ran.holds, c.result-in-None.ensures);
+      holds = (c.run_unrecorded.result, unrecorded g.H.Write.contents _ _ _ _ _ ran.holds, c.result-in-None.ensures);
     })

@@ -13,5 +13,5 @@ returns-in-None g c =
       sent = ran.sent;
       consumed = ran.consumed;
       appended = ran.appended;
-      holds = unrecorded g.H.Write.contents _ _ _ _ _ _ _ _ ran.holds;
+      holds = unrecorded g.H.Write.contents _ _ _ _ _ ran.holds;
     })

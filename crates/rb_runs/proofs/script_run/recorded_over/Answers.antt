@@ -1,7 +1,7 @@
 -- The session led to the queue whose history was written; or there was none, and nothing was done.
 use Rattle.std.proofs.Common.{subst}
 use Rattle.std.specs.Io.KnownBytes.{IsAtEnd}
-use Rattle.rb_runs.specs.Script.{script_rules}
+use Rattle.rb_runs.specs.Script.{script_terms}
 use Rattle.rb_runs.specs.ScriptRun.{RanOver}
 use Rattle.rb_runs.proofs.ScriptRuns.{recorded_behind, recorded_unbegun}
 use Rattle.rb_runs.proofs.script_run.recorded_over.Goals as goal
@@ -10,24 +10,24 @@ pub returns-in_default : goal.returns-in_default
 returns-in_default g c =
     let ran = c.run_over.ensures in
     let over = IsAtEnd (g.R.Read.remaining c.run_over.new.reader) in
-    let rules = script_rules g.W.Write.contents (g.W.Write.contents c.args.writer.now) c.args.policy.now in record {
+    let terms = script_terms g.W.Write.contents (g.W.Write.contents c.args.writer.now) c.args.policy.now c.args.calls c.args.delivery c.args.opening in record {
       came = ran.came;
       sent = ran.sent;
       consumed = ran.consumed;
       appended = ran.appended;
-      holds = recorded_unbegun rules c.args.calls c.args.delivery over c.args.opening ran.came ran.sent g.H.Write.contents c.args.device.now
-          (subst (λ r. RanOver rules c.args.calls c.args.delivery over c.args.opening ran.came ran.sent r) c.in_default.is ran.holds);
+      holds = recorded_unbegun terms over ran.came ran.sent g.H.Write.contents c.args.device.now
+          (subst (λ r. RanOver terms over ran.came ran.sent r) c.in_default.is ran.holds);
     }
 
 pub returns : goal.returns
 returns g c =
     let ran = c.run_over.ensures in
     let over = IsAtEnd (g.R.Read.remaining c.run_over.new.reader) in
-    let rules = script_rules g.W.Write.contents (g.W.Write.contents c.args.writer.now) c.args.policy.now in
-    let did = subst (λ r. RanOver rules c.args.calls c.args.delivery over c.args.opening ran.came ran.sent r) c.in-Ok.is ran.holds in record {
+    let terms = script_terms g.W.Write.contents (g.W.Write.contents c.args.writer.now) c.args.policy.now c.args.calls c.args.delivery c.args.opening in
+    let did = subst (λ r. RanOver terms over ran.came ran.sent r) c.in-Ok.is ran.holds in record {
       came = ran.came;
       sent = ran.sent;
       consumed = ran.consumed;
       appended = ran.appended;
-      holds = recorded_behind rules c.args.calls c.args.delivery over c.args.opening ran.came ran.sent g.H.Write.contents c.in-Ok.kept c.in-Ok.session c.recorded-recording.result _ _ did c.recorded-recording.ensures;
+      holds = recorded_behind terms over ran.came ran.sent g.H.Write.contents c.in-Ok.kept c.in-Ok.session c.recorded-recording.result _ _ did c.recorded-recording.ensures;
     }
