@@ -1,9 +1,14 @@
 -- What the options and arguments of the commands take.
-use Rattle.std.specs.Prelude.{◌≡◌, true, false, List, [], ◌∷◌, map, Some, codes}
+use Rattle.std.specs.Prelude.{◌≡◌, true, List, [], ◌∷◌, map, Some, codes}
 use Rattle.std.specs.Borrow.{Bor}
 use Rattle.clap.specs.Words.{Rule, Text, new_rule}
 use Rattle.clap.specs.declared.builder.action.ArgAction.TheVariants.{SetTrue}
 use Rattle.clap.specs.declared.builder.value_parser.ValueParser.TheVariants.{Unsigned, Names}
+use Rattle.rb_delayed.specs.declared.element.TheConstants.{GREATEST_ATTEMPT}
+use Rattle.rb_delayed.specs.declared.moment.TheConstants.{GREATEST_MOMENT}
+use Rattle.rb_kept.specs.declared.kept.TheConstants.{MOST_CALLS}
+use Rattle.rb_arguments.specs.declared.serve_options.TheConstants.{GREATEST_PORT, MOST_SESSIONS, MOST_TURNS}
+use Rattle.rb_arguments.specs.declared.server_run_options.TheConstants.{MOST_WORKERS}
 
 -- `--calls N`: from 1 to 1,000,000, and 10,000 if it is not given
 abbrev pub calls_option : Rule
@@ -11,7 +16,7 @@ calls_option = record (new_rule (codes "calls")) {
   long = Some (codes "calls");
   value_names = 1;
   defaults = codes "10000" ∷ [];
-  parser = Some (Unsigned 1 1000000);
+  parser = Some (Unsigned 1 MOST_CALLS);
 }
 
 -- `--timer T`: one of the names, and `heap` if it is not given
@@ -29,16 +34,15 @@ delay_option = record (new_rule (codes "delay")) {
   long = Some (codes "delay");
   value_names = 1;
   defaults = codes "1000" ∷ [];
-  parser = Some (Unsigned 0 18446744073709551615);
+  parser = Some (Unsigned 0 GREATEST_MOMENT);
 }
 
--- `--rate N`: from 0 to 2^64 - 1 nanoseconds, if no delay is given
+-- `--rate N`: from 0 to 2^64 - 1 nanoseconds
 abbrev pub rate_option : Rule
 rate_option = record (new_rule (codes "rate")) {
   long = Some (codes "rate");
   value_names = 1;
-  parser = Some (Unsigned 0 18446744073709551615);
-  is_free = false;
+  parser = Some (Unsigned 0 GREATEST_MOMENT);
 }
 
 -- `--attempts N`: from 1 to 1,000, and 3 if it is not given
@@ -47,7 +51,7 @@ attempts_option = record (new_rule (codes "attempts")) {
   long = Some (codes "attempts");
   value_names = 1;
   defaults = codes "3" ∷ [];
-  parser = Some (Unsigned 1 1000);
+  parser = Some (Unsigned 1 GREATEST_ATTEMPT);
 }
 
 -- `--history FILE`
@@ -64,13 +68,13 @@ from_option = record (new_rule (codes "from")) {
   value_names = 1;
 }
 
--- `--port P`: from 1 to 65,535, and it has to be there
+-- `--port P`: from 1 to 65,535, and it must be given
 abbrev pub port_option : Rule
 port_option = record (new_rule (codes "port")) {
   long = Some (codes "port");
   value_names = 1;
   required = true;
-  parser = Some (Unsigned 1 65535);
+  parser = Some (Unsigned 1 GREATEST_PORT);
 }
 
 -- `--workers N`: from 1 to 16, and 4 if it is not given
@@ -79,7 +83,7 @@ workers_option = record (new_rule (codes "workers")) {
   long = Some (codes "workers");
   value_names = 1;
   defaults = codes "4" ∷ [];
-  parser = Some (Unsigned 1 16);
+  parser = Some (Unsigned 1 MOST_WORKERS);
 }
 
 -- `--sessions N`: from 1 to 10,000, and 1 if it is not given
@@ -88,7 +92,7 @@ sessions_option = record (new_rule (codes "sessions")) {
   long = Some (codes "sessions");
   value_names = 1;
   defaults = codes "1" ∷ [];
-  parser = Some (Unsigned 1 10000);
+  parser = Some (Unsigned 1 MOST_SESSIONS);
 }
 
 -- `--turns N`: from 0 to 1,000,000, and 10,000 if it is not given
@@ -97,7 +101,7 @@ turns_option = record (new_rule (codes "turns")) {
   long = Some (codes "turns");
   value_names = 1;
   defaults = codes "10000" ∷ [];
-  parser = Some (Unsigned 0 1000000);
+  parser = Some (Unsigned 0 MOST_TURNS);
 }
 
 -- `--chains`
@@ -107,7 +111,7 @@ chains_flag = record (new_rule (codes "chains")) {
   action = Some SetTrue;
 }
 
--- `FILE`, which has to be there
+-- `FILE`, which must be given
 abbrev pub file_argument : Rule
 file_argument = record (new_rule (codes "file")) {
   value_names = 1;

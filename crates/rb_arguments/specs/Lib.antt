@@ -2,4 +2,6 @@ pub use Rattle.rb_retry.specs.Retry
 pub mod TimerKind
 pub mod Arguments
 pub mod CommandLine
+pub mod Ranges
 pub mod RightValues
+pub mod RightWords

@@ -1,16 +1,19 @@
-ghost use Rattle.std.specs.Prelude.{◌≡◌, ℕ, List, [], ◌∷◌, map, codes, IfOk, false};
+ghost use Rattle.std.specs.Prelude.{◌≡◌, ℕ, List, false};
 ghost use Rattle.std.specs.Borrow.{Bor};
 ghost use Rattle.clap.specs.Words.{rule_of};
-ghost use Rattle.rb_arguments.specs.Arguments.{AreTimerNames, attempts_option, calls_option, chains_flag, delay_option, file_argument, from_option, history_option, port_option, rate_option, sessions_option, timer_option, turns_option, workers_option};
+ghost use Rattle.rb_arguments.specs.Arguments.{AreTimerNames, attempts_option, calls_option, chains_flag};
+ghost use Rattle.rb_arguments.specs.Arguments.{delay_option, file_argument, from_option, history_option};
+ghost use Rattle.rb_arguments.specs.Arguments.{port_option, rate_option, sessions_option, timer_option};
+ghost use Rattle.rb_arguments.specs.Arguments.{turns_option, workers_option};
 
 use crate::serve_options::{GREATEST_PORT, MOST_SESSIONS, MOST_TURNS};
 use crate::server_run_options::MOST_WORKERS;
 use crate::timer_kind::TimerKind;
 use clap::builder::ValueParser;
 use clap::{Arg, ArgAction};
-use rb_delayed::GREATEST_ATTEMPT;
+use rb_delayed::{GREATEST_ATTEMPT, GREATEST_MOMENT};
 use rb_kept::MOST_CALLS;
-use std::alloc::{AllocError, Global};
+use std::alloc::Global;
 
 /// `--calls N`
 pub(crate) fn calls_option<'a>(alloc: Global) -> Arg<'a>
@@ -47,22 +50,20 @@ pub(crate) fn delay_option<'a>(alloc: Global) -> Arg<'a>
         .long("delay")
         .value_name("N")
         .help("nanoseconds from a failure until the job comes back, 1000000000 for a second")
-        .value_parser(ValueParser::Unsigned(0, u64::MAX))
+        .value_parser(ValueParser::Unsigned(0, GREATEST_MOMENT))
         .default_value("1000")
 }
 
-/// `--rate N`, which stands in the place of a delay: it conflicts with that option, and no other two do.
-pub(crate) fn rate_option<'a>(alloc: Global) -> Result<Arg<'a>, AllocError>
-    ensures rule { IfOk result (λ arg. rule_of arg ≡ rate_option) }
-    ensures local { IfOk result (λ arg. arg.global ≡ false) }
-    ensures conflicts { IfOk result (λ arg. map (λ id. id.now) arg.conflicts.items ≡ codes "delay" ∷ []) }
+/// `--rate N`, instead of a delay. clap is not told here that the two conflict: see `with_conflict`.
+pub(crate) fn rate_option<'a>(alloc: Global) -> Arg<'a>
+    ensures rule { rule_of result ≡ rate_option }
+    ensures local { result.global ≡ false }
 {
     Arg::new(alloc, "rate")
         .long("rate")
         .value_name("N")
         .help("nanoseconds between two attempts of a job, instead of a delay")
-        .value_parser(ValueParser::Unsigned(0, u64::MAX))
-        .conflicts_with("delay")
+        .value_parser(ValueParser::Unsigned(0, GREATEST_MOMENT))
 }
 
 /// `--attempts N`

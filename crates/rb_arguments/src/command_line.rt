@@ -1,11 +1,14 @@
-ghost use Rattle.std.specs.Prelude.{◌≡◌, ◌≤◌, ℕ, List, Option, Ok, String, IfOk, false, map};
+ghost use Rattle.std.specs.Prelude.{◌≡◌, ℕ, List, IfOk, IfErr, IfSome, IsSome, Some, false, map};
 ghost use Rattle.std.specs.Borrow.{Bor};
-ghost use Rattle.std.specs.declared.alloc.Global.{Global};
-ghost use Rattle.clap.specs.Words.{app_of, rule_of, with_rule};
+ghost use Rattle.clap.specs.Words.{Row, Text, app_of, kind_of, rule_of, subcommand_rows_of, with_rule};
 ghost use Rattle.clap.specs.declared.builder.command.Command.TheViews.{out-Command};
-ghost use Rattle.rb_retry.specs.Retry.{AreAttempts};
 ghost use Rattle.rb_arguments.specs.Arguments.{AreTimerNames};
-ghost use Rattle.rb_arguments.specs.CommandLine.{Asks, program, replay_command, script_command, serve_command, with_policy, with_queue, with_run};
+ghost use Rattle.rb_arguments.specs.CommandLine.{Asks, SubcommandAsks, names_both, program, replay_command};
+ghost use Rattle.rb_arguments.specs.CommandLine.{script_command, serve_command, with_commands, with_policy};
+ghost use Rattle.rb_arguments.specs.CommandLine.{with_queue, with_run};
+ghost use Rattle.rb_arguments.specs.Ranges.{AreInRange};
+ghost use Rattle.rb_arguments.specs.RightValues.{AreRightFor};
+ghost use Rattle.rb_arguments.specs.RightWords.{IsRefusal};
 
 use crate::arguments::{
     attempts_option, calls_option, chains_flag, delay_option, file_argument, from_option,
@@ -13,39 +16,72 @@ use crate::arguments::{
     workers_option,
 };
 use crate::given_words::asked_by;
-use crate::script_options::ScriptOptions;
-use crate::serve_options::{MOST_SESSIONS, MOST_TURNS, ServeOptions};
-use crate::server_run_options::MOST_WORKERS;
 use crate::words::Words;
 use clap::error::ErrorKind;
-use clap::{Arg, Command, Error};
-use rb_kept::MOST_CALLS;
+use clap::{Arg, ArgMatches, Command, Error};
 use std::alloc::{AllocError, Global};
 
 /// What the words of a command line ask for. The first word is the program's own name.
 ///
-/// If they are not a command, the error has the text for the user and the exit code: 0 for help
-/// that was asked for, 2 for any other. If memory runs out, its kind is `OutOfMemory`.
+/// `clap` reads the words. They are refused if `clap` refuses them, if they give both a delay and a rate, or if
+/// a value is out of its range. The error has the text for the user and the exit code: 0 for help that was asked
+/// for, 2 for any other. If memory runs out, its kind is `OutOfMemory`.
+///
+/// Refused words are read twice, the second time for the text.
 pub fn read_words(alloc: Global, words: &[&str]) -> Result<Words, Error>
-    ensures in_range { (options : ScriptOptions) (history from : Option (String Global)) → result ≡ Ok (Words.Script options history from)
-        → (1 ≤ options.calls) × (options.calls ≤ MOST_CALLS) × AreAttempts options.policy.attempts }
-    ensures served_in_range { (options : ServeOptions) (history from : Option (String Global)) → result ≡ Ok (Words.Serve options history from)
-        → (1 ≤ options.port) × (options.port ≤ 65535) × (1 ≤ options.sessions) × (options.sessions ≤ MOST_SESSIONS)
-        × (options.turns ≤ MOST_TURNS) × (1 ≤ options.run.workers) × (options.run.workers ≤ MOST_WORKERS)
-        × (1 ≤ options.run.calls) × (options.run.calls ≤ MOST_CALLS) × AreAttempts options.run.policy.attempts }
+    ensures in_range { IfOk result AreInRange }
     ensures given { IfOk result (Asks (map (λ word. word.now) words.now)) }
+    ensures taken { IfErr result (λ fault. IsRefusal (map (λ word. word.now) words.now) (kind_of fault)) }
 {
     let mut command = program(alloc)?;
-    let matches = command.try_get_matches_from_mut(words)?;
-    if let Some((name, given)) = matches.subcommand()
-        && let Some(asked) = asked_by(alloc, name, given)?
-    {
-        return Ok(asked);
+    let matches = match command.try_get_matches_from_mut(words) {
+        Ok(matches) => matches,
+        Err(fault) => match fault.kind() {
+            ErrorKind::OutOfMemory => return Err(fault),
+            _ => return Err(refusal(alloc, words)?),
+        },
+    };
+    match asked_in(alloc, &matches)? {
+        Some(asked) => Ok(asked),
+        None => Err(refusal(alloc, words)?),
     }
-    Err(command.error(
-        ErrorKind::InvalidValue,
-        "the command or a value of its options is not known",
-    )?)
+}
+
+// What the subcommand that was met asks for, if all its values are right.
+fn asked_in(alloc: Global, matches: &ArgMatches<'_>) -> Result<Option<Words>, AllocError>
+    ensures asked { IfOk result (λ asked. IfSome asked (SubcommandAsks (subcommand_rows_of matches.now))) }
+    ensures taken { (name : Text) (rows : List Row) → subcommand_rows_of matches.now ≡ Some (name, rows)
+        → names_both rows ≡ false → AreRightFor name rows → IfOk result (λ asked. IsSome asked) }
+{
+    match matches.subcommand() {
+        Some((name, given)) => asked_by(alloc, name, given),
+        None => Ok(None),
+    }
+}
+
+// The error for words that are refused, with clap's own text. It is that of a command whose delay and rate
+// conflict. `read_words` reads words without that rule, since clap's contracts say which words a command takes
+// only if none of its options has a rule on another.
+fn refusal(alloc: Global, words: &[&str]) -> Result<Error, AllocError> {
+    let script = with_conflict(script_command(alloc)?)?;
+    let replay = with_conflict(replay_command(alloc)?)?;
+    let serve = with_conflict(serve_command(alloc)?)?;
+    let mut command = with_subcommands(alloc, script, replay, serve)?;
+    match command.try_get_matches_from_mut(words) {
+        Err(fault) => Ok(fault),
+        Ok(_) => command.error(
+            ErrorKind::InvalidValue,
+            "the command or a value of its options is not known",
+        ),
+    }
+}
+
+// The command whose delay and rate conflict. An option that is changed moves behind all others, so the last
+// one is moved behind it again: help lists the options in this order.
+fn with_conflict<'a>(command: Command<'a>) -> Result<Command<'a>, AllocError> {
+    command
+        .mut_arg("rate", |rate| rate.conflicts_with("delay"))?
+        .mut_arg("attempts", |attempts| Ok(attempts))
 }
 
 // The program's command, with its subcommands.
@@ -56,6 +92,20 @@ fn program<'a>(alloc: Global) -> Result<Command<'a>, AllocError>
     let script = script_command(alloc)?;
     let replay = replay_command(alloc)?;
     let serve = serve_command(alloc)?;
+    with_subcommands(alloc, script, replay, serve)
+}
+
+// The program's command, with these subcommands.
+fn with_subcommands<'a>(
+    alloc: Global,
+    script: Command<'a>,
+    replay: Command<'a>,
+    serve: Command<'a>,
+) -> Result<Command<'a>, AllocError>
+    ensures { (out-Command script.entry).has_globals ≡ false → (out-Command replay.entry).has_globals ≡ false
+        → (out-Command serve.entry).has_globals ≡ false → IfOk result (λ command. app_of command
+        ≡ with_commands (app_of script.entry).top (app_of replay.entry).top (app_of serve.entry).top) }
+{
     let scripts = Command::new(alloc, "rb_broker")
         .about("A broker for jobs that have to wait")
         .subcommand_required(true)
@@ -129,7 +179,7 @@ fn with_policy<'a>(alloc: Global, command: Command<'a>) -> Result<Command<'a>, A
         → IfOk result (λ wider. (out-Command wider).has_globals ≡ false) }
 {
     let delay = with_option(command, delay_option(alloc))?;
-    let rate = with_option(delay, rate_option(alloc)?)?;
+    let rate = with_option(delay, rate_option(alloc))?;
     with_option(rate, attempts_option(alloc))
 }
 

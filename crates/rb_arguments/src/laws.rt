@@ -2,7 +2,7 @@ ghost use Rattle.std.specs.Prelude.{◌≡◌};
 ghost use Rattle.rb_arguments.specs.declared.server_run_options.TheConstants.{MOST_WORKERS};
 ghost use Rattle.rb_arguments.specs.declared.serve_options.TheConstants.{GREATEST_PORT, MOST_SESSIONS, MOST_TURNS};
 
-/// The greatest numbers that the options of a server take are these. Every other clause names the constants.
+/// The limits of a server's options are these numbers. Every other clause that speaks of a limit names the constant.
 pub fn option_limits_have_their_values()
     ensures workers { MOST_WORKERS ≡ 16 }
     ensures port { GREATEST_PORT ≡ 65535 }

@@ -7,6 +7,7 @@
 mod arguments;
 mod command_line;
 mod given_server;
+mod given_values;
 mod given_words;
 mod laws;
 mod replay_options;

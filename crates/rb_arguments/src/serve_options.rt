@@ -7,10 +7,10 @@ use crate::timer_kind::TimerKind;
 /// The greatest TCP port.
 pub const GREATEST_PORT: u64 = 65_535;
 
-/// The greatest number of sessions after which a server can be told to end.
+/// The most sessions that a server can be told to serve.
 pub const MOST_SESSIONS: u64 = 10_000;
 
-/// The greatest number of turns after which a wait can be given up.
+/// The most turns that a wait can be told to make.
 pub const MOST_TURNS: u64 = 1_000_000;
 
 /// The options of `serve`.
@@ -22,9 +22,9 @@ pub struct ServeOptions {
     pub timer: TimerKind,
     /// How many sessions are served before the server ends, 1 to 10,000.
     pub sessions: u64,
-    /// After how many turns a take or a timed poll is given up, 0 to 1,000,000.
+    /// How many turns a take or a timed poll waits before it is stopped, 0 to 1,000,000.
     pub turns: u64,
-    /// The options of its run.
+    /// The options of the server's run.
     pub run: ServerRunOptions,
     pub ghost port_from_one: { 1 ≤ port },
     pub ghost sessions_from_one: { 1 ≤ sessions },

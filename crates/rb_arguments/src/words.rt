@@ -16,6 +16,7 @@ pub enum Words {
     /// Check the history in a file.
     Replay {
         options: ReplayOptions,
+        /// The file with the history.
         file: String,
     },
     /// Serve clients over TCP.

@@ -161,6 +161,10 @@ fn a_refused_allocation_is_answered(rt: HostRuntime) {
             ["rb_broker", "serve", "--timer=tree"].as_slice(),
             Answer::Refused(ErrorKind::InvalidValue),
         ),
+        (
+            ["rb_broker", "script", "--delay=1", "--rate=1"].as_slice(),
+            Answer::Refused(ErrorKind::ArgumentConflict),
+        ),
     ] {
         let refused = refused_line(&rt, alloc, words, answer);
         refusals = refusals.saturating_add(u32::from(refused));

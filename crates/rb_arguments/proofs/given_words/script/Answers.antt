@@ -1,22 +1,10 @@
--- The values of a script's options are the same in the rows and in what was found.
-use Rattle.std.proofs.Common.{◌∙◌, refl, sym, ap, ap₂, codes}
-use Rattle.clap.specs.Words.{found_of}
-use Rattle.clap.proofs.WalkLemmas.{first_value-rows, one_text-rows}
-use Rattle.rb_arguments.specs.CommandLine.{number_in, pace_in}
+-- The values that the options and the files were made of stand in the rows.
+use Rattle.std.proofs.Common.{refl}
 use Rattle.rb_arguments.proofs.given_words.script.Goals as goal
 
 pub returns-clause-asked : goal.returns-clause-asked
-returns-clause-asked c =
-    let found = found_of c.args.given.now in (
-      refl,
-      record {
-        timer = sym (first_value-rows found (codes "timer")) ∙ c.in-Some.ensures.timer;
-        calls = ap number_in (sym (one_text-rows found (codes "calls"))) ∙ c.in-Some.ensures.calls;
-        policy = record {
-          attempts = ap number_in (sym (one_text-rows found (codes "attempts"))) ∙ c.in-Some.ensures.attempts;
-          pace = ap₂ pace_in (sym (one_text-rows found (codes "delay"))) (sym (one_text-rows found (codes "rate"))) ∙ c.in-Some.ensures.pace;
-        };
-        history_is = c.in_ok-history.ensures ∙ first_value-rows found (codes "history");
-        from_is = c.in_ok-from.ensures ∙ first_value-rows found (codes "from");
-      },
-    )
+returns-clause-asked c = (
+  refl,
+  c.in-Some.ensures.given,
+  record { history_is = c.in_ok-history.ensures; from_is = c.in_ok-from.ensures },
+)
