@@ -18,7 +18,7 @@ mod timer_kind;
 mod words;
 
 pub use command_line::read_words;
-pub use laws::option_limits_have_their_values;
+pub use laws::{option_limits_have_their_values, some_words_are_right};
 pub use replay_options::ReplayOptions;
 pub use script_options::ScriptOptions;
 pub use serve_options::{GREATEST_PORT, MOST_SESSIONS, MOST_TURNS, ServeOptions};
