@@ -1,6 +1,7 @@
 ghost use Rattle.std.specs.Prelude.{◌≡◌, ◌+◌, ◌<◌, ◌≤◌, [], ◌∷◌, ◌++◌, length, codes};
 ghost use Rattle.std.specs.Prelude.{decimal, OnOk, OnErr, IsOk, vec_len, vec_capacity};
 ghost use Rattle.rb_protocol.specs.Line.{spaced};
+ghost use Rattle.rb_protocol.specs.declared.format.TheConstants.{LINE_FEED};
 ghost use Rattle.rb_protocol.specs.ReplyText.{text_of, reply_words, element_words, error_words};
 
 use crate::error_word::ErrorWord;
@@ -51,16 +52,13 @@ pub enum LineReply {
 }
 
 impl LineReply {
-    /// The reply's line, with its line feed: at most 117 bytes. It takes no memory.
-    // Its result would be copied at a call.
-    #[inline(always)]
-    pub fn line(&self) -> ReplyLine
-        ensures text { result ≡ text_of self.now }
-        ensures longest { length result ≤ MOST_REPLY_BYTES }
+    /// Writes the reply's line in front of its line feed: at most 117 bytes in all. It takes no memory.
+    pub fn write_to(&self, line: &mut ReplyLine)
+        requires { line.old ≡ LINE_FEED ∷ [] }
+        ensures text { line.new ≡ text_of self.now }
+        ensures longest { length line.new ≤ MOST_REPLY_BYTES }
     {
-        let mut line = ReplyLine::new();
-        put_words(&mut line, self);
-        line
+        put_words(line, self);
     }
 }
 
@@ -75,7 +73,8 @@ pub fn write_reply(reply: &LineReply, text: &mut Vec<u8>) -> Result<(), AllocErr
     ensures capacity { vec_capacity text.old ≤ vec_capacity text.new }
     ensures longest { OnOk result (vec_len text.new ≤ vec_len text.old + MOST_REPLY_BYTES) }
 {
-    let line = reply.line();
+    let mut line = ReplyLine::new();
+    reply.write_to(&mut line);
     text.extend_from_slice(line.as_bytes())
 }
 

@@ -32,7 +32,7 @@ impl Model for ReplyLine {
 
 impl ReplyLine {
     /// A line with only its line feed written.
-    pub(crate) fn new() -> ReplyLine
+    pub fn new() -> ReplyLine
         ensures { result ≡ LINE_FEED ∷ [] }
     {
         ReplyLine {

@@ -8,7 +8,7 @@ ghost use Rattle.rb_session.specs.Progress.{replies_of};
 
 use crate::held_jobs::HeldJobs;
 use crate::outlet::Outlet;
-use rb_protocol::{LineReply, WriteFault};
+use rb_protocol::{LineReply, ReplyLine, WriteFault};
 use rb_retry::Job;
 
 /// Sends the lines of a reply, each in one piece, and says when all have been sent. A drain's line is
@@ -64,6 +64,7 @@ fn send_reply<O: Outlet>(outlet: &mut O, reply: &LineReply) -> Result<(), WriteF
     ensures sent { Sends result (O.contents outlet.old) (text_of reply.now) (O.contents outlet.new) }
     ensures becomes { O.Becomes outlet.old outlet.new }
 {
-    let line = reply.line();
+    let mut line = ReplyLine::new();
+    reply.write_to(&mut line);
     outlet.send(line.as_bytes())
 }

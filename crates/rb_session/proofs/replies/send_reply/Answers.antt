@@ -6,4 +6,4 @@ use Rattle.rb_session.proofs.replies.send_reply.Goals as goal
 pub returns-clause-sent : goal.returns-clause-sent
 returns-clause-sent g c =
     subst (λ text. Sends c.send.result (g.O.Outlet.contents c.args.outlet.now) text
-    (g.O.Outlet.contents c.send.new.self)) (c.as_bytes.ensures ∙ c.line-line.ensures.text) c.send.ensures.sent
+    (g.O.Outlet.contents c.send.new.self)) (c.as_bytes.ensures ∙ c.write_to.ensures.text) c.send.ensures.sent
