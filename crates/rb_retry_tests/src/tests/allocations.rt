@@ -4,7 +4,7 @@
 
 ghost use Rattle.std.specs.Prelude.{◌≡◌};
 
-use crate::tests::devices::{FixedClock, ListPass, ListShared, expect_number};
+use crate::tests::devices::{FixedClock, ListPass, ListShared, expect_same};
 use crate::tests::fixtures::{kept, offer, opened};
 use rb_blocking::{Bell, Clock, MachineClock, TurnGate, WaitFault};
 use rb_kept::Kept;
@@ -49,23 +49,23 @@ fn expect_answers<R: Wait + Abort + time::Clock>(rt: &R, alloc: Global, rounds: 
     let (stops, mut stop_pass) = opened(rt, alloc, 10);
     let (closings, closing_pass) = opened(rt, alloc, 10);
     let at_desks = rounds.saturating_mul(11).saturating_add(rounds.min(1));
-    expect_number(rt, policies(rounds), rounds.saturating_mul(3));
-    expect_number(rt, kept_desks(rt, &mut kept, &mut tally, rounds), at_desks);
-    expect_number(
+    expect_same(rt, policies(rounds), rounds.saturating_mul(3));
+    expect_same(rt, kept_desks(rt, &mut kept, &mut tally, rounds), at_desks);
+    expect_same(
         rt,
         shared_desks(rt, &desks, &mut desk_pass, rounds),
         at_desks,
     );
     let through_passes = pass_rounds(rt, &passes, &mut first_pass, rounds);
-    expect_number(rt, through_passes, rounds.saturating_mul(10));
+    expect_same(rt, through_passes, rounds.saturating_mul(10));
     let waited = wait_rounds(rt, &waits, &mut wait_pass, rounds);
-    expect_number(rt, waited, rounds.saturating_mul(4));
-    expect_number(
+    expect_same(rt, waited, rounds.saturating_mul(4));
+    expect_same(
         rt,
         stop_rounds(rt, &stops, &mut stop_pass, rounds),
         rounds.saturating_mul(3),
     );
-    expect_number(
+    expect_same(
         rt,
         closed(rt, closings, closing_pass, rounds),
         rounds.min(1),

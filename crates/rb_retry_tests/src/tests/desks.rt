@@ -1,4 +1,4 @@
-use crate::tests::devices::{expect_count, expect_number, expect_same};
+use crate::tests::devices::expect_same;
 use crate::tests::fixtures::{expect, expect_set, kept, offer};
 use rb_binary::BinaryTimer;
 use rb_kept::Kept;
@@ -11,7 +11,7 @@ use std::process::Abort;
 
 // A take is made at the desk's moment, whatever was handed in, and does not wait.
 fn expect_calls<D: Desk>(rt: &impl Abort, desk: &mut D) {
-    expect_number(rt, desk.now(), 0);
+    expect_same(rt, desk.now(), 0);
     offer(rt, desk, 3, 10);
     expect(rt, desk, 99, Ask::Take, Err(DeskFault::Stopped));
     expect_set(rt, desk, 10, Some(10));
@@ -37,11 +37,11 @@ fn expect_event(rt: &impl Abort, event: &Event, moments: (u64, u64)) {
 
 fn expect_history<T: Timer>(rt: &impl Abort, kept: &Kept<T>, tally: &Tally) {
     let moments = [(3, 3), (10, 10), (10, 10), (11, 11)];
-    expect_count(rt, kept.history().len(), 4);
+    expect_same(rt, kept.history().len(), 4);
     for (event, moments) in kept.history().iter().zip(moments) {
         expect_event(rt, event, moments);
     }
-    expect_number(rt, tally.calls(), 4);
+    expect_same(rt, tally.calls(), 4);
 }
 
 fn run<T: Timer>(rt: &impl Abort, kept: &mut Kept<T>, tally: &mut Tally) {

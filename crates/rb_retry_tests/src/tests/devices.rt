@@ -28,14 +28,6 @@ pub fn expect_same<T: PartialEq + Debug + Drop>(rt: &impl Abort, found: T, wante
     assert_eq!(rt; found, wanted);
 }
 
-pub fn expect_number(rt: &impl Abort, number: u64, wanted: u64) {
-    expect_same(rt, number, wanted);
-}
-
-pub fn expect_count(rt: &impl Abort, count: usize, wanted: usize) {
-    expect_same(rt, count, wanted);
-}
-
 pub fn expect_holds(rt: &impl Abort, holds: bool) {
     assert!(rt; holds);
 }

@@ -92,9 +92,5 @@ pub fn expect_set<D: Desk>(rt: &impl Abort, desk: &mut D, moment: u64, wanted: O
     ensures name { D.name (D.state desk.new) ≡ D.name (D.state desk.old) }
 {
     let set = desk.set(moment);
-    expect_moment(rt, set, wanted);
-}
-
-fn expect_moment(rt: &impl Abort, moment: Option<u64>, wanted: Option<u64>) {
-    expect_same(rt, moment, wanted);
+    expect_same(rt, set, wanted);
 }

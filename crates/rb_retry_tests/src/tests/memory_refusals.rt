@@ -4,9 +4,7 @@
 
 ghost use Rattle.std.specs.Prelude.{◌≡◌};
 
-use crate::tests::devices::{
-    FixedClock, ListPass, ListShared, expect_holds, expect_number, expect_same,
-};
+use crate::tests::devices::{FixedClock, ListPass, ListShared, expect_holds, expect_same};
 use crate::tests::fixtures::{kept, opened, payload};
 use rb_binary::BinaryTimer;
 use rb_blocking::{Bell, TurnGate};
@@ -98,15 +96,17 @@ fn ids_of(row: Row) -> Rev<Range<u64>> {
 // The later an element was first offered, the sooner it expires. Elements 20 to 39 are the second
 // attempts of jobs 19 to 0.
 fn element(rt: &impl Abort, id: u64) -> Element {
-    let (origin, attempt) = match id {
-        20..40 => (39_u64.saturating_sub(id), 2),
-        _ => (id, 1),
+    let is_retry = id >= JOBS && id < 2 * JOBS;
+    let origin = if is_retry {
+        39_u64.saturating_sub(id)
+    } else {
+        id
     };
     let first = 100_u64.saturating_sub(origin);
-    let expiry = if attempt == 2 {
-        first.saturating_add(20)
+    let (expiry, attempt) = if is_retry {
+        (first.saturating_add(20), 2)
     } else {
-        first
+        (first, 1)
     };
     Element {
         id,
@@ -393,7 +393,7 @@ fn room(rt: &impl Abort, alloc: Global) -> Vec<Job> {
 
 // What all deeds come to.
 fn expect_all(rt: &impl Abort, history: &[Event], audit: Audit, totals: Totals) {
-    expect_number(rt, history.len() as u64, ROWS);
+    expect_same(rt, history.len() as u64, ROWS);
     expect_history(rt, history, 0);
     let counts = (audit.calls, audit.offered, audit.given, audit.left);
     expect_same(rt, counts, (ROWS, 90, 90, 0));
@@ -412,7 +412,7 @@ fn refused_at_kept<T: Timer>(rt: &impl Abort, alloc: Global) -> u32 {
 fn refused_at_shared<R: Wait + time::Clock + Abort>(rt: &R, alloc: Global) -> Result<u32, Fail> {
     let mut caller = shared_caller(rt, alloc);
     let met = does_all(rt, &mut caller, 0..ROWS, &mut room(rt, alloc));
-    expect_number(rt, caller.bell.count(rt), 90);
+    expect_same(rt, caller.bell.count(rt), 90);
     let (kept, tally, audit) = closed(caller)?;
     expect_all(rt, kept.history(), audit, tally.totals());
     Ok(met)
@@ -493,7 +493,7 @@ fn expect_report(rt: &impl Abort, report: WorkReport, runs: &[u32]) {
     expect_same(rt, report, expected);
     expect_holds(rt, runs.iter().all(|&count| count == 1 || count == 2));
     let once = runs.iter().filter(|&&count| count == 1).count();
-    expect_number(rt, once as u64, report.lost);
+    expect_same(rt, once as u64, report.lost);
 }
 
 // The totals of a run with this report and this many fillers. A refused offer is not in them.
@@ -512,7 +512,7 @@ fn works_at_kept<T: Timer>(rt: &impl Abort, alloc: Global) -> u32 {
     let mut caller = kept_caller::<T, _>(rt, alloc, ROWS);
     let met = offers_jobs(rt, alloc, &mut caller);
     let report = caller.works_off();
-    expect_number(rt, report.lost, 0);
+    expect_same(rt, report.lost, 0);
     expect_same(rt, caller.tally.totals(), totals_of(report, 0));
     met
 }

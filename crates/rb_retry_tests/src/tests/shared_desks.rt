@@ -2,9 +2,7 @@
 
 ghost use Rattle.std.specs.Prelude.{◌≡◌};
 
-use crate::tests::devices::{
-    FixedClock, ListPass, ListShared, expect_count, expect_holds, expect_number, expect_same,
-};
+use crate::tests::devices::{FixedClock, ListPass, ListShared, expect_holds, expect_same};
 use crate::tests::fixtures::{expect, expect_set, offer, opened};
 use rb_blocking::{Bell, Gate, TurnGate};
 use rb_kept::{CallFault, Kept};
@@ -39,7 +37,7 @@ fn expect_calls<D: Desk>(rt: &impl Abort, desk: &mut D)
     ensures name { D.name (D.state desk.new) ≡ D.name (D.state desk.old) }
 {
     expect_set(rt, desk, 9, None);
-    expect_number(rt, desk.now(), 7);
+    expect_same(rt, desk.now(), 7);
     expect(rt, desk, 99, Ask::Take, Err(DeskFault::Stopped));
     offer(rt, desk, 3, 7);
     expect(rt, desk, 99, Ask::Take, Ok(Some(0)));
@@ -65,7 +63,7 @@ fn expect_event(rt: &impl Abort, event: &Event, moment: (u64, u64)) {
 // The history that was made, with its moments.
 fn expect_history(rt: &impl Abort, history: &[Event]) {
     let moments = [(3, 3), (7, 7), (7, 7), (11, 11)];
-    expect_count(rt, history.len(), 4);
+    expect_same(rt, history.len(), 4);
     for (event, moment) in history.iter().zip(moments) {
         expect_event(rt, event, moment);
     }
@@ -97,10 +95,6 @@ fn expect_run<R: Wait + time::Clock + Abort>(
     expect_calls(rt, &mut desk);
 }
 
-fn expect_three(rt: &impl Abort, found: (u64, u64, u64), wanted: (u64, u64, u64)) {
-    expect_same(rt, found, wanted);
-}
-
 // Only an offer rings, and the gate is asked if a wait finds nothing.
 #[test]
 fn a_shared_desk_waits_by_its_gate(rt: HostRuntime) {
@@ -108,7 +102,7 @@ fn a_shared_desk_waits_by_its_gate(rt: HostRuntime) {
     let bell = Bell::new();
     let mut gate = CountingGate { asked: 0 };
     expect_run(&rt, &shared, &mut pass, &mut gate, &bell);
-    expect_three(&rt, (gate.asked, bell.count(&rt), pass.calls()), (2, 1, 4));
+    expect_same(&rt, (gate.asked, bell.count(&rt), pass.calls()), (2, 1, 4));
     expect_history(&rt, closed(&rt, shared, pass).history());
 }
 
@@ -190,7 +184,7 @@ fn desks_share_their_jobs(rt: HostRuntime) -> Result<(), Fail> {
     fails_at(&rt, &shared, &mut first, &bell);
     dies_at(&rt, &shared, &mut second, &bell);
     let counts = (first.calls(), second.calls(), bell.count(&rt));
-    expect_three(&rt, counts, (3, 1, 2));
+    expect_same(&rt, counts, (3, 1, 2));
     Ok(())
 }
 

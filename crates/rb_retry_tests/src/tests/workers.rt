@@ -101,10 +101,6 @@ fn report(runs: u64, dones: u64, agains: u64, deads: u64, lost: u64) -> WorkRepo
     }
 }
 
-fn expect_report(rt: &impl Abort, found: WorkReport, wanted: WorkReport) {
-    expect_same(rt, found, wanted);
-}
-
 // One job, whose runs all give the same answer.
 fn expect_always(
     rt: &impl Abort,
@@ -115,7 +111,7 @@ fn expect_always(
     wanted: WorkReport,
 ) {
     let jobs = Jobs { count: 1, attempts };
-    expect_report(
+    expect_same(
         rt,
         report_of(rt, alloc, calls, jobs, &Always(answer)),
         wanted,
@@ -144,7 +140,7 @@ fn each_element_is_run_once(rt: HostRuntime) {
         attempts: 3,
     };
     let found = report_of(&rt, rt.alloc(), 100, jobs, &work);
-    expect_report(&rt, found, report(6, 2, 3, 1, 0));
+    expect_same(&rt, found, report(6, 2, 3, 1, 0));
     expect_counts(&rt, &work);
 }
 
