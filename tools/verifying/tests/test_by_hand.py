@@ -202,6 +202,25 @@ class HandMadeTest(RunTest):
         counts, _ = self.judged(text_of(*events), record_of(record))
         self.assertEqual(counts, {"missing": 1, "unrecorded": 1})
 
+    def test_a_session_that_fits_before_and_behind_another(self) -> None:
+        """The one that was sent first was carried out last."""
+        events = ["1 10 10 poll none", "2 20 20 offer 0 20 0 20 1 x", "1 30 30 poll none"]
+        record = [line("late", 5, 35, "POLL", "NONE"), line("early", 8, 12, "POLL", "NONE"),
+                  line("giver", 15, 25, "OFFER 0 x", "OFFERED 0 20")]
+        self.assertEqual(self.judged(text_of(*events), record_of(record)), ({}, []))
+        record[0]["received"] = 1000 + 13
+        self.expect("time", "event 1 (offer 0 20 0 20 1 x, seat 2) was asked for 2 ns after the reply of event 2 "
+                    "(poll none, seat 1) had come", events, record)
+
+    def test_a_session_that_makes_way_for_another(self) -> None:
+        """The first of its places is the only one of the other."""
+        events = ["1 10 10 size 0", "2 20 20 size 0", "1 30 30 poll none"]
+        record = [line("one", 5, 25, "SIZE", "SIZE 0"), line("two", 5, 12, "SIZE", "SIZE 0"),
+                  line("two", 26, 35, "POLL", "NONE")]
+        self.assertEqual(self.judged(text_of(*events), record_of(record)), ({}, []))
+        self.expect("missing", "size 0 stands nowhere at its place", [*events[:1], events[2]], record,
+                    counts={"missing": 2, "unrecorded": 1})
+
     def test_earlier_versions(self) -> None:
         events = ["1 10 10 offer 0 10 0 1 x", "1 20 20 take 0", "1 30 30 offer 1 35 0 2 x"]
         text = "\n".join(["history 1", *events, "end 3", ""])

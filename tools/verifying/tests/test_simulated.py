@@ -9,7 +9,7 @@ from common.program import tested_program
 from verifying.tests.simulated import ATTEMPTS, DELAY, Line, Simulation
 from verifying.tests.support import RunTest
 
-SEEDS = range(20)
+SEEDS = [*range(20), *range(5000, 5040)]
 NAMED = ("OFFERED", "ITEM", "AGAIN")  # replies that name an element of their own
 
 
@@ -17,9 +17,14 @@ def keyword(line: Line) -> str:
     return str(line["reply"][0].split(" ")[0]) if line["reply"] else ""
 
 
+def tells_its_place(line: Line) -> bool:
+    """Whether a reply names an element whose event is the call's."""
+    return keyword(line) in NAMED or len(line["reply"]) > 1 or line["reply"] == ["REMOVED yes"]
+
+
 class SimulatedTest(RunTest):
-    def simulated(self, seed: int) -> Simulation:
-        return Simulation(seed, events=300, seats=4, longest=40)
+    def simulated(self, seed: int, longest: int = 40) -> Simulation:
+        return Simulation(seed, events=300, seats=4, longest=longest)
 
     def named_lines(self, run: Simulation) -> List[int]:
         return [number for number, it in enumerate(run.lines) if keyword(it) in NAMED]
@@ -35,11 +40,33 @@ class SimulatedTest(RunTest):
 
     def test_records_of_some_of_the_clients(self) -> None:
         for seed in SEEDS:
-            run = self.simulated(seed)
-            sessions = sorted({it["session"] for it in run.lines})
-            some = set(random.sample(sessions, len(sessions) // 2))
-            run.lines = [it for it in run.lines if it["session"] in some]
-            self.assertEqual(self.judged(run.history, run.record, is_whole=False), ({}, []), seed)
+            with self.subTest(seed=seed):
+                self.expect_none_of_some_clients(self.simulated(seed))
+
+    def expect_none_of_some_clients(self, run: Simulation) -> None:
+        """Expects no fault with the records of half of the clients."""
+        sessions = sorted({it["session"] for it in run.lines})
+        some = set(random.sample(sessions, len(sessions) // 2))
+        run.lines = [it for it in run.lines if it["session"] in some]
+        self.assertEqual(self.judged(run.history, run.record, is_whole=False), ({}, []))
+
+    def test_sessions_of_few_requests(self) -> None:
+        """Most of them name no element and fit at several places, at some of them out of order."""
+        for seed in SEEDS:
+            for longest in (1, 2, 3, 6):
+                with self.subTest(seed=seed, longest=longest):
+                    run = self.simulated(seed, longest)
+                    self.assertEqual(self.judged(run.history, run.record), ({}, []))
+                    self.expect_none_of_some_clients(run)
+
+    def test_a_call_left_out_among_sessions_of_one_request(self) -> None:
+        """One session is left without a place, whichever it is. Others may then have only places out of order."""
+        for seed in SEEDS:
+            run = self.simulated(seed, longest=1)
+            nameless = [it for it in run.events if it.endswith((" none", " no")) or it.split(" ")[3] == "size"]
+            run.events.remove(random.choice(nameless))
+            counts, faults = self.found(run)
+            self.assertEqual((counts.pop("missing"), counts.keys() - {"time"}), (1, set()), (seed, faults))
 
     def test_the_program_finds_them_legal(self) -> None:
         for seed in SEEDS[:3]:
@@ -76,14 +103,20 @@ class SimulatedTest(RunTest):
             id = run.lines[number]["reply"][0].split(" ")[1]
             polls = [it for it in run.events if it.split(" ")[3] in ("poll", "pollfor") and it.split(" ")[-1] == id]
             run.events.remove(polls[0])
+            session = [it for it in run.lines if it["session"] == run.lines[number]["session"]]
             counts, faults = self.found(run)
             self.assertTrue(any(f":{number + 1}: " in it for it in faults), (seed, number, faults))
+            if sum(map(tells_its_place, session)) == 1:  # nothing says where the session's other events are
+                counts.pop("unrecorded", 0)
             self.assertTrue(counts.keys() <= {"missing", "changed"}, faults)
 
     def test_a_call_that_a_record_leaves_out(self) -> None:
+        """In a session that has another by which its calls are found."""
         for seed in SEEDS:
             run = self.simulated(seed)
-            number = random.choice([it for it in self.named_lines(run) if keyword(run.lines[it]) == "OFFERED"])
+            tell = [it["session"] for it in run.lines if tells_its_place(it)]
+            number = random.choice([it for it in self.named_lines(run) if keyword(run.lines[it]) == "OFFERED"
+                                    and tell.count(run.lines[it]["session"]) > 1])
             words = run.lines.pop(number)["reply"][0].split(" ")
             counts, faults = self.found(run)
             self.assertEqual((counts.pop("unrecorded"), counts.pop("gap", 1), counts), (1, 1, {}), faults)
