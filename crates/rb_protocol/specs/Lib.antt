@@ -6,3 +6,4 @@ pub mod Keywords
 pub mod Words
 pub mod ReplyText
 pub mod Sending
+pub mod Reads

@@ -2,6 +2,9 @@
 use Rattle.std.specs.Prelude.{◌≡◌, ℕ, List, Option, Result, Ok, Err, Vec}
 use Rattle.std.specs.Io.KnownBytes.{Consumes, IsAtEnd}
 use Rattle.std.specs.declared.alloc.Global.{Global}
+use Rattle.rb_protocol.specs.Reads.{HasNotFailed}
+use Rattle.rb_protocol.specs.declared.reader_state.ReaderState.{ReaderState}
+use Rattle.rb_protocol.specs.declared.reader_state.ReaderState.TheVariants.{AtEnd, Failed}
 use Rattle.rb_ending.specs.declared.broker_fault.BrokerFault.{BrokerFault}
 use Rattle.rb_ending.specs.declared.broker_fault.BrokerFault.TheVariants as Broker
 
@@ -16,3 +19,9 @@ IsReadFault _ = ⊥
 abbrev pub ReadsAll : Option (List ℕ) → Result (Vec ℕ Global) BrokerFault → Option (List ℕ) → Type 0
 ReadsAll left (Ok text) left' = Consumes left left' text.items × IsAtEnd left'
 ReadsAll left (Err fault) left' = IsReadFault fault × ((lost : List ℕ) × Consumes left left' lost)
+
+-- The text is whole only if the reader is at its end, and a read failed exactly if the fault says so.
+abbrev pub IsReadReason : ReaderState → ReaderState → Result (Vec ℕ Global) BrokerFault → Type 0
+IsReadReason old new (Ok text) = new ≡ AtEnd
+IsReadReason old new (Err Broker.ReadHistory) = new ≡ Failed
+IsReadReason old new (Err fault) = HasNotFailed old new

@@ -1,5 +1,5 @@
 ghost use Rattle.std.specs.Prelude.{◌≡◌, ◌<◌, ◌≤◌, Err, IfOk, length, vec_len};
-ghost use Rattle.rb_runs.specs.FileText.{ReadsAll};
+ghost use Rattle.rb_runs.specs.FileText.{ReadsAll, IsReadReason};
 
 use rb_ending::BrokerFault;
 use rb_protocol::{BUFFER_BYTES, LimitedReader};
@@ -21,13 +21,15 @@ pub fn read_all<R: Read>(alloc: Global, reader: &mut R) -> Result<Vec<u8>, Broke
 /// Everything that a reader with a limited number of reads gives, like `read_all`.
 ///
 /// Each read takes one of those that the reader has left, and `ReadTurns` comes only once none is left.
-/// So what is left afterwards tells how often it read.
+/// So what is left afterwards tells how often it read. The reader's state tells the same as the result: it
+/// is at its end if there is a text, and has failed exactly if the fault is `ReadHistory`.
 pub fn read_all_limited<R: Read>(
     alloc: Global,
     reader: &mut LimitedReader<'_, R>,
 ) -> Result<Vec<u8>, BrokerFault>
     ensures reads { ReadsAll (R.remaining reader.old.inner.now) result (R.remaining reader.new.inner.now) }
     ensures used_up { result ≡ Err BrokerFault.ReadTurns → reader.new.left ≡ 0 }
+    ensures reason { IsReadReason reader.old.state reader.new.state result }
     ensures counted { reader.new.left ≤ reader.old.left }
     ensures same_reference { reader.new.inner.ghost_name ≡ reader.old.inner.ghost_name }
 {
@@ -44,6 +46,7 @@ fn read_pieces<R: Read>(
     requires { 0 < length piece.old }
     ensures reads { ReadsAll (R.remaining reader.old.inner.now) result (R.remaining reader.new.inner.now) }
     ensures used_up { result ≡ Err BrokerFault.ReadTurns → reader.new.left ≡ 0 }
+    ensures reason { IsReadReason reader.old.state reader.new.state result }
     ensures counted { reader.new.left ≤ reader.old.left }
     ensures same_reference { reader.new.inner.ghost_name ≡ reader.old.inner.ghost_name }
 {

@@ -8,8 +8,13 @@ use Rattle.rb_session.specs.Session.{ServesFirst}
 use Rattle.rb_session.specs.Ran.{BreaksOff, RanUntil}
 use Rattle.rb_session.specs.Gathered.{ServesSome}
 use Rattle.rb_session.specs.Outlet.{FailsThrough, RanThroughUntil, HandedOn}
-use Rattle.rb_session.specs.Progress.{Stops, IsClearAt, IsClearAtRead, AnswersEnd, ServesLines, end_of}
+use Rattle.rb_session.specs.Progress.{Stops, IsClearAt, IsClearAtRead, IsReasonToStop}
+use Rattle.rb_session.specs.Progress.{AnswersEnd, ServesLines, end_of}
+use Rattle.rb_session.specs.Reasons.{IsReason}
 use Rattle.rb_session.specs.declared.line_buffer.LineBuffer.{LineBuffer}
+use Rattle.rb_protocol.specs.Reads.{HasNotFailed}
+use Rattle.rb_protocol.specs.declared.reader_state.ReaderState.{ReaderState}
+use Rattle.rb_protocol.specs.declared.reader_state.ReaderState.TheVariants.{AtEnd, Failed}
 use Rattle.rb_session.specs.declared.ended.Ended.{Ended}
 use Rattle.rb_session.specs.declared.ended.Ended.TheVariants as ends
 use Rattle.rb_session.specs.declared.session_fault.SessionFault.{SessionFault}
@@ -51,6 +56,24 @@ unused_at_end stops.Read bytes sent ends is = absurd ends
 unused_at_end stops.Write bytes sent ends is = absurd (cc)
 unused_at_end stops.ReadTurns bytes sent ends is = absurd ends
 
+-- what the reader tells is the reason for both
+pub reason_to_end : (old new : ReaderState) (stop : Stop) (lost : ℕ) → IsReasonToStop old new stop
+    → IsReason old new (end_of stop lost)
+reason_to_end old new stops.Quit lost is = is
+reason_to_end old new stops.EndOfInput lost is = is
+reason_to_end old new stops.Read lost is = is
+reason_to_end old new stops.Write lost is = is
+reason_to_end old new stops.ReadTurns lost is = is
+
+-- the reader tells of the end of the input
+pub reason_at_end : (old new : ReaderState) (stop : Stop) (bytes sent : List ℕ) → AnswersEnd stop bytes sent
+    → new ≡ AtEnd → IsReasonToStop old new stop
+reason_at_end old new stops.Quit bytes sent ends at_end = absurd ends
+reason_at_end old new stops.EndOfInput bytes sent ends at_end = at_end
+reason_at_end old new stops.Read bytes sent ends at_end = absurd ends
+reason_at_end old new stops.Write bytes sent ends at_end = λ failed. absurd (cc)
+reason_at_end old new stops.ReadTurns bytes sent ends at_end = absurd ends
+
 -- a session that made too many reads stopped for that
 pub stopped_used_up : (stop : Stop) (lost other : ℕ) → end_of stop lost ≡ Err (faults.ReadTurns other)
     → stop ≡ stops.ReadTurns
@@ -61,6 +84,17 @@ stopped_used_up stops.Write lost other is = absurd (cc)
 stopped_used_up stops.ReadTurns lost other is = refl
 
 module _ {S : Type 0} (rules : SessionRules S) where
+  -- no line stops a session for its reader
+  pub reason_at_line : (old new : ReaderState) (HoldsBack : Type 0) (from to : Point S) (bytes sent : List ℕ)
+      (stop : Stop) (buffer : LineBuffer)
+      → ServesLines rules HoldsBack from bytes sent (Some stop) buffer to → HasNotFailed old new
+      → IsReasonToStop old new stop
+  reason_at_line old new HoldsBack from to bytes sent stops.Quit buffer served still = still
+  reason_at_line old new HoldsBack from to bytes sent stops.EndOfInput buffer served still = absurd served
+  reason_at_line old new HoldsBack from to bytes sent stops.Read buffer served still = absurd served
+  reason_at_line old new HoldsBack from to bytes sent stops.Write buffer served still = still
+  reason_at_line old new HoldsBack from to bytes sent stops.ReadTurns buffer served still = absurd served
+
   -- nor is a line
   pub unused_at_line : (HoldsBack : Type 0) (from to : Point S) (bytes sent : List ℕ) (stop : Stop)
       (buffer : LineBuffer)

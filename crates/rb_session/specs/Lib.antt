@@ -16,6 +16,7 @@ pub mod Exchange
 pub mod Closing
 pub mod Events
 pub mod Ran
+pub mod Reasons
 pub mod Gathered
 pub mod Outlet
 pub mod Buffer

@@ -16,6 +16,9 @@ use Rattle.rb_session.specs.Buffer.{IsUnserved}
 use Rattle.rb_protocol.specs.declared.format.TheConstants.{LINE_FEED}
 use Rattle.rb_protocol.specs.declared.request.Request.{Request}
 use Rattle.rb_protocol.specs.declared.line_fault.LineFault.{LineFault}
+use Rattle.rb_protocol.specs.Reads.{HasNotFailed}
+use Rattle.rb_protocol.specs.declared.reader_state.ReaderState.{ReaderState}
+use Rattle.rb_protocol.specs.declared.reader_state.ReaderState.TheVariants.{AtEnd, Failed}
 use Rattle.rb_session.specs.Rules.{SessionRules}
 use Rattle.rb_session.specs.Turn.{Point, IsTurn, AsksToWait}
 use Rattle.rb_session.specs.Turn.{fault_line, reply_line, lines_for, fetched_by, held_after}
@@ -79,6 +82,12 @@ IsClearAt clear stop = clear
 abbrev pub IsClearAtRead : Type 0 → Stop → Type 0
 IsClearAtRead clear Read = clear
 IsClearAtRead clear stop = Unit {0}
+
+-- why the lines stopped, as the reader tells: what `IsReason` says of the session that ends so
+abbrev pub IsReasonToStop : ReaderState → ReaderState → Stop → Type 0
+IsReasonToStop old new EndOfInput = new ≡ AtEnd
+IsReasonToStop old new Read = new ≡ Failed
+IsReasonToStop old new stop = HasNotFailed old new
 
 -- how a session ends that stopped so
 abbrev pub end_of : Stop → ℕ → Result Ended SessionFault

@@ -4,6 +4,7 @@ ghost use Rattle.rb_session.specs.Exchange.{Exchanges};
 ghost use Rattle.rb_session.specs.Rules.{desk_rules, session_rules, HadGotBehind};
 ghost use Rattle.rb_session.specs.Ran.{Ran};
 ghost use Rattle.rb_session.specs.Delivered.{RanDelivered};
+ghost use Rattle.rb_session.specs.Reasons.{IsReason};
 ghost use Rattle.rb_session.specs.declared.session_fault.SessionFault.TheVariants.{ReadTurns};
 
 use crate::delivery::Delivery;
@@ -73,7 +74,8 @@ pub fn run_delivered<R: Read, W: Write, D: Desk>(
 /// Runs a session like `run_delivered`, over a reader that counts its reads.
 ///
 /// The session makes at most as many reads as this one has left, and `ReadTurns` means that it made
-/// all of them.
+/// all of them. `EndOfInput` means that the last read met the end of the input, and `Read` that it failed;
+/// a session that ends otherwise has had no read that failed.
 pub fn run_limited<R: Read, W: Write, D: Desk>(
     alloc: Global,
     reader: &mut LimitedReader<'_, R>,
@@ -91,6 +93,7 @@ pub fn run_limited<R: Read, W: Write, D: Desk>(
         (IsAtEnd (R.remaining reader.new.inner.now))
         (D.state desk.old) (record { came = came; sent = sent; ended = result }) (D.state desk.new)) }
     ensures used_up { (lost : ℕ) → result ≡ Err (ReadTurns lost) → reader.new.left ≡ 0 }
+    ensures reason { IsReason reader.old.state reader.new.state result }
     ensures counted { reader.new.left ≤ reader.old.left }
     ensures same_reference { reader.new.inner.ghost_name ≡ reader.old.inner.ghost_name }
     ensures name { D.name (D.state desk.new) ≡ D.name (D.state desk.old) }

@@ -4,6 +4,7 @@ ghost use Rattle.rb_session.specs.Exchange.{Exchanges};
 ghost use Rattle.rb_session.specs.Rules.{desk_rules, session_rules, HadGotBehind};
 ghost use Rattle.rb_session.specs.Gathered.{RanGathered};
 ghost use Rattle.rb_session.specs.Delivered.{gathering_rules};
+ghost use Rattle.rb_session.specs.Reasons.{IsReason};
 ghost use Rattle.rb_session.specs.declared.session_fault.SessionFault.TheVariants.{ReadTurns};
 
 use crate::ended::Ended;
@@ -34,6 +35,7 @@ pub(crate) fn run_gathered<R: Read, W: Write, D: Desk>(
         (IsAtEnd (R.remaining reader.new.inner.now))
         (D.state desk.old) (record { came = came; sent = sent; ended = result }) (D.state desk.new)) }
     ensures used_up { (lost : ℕ) → result ≡ Err (ReadTurns lost) → reader.new.left ≡ 0 }
+    ensures reason { IsReason reader.old.state reader.new.state result }
     ensures counted { reader.new.left ≤ reader.old.left }
     ensures same_reference { reader.new.inner.ghost_name ≡ reader.old.inner.ghost_name }
     ensures name { D.name (D.state desk.new) ≡ D.name (D.state desk.old) }

@@ -1,6 +1,7 @@
 ghost use Rattle.std.specs.Prelude.{◌≡◌, ℕ, ◌+◌, ◌-◌, ◌<◌, ◌≤◌, List, [], ◌∷◌, ◌++◌, ◌↔◌};
 ghost use Rattle.std.specs.Prelude.{length, take, slice_index, vec_len, IfOk, IfSome, IsTrue, MatchOption};
 ghost use Rattle.rb_protocol.specs.Line.{HasNoLineFeed};
+ghost use Rattle.rb_protocol.specs.Reads.{IsAfterRead};
 ghost use Rattle.rb_session.specs.Lines.{line_of};
 ghost use Rattle.rb_protocol.specs.Reading.{IsReading};
 ghost use Rattle.rb_protocol.specs.declared.format.TheConstants.{LINE_FEED};
@@ -84,6 +85,7 @@ impl LineBuffer {
         ensures taken { (bytes : List ℕ) → IsUnserved self.old bytes → HasNoLineFeed bytes
             → TakesMore bytes (R.remaining reader.old.inner.now) result self.new (R.remaining reader.new.inner.now) }
         ensures counted { reader.new.left + 1 ≡ reader.old.left }
+        ensures state { IsAfterRead result reader.new.state }
         ensures same_reference { reader.new.inner.ghost_name ≡ reader.old.inner.ghost_name }
     {
         self.make_room();

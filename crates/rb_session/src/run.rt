@@ -5,6 +5,7 @@ ghost use Rattle.rb_session.specs.Rules.{desk_rules, session_rules, HadGotBehind
 ghost use Rattle.rb_session.specs.Ran.{Ran};
 ghost use Rattle.rb_session.specs.Outlet.{RanThrough, HandedOn};
 ghost use Rattle.rb_session.specs.Progress.{end_of};
+ghost use Rattle.rb_session.specs.Reasons.{IsReason};
 ghost use Rattle.rb_session.specs.declared.session_fault.SessionFault.TheVariants.{ReadTurns};
 
 use crate::direct::Direct;
@@ -35,6 +36,7 @@ pub(crate) fn run_at_once<R: Read, W: Write, D: Desk>(
         (IsAtEnd (R.remaining reader.new.inner.now))
         (D.state desk.old) (record { came = came; sent = sent; ended = result }) (D.state desk.new)) }
     ensures used_up { (lost : ℕ) → result ≡ Err (ReadTurns lost) → reader.new.left ≡ 0 }
+    ensures reason { IsReason reader.old.state reader.new.state result }
     ensures counted { reader.new.left ≤ reader.old.left }
     ensures same_reference { reader.new.inner.ghost_name ≡ reader.old.inner.ghost_name }
     ensures name { D.name (D.state desk.new) ≡ D.name (D.state desk.old) }
@@ -65,6 +67,7 @@ pub(crate) fn run_session_through<R: Read, O: Outlet, D: Desk>(
     ensures handed_on { HandedOn (O.IsClear outlet.new) result }
     ensures becomes { O.Becomes outlet.old outlet.new }
     ensures used_up { (lost : ℕ) → result ≡ Err (ReadTurns lost) → reader.new.left ≡ 0 }
+    ensures reason { IsReason reader.old.state reader.new.state result }
     ensures counted { reader.new.left ≤ reader.old.left }
     ensures same_reference { reader.new.inner.ghost_name ≡ reader.old.inner.ghost_name }
     ensures name { D.name (D.state desk.new) ≡ D.name (D.state desk.old) }

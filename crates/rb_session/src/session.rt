@@ -6,7 +6,7 @@ ghost use Rattle.rb_session.specs.Held.{AreGiven};
 ghost use Rattle.rb_session.specs.Rules.{desk_rules, session_rules};
 ghost use Rattle.rb_session.specs.Turn.{point, AsksToWait};
 ghost use Rattle.rb_session.specs.Exchange.{Exchanges};
-ghost use Rattle.rb_session.specs.Progress.{ServesLines, AnswersEnd, Stops, IsClearAt, IsClearAtRead};
+ghost use Rattle.rb_session.specs.Progress.{ServesLines, AnswersEnd, Stops, IsClearAt, IsClearAtRead, IsReasonToStop};
 
 use crate::answer::answer;
 use crate::held_jobs::HeldJobs;
@@ -57,6 +57,7 @@ impl Session {
             (IsAtEnd (R.remaining reader.new.inner.now)) (point (D.state desk.old) self.old.held)
             came sent result (point (D.state desk.new) self.new.held)) }
         ensures used_up { result ≡ Stop.ReadTurns → reader.new.left ≡ 0 }
+        ensures reason { IsReasonToStop reader.old.state reader.new.state result }
         ensures counted { reader.new.left ≤ reader.old.left }
         ensures same_reference { reader.new.inner.ghost_name ≡ reader.old.inner.ghost_name }
         ensures clear { IsClearAt (O.IsClear outlet.new) result }
@@ -90,6 +91,7 @@ impl Session {
             (IsAtEnd (R.remaining reader.new.inner.now)) (point (D.state desk.old) self.old.held)
             came sent result (point (D.state desk.new) self.new.held)) }
         ensures used_up { result ≡ Stop.ReadTurns → reader.new.left ≡ 0 }
+        ensures reason { IsReasonToStop reader.old.state reader.new.state result }
         ensures counted { reader.new.left ≤ reader.old.left }
         ensures same_reference { reader.new.inner.ghost_name ≡ reader.old.inner.ghost_name }
         ensures clear { IsClearAtRead (O.IsClear outlet.new) result }

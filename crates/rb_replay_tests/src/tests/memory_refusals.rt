@@ -18,7 +18,14 @@ const REFUSALS: u32 = 0;
 
 // A run with more elements, origins, ids and events than fit into the first room for them.
 const TEXT: &[u8] =
-    b"history 2\nopen 20 0 12\nkeep 0 0 0 1 a\nkeep 1 0 1 1 a\nkeep 2 0 2 1 a\nkeep 3 0 3 1 a\nkeep 4 0 4 1 a\nkeep 5 0 5 1 a\nkeep 6 0 6 1 a\nkeep 7 0 7 1 a\nkeep 8 0 8 1 a\nkeep 9 0 9 1 a\nkeep 10 0 10 1 a\nkeep 11 0 11 1 a\n0 0 0 drain 5 0 1 2 3 4\n0 0 0 offer 20 9 20 1 b\n0 0 0 offer 21 9 21 1 b\n0 0 0 offer 22 9 22 1 b\n0 0 0 offer 23 9 23 1 b\n0 0 0 offer 24 9 24 1 b\n0 0 0 offer 25 9 25 1 b\n0 0 0 offer 26 9 26 1 b\n0 0 0 offer 27 9 27 1 b\n0 0 0 offer 28 9 28 1 b\n0 0 0 offer 29 9 29 1 b\n0 0 0 offer 30 9 30 1 b\n0 0 0 offer 31 9 31 1 b\n0 0 0 size 19\nend 14\n";
+    b"history 2\nopen 20 0 12\nkeep 0 0 0 1 a\nkeep 1 0 1 1 a\nkeep 2 0 2 1 a\nkeep 3 0 3 1 a\n\
+        keep 4 0 4 1 a\nkeep 5 0 5 1 a\nkeep 6 0 6 1 a\nkeep 7 0 7 1 a\nkeep 8 0 8 1 a\n\
+        keep 9 0 9 1 a\nkeep 10 0 10 1 a\nkeep 11 0 11 1 a\n0 0 0 drain 5 0 1 2 3 4\n\
+        0 0 0 offer 20 9 20 1 b\n0 0 0 offer 21 9 21 1 b\n0 0 0 offer 22 9 22 1 b\n\
+        0 0 0 offer 23 9 23 1 b\n0 0 0 offer 24 9 24 1 b\n0 0 0 offer 25 9 25 1 b\n\
+        0 0 0 offer 26 9 26 1 b\n0 0 0 offer 27 9 27 1 b\n0 0 0 offer 28 9 28 1 b\n\
+        0 0 0 offer 29 9 29 1 b\n0 0 0 offer 30 9 30 1 b\n0 0 0 offer 31 9 31 1 b\n0 0 0 size 19\n\
+        end 14\n";
 
 // Counts what it is given.
 #[derive(Drop)]

@@ -6,7 +6,8 @@ use std::alloc::Global;
 use std::process::Abort;
 
 const NEXT_RUN: &[u8] =
-    b"history 3\nopen 2 0 1\nkeep 1 1000 0 0 2 a\n0 0 0 size 1\n0 1000 1000 poll 1\n0 1000 1000 offer 2 1000 2 1000 1 b\nend 3\n";
+    b"history 3\nopen 2 0 1\nkeep 1 1000 0 0 2 a\n0 0 0 size 1\n0 1000 1000 poll 1\n\
+        0 1000 1000 offer 2 1000 2 1000 1 b\nend 3\n";
 
 // That the text has this first fault.
 fn unreadable(rt: &impl Abort, alloc: Global, text: &[u8], line: u64, reason: TextReason) {

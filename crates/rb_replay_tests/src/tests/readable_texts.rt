@@ -79,8 +79,8 @@ fn each_act_is_read(rt: HostRuntime) -> Result<(), Fail> {
         (0, 0, 0, Deed::Drain(0, [None, None, None])),
         (0, 0, 0, Deed::Clear),
     ];
-    let text =
-        b"history 1\n0 0 0 poll none\n0 0 0 take 18446744073709551615\n0 0 0 peek none\n0 0 0 peek 3\n0 0 0 remove 3 no\n0 0 0 drain 9 4 5\n0 0 0 drain 0\n0 0 0 clear\nend 8\n";
+    let text = b"history 1\n0 0 0 poll none\n0 0 0 take 18446744073709551615\n0 0 0 peek none\n\
+        0 0 0 peek 3\n0 0 0 remove 3 no\n0 0 0 drain 9 4 5\n0 0 0 drain 0\n0 0 0 clear\nend 8\n";
     read_as(&rt, rt.alloc(), text, EMPTY, &rows)
 }
 
@@ -88,11 +88,11 @@ fn each_act_is_read(rt: HostRuntime) -> Result<(), Fail> {
 fn an_opening_is_read(rt: HostRuntime) -> Result<(), Fail> {
     let alloc = rt.alloc();
     let (kept, rows) = (second(&rt), next_run(&rt));
-    let text =
-        b"history 3\nopen 2 0 1\nkeep 1 1000 0 0 2 a\n0 0 0 size 1\n0 1000 1000 poll 1\n0 1000 1000 offer 2 1000 2 1000 1 b\nend 3\n";
+    let text = b"history 3\nopen 2 0 1\nkeep 1 1000 0 0 2 a\n0 0 0 size 1\n0 1000 1000 poll 1\n\
+        0 1000 1000 offer 2 1000 2 1000 1 b\nend 3\n";
     read_as(&rt, alloc, text, Some((&[kept], NEXT_ID)), &rows)?;
-    let text =
-        b"history 2\nopen 2 0 1\nkeep 1 1000 0 2 a\n0 0 0 size 1\n0 1000 1000 poll 1\n0 1000 1000 offer 2 1000 2 1 b\nend 3\n";
+    let text = b"history 2\nopen 2 0 1\nkeep 1 1000 0 2 a\n0 0 0 size 1\n0 1000 1000 poll 1\n\
+        0 1000 1000 offer 2 1000 2 1 b\nend 3\n";
     let mut settled = second(&rt);
     settled.first = 1000;
     read_as(&rt, alloc, text, Some((&[settled], NEXT_ID)), &rows)
@@ -130,8 +130,8 @@ fn expect_offered_first(rt: &impl Abort, history: &History, place: usize, first:
 
 #[test]
 fn the_earliest_line_tells_the_first_expiry(rt: HostRuntime) -> Result<(), Fail> {
-    let text =
-        b"history 2\nopen 9 0 3\nkeep 3 70 1 1 a\nkeep 4 60 2 1 a\nkeep 5 90 1 2 a\n0 0 0 offer 9 50 1 3 a\n0 0 0 offer 10 40 10 1 b\n0 0 0 offer 11 30 10 2 b\nend 3\n";
+    let text = b"history 2\nopen 9 0 3\nkeep 3 70 1 1 a\nkeep 4 60 2 1 a\nkeep 5 90 1 2 a\n\
+        0 0 0 offer 9 50 1 3 a\n0 0 0 offer 10 40 10 1 b\n0 0 0 offer 11 30 10 2 b\nend 3\n";
     let history = read_history(rt.alloc(), text)?;
     for (place, first) in [(0, 70), (1, 60), (2, 70)] {
         expect_kept_first(&rt, &history, place, first);

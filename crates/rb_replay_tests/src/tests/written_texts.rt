@@ -10,10 +10,12 @@ use std::test::Fail;
 const EMPTY_RUN: &[u8] = b"history 3\nopen 0 0 0\nend 0\n";
 
 const TWO_SEATS: &[u8] =
-    b"history 3\nopen 0 0 0\n0 10 10 offer 0 10 0 10 1 a\n1 5 10 poll 0\n1 3 10 pollfor 3 4 none\n0 11 11 size 0\nend 4\n";
+    b"history 3\nopen 0 0 0\n0 10 10 offer 0 10 0 10 1 a\n1 5 10 poll 0\n1 3 10 pollfor 3 4 none\n\
+        0 11 11 size 0\nend 4\n";
 
 const NEXT_RUN: &[u8] =
-    b"history 3\nopen 2 0 1\nkeep 1 1000 0 0 2 a\n0 0 0 size 1\n0 1000 1000 poll 1\n0 1000 1000 offer 2 1000 2 1000 1 b\nend 3\n";
+    b"history 3\nopen 2 0 1\nkeep 1 1000 0 0 2 a\n0 0 0 size 1\n0 1000 1000 poll 1\n\
+        0 1000 1000 offer 2 1000 2 1000 1 b\nend 3\n";
 
 // That a device that takes so many bytes at a time, and fails at this call, has got these.
 fn written_as(

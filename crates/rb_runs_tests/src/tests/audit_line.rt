@@ -21,7 +21,7 @@ fn the_audit_line_has_each_number(rt: HostRuntime) {
         left: 0,
         opening: u64::MAX,
     };
-    let wanted =
-        "{\"calls\":1,\"cleared\":50000,\"given\":300,\"left\":0,\"offered\":20,\"opening\":18446744073709551615,\"removed\":4000}\n";
+    let wanted = "{\"calls\":1,\"cleared\":50000,\"given\":300,\"left\":0,\"offered\":20,\
+        \"opening\":18446744073709551615,\"removed\":4000}\n";
     expect_line(&rt, rt.alloc(), &audit, wanted);
 }

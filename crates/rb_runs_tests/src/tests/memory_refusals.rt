@@ -32,7 +32,8 @@ const WHOLE_REPLIES: &[u8] =
     b"OFFERED 0 1\nOFFERED 1 2\nNOW 5\nDRAINED 2\nITEM 0 1 1 a\nITEM 1 2 1 b\nAGAIN 2 1005\nBYE\n";
 
 const WHOLE_HISTORY: &[u8] =
-    b"history 3\nopen 0 0 0\n0 0 0 offer 0 1 0 1 1 a\n0 0 0 offer 1 2 1 2 1 b\n0 5 5 drain 9 0 1\n0 5 5 offer 2 1005 0 1 2 a\n0 5 5 offer 3 1005 1 2 2 b\nend 5\n";
+    b"history 3\nopen 0 0 0\n0 0 0 offer 0 1 0 1 1 a\n0 0 0 offer 1 2 1 2 1 b\n0 5 5 drain 9 0 1\n\
+        0 5 5 offer 2 1005 0 1 2 a\n0 5 5 offer 3 1005 1 2 2 b\nend 5\n";
 
 const WHOLE_AUDIT: &str =
     "{\"calls\":5,\"cleared\":0,\"given\":2,\"left\":2,\"offered\":4,\"opening\":0,\"removed\":0}\n";
@@ -48,12 +49,14 @@ const REFUSED: [Run<'static>; 5] = [
     Run {
         replies: b"ERR 7 memory\nOFFERED 0 2\nNOW 5\nDRAINED 1\nITEM 0 2 1 b\nAGAIN 1 1005\nBYE\n",
         lost: 0,
-        history: b"history 3\nopen 0 0 0\n0 0 0 offer 0 2 0 2 1 b\n0 5 5 drain 9 0\n0 5 5 offer 1 1005 0 2 2 b\nend 3\n",
+        history: b"history 3\nopen 0 0 0\n0 0 0 offer 0 2 0 2 1 b\n0 5 5 drain 9 0\n\
+            0 5 5 offer 1 1005 0 2 2 b\nend 3\n",
     },
     Run {
         replies: b"OFFERED 0 1\nERR 7 memory\nNOW 5\nDRAINED 1\nITEM 0 1 1 a\nAGAIN 1 1005\nBYE\n",
         lost: 0,
-        history: b"history 3\nopen 0 0 0\n0 0 0 offer 0 1 0 1 1 a\n0 5 5 drain 9 0\n0 5 5 offer 1 1005 0 1 2 a\nend 3\n",
+        history: b"history 3\nopen 0 0 0\n0 0 0 offer 0 1 0 1 1 a\n0 5 5 drain 9 0\n\
+            0 5 5 offer 1 1005 0 1 2 a\nend 3\n",
     },
     Run {
         replies: b"OFFERED 0 1\nOFFERED 1 2\nNOW 5\nERR 7 memory\nERR 5 not-held\nBYE\n",
@@ -68,7 +71,8 @@ const REFUSED: [Run<'static>; 5] = [
     Run {
         replies: WHOLE_REPLIES,
         lost: 1,
-        history: b"history 3\nopen 0 0 0\n0 0 0 offer 0 1 0 1 1 a\n0 0 0 offer 1 2 1 2 1 b\n0 5 5 drain 9 0 1\n0 5 5 offer 2 1005 0 1 2 a\nend 4\n",
+        history: b"history 3\nopen 0 0 0\n0 0 0 offer 0 1 0 1 1 a\n0 0 0 offer 1 2 1 2 1 b\n\
+            0 5 5 drain 9 0 1\n0 5 5 offer 2 1005 0 1 2 a\nend 4\n",
     },
 ];
 

@@ -14,7 +14,8 @@ use std::process::Abort;
 
 // The numbers are those of no run: each is another one.
 const TEXT: &[u8] =
-    b"sessions 8 faults 9 lost 18446744073709551615\n{\"calls\":1,\"cleared\":2,\"given\":3,\"left\":4,\"offered\":5,\"opening\":6,\"removed\":7}\n";
+    b"sessions 8 faults 9 lost 18446744073709551615\n{\"calls\":1,\"cleared\":2,\"given\":3,\
+        \"left\":4,\"offered\":5,\"opening\":6,\"removed\":7}\n";
 
 const HISTORY: &[u8] = b"history 3\nopen 0 0 0\nend 0\n";
 

@@ -200,7 +200,8 @@ fn report_at_last<R: Threads + Wait + time::Clock + Abort + Sync>(
 }
 
 const PRINTED: &[u8] =
-    b"sessions 1 faults 0 lost 0\n{\"calls\":1,\"cleared\":0,\"given\":0,\"left\":1,\"offered\":1,\"opening\":0,\"removed\":0}\n";
+    b"sessions 1 faults 0 lost 0\n{\"calls\":1,\"cleared\":0,\"given\":0,\"left\":1,\"offered\":1,\
+        \"opening\":0,\"removed\":0}\n";
 
 const SERVED_HISTORY: &[u8] = b"history 3\nopen 0 0 0\n1 7 7 offer 0 7 0 7 1 a\nend 1\n";
 

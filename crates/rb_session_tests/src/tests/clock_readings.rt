@@ -101,10 +101,13 @@ fn expect_readings(
 
 // Each of the requests.
 const SCRIPT: &[u8] =
-    b"AT 100\nOFFER 0 a\nOFFERAT 99 b\nOFFER 9 c\nPEEK\nPOLL\nPOLLFOR 5\nPOLL\nTAKE\nDONE 1\nFAIL 0\nFAIL 7\nREMOVE 2\nSIZE\nDRAIN 3\nCLEAR\nQUIT\n";
+    b"AT 100\nOFFER 0 a\nOFFERAT 99 b\nOFFER 9 c\nPEEK\nPOLL\nPOLLFOR 5\nPOLL\nTAKE\nDONE 1\n\
+        FAIL 0\nFAIL 7\nREMOVE 2\nSIZE\nDRAIN 3\nCLEAR\nQUIT\n";
 
 const REPLIES: &[u8] =
-    b"NOW 100\nOFFERED 0 100\nOFFERED 1 99\nOFFERED 2 109\nHEAD 1 99 1 b\nITEM 1 99 1 b\nITEM 0 100 1 a\nNONE\nSTOPPED\nDONE 1\nAGAIN 3 1100\nERR 5 not-held\nREMOVED yes\nSIZE 1\nDRAINED 0\nCLEARED\nBYE\n";
+    b"NOW 100\nOFFERED 0 100\nOFFERED 1 99\nOFFERED 2 109\nHEAD 1 99 1 b\nITEM 1 99 1 b\n\
+        ITEM 0 100 1 a\nNONE\nSTOPPED\nDONE 1\nAGAIN 3 1100\nERR 5 not-held\nREMOVED yes\nSIZE 1\n\
+        DRAINED 0\nCLEARED\nBYE\n";
 
 #[test]
 fn a_request_reads_the_clock_once(rt: HostRuntime) -> Result<(), Fail> {

@@ -1,7 +1,7 @@
 use crate::tests::devices::{expect_bytes, expect_end};
 use rb_binary::BinaryTimer;
 use rb_kept::Kept;
-use rb_protocol::LimitedReader;
+use rb_protocol::{LimitedReader, ReaderState};
 use rb_retry::{KeptDesk, Policy};
 use rb_session::{Delivery, Ended, run_limited};
 use std::test::Fail;
@@ -25,9 +25,10 @@ fn a_session_over_a_reader_that_counts_leaves_reads(rt: HostRuntime) -> Result<(
         &policy,
         delivery,
     );
-    let leaves_some = reader.may_read();
+    let (leaves_some, state) = (reader.may_read(), reader.state());
     expect_end(&rt, ended, Ok(Ended::EndOfInput { lost: 0 }), 0);
     expect_bytes(&rt, &writer, b"NOW 7\n", 0);
     assert!(rt; leaves_some);
+    assert!(rt; state == ReaderState::AtEnd);
     Ok(())
 }

@@ -14,7 +14,8 @@ use Rattle.rb_session.specs.declared.session_fault.SessionFault.{SessionFault}
 use Rattle.rb_session.specs.declared.session_fault.SessionFault.TheVariants.{ReadTurns}
 use Rattle.rb_session.specs.declared.stop.Stop.{Stop}
 use Rattle.rb_session.specs.declared.stop.Stop.TheVariants as stops
-use Rattle.rb_session.proofs.Outlets.{handed_on, stopped_used_up}
+use Rattle.rb_session.proofs.Outlets.{handed_on, reason_to_end, stopped_used_up}
+use Rattle.rb_session.specs.Reasons.{IsReason}
 use Rattle.rb_session.proofs.run.run_session_through.Goals as goal
 
 module _ {S : Type 0} (rules : SessionRules S) (HoldsBack Over : Type 0) where
@@ -64,3 +65,9 @@ pub returns-clause-used_up : goal.returns-clause-used_up
 returns-clause-used_up g c lost is =
     c.serve-stop.ensures.used_up
     (stopped_used_up c.serve-stop.result c.fail_all-lost.result lost (sym c.end_of.ensures ∙ is))
+
+pub returns-clause-reason : goal.returns-clause-reason
+returns-clause-reason g c =
+    subst (λ (r : Result Ended SessionFault). IsReason c.args.reader.now.state c.serve-stop.new.reader.state r)
+    (sym c.end_of.ensures)
+    (reason_to_end _ _ c.serve-stop.result c.fail_all-lost.result c.serve-stop.ensures.reason)

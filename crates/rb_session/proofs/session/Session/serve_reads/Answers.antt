@@ -1,5 +1,5 @@
 -- Each read adds bytes to the unserved rest, and each way out of the loop is an end of a session.
-use Rattle.std.proofs.Common.{◌≡◌, ◌≤◌, ℕ, List, [], ◌∷◌, ◌++◌, Some, Result, inr, refl, sym, ap, subst, ◌∙◌, arith}
+use Rattle.std.proofs.Common.{rules, ◌≡◌, ◌≤◌, ℕ, List, [], ◌∷◌, ◌++◌, Some, Result, Ok, inr, refl, sym, ap, subst, ◌∙◌, arith}
 use Rattle.std.proofs.Common.{length}
 use Rattle.std.proofs.lemmas.Bool.Decides.{nat_tests}
 use Rattle.std.proofs.lemmas.List.{append-nil}
@@ -15,6 +15,8 @@ use Rattle.rb_session.proofs.LongerExchanges.{exchanges_same, exchanges_more}
 use Rattle.rb_session.proofs.Turns.{serves_none}
 use Rattle.rb_session.proofs.StreamRuns.{breaks_off, ran_end, serves_more, stopped}
 use Rattle.rb_session.proofs.Outlets.{failed, went, clear_at_end, clear_at_line, unused_at_end, unused_at_line}
+use Rattle.rb_session.proofs.Outlets.{reason_at_end, reason_at_line}
+use Rattle.rb_protocol.proofs.ReaderStates.{went_on, interrupted}
 use Rattle.rb_session.proofs.session.Session.serve_reads.Given.{Over}
 use Rattle.rb_session.proofs.session.Session.serve_reads.Goals as goal
 use Rattle.rb_session.proofs.session.Session.serve_reads.Goals.{After-read_from, In-Some}
@@ -65,6 +67,7 @@ loop-outlet-init g c = record {
   };
   given = c.requires.given;
   counted = omega arith;
+  still = λ failed. failed;
   same_reference = refl;
   becomes = g.met.O.Outlet.stays c.args.outlet.now;
   name = refl;
@@ -109,6 +112,15 @@ returns-in-Ok-eq0-clause-used_up g c =
     let ends = c.finish.ensures.ends (c.loop-outlet.invariant.served.holds.0.unserved ++ more.0) more.2 in
     λ is. absurd (unused_at_end c.finish.result _ ends.0 ends.2 is)
 
+-- and the reader tells of it
+pub returns-in-Ok-eq0-clause-reason : goal.returns-in-Ok-eq0-clause-reason
+returns-in-Ok-eq0-clause-reason g c =
+    let more = read_took g (goal.at.returns-in-Ok-eq0-clause-reason g c).After-read_from _ c.in-Ok-eq0.is in
+    let ends = c.finish.ensures.ends (c.loop-outlet.invariant.served.holds.0.unserved ++ more.0) more.2 in
+    let zero : c.in-Ok-eq0.field-0 ≡ 0 = grind (arith, nat_tests, c.in-Ok-eq0.field-0-test) in
+    let at_end = c.read_from.ensures.state.at_end.1 (c.in-Ok-eq0.is ∙ ap Ok zero) in
+    reason_at_end _ _ c.finish.result _ ends.0 ends.2 at_end
+
 -- all was handed on before the read
 pub returns-in-Err-2-clause-clear : goal.returns-in-Err-2-clause-clear
 returns-in-Err-2-clause-clear g c =
@@ -128,6 +140,15 @@ returns-in-Some-clause-used_up g c =
     (point (g.D.Desk.state c.serve_lines.new.desk) c.serve_lines.new.self.held) _ _ c.in-Some.stop _
     (line_stopped g (goal.at.returns-in-Some-clause-used_up g c).In-Some).4 is)
 
+-- the reader has not failed
+pub returns-in-Some-clause-reason : goal.returns-in-Some-clause-reason
+returns-in-Some-clause-reason g c =
+    reason_at_line _ _ _ g.O.Outlet.HoldsBack
+    (point (g.D.Desk.state c.loop-outlet.desk) c.loop-outlet.self.held)
+    (point (g.D.Desk.state c.serve_lines.new.desk) c.serve_lines.new.self.held) _ _ c.in-Some.stop _
+    (line_stopped g (goal.at.returns-in-Some-clause-reason g c).In-Some).4
+    (λ failed. absurd (went_on _ _ _ c.in-Ok.is c.read_from.ensures.state failed))
+
 -- a read that was interrupted took nothing
 pub loop-outlet-preserved-in-Err : goal.loop-outlet-preserved-in-Err
 loop-outlet-preserved-in-Err g c = record {
@@ -137,6 +158,7 @@ loop-outlet-preserved-in-Err g c = record {
       exchanges_same c.loop-outlet.invariant.served _ c.hand_on.ensures.kept unread.0 (at.0, at.1, unread.1);
   given = c.loop-outlet.invariant.given;
   counted = omega (arith, c.loop-outlet.invariant.counted, c.read_from.ensures.counted);
+  still = λ failed. absurd (interrupted _ _ _ c.in-Err.is (search rules) c.read_from.ensures.state failed);
   same_reference = c.read_from.ensures.same_reference ∙ c.loop-outlet.invariant.same_reference;
   becomes = g.met.O.Outlet.goes_on _ _ _ c.loop-outlet.invariant.becomes c.hand_on.ensures.becomes;
   name = c.loop-outlet.invariant.name;
@@ -182,6 +204,7 @@ loop-outlet-preserved g c = record {
       exchanges_more s _ c.hand_on.ensures.kept more.0 on.0 _ more.1 on.1 (first, on.2.1, on.2.2);
   given = c.in_default.ensures.given;
   counted = omega (arith, c.loop-outlet.invariant.counted, c.read_from.ensures.counted);
+  still = λ failed. absurd (went_on _ _ _ c.in-Ok.is c.read_from.ensures.state failed);
   same_reference = c.read_from.ensures.same_reference ∙ c.loop-outlet.invariant.same_reference;
   becomes = g.met.O.Outlet.goes_on _ _ _
       (g.met.O.Outlet.goes_on _ _ _ c.loop-outlet.invariant.becomes c.hand_on.ensures.becomes)

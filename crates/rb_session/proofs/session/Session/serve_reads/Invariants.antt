@@ -4,6 +4,7 @@ use Rattle.rb_session.specs.Exchange.{Exchanges}
 use Rattle.rb_session.specs.Buffer.{IsUnserved}
 use Rattle.rb_session.specs.Held.{AreGiven}
 use Rattle.rb_protocol.specs.Line.{HasNoLineFeed}
+use Rattle.rb_protocol.specs.Reads.{HasNotFailed}
 use Rattle.rb_session.specs.Rules.{desk_rules, session_rules}
 use Rattle.rb_session.specs.Session.{ServesFirst}
 use Rattle.rb_session.specs.Turn.{point}
@@ -18,6 +19,7 @@ invariant-loop-outlet g l = record {
       × HasNoLineFeed first.unserved × IsUnserved l.self.buffer first.unserved);
   given : AreGiven (g.D.Desk.mine (g.D.Desk.state l.desk)) l.self.held;
   counted : l.reader.left ≤ l.fn.reader.left;
+  still : HasNotFailed l.fn.reader.state l.reader.state;
   same_reference : l.reader.inner.ghost_name ≡ l.fn.reader.inner.ghost_name;
   becomes : g.O.Outlet.Becomes l.fn.outlet l.outlet;
   name : g.D.Desk.name (g.D.Desk.state l.desk) ≡ g.D.Desk.name (g.D.Desk.state l.fn.desk);
