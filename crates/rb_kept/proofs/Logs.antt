@@ -1,24 +1,24 @@
 -- One event more in a log: its moment, its reply, and its share of the totals.
-use Rattle.std.proofs.Common.{◌≡◌, ◌≢◌, ℕ, suc, ◌+◌, ◌-◌, ◌^◌, ◌<◌, ◌≤◌, List, [], ◌∷◌, ◌++◌, refl, sym, ap, subst, ◌∙◌, arith, Option, Some, length, length-append, append-nil, append_assoc, take, get_or}
+use Rattle.std.proofs.Common.{◌≡◌, ◌≢◌, ℕ, suc, ◌+◌, ◌-◌, ◌<◌, ◌≤◌, List, [], ◌∷◌, ◌++◌, refl, sym, ap, subst, ◌∙◌, arith, Option, Some, length, length-append, append-nil, append_assoc, take, get_or}
 use Rattle.std.proofs.lemmas.List.{take_more}
-use Rattle.std.proofs.lemmas.List.Sums.{sum_by-append, sum_by-cons}
+use Rattle.std.proofs.lemmas.List.Sums.{sum_by_push}
 use Rattle.std.specs.Option.{option_map_or}
-use Rattle.std.specs.Prelude.{slice_get, max, min, sum_by, Result, Ok, Err}
+use Rattle.std.specs.Prelude.{slice_get, max, min, Result, Ok, Err}
 use Rattle.std.specs.FinMap as map
 use Rattle.rb_ledger.specs.Totals.{total_of}
 use Rattle.rb_ledger.specs.declared.totals.Totals.{Totals}
 use Rattle.rb_ledger.specs.declared.totals.TheConstants.{GREATEST_COUNT}
 use Rattle.rb_queue.specs.declared.event.Event.{Event}
-use Rattle.rb_queue.specs.declared.opening.Opening.{Opening}
 use Rattle.rb_queue.specs.declared.reply.Reply.{Reply}
 use Rattle.rb_queue.specs.Queue.{Queue}
-use Rattle.rb_queue.specs.Effect.{Effect, inserts, gives, removes, empties, effect_of, queue_after, inserted, given, removed, cleared}
+use Rattle.rb_queue.specs.Effect.{effect_of, queue_after, inserted, given}
 use Rattle.rb_queue.specs.Calls.{Acts, Permits}
 use Rattle.rb_queue.specs.History.{State, start_of, state_after, state_from, state_of, Allows, IsLegal}
-use Rattle.rb_queue.specs.Counts.{offer_count, give_count, removed_count, cleared_from, cleared_count}
+use Rattle.rb_queue.specs.Counts.{offer_count, give_count, sums_of, sums_with}
+use Rattle.rb_queue.specs.declared.sums.Sums.{Sums}
 use Rattle.rb_queue.specs.Replies.{reply_in}
 use Rattle.rb_queue.proofs.Histories.{legal_next, state_from-append}
-use Rattle.rb_queue.proofs.Leavings.{is_balanced}
+use Rattle.rb_queue.proofs.ShortHistories.{AreFew, are_few, sums_more}
 use Rattle.rb_queue.proofs.OfferedElements.{reply_of_last}
 use Rattle.rb_kept.specs.Log.{Log, state_at, HasRoom, with_event, with_events}
 use Rattle.rb_kept.specs.KeptInvariant.{IsKept}
@@ -40,56 +40,6 @@ moment_last from (event ∷ next ∷ events) last found =
     let rest : slice_get (next ∷ events) (length (next ∷ events) - 1) ≡ Some last = sym (ap (slice_get (event ∷ next ∷ events)) at) ∙ found in
     moment_last (state_after from event) (next ∷ events) last rest
 
--- a history offers one element for each call at most
-offers_few : (history : List Event) → offer_count history ≤ length history
-offers_few [] = omega arith
-offers_few (event ∷ history) =
-    omega (arith, offers_few history, one (effect_of event.act), sum_by-cons (λ (e : Event). length (inserted (effect_of e.act))) event history)
-  where
-    one : (effect : Effect) → length (inserted effect) ≤ 1
-    one (inserts element) = omega arith
-    one (gives ids) = omega arith
-    one (removes ids) = omega arith
-    one empties = omega arith
-
--- an id is given out for each call at most
-pub next_id_few : (from : State) (events : List Event) → (state_from from events).queue.next_id ≤ from.queue.next_id + length events
-next_id_few from [] = omega arith
-next_id_few from (event ∷ events) = omega (arith, next_id_few (state_after from event) events, one (effect_of event.act))
-  where
-    one : (effect : Effect) → (queue_after from.queue effect).next_id ≤ from.queue.next_id + 1
-    one (inserts element) = omega arith
-    one (gives ids) = omega arith
-    one (removes ids) = omega arith
-    one empties = omega arith
-
--- what a history of this length comes to
-pub record AreFew (opening : Opening) (history : List Event) (most : ℕ) : Type 0 where
-  pub offered : offer_count history ≤ most
-  pub given : give_count history ≤ most + length opening.elements
-  pub removed : removed_count history ≤ most + length opening.elements
-  pub cleared : cleared_count opening history ≤ most + length opening.elements
-
-pub are_few : (opening : Opening) (history : List Event) (most : ℕ) → IsLegal opening history → length history ≤ most → AreFew opening history most
-are_few opening history most legal few =
-    let all = is_balanced opening history legal in
-    let offers = offers_few history in
-    record {
-      offered = omega (arith, offers, few);
-      given = omega (arith, all, offers, few);
-      removed = omega (arith, all, offers, few);
-      cleared = omega (arith, all, offers, few);
-    }
-
--- a count over one event more
-counted-append : (f : Event → ℕ) (history : List Event) (event : Event) → sum_by f (history ++ event ∷ []) ≡ sum_by f history + f event
-counted-append f history event = sum_by-append f history (event ∷ []) ∙ omega (arith, sum_by-cons f event [])
-
-cleared-append : (from : State) (history : List Event) (event : Event)
-    → cleared_from from (history ++ event ∷ []) ≡ cleared_from from history + cleared (effect_of event.act) (map.len (state_from from history).queue.bag)
-cleared-append from [] event = omega arith
-cleared-append from (first ∷ history) event = omega (arith, cleared-append (state_after from first) history event)
-
 -- the event comes next: its moment is right, the queue did its act, and there is room for it
 pub record IsNext (queue new : Queue) (log : Log) (event : Event) : Type 0 where
   pub at : event.at ≡ max event.asked (state_at log).moment
@@ -105,7 +55,7 @@ is_next queue new log event last len shown at found same free counted few acts =
   room = let off : length log.history ≢ log.capacity = λ full. free (counted ∙ full) in omega (arith, off, few);
 }
 
-module _ (queue new : Queue) (log : Log) (event : Event) (space : ℕ) (books : Totals) (removals clearings : ℕ) (kept : IsKept queue log space books removals clearings)
+module _ (queue new : Queue) (log : Log) (event : Event) (space : ℕ) (books : Totals) (sums : Sums) (kept : IsKept queue log space books sums)
     (next : IsNext queue new log event) where
   -- the state of the log allows the event
   allowed : Allows (state_at log) event
@@ -114,46 +64,32 @@ module _ (queue new : Queue) (log : Log) (event : Event) (space : ℕ) (books : 
   legal_more : IsLegal log.opening (with_event log event).history
   legal_more = legal_next log.opening log.history event kept.legal allowed
 
-  few_more : AreFew log.opening (with_event log event).history MOST_CALLS
-  few_more = are_few log.opening (with_event log event).history MOST_CALLS legal_more (omega (arith, length-append log.history (event ∷ []), next.room, kept.most))
-
-  removed_more : removed_count (with_event log event).history ≡ removals + length (removed (effect_of event.act))
-  removed_more = counted-append (λ e. length (removed (effect_of e.act))) log.history event ∙ ap (λ n. n + length (removed (effect_of event.act))) (sym kept.removed)
-
-  cleared_more : cleared_count log.opening (with_event log event).history ≡ clearings + cleared (effect_of event.act) (map.len queue.bag)
-  cleared_more =
-      cleared-append (start_of log.opening) log.history event
-      ∙ ap (λ (q : Queue). cleared_count log.opening log.history + cleared (effect_of event.act) (map.len q.bag)) kept.leads
-      ∙ ap (λ n. n + cleared (effect_of event.act) (map.len queue.bag)) (sym kept.cleared)
-
-  -- the counts stay far from the greatest number
-  pub removed_fits : removals + length (removed (effect_of event.act)) < 2 ^ 64
-  removed_fits = omega (arith, removed_more, few_more.removed, log.opening.opening.few)
-
-  pub cleared_fits : clearings + cleared (effect_of event.act) (map.len queue.bag) < 2 ^ 64
-  cleared_fits = omega (arith, cleared_more, few_more.cleared, log.opening.opening.few)
+  short_more : length (with_event log event).history ≤ MOST_CALLS
+  short_more = omega (arith, length-append log.history (event ∷ []), next.room, kept.most)
 
   -- the books with the event
   booked_more : total_of books (amount_of event) ≡ totals_of (with_event log event).history
   booked_more =
-      let few = few_more in
-      let offers = counted-append (λ e. length (inserted (effect_of e.act))) log.history event in
-      let gives_out = counted-append (λ e. length (given (effect_of e.act))) log.history event in
-      let most = log.opening.opening.few in
+      let few : AreFew log.opening (with_event log event).history = are_few log.opening (with_event log event).history legal_more short_more in
+      let offers = sum_by_push (λ e. length (inserted (effect_of e.act))) log.history event in
+      let gives_out = sum_by_push (λ e. length (given (effect_of e.act))) log.history event in
       let calls : min (length log.history + 1) GREATEST_COUNT ≡ length (log.history ++ event ∷ []) =
       omega (arith, length-append log.history (event ∷ []), next.room, kept.most) in
       let offered : min (offer_count log.history + length (inserted (effect_of event.act))) GREATEST_COUNT ≡ offer_count (log.history ++ event ∷ []) =
       omega (arith, offers, few.offered) in
       let given_out : min (give_count log.history + length (given (effect_of event.act))) GREATEST_COUNT ≡ give_count (log.history ++ event ∷ []) =
-      omega (arith, gives_out, few.given, most) in
+      omega (arith, gives_out, few.given) in
       ap (λ (t : Totals). total_of t (amount_of event)) kept.booked ∙ (λ i. record { calls = calls i; offered = offered i; given = given_out i })
 
+  -- the sums with the event
+  summed_more : sums_with sums event.act (map.len queue.bag) ≡ sums_of log.opening (with_event log event).history
+  summed_more = sums_more log.opening log.history event queue sums legal_more short_more kept.leads kept.summed
+
   -- what is kept true stays true with one event more
-  pub kept_more : (items : List Event) (books' : Totals) (removals' clearings' : ℕ) → items ≡ log.history ++ event ∷ [] → books' ≡ total_of books (amount_of event)
-      → removals' ≡ removals + length (removed (effect_of event.act)) → clearings' ≡ clearings + cleared (effect_of event.act) (map.len queue.bag)
-      → IsKept new (record log { history = items }) space books' removals' clearings'
-  kept_more items books' removals' clearings' is booked removed cleared_away =
-      subst (λ (h : List Event). IsKept new (record log { history = h }) space books' removals' clearings') (sym is)
+  pub kept_more : (items : List Event) (books' : Totals) (sums' : Sums) → items ≡ log.history ++ event ∷ [] → books' ≡ total_of books (amount_of event)
+      → sums' ≡ sums_with sums event.act (map.len queue.bag) → IsKept new (record log { history = items }) space books' sums'
+  kept_more items books' sums' is booked summed =
+      subst (λ (h : List Event). IsKept new (record log { history = h }) space books' sums') (sym is)
       (record {
         legal = legal_more;
         leads = ap (λ (s : State). s.queue) (state_from-append (start_of log.opening) log.history event)
@@ -162,8 +98,7 @@ module _ (queue new : Queue) (log : Log) (event : Event) (space : ℕ) (books : 
         room = kept.room;
         most = kept.most;
         booked = booked ∙ booked_more;
-        removed = removed ∙ sym removed_more;
-        cleared = cleared_away ∙ sym cleared_more;
+        summed = summed ∙ summed_more;
       })
 
   -- the event is the try's, and has the reply that its act names in the queue before

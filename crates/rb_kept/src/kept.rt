@@ -11,7 +11,7 @@ use crate::outcome::{Outcome, Step};
 use crate::perform::{Answer, Performed, perform};
 use crate::tries::Try;
 use rb_ledger::{Books, Tally};
-use rb_queue::{Ask, Audit, DelayQueue, Event, Opening, each_element_counted};
+use rb_queue::{Ask, Audit, DelayQueue, Event, Opening, Sums, each_element_counted};
 use rb_timer::Timer;
 use std::alloc::{AllocError, Global};
 use std::marker::Model;
@@ -35,8 +35,7 @@ pub struct Kept<T: Timer> {
     history: Vec<Event>,
     capacity: u64,
     books: Books,
-    removed: u64,
-    cleared: u64,
+    sums: Sums,
     alloc: Global,
 }
 
@@ -54,7 +53,7 @@ impl<T: Timer> Model for Kept<T> {
 
     ghost invariant = { λ k. IsKept k.queue
         (record { opening = k.opening; history = k.history.items; capacity = k.capacity })
-        (vec_capacity k.history) k.books k.removed k.cleared };
+        (vec_capacity k.history) k.books k.sums };
 }
 
 impl<T: Timer> Kept<T> {
@@ -109,8 +108,7 @@ impl<T: Timer> Kept<T> {
             history,
             capacity,
             books,
-            removed: 0,
-            cleared: 0,
+            sums: Sums::NONE,
             alloc,
         };
         Ok((kept, tally))
@@ -147,8 +145,7 @@ impl<T: Timer> Kept<T> {
         match perform(self.alloc, &mut self.queue, at, ask) {
             Performed::Done(Answer { act, reply }) => {
                 self.books.note(tally, act.offered(), act.given());
-                self.removed += act.removed();
-                self.cleared += act.cleared(standing);
+                self.sums.note(&act, standing);
                 self.history.push_reserved(Event {
                     seat,
                     asked,
@@ -220,8 +217,8 @@ impl<T: Timer> Kept<T> {
             calls: self.history.len() as u64,
             offered: self.books.offered(),
             given: self.books.given(),
-            removed: self.removed,
-            cleared: self.cleared,
+            removed: self.sums.removed,
+            cleared: self.sums.cleared,
             left: self.queue.size(),
             opening: self.opening.elements.as_slice().len() as u64,
         }

@@ -9,4 +9,5 @@ pub mod Orders
 pub mod Histories
 pub mod Effects
 pub mod Leavings
+pub mod ShortHistories
 pub mod OfferedElements

@@ -1,11 +1,13 @@
--- The events of one seat, and the counts of a history.
-use Rattle.std.specs.Prelude.{ℕ, ◌+◌, ◌==◌, List, [], ◌∷◌, length, filter, sum_by}
+-- The events of one seat, the counts of a history, and the sums that are kept beside it.
+use Rattle.std.specs.Prelude.{ℕ, ◌+◌, ◌-◌, ◌^◌, ◌==◌, min, List, [], ◌∷◌, length, filter, sum_by}
 use Rattle.std.specs.FinMap as map
 use Rattle.rb_queue.specs.Effect.{effect_of, inserted, given, removed, cleared}
 use Rattle.rb_queue.specs.History.{State, start_of, state_after, state_of}
+use Rattle.rb_queue.specs.declared.act.Act.{Act}
 use Rattle.rb_queue.specs.declared.audit.Audit.{Audit}
 use Rattle.rb_queue.specs.declared.event.Event.{Event}
 use Rattle.rb_queue.specs.declared.opening.Opening.{Opening}
+use Rattle.rb_queue.specs.declared.sums.Sums.{Sums}
 
 -- the events of one seat, in order
 abbrev pub events_of : List Event → ℕ → List Event
@@ -45,4 +47,20 @@ audit_of opening history = record {
   cleared = cleared_count opening history;
   left = left_count opening history;
   opening = length opening.elements;
+}
+
+-- the sums over a history
+abbrev pub sums_of : Opening → List Event → Sums
+sums_of opening history =
+    record { removed = removed_count history; cleared = cleared_count opening history }
+
+-- the sum, or the greatest number in 64 bits if that is less
+abbrev pub sum_in_word : ℕ → ℕ → ℕ
+sum_in_word one other = min (one + other) (2 ^ 64 - 1)
+
+-- the sums with one act more, before which this many elements were in the queue
+abbrev pub sums_with : Sums → Act → ℕ → Sums
+sums_with sums act count = record {
+  removed = sum_in_word sums.removed (length (removed (effect_of act)));
+  cleared = sum_in_word sums.cleared (cleared (effect_of act) count);
 }

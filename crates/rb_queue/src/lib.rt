@@ -17,6 +17,7 @@ mod opening;
 mod reply;
 mod sequence;
 mod store;
+mod sums;
 
 pub use act::Act;
 pub use ask::Ask;
@@ -28,3 +29,4 @@ pub use laws::{each_element_counted, each_id_once, opening_limits_have_their_val
 pub use opening::{GREATEST_OPENING_ID, MOST_OPENING_ELEMENTS, Opening};
 pub use reply::Reply;
 pub use sequence::{Ids, Items, Sequence};
+pub use sums::Sums;

@@ -1,29 +1,30 @@
 -- A history that is done again, event by event.
-use Rattle.std.proofs.Common.{◌≡◌, ℕ, suc, ◌+◌, ◌-◌, ◌^◌, ◌<◌, ◌≤◌, List, [], ◌∷◌, ◌++◌, length, take, drop, get_or, sym, ap, subst, ◌∙◌, arith, Some, None, Err, inl, inr}
+use Rattle.std.proofs.Common.{◌≡◌, ℕ, suc, ◌+◌, ◌-◌, ◌^◌, ◌<◌, ◌≤◌, List, [], ◌∷◌, ◌++◌, length, take, drop, get_or, sym, ap, subst, ◌∙◌, arith, Some, None, Err, inl, inr, length-append}
 use Rattle.std.proofs.lemmas.List.{take_more, take-append-drop, length-take}
-use Rattle.std.proofs.lemmas.List.Sums.{sum_by_more_le, sum_by-cons}
+use Rattle.std.proofs.lemmas.List.Sums.{sum_by_more_le}
 use Rattle.std.proofs.Math.Seq.{drop-cons}
 use Rattle.std.specs.Prelude.{IsSomeAnd, is_some, sum_by}
 use Rattle.std.specs.FinMap as map
 use Rattle.rb_queue.specs.Bag.{Bag, NoneExpired, without}
 use Rattle.rb_queue.specs.Head.{IsLeast, IsHeadId}
 use Rattle.rb_queue.specs.Queue.{Queue}
-use Rattle.rb_queue.specs.Effect.{Effect, inserts, gives, removes, empties, effect_of, queue_after, inserted, given, removed}
+use Rattle.rb_queue.specs.Effect.{effect_of, inserted, given}
 use Rattle.rb_queue.specs.Calls.{AreHeads, Permits}
-use Rattle.rb_queue.specs.Counts.{offer_count, give_count, removed_count, cleared_count, left_count}
-use Rattle.rb_queue.specs.History.{State, start_of, state_after, state_from, state_of, Allows, IsLegal}
+use Rattle.rb_queue.specs.Counts.{offer_count, give_count}
+use Rattle.rb_queue.specs.History.{State, start_of, state_after, state_of, Allows, IsLegal}
 use Rattle.rb_queue.specs.declared.act.Act.{Act}
 use Rattle.rb_queue.specs.declared.act.Act.TheVariants.{Poll, Take, PollFor, Peek, Drain, Clear}
 use Rattle.rb_queue.specs.declared.event.Event.{Event}
 use Rattle.rb_queue.specs.declared.opening.Opening.{Opening}
-use Rattle.rb_queue.proofs.Histories.{legal_next, state_from-append}
-use Rattle.rb_queue.proofs.Leavings.{is_balanced}
+use Rattle.rb_queue.proofs.Histories.{legal_next, state_from-append, next_id_few}
+use Rattle.rb_queue.proofs.ShortHistories.{are_few, sums_more}
 use Rattle.rb_queue.proofs.Options.{has_and, value_and}
 use Rattle.rb_replay.specs.declared.reason.Reason.{Reason}
 use Rattle.rb_replay.specs.declared.judge.JudgeFault.{JudgeFault}
 use Rattle.rb_replay.specs.declared.judge.JudgeFault.TheVariants.{Refused, Memory}
 use Rattle.rb_replay.specs.Refusal.{Test, NoTest, HeadTests, LeastTests, DrainTests, ActTests, EventTests}
-use Rattle.rb_replay.specs.Replaying.{fault_at, ReplaysEvent, Replays}
+use Rattle.rb_replay.specs.declared.replay.End.{End}
+use Rattle.rb_replay.specs.Replaying.{fault_at, Repeats, ReplaysEvent, IsEndOf, Replays}
 
 -- a single test that fails does not hold
 one_fails : (holds : Type 0) (named reason : Reason) → Test holds named NoTest reason → ¬ holds
@@ -70,27 +71,27 @@ pub event_refused : (state : State) (event : Event) (reason : Reason) → EventT
 event_refused state event reason (inl (off, is)) = λ h. off h.moment
 event_refused state event reason (inr (on, fails)) = λ h. act_refused state.queue event.at event.act reason fails h.act
 
--- the events so far are allowed, and this is the state after them
-pub record Redone (opening : Opening) (events : List Event) (state : State) : Type 0 where
-  pub legal : IsLegal opening events
-  pub state_is : state ≡ state_of opening events
-
-pub redone_more : (opening : Opening) (events : List Event) (i : ℕ) (event : Event) (old new : State) → i < length events → event ≡ get_or events i event
-    → Redone opening (take i events) old → Allows old event → new ≡ state_after old event → Redone opening (take (i + 1) events) new
-redone_more opening events i event old new within is so_far allowed after =
+-- the end after one event more
+pub end_more : (opening : Opening) (events : List Event) (i : ℕ) (event : Event) (old new : End) → length events ≤ 1_000_000 → i < length events → event ≡ get_or events i event
+    → IsEndOf opening (take i events) old → Repeats old event new → IsEndOf opening (take (i + 1) events) new
+end_more opening events i event old new few within is so_far repeats =
     let more : take (i + 1) events ≡ take i events ++ event ∷ [] = take_more events i event within ∙ ap (λ e. take i events ++ e ∷ []) (sym is) in
-    subst (λ front. Redone opening front new) (sym more) (record {
-      legal = legal_next opening (take i events) event so_far.legal (subst (λ s. Allows s event) so_far.state_is allowed);
-      state_is = after ∙ ap (λ s. state_after s event) so_far.state_is ∙ sym (state_from-append (start_of opening) (take i events) event);
+    let legal = legal_next opening (take i events) event so_far.legal (subst (λ s. Allows s event) so_far.state repeats.allowed) in
+    let short : length (take i events ++ event ∷ []) ≤ 1_000_000 = omega (arith, length-append (take i events) (event ∷ []), length-take i events, within, few) in
+    let leads = ap (λ (s : State). s.queue) (sym so_far.state) in
+    subst (λ front. IsEndOf opening front new) (sym more) (record {
+      legal = legal;
+      state = repeats.state ∙ ap (λ s. state_after s event) so_far.state ∙ sym (state_from-append (start_of opening) (take i events) event);
+      sums = repeats.sums ∙ sums_more opening (take i events) event old.queue old.sums legal short leads so_far.sums;
     })
 
 -- an event is refused
-pub redone_refuses : (opening : Opening) (events : List Event) (i : ℕ) (event : Event) (old new : State) (fault : JudgeFault)
+pub end_refuses : (opening : Opening) (events : List Event) (i : ℕ) (event : Event) (old new : End) (fault : JudgeFault)
     → i < length events → event ≡ get_or events i event
-    → Redone opening (take i events) old → ReplaysEvent {X = Unit {0}} old event (Err fault) new → Replays opening events (Err (fault_at i fault))
-redone_refuses opening events i event old new Memory within is so_far fails = tt
-redone_refuses opening events i event old new (Refused reason) within is so_far fails =
-    let here : EventTests (state_of opening (take i events)) event reason = subst (λ s. EventTests s event reason) so_far.state_is fails in
+    → IsEndOf opening (take i events) old → ReplaysEvent {X = Unit {0}} old event (Err fault) new → Replays opening events (Err (fault_at i fault))
+end_refuses opening events i event old new Memory within is so_far fails = tt
+end_refuses opening events i event old new (Refused reason) within is so_far fails =
+    let here : EventTests (state_of opening (take i events)) event reason = subst (λ s. EventTests s event reason) so_far.state fails in
     record {
       front = take i events;
       event = event;
@@ -103,40 +104,6 @@ redone_refuses opening events i event old new (Refused reason) within is so_far 
       first = here;
     }
 
--- an id is given out for each event at most
-pub ids_few : (from : State) (events : List Event) → (state_from from events).queue.next_id ≤ from.queue.next_id + length events
-ids_few from [] = omega arith
-ids_few from (event ∷ events) = omega (arith, ids_few (state_after from event) events, one (effect_of event.act))
-  where
-    one : (effect : Effect) → (queue_after from.queue effect).next_id ≤ from.queue.next_id + 1
-    one (inserts element) = omega arith
-    one (gives ids) = omega arith
-    one (removes ids) = omega arith
-    one empties = omega arith
-
--- an event offers one element at most
-offers_few : (events : List Event) → offer_count events ≤ length events
-offers_few [] = omega arith
-offers_few (event ∷ events) =
-    omega (arith, offers_few events, one (effect_of event.act), sum_by-cons (λ (e : Event). length (inserted (effect_of e.act))) event events)
-  where
-    one : (effect : Effect) → length (inserted effect) ≤ 1
-    one (inserts element) = omega arith
-    one (gives ids) = omega arith
-    one (removes ids) = omega arith
-    one empties = omega arith
-
--- what a legal history came to
-pub record Counted (opening : Opening) (events : List Event) : Type 0 where
-  pub offered : offer_count events ≤ length events
-  pub balanced : offer_count events + length opening.elements
-      ≡ give_count events + removed_count events + cleared_count opening events + left_count opening events
-  pub few : length opening.elements ≤ 1_000_000
-
-pub counted : (opening : Opening) (events : List Event) → IsLegal opening events → Counted opening events
-counted opening events legal =
-    record { offered = offers_few events; balanced = is_balanced opening events legal; few = opening.opening.few }
-
 -- a sum over the events so far and the next one is at most that over all
 part : (f : Event → ℕ) (events : List Event) (i : ℕ) (event : Event) → i < length events → event ≡ get_or events i event
     → sum_by f (take i events) + f event ≤ sum_by f events
@@ -146,23 +113,17 @@ part f events i event within is =
 pub offers_fit : (opening : Opening) (events : List Event) (i : ℕ) (event : Event) → IsLegal opening events → length events ≤ 1_000_000
     → i < length events → event ≡ get_or events i event → offer_count (take i events) + length (inserted (effect_of event.act)) < 2 ^ 64
 offers_fit opening events i event legal few within is =
-    let all = counted opening events legal in
-    omega (arith, part (λ e. length (inserted (effect_of e.act))) events i event within is, all.offered, few)
+    let all = are_few opening events legal few in
+    omega (arith, part (λ e. length (inserted (effect_of e.act))) events i event within is, all.offered)
 
 pub gives_fit : (opening : Opening) (events : List Event) (i : ℕ) (event : Event) → IsLegal opening events → length events ≤ 1_000_000
     → i < length events → event ≡ get_or events i event → give_count (take i events) + length (given (effect_of event.act)) < 2 ^ 64
 gives_fit opening events i event legal few within is =
-    let all = counted opening events legal in
-    omega (arith, part (λ e. length (given (effect_of e.act))) events i event within is, all.offered, all.balanced, all.few, few)
-
-pub removals_fit : (opening : Opening) (events : List Event) (i : ℕ) (event : Event) → IsLegal opening events → length events ≤ 1_000_000
-    → i < length events → event ≡ get_or events i event → removed_count (take i events) + length (removed (effect_of event.act)) < 2 ^ 64
-removals_fit opening events i event legal few within is =
-    let all = counted opening events legal in
-    omega (arith, part (λ e. length (removed (effect_of e.act))) events i event within is, all.offered, all.balanced, all.few, few)
+    let all = are_few opening events legal few in
+    omega (arith, part (λ e. length (given (effect_of e.act))) events i event within is, all.given)
 
 -- the next id is far from the last number
-pub ids_left : (opening : Opening) (events : List Event) (i : ℕ) (state : State) → length events ≤ 1_000_000
-    → Redone opening (take i events) state → state.queue.next_id < 2 ^ 64 - 1
-ids_left opening events i state few so_far =
-    omega (arith, ap (λ (s : State). s.queue.next_id) so_far.state_is, ids_few (start_of opening) (take i events), length-take i events, opening.opening.next, few)
+pub ids_left : (opening : Opening) (events : List Event) (i : ℕ) (end : End) → length events ≤ 1_000_000
+    → IsEndOf opening (take i events) end → end.queue.next_id < 2 ^ 64 - 1
+ids_left opening events i end few so_far =
+    omega (arith, ap (λ (s : State). s.queue.next_id) so_far.state, next_id_few (start_of opening) (take i events), length-take i events, opening.opening.next, few)

@@ -1,5 +1,5 @@
 -- The queue stands where the events so far led, so its refusal of the next one is the history's.
-use Rattle.rb_replay.proofs.Replays.{redone_more, redone_refuses, ids_left}
+use Rattle.rb_replay.proofs.Replays.{end_more, end_refuses, ids_left}
 use Rattle.rb_replay.proofs.replay.replay.Goals as goal
 
 pub replay_event-requires : goal.replay_event-requires
@@ -8,10 +8,10 @@ replay_event-requires c = ids_left c.args.opening.now c.args.events.now c.loop-i
 pub returns-in-Err : goal.returns-in-Err
 returns-in-Err c =
     rw c.replay_fault.ensures
-    (redone_refuses c.args.opening.now c.args.events.now c.loop-index.index c.index-events-index.result _ _ c.in-Err.fault c.loop-index-test.true
+    (end_refuses c.args.opening.now c.args.events.now c.loop-index.index c.index-events-index.result _ _ c.in-Err.fault c.loop-index-test.true
     c.index-events-index.is c.loop-index.invariant c.in-Err.ensures)
 
 pub loop-index-preserved : goal.loop-index-preserved
 loop-index-preserved c =
-    redone_more c.args.opening.now c.args.events.now c.loop-index.index c.index-events-index.result _ _ c.loop-index-test.true c.index-events-index.is
-    c.loop-index.invariant c.in_default-replay_event.ensures.0 c.in_default-replay_event.ensures.1
+    end_more c.args.opening.now c.args.events.now c.loop-index.index c.index-events-index.result _ _ c.requires c.loop-index-test.true c.index-events-index.is
+    c.loop-index.invariant c.in_default-replay_event.ensures

@@ -1,12 +1,13 @@
--- One event more: no sum overflows, the log stays legal, and the books count it.
-use Rattle.std.proofs.Common.{List, ◌+◌, length, refl, sym, ap, ◌∙◌, arith}
+-- One event more: the log stays legal, and the books and the sums count it.
+use Rattle.std.proofs.Common.{List, length, refl, sym, ap, ◌∙◌, arith}
 use Rattle.rb_queue.specs.declared.event.Event.{Event}
 use Rattle.rb_queue.specs.Queue.{Queue}
-use Rattle.rb_queue.specs.Effect.{effect_of, cleared}
+use Rattle.rb_queue.specs.Counts.{sums_with}
 use Rattle.rb_queue.specs.History.{start_of}
+use Rattle.rb_queue.proofs.Histories.{next_id_few}
 use Rattle.rb_kept.specs.Log.{Log}
 use Rattle.rb_kept.specs.Performing.{DoesAsk}
-use Rattle.rb_kept.proofs.Logs.{next_id_few, IsNext, is_next, removed_fits, cleared_fits, kept_more, recorded}
+use Rattle.rb_kept.proofs.Logs.{IsNext, is_next, kept_more, recorded}
 use Rattle.rb_kept.proofs.kept.Kept.act.Given.{Over}
 use Rattle.rb_kept.proofs.kept.Kept.act.Goals as goal
 use Rattle.rb_kept.proofs.kept.Kept.act.Goals.{In-Done}
@@ -33,25 +34,13 @@ perform-requires g c =
     let same = ap (λ (q : Queue). q.next_id) c.self.invariant.leads in
     omega (arith, few, same, c.self.invariant.few, c.self.invariant.most, c.self.inside.opening.opening.next)
 
-pub overflow_add-self : goal.overflow_add-self
-overflow_add-self g c =
-    let fits = removed_fits _ _ _ _ _ _ _ _ c.self.invariant (comes_next g (goal.at.overflow_add-self g c).In-Done) in
-    omega (arith, fits, c.removed.ensures)
-
-pub overflow_add-self-in-Done : goal.overflow_add-self-in-Done
-overflow_add-self-in-Done g c =
-    let fits = cleared_fits _ _ _ _ _ _ _ _ c.self.invariant (comes_next g (goal.at.overflow_add-self-in-Done g c).In-Done) in
-    let away = c.cleared.ensures ∙ ap (cleared (effect_of c.in-Done.field-0.act)) (c.size-standing.ensures 0).permitted in
-    omega (arith, fits, away)
-
 pub invariant_of-self : goal.invariant_of-self
 invariant_of-self g c =
     let next = comes_next g (goal.at.invariant_of-self g c).In-Done in
-    let away = c.cleared.ensures ∙ ap (cleared (effect_of c.in-Done.field-0.act)) (c.size-standing.ensures 0).permitted in
     let booked = rw (c.offered.ensures, c.given.ensures) at c.note.ensures.books in
+    let summed = c.note-in-Done.ensures ∙ ap (sums_with c.self.inside.sums c.in-Done.field-0.act) (c.size-standing.ensures 0).permitted in
     rw c.push_reserved.ensures.capacity
-    (kept_more _ _ _ _ _ _ _ _ c.self.invariant next c.push_reserved.new.self.items c.note.new.self _ _ c.push_reserved.ensures.items booked
-    (ap (λ n. c.self.inside.removed + n) c.removed.ensures) (ap (λ n. c.self.inside.cleared + n) away))
+    (kept_more _ _ _ _ _ _ _ c.self.invariant next c.push_reserved.new.self.items c.note.new.self c.note-in-Done.new.self c.push_reserved.ensures.items booked summed)
 
 pub returns-in-Done-clause-step : goal.returns-in-Done-clause-step
 returns-in-Done-clause-step g c =
@@ -63,6 +52,6 @@ returns-in-Done-clause-step g c =
       (
         event_of g done,
         ap (λ (items : List Event). record (log_of g done) { history = items }) c.push_reserved.ensures.items,
-        recorded _ _ _ _ _ _ _ _ c.self.invariant next (record { seat = c.args.seat; asked = c.args.asked; ask = c.args.ask }) c.in-Done.field-0.reply refl refl does.of_ask does.reply,
+        recorded _ _ _ _ _ _ _ c.self.invariant next (record { seat = c.args.seat; asked = c.args.asked; ask = c.args.ask }) c.in-Done.field-0.reply refl refl does.of_ask does.reply,
       ),
     )

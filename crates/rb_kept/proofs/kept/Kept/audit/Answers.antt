@@ -1,6 +1,6 @@
 -- What is kept beside the history, its books, sums and the queue's size, is what counting it gives. So the law
 -- for legal histories speaks of these numbers.
-use Rattle.std.proofs.Common.{◌≡◌, ◌+◌, length, sym, ap, ◌∙◌, arith}
+use Rattle.std.proofs.Common.{◌≡◌, ◌+◌, length, refl, sym, ap, ◌∙◌, arith}
 use Rattle.std.specs.FinMap as map
 use Rattle.rb_ledger.specs.declared.totals.Totals.{Totals}
 use Rattle.rb_queue.specs.Queue.{Queue}
@@ -15,15 +15,7 @@ returns-clause-counts g c =
     let given = c.given.ensures ∙ ap (λ (t : Totals). t.given) c.self.invariant.booked in
     let left : c.size.result ≡ left_count c.self.inside.opening c.self.inside.history.items = (c.size.ensures 0).permitted ∙ ap (λ (q : Queue). map.len q.bag) (sym c.self.invariant.leads) in
     let opening = ap length c.as_slice.ensures in
-    rw (← c.self.view_is) (λ i. record {
-      calls = calls i;
-      offered = offered i;
-      given = given i;
-      removed = c.self.invariant.removed i;
-      cleared = c.self.invariant.cleared i;
-      left = left i;
-      opening = opening i;
-    })
+    rw (← c.self.view_is, calls, offered, given, c.self.invariant.summed, left, opening) refl
 
 pub returns-clause-balanced : goal.returns-clause-balanced
 returns-clause-balanced g c =

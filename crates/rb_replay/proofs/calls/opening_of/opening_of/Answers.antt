@@ -11,7 +11,7 @@ returns c =
     let replayed = rw (c.opening.ensures, c.events.ensures.events) at c.in-Ok.ensures in
     let order = subst (AreInOrder c.in-Ok-elements.elements) (sym c.next_id.ensures) c.in-Ok-elements.ensures.order in
     let none : ¬ IsOpening c.in-Ok-elements.elements c.next_id.result = λ h. let some = c.in-None.ensures.opening.1 h in absurd (cc) in (
-      replayed.0,
-      subst IsTooLarge replayed.1
+      replayed.legal,
+      subst IsTooLarge replayed.state
           (too_large c.in-Ok-elements.elements (end_state c.in-Ok.end) c.next_id.result order c.in-Ok-elements.ensures.counted c.next_id.ensures none),
     )
