@@ -7,14 +7,15 @@ from typing import Iterable, Iterator, NamedTuple, Optional
 
 IMPORT = re.compile(r"^\s*(?:pub )?(?:ghost )?use ([^\s;{]+?)(?:\.\{([^}]*)\}| as (\S+?))?;?\s*$")
 IMPORT_BEGINS = re.compile(r"\s*(pub )?(ghost )?use ")
-SIGNATURE = re.compile(r"^\s*((?:abbrev |unfoldable |pub |record |data )*)([^\s:(){}=]+)(.*)$")
+SIGNATURE = re.compile(r"^\s*((?:abbrev |unfoldable |pub |record |data |ruleset )*)([^\s:(){}=]+)(.*)$")
+NAMED_BY_KIND = {"record", "data", "ruleset"}
 MODULE = re.compile(r"^(\s*)module _")
 WORD = re.compile(r"[^\s()\[\]{};,λ.→×]+(?:\.[^\s()\[\]{};,λ.→×]+)*")
 CITED_BY_TACTIC = re.compile(r"crate::(proofs(?:::\w+)+)::([^\s,)]+)")
 
 
 class Definition(NamedTuple):
-    """A name with its type, or a record."""
+    """A name with its type, a record, or a set of lemmas."""
 
     module: str
     name: str
@@ -86,7 +87,7 @@ class CitedFile:
         if not found or indent != levels[-1]:
             return owner
         kinds, name, rest = found.groups()
-        if not rest.startswith(" :") and not {"record", "data"} & {*kinds.split()}:
+        if not rest.startswith(" :") and not NAMED_BY_KIND & {*kinds.split()}:
             return owner
         definition = Definition(self.module, name, number)
         if not rest.startswith(" : goal."):

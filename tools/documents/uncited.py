@@ -1,9 +1,9 @@
 """The lemmas and definitions that nothing names.
 
-A definition is a name with its type, or a record, in a file of specs/ or proofs/, outside or inside a `module _`. It is
-cited if another definition of its file names it, or a clause, a ghost item or another file that imports it. An import
-alone cites nothing, nor does a definition that names itself. The checker itself cites the answers and invariants that
-it looks up by name (those of a type `goal.NAME`), and they are not counted.
+A definition is a name with its type, a record, or a set of lemmas (`ruleset`), in a file of specs/ or proofs/, outside
+or inside a `module _`. It is cited if another definition of its file names it, or a clause, a ghost item or another
+file that imports it. An import alone cites nothing, nor does a definition that names itself. The checker itself cites
+the answers and invariants that it looks up by name (those of a type `goal.NAME`), and they are not counted.
 """
 from __future__ import annotations
 

@@ -64,6 +64,15 @@ class Uncited(DocumentsTest):
         fault = "crates/rb_desk/proofs/Failures.antt:7: fails_again is cited nowhere"
         self.expect(1, "2 as they must be, 1 not", fault)
 
+    def test_a_set_of_lemmas(self) -> None:
+        self.write("crates/rb_desk/proofs/Failures.antt", PROOFS + "\npub ruleset failures = (fails_again)\n")
+        self.write("crates/rb_desk/src/lib.rt", SOURCE.replace("Failures::fails_again", "Failures::failures"))
+        self.expect(0, "4 as they must be, 0 not")
+
+    def test_a_set_of_lemmas_that_nothing_names(self) -> None:
+        self.write("crates/rb_desk/proofs/Failures.antt", PROOFS + "\npub ruleset failures = (fails_again)\n")
+        self.expect(1, ONE_MORE, "crates/rb_desk/proofs/Failures.antt:10: failures is cited nowhere")
+
     def test_a_lemma_that_names_only_itself(self) -> None:
         text = "\n  falls : ℕ → ℕ\n  falls zero = zero\n  falls (suc n) = falls n\n"
         self.write("crates/rb_desk/proofs/Failures.antt", PROOFS + text)
