@@ -1,5 +1,5 @@
 -- One run more, behind those before it.
-use Rattle.std.proofs.Common.{◌≡◌, ℕ, ◌+◌, ◌≤◌, Bool, List, [], ◌∷◌, ◌++◌, refl, ap, ◌∙◌, arith, length, length-append, Some, Result, Ok, Err}
+use Rattle.std.proofs.Common.{◌≡◌, ℕ, ◌+◌, ◌≤◌, Bool, List, [], ◌∷◌, ◌++◌, refl, ap, ◌∙◌, arith, length, length-append, Some, Ok, Err}
 use Rattle.rb_delayed.specs.declared.element.Element.{Element}
 use Rattle.rb_queue.specs.declared.ask.Ask.{Ask}
 use Rattle.rb_queue.specs.declared.ask.Ask.TheVariants.{Offer, Take}
@@ -7,9 +7,9 @@ use Rattle.rb_queue.specs.declared.reply.Reply.{Reply}
 use Rattle.rb_queue.specs.declared.reply.Reply.TheVariants.{Item, Offered}
 use Rattle.rb_retry.specs.Made.{Made}
 use Rattle.rb_retry.specs.Asked.{Makes, MayGet}
+use Rattle.rb_retry.specs.DeskRules.{DeskRules}
 use Rattle.rb_retry.specs.KeptSteps.{fault_of}
 use Rattle.rb_retry.specs.WorkRuns.{WorkRun, RunEnd, done, failed, EndsRun, RunsAlong, counted, report_after}
-use Rattle.rb_retry.specs.declared.policy.Policy.{Policy}
 use Rattle.rb_retry.specs.declared.desk_fault.DeskFault.{DeskFault}
 use Rattle.rb_retry.specs.declared.verdict.Verdict.TheVariants.{Again, Dead}
 use Rattle.rb_retry.specs.declared.work_report.WorkReport.{WorkReport}
@@ -26,27 +26,27 @@ one_more report (failed (Ok (Again again))) = refl
 one_more report (failed (Ok (Dead dead))) = refl
 one_more report (failed (Err refused)) = refl
 
-module _ {S : Type 0} (gives : S → ℕ → Type 0) (Steps : S → ℕ → Ask → Result Reply DeskFault → S → Type 0) (may : Element → Bool → Type 0) (policy : Policy) where
+module _ {S : Type 0} (rules : DeskRules S) (may : Element → Bool → Type 0) where
   -- a run behind others
-  pub along_more : (old last taken after : S) (runs : List WorkRun) (element : Element) (end : RunEnd) → RunsAlong gives Steps may policy old runs last
-      → Steps last 0 Take (Ok (Item element)) taken → EndsRun gives Steps may policy element taken end after
-      → RunsAlong gives Steps may policy old (runs ++ record { element = element; end = end } ∷ []) after
+  pub along_more : (old last taken after : S) (runs : List WorkRun) (element : Element) (end : RunEnd) → RunsAlong rules may old runs last
+      → rules.Steps last 0 Take (Ok (Item element)) taken → EndsRun rules may element taken end after
+      → RunsAlong rules may old (runs ++ record { element = element; end = end } ∷ []) after
   along_more old last taken after [] element end along take ends =
-      let from : Steps old 0 Take (Ok (Item element)) taken = rw (← along) take in (taken, from, after, ends, refl)
+      let from : rules.Steps old 0 Take (Ok (Item element)) taken = rw (← along) take in (taken, from, after, ends, refl)
   along_more old last taken after (run ∷ runs) element end (between, took, next, ended, along) take ends =
       (between, took, next, ended, along_more next last taken after runs element end along take ends)
 
   module _ (mine : S → List Made)
-      (makes : (old new : S) (asked : ℕ) (ask : Ask) (reply : Reply) → Steps old asked ask (Ok reply) new → Makes (gives old) asked ask reply (mine old) (mine new))
-      (refuses : (old new : S) (asked : ℕ) (ask : Ask) (fault : DeskFault) → Steps old asked ask (Err fault) new → MayGet ask fault × (mine new ≡ mine old)) where
+      (makes : (old new : S) (asked : ℕ) (ask : Ask) (reply : Reply) → rules.Steps old asked ask (Ok reply) new → Makes (rules.gives old) asked ask reply (mine old) (mine new))
+      (refuses : (old new : S) (asked : ℕ) (ask : Ask) (fault : DeskFault) → rules.Steps old asked ask (Err fault) new → MayGet ask fault × (mine new ≡ mine old)) where
     -- a take makes one event
-    pub took_more : (old new : S) (element : Element) → Steps old 0 Take (Ok (Item element)) new → length (mine new) ≡ length (mine old) + 1
+    pub took_more : (old new : S) (element : Element) → rules.Steps old 0 Take (Ok (Item element)) new → length (mine new) ≡ length (mine old) + 1
     took_more old new element step =
         let made = makes old new 0 Take (Item element) step in
         ap length made.grows ∙ length-append (mine old) _
 
     -- the end of a run takes no event back
-    pub ended_more : (element : Element) (old : S) (end : RunEnd) (new : S) → EndsRun gives Steps may policy element old end new → length (mine old) ≤ length (mine new)
+    pub ended_more : (element : Element) (old : S) (end : RunEnd) (new : S) → EndsRun rules may element old end new → length (mine old) ≤ length (mine new)
     ended_more element old done new (said, same) = omega (arith, ap (λ s. length (mine s)) same)
     ended_more element old (failed (Ok (Again again))) new (said, now, given, (draft, retry, step)) =
         let made = makes old new now (Offer draft) (Offered again) step in

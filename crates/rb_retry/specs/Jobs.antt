@@ -1,7 +1,6 @@
 -- The outcome of fetching a job, and what failing it does, at a desk of any kind.
 use Rattle.std.specs.Prelude.{◌≡◌, ℕ, Option, Some, None, Result, Ok, Err}
 use Rattle.rb_delayed.specs.declared.element.Element.{Element}
-use Rattle.rb_queue.specs.declared.ask.Ask.{Ask}
 use Rattle.rb_queue.specs.declared.ask.Ask.TheVariants.{Offer}
 use Rattle.rb_queue.specs.declared.draft.Draft.{Draft}
 use Rattle.rb_queue.specs.declared.reply.Reply.{Reply}
@@ -9,7 +8,7 @@ use Rattle.rb_queue.specs.declared.reply.Reply.TheVariants.{Offered, Item, Nothi
 use Rattle.rb_kept.specs.declared.fault.CallFault.{CallFault}
 use Rattle.rb_retry.specs.Retry.{IsRetry}
 use Rattle.rb_retry.specs.KeptSteps.{fault_of}
-use Rattle.rb_retry.specs.declared.policy.Policy.{Policy}
+use Rattle.rb_retry.specs.DeskRules.{DeskRules}
 use Rattle.rb_retry.specs.declared.desk_fault.DeskFault.{DeskFault}
 use Rattle.rb_retry.specs.declared.verdict.Verdict.{Verdict}
 use Rattle.rb_retry.specs.declared.verdict.Verdict.TheVariants.{Again, Dead}
@@ -30,15 +29,15 @@ abbrev pub offer_answer : Result Element CallFault → Result Reply DeskFault
 offer_answer (Ok element) = Ok (Offered element)
 offer_answer (Err fault) = Err (fault_of fault)
 
-module _ {S : Type 0} (Steps : S → ℕ → Ask → Result Reply DeskFault → S → Type 0) where
+module _ {S : Type 0} (rules : DeskRules S) where
   -- A job of this element fails at this moment. Its next attempt is offered, at this very moment; or it has
   -- none, and no call is made. A refused offer gives the job back.
-  abbrev pub FailsTo : Policy → Element → ℕ → S → Result Verdict (Element × CallFault) → S → Type 0
-  FailsTo policy element now old (Ok (Again again)) new =
-      (draft : Draft) × IsRetry policy element now (Some draft)
-      × Steps old now (Offer draft) (offer_answer (Ok again)) new
-  FailsTo policy element now old (Ok (Dead dead)) new =
-      IsRetry policy element now None × (dead ≡ element) × (new ≡ old)
-  FailsTo policy element now old (Err (back, fault)) new =
-      (draft : Draft) × IsRetry policy element now (Some draft)
-      × Steps old now (Offer draft) (offer_answer (Err fault)) new × (back ≡ element)
+  abbrev pub FailsTo : Element → ℕ → S → Result Verdict (Element × CallFault) → S → Type 0
+  FailsTo element now old (Ok (Again again)) new =
+      (draft : Draft) × IsRetry rules.policy element now (Some draft)
+      × rules.Steps old now (Offer draft) (offer_answer (Ok again)) new
+  FailsTo element now old (Ok (Dead dead)) new =
+      IsRetry rules.policy element now None × (dead ≡ element) × (new ≡ old)
+  FailsTo element now old (Err (back, fault)) new =
+      (draft : Draft) × IsRetry rules.policy element now (Some draft)
+      × rules.Steps old now (Offer draft) (offer_answer (Err fault)) new × (back ≡ element)

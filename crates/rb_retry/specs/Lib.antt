@@ -13,5 +13,6 @@ pub mod RecordLaws
 pub mod GivenLaws
 pub mod KeptSteps
 pub mod KeptLaws
+pub mod DeskRules
 pub mod Jobs
 pub mod WorkRuns

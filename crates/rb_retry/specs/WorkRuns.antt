@@ -1,14 +1,11 @@
 -- The outcome of working off a desk's jobs.
 use Rattle.std.specs.Prelude.{◌≡◌, ℕ, ◌+◌, Bool, true, false, List, [], ◌∷◌, Result, Ok, Err}
 use Rattle.rb_delayed.specs.declared.element.Element.{Element}
-use Rattle.rb_queue.specs.declared.ask.Ask.{Ask}
 use Rattle.rb_queue.specs.declared.ask.Ask.TheVariants.{Take}
-use Rattle.rb_queue.specs.declared.reply.Reply.{Reply}
 use Rattle.rb_queue.specs.declared.reply.Reply.TheVariants.{Item}
 use Rattle.rb_kept.specs.declared.fault.CallFault.{CallFault}
+use Rattle.rb_retry.specs.DeskRules.{DeskRules}
 use Rattle.rb_retry.specs.Jobs.{FailsTo}
-use Rattle.rb_retry.specs.declared.policy.Policy.{Policy}
-use Rattle.rb_retry.specs.declared.desk_fault.DeskFault.{DeskFault}
 use Rattle.rb_retry.specs.declared.verdict.Verdict.{Verdict}
 use Rattle.rb_retry.specs.declared.verdict.Verdict.TheVariants.{Again, Dead}
 use Rattle.rb_retry.specs.declared.work_report.WorkReport.{WorkReport}
@@ -43,17 +40,16 @@ abbrev pub report_after : WorkReport → List WorkRun → WorkReport
 report_after report [] = report
 report_after report (run ∷ runs) = report_after (counted report run.end) runs
 
-module _ {S : Type 0} (gives : S → ℕ → Type 0) (Steps : S → ℕ → Ask → Result Reply DeskFault → S → Type 0)
-    (may : Element → Bool → Type 0) (policy : Policy) where
+module _ {S : Type 0} (rules : DeskRules S) (may : Element → Bool → Type 0) where
   -- the work gave this answer for the element, and a job that failed did so at a reading of the desk's clock
   abbrev pub EndsRun : Element → S → RunEnd → S → Type 0
   EndsRun element old done new = may element true × (new ≡ old)
   EndsRun element old (failed result) new =
-      may element false × (now : ℕ) × gives old now × FailsTo Steps policy element now old result new
+      may element false × (now : ℕ) × rules.gives old now × FailsTo rules element now old result new
 
   -- these runs, one after the other: each takes an element, and ends
   abbrev pub RunsAlong : S → List WorkRun → S → Type 0
   RunsAlong old [] new = new ≡ old
   RunsAlong old (run ∷ runs) new =
-      (taken : S) × Steps old 0 Take (Ok (Item run.element)) taken
+      (taken : S) × rules.Steps old 0 Take (Ok (Item run.element)) taken
       × (after : S) × EndsRun run.element taken run.end after × RunsAlong after runs new

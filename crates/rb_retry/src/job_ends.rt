@@ -1,5 +1,6 @@
 ghost use Rattle.std.specs.Prelude.{◌≡◌};
 ghost use Rattle.rb_queue.specs.declared.ask.Ask.TheVariants as asks;
+ghost use Rattle.rb_retry.specs.DeskRules.{desk_rules};
 ghost use Rattle.rb_retry.specs.Jobs.{FailsTo, offer_answer};
 
 use crate::desk::Desk;
@@ -22,7 +23,7 @@ pub fn fail<D: Desk>(
     job: Job,
     now: u64,
 ) -> Result<Verdict, (Job, CallFault)>
-    ensures fails { FailsTo D.Steps policy.now job now (D.state desk.old) result (D.state desk.new) }
+    ensures fails { FailsTo (desk_rules D.Desk policy.now) job now (D.state desk.old) result (D.state desk.new) }
     ensures name { D.name (D.state desk.new) ≡ D.name (D.state desk.old) }
 {
     match policy.retry_of(job.element(), now) {

@@ -3,6 +3,7 @@ ghost use Rattle.rb_delayed.specs.declared.element.Element.{Element};
 ghost use Rattle.rb_queue.specs.declared.ask.Ask.TheVariants as asks;
 ghost use Rattle.rb_kept.specs.declared.kept.TheConstants.{MOST_CALLS};
 ghost use Rattle.rb_retry.specs.declared.desk_fault.DeskFault.{DeskFault};
+ghost use Rattle.rb_retry.specs.DeskRules.{desk_rules};
 ghost use Rattle.rb_retry.specs.WorkRuns.{WorkRun, RunEnd, EndsRun, RunsAlong, IsSum, no_runs, counted, report_after};
 
 use crate::desk::Desk;
@@ -30,7 +31,7 @@ pub trait Work {
 /// It takes memory only for what is offered again.
 pub fn work_off<D: Desk, W: Work>(desk: &mut D, policy: &Policy, work: &W) -> WorkReport
     ensures runs { (runs : List WorkRun) × (last : D.State) × (fault : DeskFault)
-        × RunsAlong D.gives D.Steps (W.may work.now) policy.now (D.state desk.old) runs last
+        × RunsAlong (desk_rules D.Desk policy.now) (W.may work.now) (D.state desk.old) runs last
         × D.Steps last 0 asks.Take (Err fault) (D.state desk.new)
         × (result ≡ report_after no_runs runs) }
     ensures sum { IsSum result }
@@ -54,7 +55,7 @@ fn run_job<D: Desk, W: Work>(
     requires few { report.old.runs < MOST_CALLS }
     requires sum { IsSum report.old }
     ensures ends { (end : RunEnd)
-        × EndsRun D.gives D.Steps (W.may work.now) policy.now job (D.state desk.old) end (D.state desk.new)
+        × EndsRun (desk_rules D.Desk policy.now) (W.may work.now) job (D.state desk.old) end (D.state desk.new)
         × (report.new ≡ counted report.old end) }
     ensures sum { IsSum report.new }
     ensures name { D.name (D.state desk.new) ≡ D.name (D.state desk.old) }

@@ -4,9 +4,10 @@ use Rattle.rb_ledger.specs.Totals.{nothing}
 use Rattle.rb_queue.specs.declared.opening.Opening.{Opening}
 use Rattle.rb_kept.specs.Log.{Log}
 use Rattle.rb_retry.specs.KeptSteps.{KeptState}
+use Rattle.rb_retry.specs.DeskRules.{kept_rules}
 use Rattle.rb_retry.specs.declared.policy.Policy.{Policy}
 use Rattle.rb_session.specs.Delivered.{RanDelivered}
-use Rattle.rb_session.specs.Rules.{SessionRules, session_rules, kept_rules, HadGotBehind}
+use Rattle.rb_session.specs.Rules.{SessionRules, session_rules, HadGotBehind}
 use Rattle.rb_session.specs.Served.{Served}
 use Rattle.rb_session.specs.declared.delivery.Delivery.{Delivery}
 use Rattle.rb_session.specs.declared.ended.Ended.{Ended}

@@ -15,6 +15,7 @@ use Rattle.rb_retry.specs.Asked.{Makes, MayGet}
 use Rattle.rb_retry.specs.Jobs.{FailsTo}
 use Rattle.rb_retry.specs.Made.{Made, made_after}
 use Rattle.rb_retry.specs.declared.desk_fault.DeskFault.{DeskFault}
+use Rattle.rb_retry.specs.declared.desk_fault.DeskFault.TheVariants.{Full, Memory, Stopped}
 use Rattle.rb_retry.specs.declared.policy.Policy.{Policy}
 use Rattle.rb_retry.specs.declared.verdict.Verdict.{Verdict}
 use Rattle.rb_retry.specs.declared.verdict.Verdict.TheVariants.{Again, Dead}
@@ -32,7 +33,8 @@ use Rattle.rb_session.specs.Served.{Served}
 use Rattle.rb_serving.specs.Visits.{shared_rules}
 use Rattle.rb_session.proofs.Events.{Way}
 use Rattle.rb_session.proofs.RunEvents.{WaysAlong, ends_of, made_by_ends, grows_so}
-use Rattle.rb_shared_desk.specs.SharedSteps.{SharedState, SharedSteps, SetsShared, made_through}
+use Rattle.rb_shared_desk.specs.WaitRules.{WaitRules}
+use Rattle.rb_shared_desk.specs.SharedSteps.{SharedState, SharedSteps, SetsShared, Ends, made_through}
 use Rattle.rb_shared_desk.specs.SharedLaws.{shared_makes, shared_refuses}
 
 -- one event more, if it is of the seat
@@ -86,67 +88,74 @@ module _ {C G : Type 0} where
       ∙ map-append (λ (one : Made). one.event) (whole_mine from) made
       ∙ ap (λ (events : List Event). events ++ made_events made) (own_events from sound.0)
 
-  module _ (gives : C → ℕ → Type 0) (answers : G → ℕ → Bool → Type 0) where
+  module _ (waits : WaitRules C G) where
     -- the readings of the desk's clock
     abbrev desk_gives : SharedState C G → ℕ → Type 0
-    desk_gives desk moment = gives desk.clock moment
+    desk_gives desk moment = waits.gives desk.clock moment
+
+    ends_whole : (old new : SharedState C G) (handed : ℕ) (ask : Ask) (result : Result Reply DeskFault)
+        → Ends waits old handed ask result new → Ends waits (whole old) handed ask result (whole new)
+    ends_whole old new handed ask (Ok reply) ends = ends
+    ends_whole old new handed ask (Err Full) ends = ends
+    ends_whole old new handed ask (Err Memory) ends = ends
+    ends_whole old new handed ask (Err Stopped) ends = ends
 
     steps_whole : (old new : SharedState C G) (handed : ℕ) (ask : Ask) (result : Result Reply DeskFault)
-        → SharedSteps gives answers old handed ask result new → SharedSteps gives answers (whole old) handed ask result (whole new)
+        → SharedSteps waits old handed ask result new → SharedSteps waits (whole old) handed ask result (whole new)
     steps_whole old new handed ask result steps = record {
       earlier = omega arith;
       sound = steps.sound;
       learns = steps.learns;
-      ends = steps.ends;
+      ends = ends_whole old new handed ask result steps.ends;
       gate = steps.gate;
       stays = ap whole steps.stays;
     }
 
-    makes_whole : (old new : SharedState C G) (asked : ℕ) (ask : Ask) (reply : Reply) → SharedSteps gives answers old asked ask (Ok reply) new
+    makes_whole : (old new : SharedState C G) (asked : ℕ) (ask : Ask) (reply : Reply) → SharedSteps waits old asked ask (Ok reply) new
         → Makes (desk_gives old) asked ask reply (whole_mine old) (whole_mine new)
     makes_whole old new asked ask reply steps =
-        shared_makes gives answers (whole old) (whole new) asked ask reply (steps_whole old new asked ask (Ok reply) steps)
+        shared_makes waits (whole old) (whole new) asked ask reply (steps_whole old new asked ask (Ok reply) steps)
 
-    refuses_whole : (old new : SharedState C G) (asked : ℕ) (ask : Ask) (fault : DeskFault) → SharedSteps gives answers old asked ask (Err fault) new
+    refuses_whole : (old new : SharedState C G) (asked : ℕ) (ask : Ask) (fault : DeskFault) → SharedSteps waits old asked ask (Err fault) new
         → MayGet ask fault × (whole_mine new ≡ whole_mine old)
     refuses_whole old new asked ask fault steps =
-        shared_refuses gives answers (whole old) (whole new) asked ask fault (steps_whole old new asked ask (Err fault) steps)
+        shared_refuses waits (whole old) (whole new) asked ask fault (steps_whole old new asked ask (Err fault) steps)
 
     stays_whole : (old new : SharedState C G) (moment : ℕ) (result : Option ℕ) → SetsShared old moment result new → whole_mine new ≡ whole_mine old
     stays_whole old new moment result sets = ap whole_mine sets.1
 
     -- what a line and the failure of a job do
     knows_way : (policy : Policy) (reading : Result Request LineFault) (replies : List LineReply) (old new : SharedState C G)
-        → Way (shared_rules gives answers policy) reading replies old new → Knows old new
+        → Way (shared_rules waits policy) reading replies old new → Knows old new
     knows_way policy reading replies old new (inl leaves) = inl leaves.same
     knows_way policy reading replies old new (inr (inl calls)) = inr (calls.steps.sound, calls.steps.learns.sound)
     knows_way policy reading replies old new (inr (inr sets)) = inl sets.sets.1
 
     knows_ways : (policy : Policy) (old new : SharedState C G) (turns : List Turn)
-        → WaysAlong (shared_rules gives answers policy) old turns new
+        → WaysAlong (shared_rules waits policy) old turns new
         → Knows old new
     knows_ways policy old new [] same = inl same
     knows_ways policy old new (turn ∷ turns) (between, way, rest) =
         knows_more old between new (knows_way policy turn.reading turn.replies old between way) (knows_ways policy between new turns rest)
 
     knows_failure : (policy : Policy) (element : Element) (now : ℕ) (old new : SharedState C G) (result : Result Verdict (Element × CallFault))
-        → FailsTo (SharedSteps gives answers) policy element now old result new → Knows old new
+        → FailsTo (shared_rules waits policy) element now old result new → Knows old new
     knows_failure policy element now old new (Ok (Again again)) (draft, retry, steps) = inr (steps.sound, steps.learns.sound)
     knows_failure policy element now old new (Ok (Dead dead)) (retry, is_dead, same) = inl same
     knows_failure policy element now old new (Err (back, fault)) (draft, retry, steps, is_back) = inr (steps.sound, steps.learns.sound)
 
     knows_closing : (policy : Policy) (from to : SharedState C G) (held : List Element) (lost : ℕ)
-        → Closes (shared_rules gives answers policy) from held lost to → Knows from to
+        → Closes (shared_rules waits policy) from held lost to → Knows from to
     knows_closing policy from to [] lost (zero, same) = inl same
     knows_closing policy from to (element ∷ held) lost (now, is_now, result, between, fails, fewer, rest, sum) =
         knows_more from between to (knows_failure policy element now from between result fails) (knows_closing policy between to held fewer rest)
 
     pub calls_by_run : (policy : Policy) (HadGot : List ℕ → Type 0) (delivery : Delivery) (Over : Type 0)
         (from to : SharedState C G) (served : Served)
-        → RanDelivered (session_rules (shared_rules gives answers policy) HadGot) delivery Over from served to
+        → RanDelivered (session_rules (shared_rules waits policy) HadGot) delivery Over from served to
         → MadeByRun Over served (λ made. to.pass.mine ≡ from.pass.mine ++ made_events made)
     calls_by_run policy HadGot delivery Over from to served ran =
-        let desk = shared_rules gives answers policy in
+        let desk = shared_rules waits policy in
         let run = ends_of (session_rules desk HadGot) delivery Over from to served ran in
         let made = made_by_ends desk whole_mine makes_whole refuses_whole stays_whole Over from to served run in
         let knows = knows_more from run.last.desk to (knows_ways policy from run.last.desk run.path.lines run.path.ways)

@@ -7,6 +7,7 @@ use Rattle.rb_session.specs.Rules.{HadGotBehind}
 use Rattle.rb_session.specs.Events.{made_events}
 use Rattle.rb_session.proofs.RunEvents.{grows_so}
 use Rattle.rb_serving.specs.Terms.{Terms}
+use Rattle.rb_serving.specs.Visits.{visit_waits}
 use Rattle.rb_serving.specs.VisitEvents.{CallsByVisit}
 use Rattle.rb_serving.proofs.SharedRuns.{calls_by_run}
 
@@ -19,7 +20,7 @@ of_pass from to old new made begun seen grows =
 module _ {I O G C : Type 0} (terms : Terms I O G C) where
   pub calls_by_visit : CallsByVisit terms
   calls_by_visit visit left old new served ran =
-      let run = calls_by_run terms.rules.gives terms.answers terms.rules.policy
+      let run = calls_by_run (visit_waits terms) terms.rules.policy
       (HadGotBehind terms.contents (terms.contents visit.writer)) terms.rules.delivery
       (IsAtEnd (terms.remaining left.reader)) ran.from ran.to served ran.ran in
       (grows_so (λ made grows. of_pass ran.from.pass ran.to.pass old new made ran.begun.pass_is ran.seen grows) run).0

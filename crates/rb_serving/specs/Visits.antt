@@ -1,12 +1,14 @@
 -- What became of those who came to a door, and of the pass of the worker that served them.
-use Rattle.std.specs.Prelude.{◌≡◌, Bool, ℕ, ◌+◌, min, List, [], ◌∷◌, ◌++◌, length, Option, None, Some}
+use Rattle.std.specs.Prelude.{◌≡◌, ℕ, ◌+◌, min, List, [], ◌∷◌, ◌++◌, length, Option, None, Some}
 use Rattle.std.specs.Io.KnownBytes.{Appends, Consumes, IsAtEnd}
 use Rattle.rb_ledger.specs.declared.totals.TheConstants.{GREATEST_COUNT}
 use Rattle.rb_lock.specs.Passes.{Seen, record_of}
 use Rattle.rb_lock.specs.declared.pass_record.PassRecord.{PassRecord}
+use Rattle.rb_shared_desk.specs.WaitRules.{WaitRules}
 use Rattle.rb_shared_desk.specs.SharedSteps.{SharedState, SharedSteps, SetsShared}
+use Rattle.rb_retry.specs.DeskRules.{DeskRules}
 use Rattle.rb_retry.specs.declared.policy.Policy.{Policy}
-use Rattle.rb_session.specs.Rules.{DeskRules, SessionRules, session_rules, HadGotBehind}
+use Rattle.rb_session.specs.Rules.{SessionRules, session_rules, HadGotBehind}
 use Rattle.rb_session.specs.Served.{Served}
 use Rattle.rb_session.specs.Delivered.{RanDelivered}
 use Rattle.rb_serving.specs.Terms.{Terms}
@@ -51,21 +53,24 @@ pub record IsDeskOf {C G : Type 0} (clock : C) (gate : G) (pass : Seen) (desk : 
   pub gate_is : desk.gate ≡ gate
   pub before : desk.before ≡ length pass.mine
 
--- the rules of a desk over a shared queue, by what its clock and its gate say
-abbrev pub shared_rules : {C G : Type 0} → (C → ℕ → Type 0) → (G → ℕ → Bool → Type 0) → Policy
-    → DeskRules (SharedState C G)
-shared_rules gives answers policy = record {
-  gives = λ desk moment. gives desk.clock moment;
+-- the rules of a desk over a shared queue, by those of its waits
+abbrev pub shared_rules : {C G : Type 0} → WaitRules C G → Policy → DeskRules (SharedState C G)
+shared_rules waits policy = record {
+  gives = λ desk moment. waits.gives desk.clock moment;
   Sets = SetsShared;
-  Steps = SharedSteps gives answers;
+  Steps = SharedSteps waits;
   policy = policy;
 }
 
 module _ {I O G C : Type 0} (terms : Terms I O G C) where
+  -- what the clock of all visits may give, and what their gates may answer
+  abbrev pub visit_waits : WaitRules C G
+  visit_waits = record { gives = terms.rules.gives; answers = terms.answers }
+
   -- the rules of the session of a visit with this writer
   abbrev pub visit_rules : O → SessionRules (SharedState C G)
   visit_rules writer =
-      session_rules (shared_rules terms.rules.gives terms.answers terms.rules.policy)
+      session_rules (shared_rules visit_waits terms.rules.policy)
       (HadGotBehind terms.contents (terms.contents writer))
 
   -- At a desk, a session was run over what came until it was over, and its replies were delivered to this writer as

@@ -3,9 +3,9 @@ use Rattle.std.proofs.Common.{◌≡◌, ℕ, ◌+◌, List, [], ◌∷◌, ◌+
 use Rattle.std.specs.Prelude.{true, false, is_err}
 use Rattle.rb_delayed.specs.declared.element.Element.{Element}
 use Rattle.rb_kept.specs.declared.fault.CallFault.{CallFault}
+use Rattle.rb_retry.specs.DeskRules.{DeskRules}
 use Rattle.rb_retry.specs.Jobs.{FailsTo}
 use Rattle.rb_retry.specs.declared.verdict.Verdict.{Verdict}
-use Rattle.rb_session.specs.Rules.{DeskRules}
 use Rattle.rb_session.specs.Closing.{Closes, lost_by}
 
 -- a refused retry is one that is lost
@@ -21,11 +21,11 @@ module _ {S : Type 0} (rules : DeskRules S) where
   -- one more fails behind those that did
   pub closes_more : (old last new : S) (held : List Element) (element : Element) (lost now : ℕ)
       (result : Result Verdict (Element × CallFault)) → Closes rules old held lost last → rules.gives last now
-      → FailsTo rules.Steps rules.policy element now last result new
+      → FailsTo rules element now last result new
       → Closes rules old (held ++ element ∷ []) (lost + lost_by result) new
   closes_more old last new [] element lost now result (none, same) given fails =
-      let from : FailsTo rules.Steps rules.policy element now old result new =
-      subst (λ s. FailsTo rules.Steps rules.policy element now s result new) same fails in
+      let from : FailsTo rules element now old result new =
+      subst (λ s. FailsTo rules element now s result new) same fails in
       let at : rules.gives old now = subst (λ s. rules.gives s now) same given in
       (now, at, result, new, from, 0, (refl, refl), omega (arith, none))
   closes_more old last new (first ∷ held) element lost now result

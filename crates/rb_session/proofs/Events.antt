@@ -16,6 +16,7 @@ use Rattle.rb_kept.specs.declared.fault.CallFault.TheVariants as refusals
 use Rattle.rb_retry.specs.Made.{Made}
 use Rattle.rb_retry.specs.Asked.{Makes, MayGet}
 use Rattle.rb_retry.specs.Retry.{IsNextAttempt}
+use Rattle.rb_retry.specs.DeskRules.{DeskRules}
 use Rattle.rb_retry.specs.Jobs.{FailsTo}
 use Rattle.rb_retry.specs.KeptSteps.{fault_of}
 use Rattle.rb_retry.specs.declared.desk_fault.DeskFault.{DeskFault}
@@ -28,7 +29,6 @@ use Rattle.rb_protocol.specs.declared.line_fault.LineFault.{LineFault}
 use Rattle.rb_protocol.specs.declared.line_reply.LineReply.{LineReply}
 use Rattle.rb_protocol.specs.declared.line_reply.LineReply.TheVariants as lines
 use Rattle.rb_protocol.specs.declared.error_word.ErrorWord.TheVariants as words
-use Rattle.rb_session.specs.Rules.{DeskRules}
 use Rattle.rb_session.specs.Held.{place_of}
 use Rattle.rb_session.specs.Closing.{Closes}
 use Rattle.rb_session.specs.Session.{Turn, Serves}
@@ -325,7 +325,7 @@ module _ {S : Type 0} (rules : DeskRules S) where
         leaves same (made, is, are) = (made, is ∙ ap (λ (m : List Made). m ++ made) same, inl are)
 
         behind : (result : Result Verdict (Element × CallFault))
-            → FailsTo rules.Steps rules.policy element now from result between
+            → FailsTo rules element now from result between
             → (made : List Made) × (mine to ≡ mine between ++ made) × AreOfClosing held made
             → (made : List Made) × (mine to ≡ mine from ++ made) × AreOfClosing (element ∷ held) made
         behind (Ok (Again again)) (draft, retry, steps) (made, is, are) =

@@ -4,7 +4,8 @@ use Rattle.std.proofs.Common.{refl, sym, ap, subst, ◌∙◌, append_assoc, len
 use Rattle.std.proofs.lemmas.List.{append-nil, append_cancel_left}
 use Rattle.std.specs.Io.KnownBytes.{Appends, Consumes, append_known, Keeps}
 use Rattle.std.proofs.KnownBytes.{append_known-passed}
-use Rattle.rb_session.specs.Rules.{DeskRules, SessionRules, session_rules, HadGotBehind}
+use Rattle.rb_retry.specs.DeskRules.{DeskRules}
+use Rattle.rb_session.specs.Rules.{SessionRules, session_rules, HadGotBehind}
 use Rattle.rb_session.specs.Served.{Served}
 use Rattle.rb_session.specs.Turn.{Point, point}
 use Rattle.rb_session.specs.Exchange.{Exchanges}

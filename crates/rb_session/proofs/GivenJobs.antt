@@ -19,6 +19,7 @@ use Rattle.rb_retry.specs.Made.{Made, ids_given, given_by, GivesOnce}
 use Rattle.rb_retry.specs.GivenLaws.{times_append, times_given-append}
 use Rattle.rb_retry.specs.Asked.{Makes, MayGet}
 use Rattle.rb_retry.specs.KeptSteps.{fault_of}
+use Rattle.rb_retry.specs.DeskRules.{DeskRules}
 use Rattle.rb_retry.specs.declared.desk_fault.DeskFault.{DeskFault}
 use Rattle.rb_retry.specs.declared.verdict.Verdict.TheVariants.{Again, Dead}
 use Rattle.rb_protocol.specs.declared.request.Request.{Request}
@@ -27,7 +28,6 @@ use Rattle.rb_protocol.specs.declared.line_fault.LineFault.{LineFault}
 use Rattle.rb_protocol.specs.declared.line_reply.LineReply.{LineReply}
 use Rattle.rb_protocol.specs.declared.line_reply.LineReply.TheVariants as lines
 use Rattle.rb_protocol.specs.declared.error_word.ErrorWord.TheVariants as words
-use Rattle.rb_session.specs.Rules.{DeskRules}
 use Rattle.rb_session.specs.Held.{place_of, AreGiven, AreNew, AreHeldOnce}
 use Rattle.rb_session.specs.Session.{Turn, Serves}
 use Rattle.rb_session.specs.Turn.{Point, IsTurn, IsServed, IsCall, IsFetch, IsFailure, AnswersAlone, fetched_by}

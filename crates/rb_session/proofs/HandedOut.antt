@@ -9,6 +9,7 @@ use Rattle.rb_queue.specs.declared.reply.Reply.{Reply}
 use Rattle.rb_queue.specs.declared.reply.Reply.TheVariants.{Offered, Item, Nothing, Head, Removed, Drained, Cleared}
 use Rattle.rb_queue.specs.declared.reply.Reply.TheVariants.{Size}
 use Rattle.rb_kept.specs.declared.fault.CallFault.{CallFault}
+use Rattle.rb_retry.specs.DeskRules.{DeskRules}
 use Rattle.rb_retry.specs.declared.desk_fault.DeskFault.{DeskFault}
 use Rattle.rb_retry.specs.declared.desk_fault.DeskFault.TheVariants.{Full, Memory, Stopped}
 use Rattle.rb_retry.specs.declared.verdict.Verdict.{Verdict}
@@ -17,7 +18,6 @@ use Rattle.rb_protocol.specs.declared.request.Request.TheVariants as requests
 use Rattle.rb_protocol.specs.declared.line_fault.LineFault.{LineFault}
 use Rattle.rb_protocol.specs.declared.line_reply.LineReply.{LineReply}
 use Rattle.rb_protocol.specs.declared.line_reply.LineReply.TheVariants as lines
-use Rattle.rb_session.specs.Rules.{DeskRules}
 use Rattle.rb_session.specs.Held.{place_of}
 use Rattle.rb_session.specs.Turn.{Point, IsTurn, IsServed, IsCall, IsFetch, IsFailure, AnswersAlone, fetched_by}
 use Rattle.rb_session.specs.Turn.{held_after, lines_for}

@@ -13,13 +13,13 @@ use Rattle.rb_retry.specs.declared.policy.Policy.{Policy}
 use Rattle.rb_retry.specs.declared.verdict.Verdict.{Verdict}
 use Rattle.rb_retry.specs.declared.verdict.Verdict.TheVariants.{Again, Dead}
 use Rattle.rb_retry.specs.Asked.{Makes, MayGet}
+use Rattle.rb_retry.specs.DeskRules.{kept_rules}
 use Rattle.rb_retry.specs.Jobs.{FailsTo}
 use Rattle.rb_kept.specs.declared.fault.CallFault.{CallFault}
 use Rattle.rb_delayed.specs.declared.element.Element.{Element}
 use Rattle.rb_protocol.specs.declared.request.Request.{Request}
 use Rattle.rb_protocol.specs.declared.line_fault.LineFault.{LineFault}
 use Rattle.rb_protocol.specs.declared.line_reply.LineReply.{LineReply}
-use Rattle.rb_session.specs.Rules.{kept_rules}
 use Rattle.rb_session.specs.Turn.{Point}
 use Rattle.rb_session.specs.Session.{Turn, Serves}
 use Rattle.rb_session.specs.Closing.{Closes}
@@ -104,7 +104,7 @@ records_by_lines policy from to turns serves =
 -- no failure sets the clock
 same_moment : (policy : Policy) (element : Element) (now : ℕ) (old new : KeptState)
     (result : Result Verdict (Element × CallFault))
-    → FailsTo KeptSteps policy element now old result new → new.moment ≡ old.moment
+    → FailsTo (kept_rules policy) element now old result new → new.moment ≡ old.moment
 same_moment policy element now old new (Ok (Again again)) (draft, retry, steps) =
     ap (λ (s : KeptState). s.moment) steps.stays
 same_moment policy element now old new (Ok (Dead dead)) (retry, is_dead, same) = ap (λ (s : KeptState). s.moment) same

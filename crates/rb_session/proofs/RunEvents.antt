@@ -15,6 +15,7 @@ use Rattle.rb_kept.specs.declared.outcome.Outcome.{Outcome}
 use Rattle.rb_kept.specs.declared.outcome.Outcome.TheVariants.{Done, Later}
 use Rattle.rb_kept.specs.declared.tries.Try.{Try}
 use Rattle.rb_retry.specs.Asked.{Makes, MayGet}
+use Rattle.rb_retry.specs.DeskRules.{DeskRules, kept_rules}
 use Rattle.rb_retry.specs.Jobs.{FailsTo}
 use Rattle.rb_retry.specs.KeptSteps.{KeptState, KeptSteps, SetsKept}
 use Rattle.rb_retry.specs.Made.{Made}
@@ -32,7 +33,7 @@ use Rattle.rb_protocol.specs.declared.line_reply.LineReply.TheVariants as lines
 use Rattle.rb_protocol.specs.declared.request.Request.{Request}
 use Rattle.rb_protocol.specs.declared.request.Request.TheVariants as requests
 use Rattle.rb_protocol.specs.Line.{HasNoLineFeed}
-use Rattle.rb_session.specs.Rules.{DeskRules, SessionRules, kept_rules, session_rules, HadGotBehind}
+use Rattle.rb_session.specs.Rules.{SessionRules, session_rules, HadGotBehind}
 use Rattle.rb_session.specs.Served.{Served}
 use Rattle.rb_session.specs.Turn.{Point, point, IsTurn}
 use Rattle.rb_session.specs.Session.{Turn, IsLine, Serves, ServesFirst, ServesToEnd, ServesToQuit}
@@ -435,7 +436,7 @@ way_opening policy reading replies old new (inr (inr sets)) = ap (λ (s : KeptSt
 
 fails_opening : (policy : Policy) (element : Element) (now : ℕ) (old new : KeptState)
     (result : Result Verdict (Element × CallFault))
-    → FailsTo KeptSteps policy element now old result new → new.log.opening ≡ old.log.opening
+    → FailsTo (kept_rules policy) element now old result new → new.log.opening ≡ old.log.opening
 fails_opening policy element now old new (Ok (Again again)) (draft, retry, steps) = step_opening old new now _ _ steps
 fails_opening policy element now old new (Ok (Dead dead)) (retry, is_dead, same) =
     ap (λ (s : KeptState). s.log.opening) same

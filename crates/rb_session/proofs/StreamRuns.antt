@@ -2,13 +2,14 @@
 use Rattle.std.proofs.Common.{◌≡◌, ℕ, ◌<◌, List, [], ◌∷◌, ◌++◌, length, Some, Err, inl, inr}
 use Rattle.std.proofs.Common.{refl, sym, ap, subst, ◌∙◌, append_assoc, arith}
 use Rattle.std.proofs.lemmas.List.{append-nil}
+use Rattle.rb_retry.specs.DeskRules.{DeskRules}
 use Rattle.rb_protocol.specs.ReplyText.{text_of}
 use Rattle.rb_protocol.specs.declared.format.TheConstants.{LINE_FEED}
 use Rattle.rb_protocol.specs.declared.line_fault.LineFault.TheVariants.{Line}
 use Rattle.rb_protocol.specs.declared.line_reply.LineReply.TheVariants as lines
 use Rattle.rb_protocol.specs.declared.error_word.ErrorWord.TheVariants as words
 use Rattle.rb_protocol.specs.Line.{HasNoLineFeed}
-use Rattle.rb_session.specs.Rules.{DeskRules, SessionRules, session_rules}
+use Rattle.rb_session.specs.Rules.{SessionRules, session_rules}
 use Rattle.rb_session.specs.Turn.{Point}
 use Rattle.rb_session.specs.Session.{Turn, GotBeforeWaits, ServesFirst, ServesToQuit}
 use Rattle.rb_session.specs.Session.{bytes_of, answers_of, rest_text}

@@ -2,9 +2,9 @@
 use Rattle.std.specs.Prelude.{◌≡◌, ℕ, ◌+◌, List, [], ◌∷◌, Result, Ok, Err}
 use Rattle.rb_delayed.specs.declared.element.Element.{Element}
 use Rattle.rb_kept.specs.declared.fault.CallFault.{CallFault}
+use Rattle.rb_retry.specs.DeskRules.{DeskRules}
 use Rattle.rb_retry.specs.Jobs.{FailsTo}
 use Rattle.rb_retry.specs.declared.verdict.Verdict.{Verdict}
-use Rattle.rb_session.specs.Rules.{DeskRules}
 
 -- a job is lost if its next attempt was refused
 abbrev pub lost_by : Result Verdict (Element × CallFault) → ℕ
@@ -18,5 +18,5 @@ module _ {S : Type 0} (rules : DeskRules S) where
   Closes old (element ∷ held) lost new =
       (now : ℕ) × rules.gives old now
       × (result : Result Verdict (Element × CallFault)) × (between : S)
-      × FailsTo rules.Steps rules.policy element now old result between
+      × FailsTo rules element now old result between
       × (more : ℕ) × Closes between held more new × (lost ≡ lost_by result + more)

@@ -9,6 +9,7 @@ use Rattle.rb_queue.specs.declared.reply.Reply.TheVariants.{Offered}
 use Rattle.rb_kept.specs.Tries.{IsActOf}
 use Rattle.rb_retry.specs.Made.{Made}
 use Rattle.rb_retry.specs.KeptSteps.{KeptState}
+use Rattle.rb_retry.specs.DeskRules.{DeskRules, desk_rules}
 use Rattle.rb_retry.specs.declared.desk.Desk as Desk
 use Rattle.rb_retry.specs.declared.policy.Policy.{Policy}
 use Rattle.rb_protocol.specs.declared.request.Request.{Request}
@@ -20,7 +21,6 @@ use Rattle.rb_session.specs.Held.{AreHeldOnce}
 use Rattle.rb_session.specs.Turn.{Point, IsFirstDraft, lines_for}
 use Rattle.rb_session.specs.Session.{Turn, Serves}
 use Rattle.rb_session.specs.Closing.{Closes}
-use Rattle.rb_session.specs.Rules.{DeskRules, desk_rules}
 
 -- the ask is one that the request makes
 abbrev pub IsAskOf : Request → Ask → Type 0

@@ -2,12 +2,11 @@
 use Rattle.std.specs.Prelude.{◌≡◌, ℕ, ◌-◌, ◌<◌, ◌⊎◌, Option, Some, None, Result, Ok, Err}
 use Rattle.std.specs.Prelude.{List, [], ◌∷◌, ◌++◌, length, map, drop, slice_get}
 use Rattle.rb_delayed.specs.declared.element.Element.{Element}
-use Rattle.rb_queue.specs.declared.ask.Ask.{Ask}
 use Rattle.rb_queue.specs.declared.reply.Reply.{Reply}
 use Rattle.rb_kept.specs.declared.fault.CallFault.{CallFault}
+use Rattle.rb_retry.specs.DeskRules.{DeskRules}
 use Rattle.rb_retry.specs.Jobs.{FailsTo}
 use Rattle.rb_retry.specs.declared.desk_fault.DeskFault.{DeskFault}
-use Rattle.rb_retry.specs.declared.policy.Policy.{Policy}
 use Rattle.rb_retry.specs.declared.verdict.Verdict.{Verdict}
 use Rattle.rb_protocol.specs.declared.line_reply.LineReply.{LineReply}
 use Rattle.rb_protocol.specs.declared.line_reply.LineReply.TheVariants as lines
@@ -57,14 +56,13 @@ told (Err (back, fault)) = Err fault
 
 -- The element at this place of what is held fails, and this is told. Only one whose next attempt was refused
 -- is held on.
-pub record FailsAt {S : Type 0} (Steps : S → ℕ → Ask → Result Reply DeskFault → S → Type 0) (policy : Policy)
-    (held : List Element) (place now : ℕ) (old : S) (verdict : Option (Result Verdict CallFault))
-    (left : List Element) (new : S) : Type 0 where
+pub record FailsAt {S : Type 0} (rules : DeskRules S) (held : List Element) (place now : ℕ) (old : S)
+    (verdict : Option (Result Verdict CallFault)) (left : List Element) (new : S) : Type 0 where
   pub element : Element
   pub there : slice_get held place ≡ Some element
   pub result : Result Verdict (Element × CallFault)
   pub is_told : verdict ≡ Some (told result)
-  pub fails : FailsTo Steps policy element now old result new
+  pub fails : FailsTo rules element now old result new
   pub held_on : left ≡ held_after result held place
 
 -- the end of the input is answered, or its answer could not be sent whole

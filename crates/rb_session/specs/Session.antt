@@ -1,5 +1,6 @@
 -- What a session answers to the bytes that it reads.
 use Rattle.std.specs.Prelude.{◌≡◌, ◌≢◌, ℕ, ◌<◌, List, [], ◌∷◌, ◌++◌, length, Result, Ok}
+use Rattle.rb_retry.specs.DeskRules.{DeskRules}
 use Rattle.rb_protocol.specs.Reading.{IsReading}
 use Rattle.rb_protocol.specs.ReplyText.{text_of}
 use Rattle.rb_protocol.specs.declared.format.TheConstants.{LINE_FEED}
@@ -12,7 +13,7 @@ use Rattle.rb_protocol.specs.declared.error_word.ErrorWord.TheVariants as words
 use Rattle.rb_protocol.specs.Line.{HasNoLineFeed}
 use Rattle.rb_session.specs.Lines.{line_of}
 use Rattle.rb_protocol.specs.declared.limits.TheConstants.{BUFFER_BYTES}
-use Rattle.rb_session.specs.Rules.{DeskRules, SessionRules}
+use Rattle.rb_session.specs.Rules.{SessionRules}
 use Rattle.rb_session.specs.Turn.{Point, IsTurn, AsksToWait}
 
 -- A line that was served: its bytes before the line feed, what they were read as, and its replies.

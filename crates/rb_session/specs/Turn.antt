@@ -11,6 +11,7 @@ use Rattle.rb_queue.specs.declared.reply.Reply.TheVariants.{Offered, Item, Nothi
 use Rattle.rb_queue.specs.declared.reply.Reply.TheVariants.{Removed, Drained, Cleared, Size}
 use Rattle.rb_kept.specs.declared.fault.CallFault.{CallFault}
 use Rattle.rb_kept.specs.declared.fault.CallFault.TheVariants as refusals
+use Rattle.rb_retry.specs.DeskRules.{DeskRules}
 use Rattle.rb_retry.specs.Jobs.{FailsTo}
 use Rattle.rb_retry.specs.declared.desk_fault.DeskFault.{DeskFault}
 use Rattle.rb_retry.specs.declared.desk_fault.DeskFault.TheVariants.{Full, Memory, Stopped}
@@ -25,7 +26,6 @@ use Rattle.rb_protocol.specs.declared.line_reply.LineReply.TheVariants as lines
 use Rattle.rb_protocol.specs.declared.error_word.ErrorWord.{ErrorWord}
 use Rattle.rb_protocol.specs.declared.error_word.ErrorWord.TheVariants as words
 use Rattle.rb_session.specs.Held.{place_of}
-use Rattle.rb_session.specs.Rules.{DeskRules}
 use Rattle.rb_session.specs.declared.held_jobs.TheConstants.{MOST_HELD}
 
 -- the word for a line that is no request
@@ -141,7 +141,7 @@ module _ {S : Type 0} (rules : DeskRules S) where
   IsFailure old now place replies new =
       (element : Element) × (slice_get old.held place ≡ Some element)
       × (result : Result Verdict (Element × CallFault))
-      × FailsTo rules.Steps rules.policy element now old.desk result new.desk
+      × FailsTo rules element now old.desk result new.desk
       × (replies ≡ verdict_line result ∷ []) × (new.held ≡ held_after result old.held place)
 
   -- What a request gets at one reading of the desk's clock: the lines, and the point after it. A take

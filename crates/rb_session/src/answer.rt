@@ -1,7 +1,7 @@
 ghost use Rattle.std.specs.Prelude.{◌≡◌, ℕ, ◌<◌, ◌≤◌, ◌++◌, [], ◌∷◌, List, length, Option, Result};
 ghost use Rattle.rb_queue.specs.declared.reply.Reply.{Reply};
+ghost use Rattle.rb_retry.specs.DeskRules.{desk_rules};
 ghost use Rattle.rb_session.specs.Held.{AreGiven};
-ghost use Rattle.rb_session.specs.Rules.{desk_rules};
 ghost use Rattle.rb_session.specs.Turn.{word_for, point, moment_line, AsksToWait, IsTurn, IsServed};
 ghost use Rattle.rb_session.specs.Progress.{replies_of};
 

@@ -1,7 +1,8 @@
 ghost use Rattle.std.specs.Prelude.{◌≡◌, ◌≤◌, ℕ, Err};
 ghost use Rattle.std.specs.Io.KnownBytes.{IsAtEnd};
+ghost use Rattle.rb_retry.specs.DeskRules.{desk_rules};
 ghost use Rattle.rb_session.specs.Exchange.{Exchanges};
-ghost use Rattle.rb_session.specs.Rules.{desk_rules, session_rules, HadGotBehind};
+ghost use Rattle.rb_session.specs.Rules.{session_rules, HadGotBehind};
 ghost use Rattle.rb_session.specs.Ran.{Ran};
 ghost use Rattle.rb_session.specs.Delivered.{RanDelivered};
 ghost use Rattle.rb_session.specs.Reasons.{IsReason};

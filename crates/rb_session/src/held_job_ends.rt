@@ -1,8 +1,8 @@
 ghost use Rattle.std.specs.Prelude.{◌≡◌, ◌∷◌, [], MatchOption, remove};
+ghost use Rattle.rb_retry.specs.DeskRules.{desk_rules};
 ghost use Rattle.rb_protocol.specs.declared.line_reply.LineReply.TheVariants as lines;
 ghost use Rattle.rb_protocol.specs.declared.error_word.ErrorWord.TheVariants as words;
 ghost use Rattle.rb_session.specs.Held.{place_of};
-ghost use Rattle.rb_session.specs.Rules.{desk_rules};
 ghost use Rattle.rb_session.specs.Turn.{point, refusal_word, AnswersAlone, IsFailure};
 ghost use Rattle.rb_session.specs.Closing.{Closes};
 ghost use Rattle.rb_session.specs.Progress.{replies_of};

@@ -3,6 +3,7 @@ ghost use Rattle.std.specs.Prelude.{length, drop, remove, slice_get, MatchOption
 ghost use Rattle.rb_delayed.specs.declared.element.Element.{Element};
 ghost use Rattle.rb_queue.specs.declared.ask.Ask.TheVariants as asks;
 ghost use Rattle.rb_queue.specs.declared.reply.Reply.TheVariants as replies;
+ghost use Rattle.rb_retry.specs.DeskRules.{desk_rules};
 ghost use Rattle.rb_session.specs.Held.{place_of, AreGiven, AreNew};
 ghost use Rattle.rb_session.specs.JobMap.{present};
 ghost use Rattle.rb_session.specs.Progress.{FailsAt};
@@ -114,7 +115,7 @@ impl HeldJobs {
     ) -> Option<Result<Verdict, CallFault>>
         ensures failed { MatchOption (place_of self.old id)
             ((result ≡ None) × (self.new ≡ self.old) × (D.state desk.new ≡ D.state desk.old))
-            (λ place. FailsAt D.Steps policy.now
+            (λ place. FailsAt (desk_rules D.Desk policy.now)
             self.old place now (D.state desk.old) result self.new (D.state desk.new)) }
         ensures name { D.name (D.state desk.new) ≡ D.name (D.state desk.old) }
     {

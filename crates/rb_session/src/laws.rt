@@ -1,8 +1,8 @@
 ghost use Rattle.std.specs.Prelude.{◌≡◌};
+ghost use Rattle.rb_retry.specs.DeskRules.{desk_rules};
 ghost use Rattle.rb_session.specs.Exchange.{CameFirst, SentLast};
 ghost use Rattle.rb_session.specs.Events.{MakesByLines, MakesByClosing, HoldsOnce};
 ghost use Rattle.rb_session.specs.Events.{RecordsByLines, RecordsByClosing};
-ghost use Rattle.rb_session.specs.Rules.{desk_rules};
 ghost use Rattle.rb_session.specs.declared.gathering.TheConstants.{GATHERED_BYTES};
 ghost use Rattle.rb_session.specs.declared.held_jobs.TheConstants.{MOST_HELD};
 ghost use Rattle.rb_session.specs.declared.job_map.TheConstants.{MOST_ENTRIES};

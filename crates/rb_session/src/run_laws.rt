@@ -1,4 +1,4 @@
-ghost use Rattle.rb_session.specs.Rules.{desk_rules};
+ghost use Rattle.rb_retry.specs.DeskRules.{desk_rules};
 ghost use Rattle.rb_session.specs.RunEvents.{MakesByRun, RecordsByRun};
 
 use rb_retry::{Desk, KeptDesk};

@@ -1,9 +1,10 @@
 ghost use Rattle.std.specs.Prelude.{◌≡◌, ◌≤◌, ◌↔◌, ℕ, List, [], Ok, IfOk, IfNone, OnOk, OnErr, IsTrue};
 ghost use Rattle.std.specs.Io.KnownBytes.{Appends, IsAtEnd, Keeps};
+ghost use Rattle.rb_retry.specs.DeskRules.{desk_rules};
 ghost use Rattle.rb_protocol.specs.declared.request.Request.TheVariants.{Quit};
 ghost use Rattle.rb_session.specs.Buffer.{IsUnserved};
 ghost use Rattle.rb_session.specs.Held.{AreGiven};
-ghost use Rattle.rb_session.specs.Rules.{desk_rules, session_rules};
+ghost use Rattle.rb_session.specs.Rules.{session_rules};
 ghost use Rattle.rb_session.specs.Turn.{point, AsksToWait};
 ghost use Rattle.rb_session.specs.Exchange.{Exchanges};
 ghost use Rattle.rb_session.specs.Progress.{ServesLines, AnswersEnd, Stops, IsClearAt, IsClearAtRead, IsReasonToStop};

@@ -6,5 +6,6 @@ pub use Rattle.rb_lock.specs.SharedCalls
 pub use Rattle.rb_blocking.specs.WaitingCalls
 pub use Rattle.rb_retry.specs.Made
 pub use Rattle.rb_retry.specs.Asked
+pub mod WaitRules
 pub mod SharedSteps
 pub mod SharedLaws

@@ -20,6 +20,7 @@ use Rattle.rb_retry.specs.Made.{Made, made_after, made_by, GivesOnce}
 use Rattle.rb_retry.specs.Asked.{MayGet, IsMomentOf, Makes}
 use Rattle.rb_retry.specs.RecordLaws.{recorded_reply, may_wait, made_after-more}
 use Rattle.rb_retry.specs.GivenLaws.{times_given-drop, times_given-filter, legal_gives_once}
+use Rattle.rb_shared_desk.specs.WaitRules.{WaitRules}
 use Rattle.rb_shared_desk.specs.SharedSteps.{SharedState, SharedSteps, SetsShared, made_through}
 use Rattle.rb_retry.specs.declared.desk_fault.DeskFault.{DeskFault}
 use Rattle.rb_retry.specs.declared.desk_fault.DeskFault.TheVariants.{Full, Memory, Stopped}
@@ -131,23 +132,22 @@ module _ (old new : Seen) (sound : IsSoundPass old) (learns : Learns old new) wh
       ++ record { event = event; reply = reply_of old.opening (before ++ event ∷ []) } ∷ []) same
       ∙ ap (λ (reply : Option Reply). mine ++ record { event = event; reply = reply } ∷ []) replied.records.reply
 
-module _ {C G : Type 0} (gives : C → ℕ → Type 0) (answers : G → ℕ → Bool → Type 0) (old new : SharedState C G)
-    (handed : ℕ) (ask : Ask) where
+module _ {C G : Type 0} (rules : WaitRules C G) (old new : SharedState C G) (handed : ℕ) (ask : Ask) where
   -- what was made through the desk is what its pass has made since
-  through : (result : Result Reply DeskFault) → SharedSteps gives answers old handed ask result new
+  through : (result : Result Reply DeskFault) → SharedSteps rules old handed ask result new
       → (mades : List Made)
       → made_by new.pass.name new.pass.opening new.pass.seen ≡ mades → made_through new ≡ drop old.before mades
   through result steps mades is = ap made_through steps.stays ∙ ap (drop old.before) is
 
   -- if the pass made no further call, neither did the desk
-  none_more : (result : Result Reply DeskFault) → SharedSteps gives answers old handed ask result new
+  none_more : (result : Result Reply DeskFault) → SharedSteps rules old handed ask result new
       → new.pass.mine ≡ old.pass.mine → made_through new ≡ made_through old
   none_more result steps same =
       through result steps (made_by old.pass.name old.pass.opening old.pass.seen)
       (own_stays old.pass new.pass steps.sound steps.learns same)
 
-  pub shared_makes : (answer : Reply) → SharedSteps gives answers old handed ask (Ok answer) new
-      → Makes (gives old.clock) handed ask answer (made_through old) (made_through new)
+  pub shared_makes : (answer : Reply) → SharedSteps rules old handed ask (Ok answer) new
+      → Makes (rules.gives old.clock) handed ask answer (made_through old) (made_through new)
   shared_makes answer steps =
       let asked : ℕ = steps.ends.0 in
       let replied : Replied old.pass new.pass (try_of old.pass asked ask) answer = steps.ends.2 in
@@ -166,14 +166,14 @@ module _ {C G : Type 0} (gives : C → ℕ → Type 0) (answers : G → ℕ → 
             (own_grows old.pass new.pass steps.sound steps.learns asked ask answer replied)
             ∙ drop-append-le old.before mine last within;
         of_ask = replied.records.act;
-        asked = subst (IsMomentOf (gives old.clock) ask handed) (sym replied.records.asked) steps.ends.1;
+        asked = subst (IsMomentOf (rules.gives old.clock) ask handed) (sym replied.records.asked) steps.ends.1;
         answered =
             recorded_reply (log_at old.pass replied.before) (try_of old.pass asked ask)
             answer replied.event replied.records;
       }
 
   -- the pass has seen a legal history, of which the desk made a part
-  pub shared_gives_once : (answer : Reply) → SharedSteps gives answers old handed ask (Ok answer) new
+  pub shared_gives_once : (answer : Reply) → SharedSteps rules old handed ask (Ok answer) new
       → GivesOnce (made_through new)
   shared_gives_once answer steps id =
       let seen : List Made = made_after new.pass.opening [] new.pass.seen in
@@ -185,14 +185,14 @@ module _ {C G : Type 0} (gives : C → ℕ → Type 0) (answers : G → ℕ → 
         legal_gives_once new.pass.opening new.pass.seen steps.learns.sound.legal id,
       )
 
-  pub shared_refuses : (fault : DeskFault) → SharedSteps gives answers old handed ask (Err fault) new
+  pub shared_refuses : (fault : DeskFault) → SharedSteps rules old handed ask (Err fault) new
       → MayGet ask fault × (made_through new ≡ made_through old)
   shared_refuses Full steps = (tt, none_more (Err Full) steps steps.ends.mine)
   shared_refuses Memory steps = (steps.ends.2, none_more (Err Memory) steps steps.ends.0)
   shared_refuses Stopped steps = (
     may_wait ask _ steps.ends.last.waits.waits,
     none_more (Err Stopped) steps
-        (stopped_unmade (gives old.clock) (answers old.gate) old.pass new.pass ask steps.ends),
+        (stopped_unmade (rules.gives old.clock) (rules.answers old.gate) old.pass new.pass ask steps.ends),
   )
 
 pub shared_stays : {C G : Type 0} (old new : SharedState C G) (moment : ℕ) (result : Option ℕ)

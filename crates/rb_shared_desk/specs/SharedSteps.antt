@@ -16,6 +16,7 @@ use Rattle.rb_retry.specs.Made.{Made, made_by}
 use Rattle.rb_retry.specs.Asked.{IsMomentOf}
 use Rattle.rb_retry.specs.declared.desk_fault.DeskFault.{DeskFault}
 use Rattle.rb_retry.specs.declared.desk_fault.DeskFault.TheVariants.{Full, Memory, Stopped}
+use Rattle.rb_shared_desk.specs.WaitRules.{WaitRules}
 
 -- A desk over a shared queue: which reference to its pass it holds, what the pass has seen and made, the
 -- desk's clock, the gate that may end its waits, and how many calls the pass had made when the desk was made.
@@ -41,15 +42,6 @@ abbrev pub fault_of_wait : WaitFault → DeskFault
 fault_of_wait waits.Full = Full
 fault_of_wait waits.Stopped = Stopped
 
--- How an ask ended, and what the pass has seen after it. With a reply the pass has made this one further call;
--- with a fault none: the history that it has seen is full, memory was refused, or the gate stopped the wait.
-abbrev pub Ends : (ℕ → Type 0) → (ℕ → Bool → Type 0) → Seen → Seen → ℕ → Ask → Result Reply DeskFault → Type 0
-Ends gives answers old new handed ask (Ok reply) =
-    (asked : ℕ) × IsMomentOf gives ask handed asked × Replied old new (try_of old asked ask) reply
-Ends gives answers old new handed ask (Err Full) = EndsFull old new
-Ends gives answers old new handed ask (Err Memory) = (new.mine ≡ old.mine) × HasRoom (log_of new) × TakesMemory ask
-Ends gives answers old new handed ask (Err Stopped) = IsStopped gives answers old new ask
-
 module _ {C G : Type 0} where
   abbrev pub name_of : SharedState C G → SharedName
   name_of state = record {
@@ -69,7 +61,19 @@ module _ {C G : Type 0} where
   abbrev pub SetsShared : SharedState C G → ℕ → Option ℕ → SharedState C G → Type 0
   SetsShared old moment result new = (result ≡ None) × (new ≡ old)
 
-  module _ (gives : C → ℕ → Type 0) (answers : G → ℕ → Bool → Type 0) where
+  module _ (rules : WaitRules C G) where
+    -- How an ask ended, and what the pass has seen after it. With a reply the pass has made this one further call;
+    -- with a fault none: the history that it has seen is full, memory was refused, or the gate stopped the wait.
+    abbrev pub Ends : SharedState C G → ℕ → Ask → Result Reply DeskFault → SharedState C G → Type 0
+    Ends old handed ask (Ok reply) new =
+        (asked : ℕ) × IsMomentOf (rules.gives old.clock) ask handed asked
+        × Replied old.pass new.pass (try_of old.pass asked ask) reply
+    Ends old handed ask (Err Full) new = EndsFull old.pass new.pass
+    Ends old handed ask (Err Memory) new =
+        (new.pass.mine ≡ old.pass.mine) × HasRoom (log_of new.pass) × TakesMemory ask
+    Ends old handed ask (Err Stopped) new =
+        IsStopped (rules.gives old.clock) (rules.answers old.gate) old.pass new.pass ask
+
     -- The ask ended in this way, and the pass has learned. The gate's answers are as before, and nothing else has
     -- changed.
     pub record SharedSteps (old : SharedState C G) (handed : ℕ) (ask : Ask) (result : Result Reply DeskFault)
@@ -77,6 +81,7 @@ module _ {C G : Type 0} where
       pub earlier : old.before ≤ length old.pass.mine
       pub sound : IsSoundPass old.pass
       pub learns : Learns old.pass new.pass
-      pub ends : Ends (gives old.clock) (answers old.gate) old.pass new.pass handed ask result
-      pub gate : (turns : ℕ) (goes_on : Bool) → answers new.gate turns goes_on ↔ answers old.gate turns goes_on
+      pub ends : Ends old handed ask result new
+      pub gate : (turns : ℕ) (goes_on : Bool)
+          → rules.answers new.gate turns goes_on ↔ rules.answers old.gate turns goes_on
       pub stays : new ≡ record old { pass = new.pass; gate = new.gate }

@@ -1,5 +1,6 @@
 ghost use Rattle.std.specs.Prelude.{◌≡◌, ◌≤◌, length};
 ghost use Rattle.rb_kept.specs.declared.kept.TheConstants.{MOST_CALLS};
+ghost use Rattle.rb_shared_desk.specs.WaitRules.{wait_rules};
 ghost use Rattle.rb_shared_desk.specs.SharedSteps.{SharedState, SharedName, SharedSteps, SetsShared};
 ghost use Rattle.rb_shared_desk.specs.SharedSteps.{fault_of_wait, made_through, name_of};
 ghost use Rattle.rb_shared_desk.specs.SharedLaws.{shared_makes, shared_gives_once, shared_refuses, shared_stays};
@@ -118,7 +119,7 @@ impl<'a, T: Timer, C: Clock, G: Gate, R: Wait + time::Clock> Desk for SharedDesk
 
     ghost Sets = { SetsShared };
 
-    ghost Steps = { SharedSteps C.gives G.answers };
+    ghost Steps = { SharedSteps (wait_rules C.Clock G.Gate) };
 
     fn now(&self) -> u64 {
         self.clock.now()
@@ -128,7 +129,7 @@ impl<'a, T: Timer, C: Clock, G: Gate, R: Wait + time::Clock> Desk for SharedDesk
         None
     }
 
-    #[tactic(auto, using(crate::proofs::SharedEndings::few_through, crate::proofs::SharedEndings::ends_refused, crate::proofs::SharedEndings::ends_replied))]
+    #[tactic(auto, using(crate::proofs::SharedEndings::call_endings))]
     fn call(&mut self, asked: u64, ask: Ask) -> Result<Reply, DeskFault> {
         // For the proof: the pass has seen a legal history.
         let _ = self.pass.name();
@@ -149,11 +150,11 @@ impl<'a, T: Timer, C: Clock, G: Gate, R: Wait + time::Clock> Desk for SharedDesk
         }
     }
 
-    ghost makes = { shared_makes C.gives G.answers };
+    ghost makes = { shared_makes (wait_rules C.Clock G.Gate) };
 
-    ghost gives_once = { shared_gives_once C.gives G.answers };
+    ghost gives_once = { shared_gives_once (wait_rules C.Clock G.Gate) };
 
-    ghost refuses = { shared_refuses C.gives G.answers };
+    ghost refuses = { shared_refuses (wait_rules C.Clock G.Gate) };
 
     ghost stays = { shared_stays };
 }

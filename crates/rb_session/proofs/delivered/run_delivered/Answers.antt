@@ -1,9 +1,10 @@
 -- The counting reader is the reader that it was made of.
 use Rattle.std.proofs.Common.{rules, Option, List, ℕ, sym, ap, subst, ◌∙◌}
 use Rattle.std.specs.Io.KnownBytes.{Consumes, IsAtEnd}
+use Rattle.rb_retry.specs.DeskRules.{desk_rules}
 use Rattle.rb_session.specs.Delivered.{RanDelivered}
 use Rattle.rb_session.specs.Exchange.{Exchanges}
-use Rattle.rb_session.specs.Rules.{desk_rules, session_rules, HadGotBehind}
+use Rattle.rb_session.specs.Rules.{session_rules, HadGotBehind}
 use Rattle.rb_session.proofs.delivered.run_delivered.Goals as goal
 
 pub returns-clause-ran : goal.returns-clause-ran

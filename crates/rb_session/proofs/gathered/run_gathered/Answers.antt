@@ -1,8 +1,9 @@
 -- What the writer has got and what is gathered are the session's replies, one behind the other.
 use Rattle.std.proofs.Common.{rules, sym, ap, subst, ◌∙◌, Option, List, ℕ, arith}
 use Rattle.std.specs.Io.KnownBytes.{Appends, IsAtEnd, append_known}
+use Rattle.rb_retry.specs.DeskRules.{desk_rules}
 use Rattle.rb_session.specs.Growth.{KeepsFront}
-use Rattle.rb_session.specs.Rules.{desk_rules, session_rules, HadGotBehind}
+use Rattle.rb_session.specs.Rules.{session_rules, HadGotBehind}
 use Rattle.rb_session.specs.Delivered.{gathering_rules}
 use Rattle.rb_session.specs.Served.{Served}
 use Rattle.rb_session.proofs.Gatherings.{known_at_first, ran_by, ran_gathered}

@@ -1,7 +1,7 @@
 -- One job more has failed behind those before it, and is counted as lost or not by its result.
 use Rattle.std.proofs.Common.{◌≡◌, ℕ, ◌+◌, ◌≤◌, [], ◌∷◌, ◌++◌, sym, ◌∙◌, arith, length, length-append}
+use Rattle.rb_retry.specs.DeskRules.{desk_rules}
 use Rattle.rb_session.specs.Closing.{Closes, lost_by}
-use Rattle.rb_session.specs.Rules.{desk_rules}
 use Rattle.rb_session.proofs.Closings.{closes_more, lost_one, lost_none}
 use Rattle.rb_session.proofs.held_job_ends.fail_all.Given.{Over}
 use Rattle.rb_session.proofs.held_job_ends.fail_all.Goals as goal

@@ -6,9 +6,9 @@ use Rattle.rb_kept.specs.declared.fault.CallFault.{CallFault}
 use Rattle.rb_protocol.specs.declared.error_word.ErrorWord.{ErrorWord}
 use Rattle.rb_protocol.specs.declared.line_reply.LineReply.{LineReply}
 use Rattle.rb_protocol.specs.declared.line_reply.LineReply.TheVariants as lines
+use Rattle.rb_retry.specs.DeskRules.{DeskRules, desk_rules}
 use Rattle.rb_retry.specs.declared.verdict.Verdict.{Verdict}
 use Rattle.rb_retry.specs.declared.verdict.Verdict.TheVariants.{Again, Dead}
-use Rattle.rb_session.specs.Rules.{DeskRules, desk_rules}
 use Rattle.rb_session.specs.Turn.{point, refusal_word, verdict_line, IsFailure}
 use Rattle.rb_session.specs.Progress.{replies_of, told, FailsAt}
 use Rattle.rb_session.proofs.held_job_ends.fail_job.Goals as goal
@@ -32,7 +32,7 @@ module _ {S : Type 0} (rules : DeskRules S) (held left : List Element) (now : �
   failed_at : (place : Option ℕ) (None' : Type 0) (verdict : Result Verdict CallFault) (replies : List LineReply)
       → replies ≡ told_line verdict ∷ []
       → MatchOption place ((Some verdict ≡ None) × (left ≡ held) × (new ≡ old))
-      (λ p. FailsAt rules.Steps rules.policy held p now old (Some verdict) left new)
+      (λ p. FailsAt rules held p now old (Some verdict) left new)
       → MatchOption place None' (λ p. IsFailure rules (point old held) now p replies (point new left))
   failed_at None None' verdict replies are (clash, same, still) = absurd (cc)
   failed_at (Some p) None' verdict replies are fails = (

@@ -1,5 +1,5 @@
 -- The desk gives no id twice, and a line leaves held only what was given.
-use Rattle.rb_session.specs.Rules.{desk_rules}
+use Rattle.rb_retry.specs.DeskRules.{desk_rules}
 use Rattle.rb_session.proofs.GivenJobs.{holds_once}
 use Rattle.rb_session.proofs.laws.each_id_held_once.Goals as goal
 

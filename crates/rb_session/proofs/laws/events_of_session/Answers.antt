@@ -1,5 +1,5 @@
 -- The laws of a desk say what each call of it makes.
-use Rattle.rb_session.specs.Rules.{desk_rules}
+use Rattle.rb_retry.specs.DeskRules.{desk_rules}
 use Rattle.rb_session.proofs.Events.{makes_by_lines, makes_by_closing}
 use Rattle.rb_session.proofs.laws.events_of_session.Goals as goal
 

@@ -1,7 +1,8 @@
 -- Nothing is held back on the way to the writer, so a session through that outlet is a plain one.
 use Rattle.std.proofs.Common.{rules, sym}
 use Rattle.std.specs.Io.KnownBytes.{IsAtEnd}
-use Rattle.rb_session.specs.Rules.{desk_rules, session_rules, HadGotBehind}
+use Rattle.rb_retry.specs.DeskRules.{desk_rules}
+use Rattle.rb_session.specs.Rules.{session_rules, HadGotBehind}
 use Rattle.rb_session.specs.Served.{Served}
 use Rattle.rb_session.proofs.Outlets.{ran_direct}
 use Rattle.rb_session.proofs.run.run_at_once.Goals as goal

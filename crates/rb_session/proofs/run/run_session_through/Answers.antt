@@ -2,8 +2,9 @@
 use Rattle.std.proofs.Common.{◌≡◌, ℕ, List, [], Result, Err, sym, subst, ◌∙◌}
 use Rattle.rb_delayed.specs.declared.element.Element.{Element}
 use Rattle.std.specs.Io.KnownBytes.{IsAtEnd}
+use Rattle.rb_retry.specs.DeskRules.{desk_rules}
 use Rattle.rb_session.specs.Exchange.{Exchanges}
-use Rattle.rb_session.specs.Rules.{SessionRules, desk_rules, session_rules}
+use Rattle.rb_session.specs.Rules.{SessionRules, session_rules}
 use Rattle.rb_session.specs.Served.{Served}
 use Rattle.rb_session.specs.Turn.{point}
 use Rattle.rb_session.specs.Closing.{Closes}

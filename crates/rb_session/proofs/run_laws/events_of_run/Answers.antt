@@ -1,6 +1,7 @@
 -- The laws of a desk say what each call of it makes.
 use Rattle.std.specs.Io.KnownBytes.{IsAtEnd}
-use Rattle.rb_session.specs.Rules.{desk_rules, session_rules, HadGotBehind}
+use Rattle.rb_retry.specs.DeskRules.{desk_rules}
+use Rattle.rb_session.specs.Rules.{session_rules, HadGotBehind}
 use Rattle.rb_session.proofs.RunEvents.{ends_of, made_by_ends}
 use Rattle.rb_session.proofs.run_laws.events_of_run.Goals as goal
 

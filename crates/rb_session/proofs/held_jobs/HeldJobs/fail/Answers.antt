@@ -1,13 +1,10 @@
 -- The job of the id fails out of its entry, and goes back to it if its next attempt is refused.
-use Rattle.std.proofs.Common.{◌≡◌, ℕ, refl, sym, ap, ◌∙◌, arith, length, Some, None, Ok, Err, Result, nat_eq}
+use Rattle.std.proofs.Common.{◌≡◌, ℕ, refl, sym, ap, ◌∙◌, arith, length, Some, None, Ok, Err, nat_eq}
 use Rattle.std.specs.Map.{lookup}
 use Rattle.rb_delayed.specs.declared.element.Element.{Element}
 use Rattle.rb_kept.specs.declared.fault.CallFault.{CallFault}
-use Rattle.rb_queue.specs.declared.ask.Ask.{Ask}
-use Rattle.rb_queue.specs.declared.reply.Reply.{Reply}
+use Rattle.rb_retry.specs.DeskRules.{DeskRules, desk_rules}
 use Rattle.rb_retry.specs.Jobs.{FailsTo}
-use Rattle.rb_retry.specs.declared.desk_fault.DeskFault.{DeskFault}
-use Rattle.rb_retry.specs.declared.policy.Policy.{Policy}
 use Rattle.rb_session.proofs.JobMaps.{jobs_of, at_no_place, at_place, is_not_held, writes_same, is_at, takes_out}
 use Rattle.rb_session.proofs.JobMaps.{TakesOut}
 use Rattle.rb_session.proofs.held_jobs.HeldJobs.fail.Given.{Over}
@@ -35,10 +32,9 @@ taken g c =
     (found_job g c) c.take.ensures.after (c.get_mut.follows.holds c.take.new.self)
 
 -- a refused retry gives the job back
-back_is : {S : Type 0} (Steps : S → ℕ → Ask → Result Reply DeskFault → S → Type 0) (policy : Policy) (element : Element)
-    (now : ℕ) (old new : S) (back : Element) (fault : CallFault)
-    → FailsTo Steps policy element now old (Err (back, fault)) new → back ≡ element
-back_is Steps policy element now old new back fault (draft, retry, step, same) = same
+back_is : {S : Type 0} (rules : DeskRules S) (element : Element) (now : ℕ) (old new : S) (back : Element)
+    (fault : CallFault) → FailsTo rules element now old (Err (back, fault)) new → back ≡ element
+back_is rules element now old new back fault (draft, retry, step, same) = same
 
 pub returns-in_err-entry-clause-failed : goal.returns-in_err-entry-clause-failed
 returns-in_err-entry-clause-failed g c =
@@ -110,7 +106,7 @@ put_back g c back same = found_job g c ∙ ap (λ (e : Element). Some (Some e)) 
 
 pub invariant_of-self-in-Err : goal.invariant_of-self-in-Err
 invariant_of-self-in-Err g c =
-    let back = back_is g.D.Desk.Steps c.args.policy.now c.in_ok-job.job c.args.now (g.D.Desk.state c.args.desk.now)
+    let back = back_is (desk_rules g.D.Desk c.args.policy.now) c.in_ok-job.job c.args.now (g.D.Desk.state c.args.desk.now)
     (g.D.Desk.state c.fail.new.desk) c.in-Err.job c.in-Err.fault c.in-Err.ensures.fails in
     let same = writes_same c.self.inside.jobs (record { entries = c.get_mut.follows.lender (Some c.in-Err.job) })
     c.args.self.now c.args.id c.self.view_is c.self.invariant.0 (Some c.in-Err.job)
@@ -125,7 +121,7 @@ invariant_of-self-in-Err g c =
 
 pub returns-in-Err-clause-failed : goal.returns-in-Err-clause-failed
 returns-in-Err-clause-failed g c =
-    let back = back_is g.D.Desk.Steps c.args.policy.now c.in_ok-job.job c.args.now (g.D.Desk.state c.args.desk.now)
+    let back = back_is (desk_rules g.D.Desk c.args.policy.now) c.in_ok-job.job c.args.now (g.D.Desk.state c.args.desk.now)
     (g.D.Desk.state c.fail.new.desk) c.in-Err.job c.in-Err.fault c.in-Err.ensures.fails in
     let same = writes_same c.self.inside.jobs (record { entries = c.get_mut.follows.lender (Some c.in-Err.job) })
     c.args.self.now c.args.id c.self.view_is c.self.invariant.0 (Some c.in-Err.job)

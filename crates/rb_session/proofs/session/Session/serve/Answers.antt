@@ -1,7 +1,8 @@
 -- What was served could not be handed on, so the stop is that of a failed write.
 use Rattle.std.specs.Io.KnownBytes.{IsAtEnd}
 use Rattle.std.proofs.KnownBytes.{Appends-kept}
-use Rattle.rb_session.specs.Rules.{desk_rules, session_rules}
+use Rattle.rb_retry.specs.DeskRules.{desk_rules}
+use Rattle.rb_session.specs.Rules.{session_rules}
 use Rattle.rb_session.specs.Turn.{point}
 use Rattle.rb_session.proofs.Outlets.{stops_late}
 use Rattle.rb_session.proofs.session.Session.serve.Goals as goal

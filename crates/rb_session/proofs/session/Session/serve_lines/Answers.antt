@@ -1,9 +1,10 @@
 -- Each line served adds its turn to those before it; a failed write or a quit ends them there.
 use Rattle.std.proofs.Common.{◌≡◌, ℕ, List, [], inl, inr, refl, sym, ◌∙◌, true, false}
 use Rattle.std.proofs.KnownBytes.{Appends-nil, Appends-kept}
+use Rattle.rb_retry.specs.DeskRules.{desk_rules}
 use Rattle.rb_session.specs.Buffer.{IsUnserved}
 use Rattle.rb_session.specs.Progress.{replies_of}
-use Rattle.rb_session.specs.Rules.{SessionRules, desk_rules, session_rules}
+use Rattle.rb_session.specs.Rules.{SessionRules, session_rules}
 use Rattle.rb_session.specs.Turn.{point}
 use Rattle.rb_protocol.proofs.Sending.{sends_failed, sends_done}
 use Rattle.rb_session.proofs.Turns.{IsNextTurn, serves_none, goes_on, quits, fails}

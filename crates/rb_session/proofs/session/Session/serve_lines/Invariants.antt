@@ -1,9 +1,10 @@
 -- The lines that were taken out of the buffer are served, and each made what is left in it shorter.
 use Rattle.std.proofs.Common.{◌≡◌, ℕ, ◌-◌, List}
 use Rattle.std.specs.Io.KnownBytes.{Appends}
+use Rattle.rb_retry.specs.DeskRules.{desk_rules}
 use Rattle.rb_session.specs.Buffer.{IsUnserved}
 use Rattle.rb_session.specs.Held.{AreGiven}
-use Rattle.rb_session.specs.Rules.{desk_rules, session_rules}
+use Rattle.rb_session.specs.Rules.{session_rules}
 use Rattle.rb_session.specs.Session.{ServesFirst}
 use Rattle.rb_session.specs.Turn.{point}
 use Rattle.rb_session.proofs.session.Session.serve_lines.Given as goal

@@ -6,8 +6,9 @@ use Rattle.std.proofs.lemmas.List.{append-nil}
 use Rattle.std.proofs.KnownBytes.{Appends-nil, Appends-kept, Consumes-nil, Keeps-refl}
 use Rattle.std.specs.Io.KnownBytes.{Appends, Consumes, IsAtEnd}
 use Rattle.std.specs.declared.io.Error.{Error}
+use Rattle.rb_retry.specs.DeskRules.{DeskRules, desk_rules}
 use Rattle.rb_session.specs.Buffer.{TakesMore}
-use Rattle.rb_session.specs.Rules.{DeskRules, SessionRules, desk_rules, session_rules}
+use Rattle.rb_session.specs.Rules.{SessionRules, session_rules}
 use Rattle.rb_session.specs.Turn.{point}
 use Rattle.rb_session.specs.Progress.{ServesLines, AnswersEnd}
 use Rattle.rb_session.proofs.Buffers.{no_feed-nil}

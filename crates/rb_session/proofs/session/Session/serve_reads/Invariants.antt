@@ -1,11 +1,12 @@
 -- Of what came the whole lines are served, and the buffer has the rest.
 use Rattle.std.proofs.Common.{◌≡◌, ◌≤◌}
+use Rattle.rb_retry.specs.DeskRules.{desk_rules}
 use Rattle.rb_session.specs.Exchange.{Exchanges}
 use Rattle.rb_session.specs.Buffer.{IsUnserved}
 use Rattle.rb_session.specs.Held.{AreGiven}
 use Rattle.rb_protocol.specs.Line.{HasNoLineFeed}
 use Rattle.rb_protocol.specs.Reads.{HasNotFailed}
-use Rattle.rb_session.specs.Rules.{desk_rules, session_rules}
+use Rattle.rb_session.specs.Rules.{session_rules}
 use Rattle.rb_session.specs.Session.{ServesFirst}
 use Rattle.rb_session.specs.Turn.{point}
 use Rattle.rb_session.proofs.session.Session.serve_reads.Given as goal
