@@ -51,6 +51,16 @@ fn a_file_is_read_in_pieces_of_any_size(rt: HostRuntime) -> Result<(), Fail> {
     Ok(())
 }
 
+// Three whole pieces, the rest, and the end.
+#[test]
+fn a_read_of_a_file_takes_64_kib(rt: HostRuntime) -> Result<(), Fail> {
+    let alloc = rt.alloc();
+    let long = long_text(alloc)?;
+    let reads = expect_text(&rt, alloc, Source::of(&long, usize::MAX), &long, 0);
+    expect_count(&rt, reads, 5, 0);
+    Ok(())
+}
+
 // A read that is interrupted counts as one that gives a byte.
 #[test]
 fn a_file_without_an_end_is_given_up(rt: HostRuntime) {
