@@ -1,6 +1,6 @@
 -- What an option's value says, which subcommand was met with which values, and what stands in the rows of matches.
 use Rattle.std.proofs.Common.{◌≡◌, ◌||◌, Bool, true, false, true≢false, cond, is_some, List, [], ◌∷◌, Option, Some, None, map, refl, sym, ap, ap₂, ◌∙◌}
-use Rattle.std.specs.Prelude.{IfOk, IfSome, IsSome, Result, Ok, Err, find, option_map, option_and_then}
+use Rattle.std.specs.Prelude.{IfOk, IfNone, IfSome, IsSome, Result, Ok, Err, find, option_map, option_and_then}
 use Rattle.std.specs.Option.{option_map_or}
 use Rattle.std.specs.Str.{bytes_eq}
 use Rattle.std.proofs.lemmas.Option.{none-some, same_Some}
@@ -13,6 +13,7 @@ use Rattle.clap.specs.declared.parser.matches.MatchedArg.{MatchedArg}
 use Rattle.clap.specs.declared.parser.matches.ValueSource.TheVariants.{DefaultValue, CommandLine}
 use Rattle.clap.proofs.TakesLemmas.{present_row}
 use Rattle.rb_arguments.specs.CommandLine.{IsAskedBy, SubcommandAsks, names_both}
+use Rattle.rb_arguments.specs.RightWords.{AreWrongWords}
 use Rattle.rb_arguments.specs.declared.words.Words.{Words}
 
 -- ---- which subcommand was met
@@ -40,6 +41,12 @@ subcommand_asks (Err e) met name rows is gives alone = tt
 subcommand_asks (Ok None) met name rows is gives alone = tt
 subcommand_asks (Ok (Some asked)) met name rows is gives alone =
     record { name = name; rows = rows; met_is = is; alone = alone refl; gives = gives }
+
+-- words that ask for nothing are wrong, if right ones ask for something
+pub wrong_if_none : {A : Type 0} (asked : Option A) (words : List Text) → ((IsSome asked → ⊥) → AreWrongWords words)
+    → IfNone asked (AreWrongWords words)
+wrong_if_none None words wrong = wrong (λ some. true≢false (sym some))
+wrong_if_none (Some asked) words wrong = tt
 
 -- ---- what stands in the rows
 

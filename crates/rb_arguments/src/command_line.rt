@@ -1,14 +1,15 @@
-ghost use Rattle.std.specs.Prelude.{◌≡◌, ℕ, List, IfOk, IfErr, IfSome, IsSome, Some, false, map};
+ghost use Rattle.std.specs.Prelude.{◌≡◌, ℕ, List, IfOk, IfErr, IfNone, IfSome, IsSome, Some, false, map};
 ghost use Rattle.std.specs.Borrow.{Bor};
 ghost use Rattle.clap.specs.Words.{Row, Text, app_of, kind_of, rule_of, subcommand_rows_of, with_rule};
 ghost use Rattle.clap.specs.declared.builder.command.Command.TheViews.{out-Command};
+ghost use Rattle.clap.specs.declared.error.kind.ErrorKind.TheVariants.{OutOfMemory};
 ghost use Rattle.rb_arguments.specs.Arguments.{AreTimerNames};
 ghost use Rattle.rb_arguments.specs.CommandLine.{Asks, SubcommandAsks, names_both, program, replay_command};
 ghost use Rattle.rb_arguments.specs.CommandLine.{script_command, serve_command, with_commands, with_policy};
 ghost use Rattle.rb_arguments.specs.CommandLine.{with_queue, with_run};
 ghost use Rattle.rb_arguments.specs.Ranges.{AreInRange};
 ghost use Rattle.rb_arguments.specs.RightValues.{AreRightFor};
-ghost use Rattle.rb_arguments.specs.RightWords.{IsRefusal};
+ghost use Rattle.rb_arguments.specs.RightWords.{AreWrongWords, IsRefusal};
 
 use crate::arguments::{
     attempts_option, calls_option, chains_flag, delay_option, file_argument, from_option,
@@ -33,17 +34,25 @@ pub fn read_words(alloc: Global, words: &[&str]) -> Result<Words, Error>
     ensures given { IfOk result (Asks (map (λ word. word.now) words.now)) }
     ensures taken { IfErr result (λ fault. IsRefusal (map (λ word. word.now) words.now) (kind_of fault)) }
 {
-    let mut command = program(alloc)?;
-    let matches = match command.try_get_matches_from_mut(words) {
-        Ok(matches) => matches,
-        Err(fault) => match fault.kind() {
-            ErrorKind::OutOfMemory => return Err(fault),
-            _ => return Err(refusal(alloc, words)?),
-        },
-    };
-    match asked_in(alloc, &matches)? {
+    match asked_if_right(alloc, words)? {
         Some(asked) => Ok(asked),
         None => Err(refusal(alloc, words)?),
+    }
+}
+
+// What the words ask for, if they are right. Its only fault is that memory ran out.
+fn asked_if_right(alloc: Global, words: &[&str]) -> Result<Option<Words>, Error>
+    ensures in_range { IfOk result (λ asked. IfSome asked AreInRange) }
+    ensures given { IfOk result (λ asked. IfSome asked (Asks (map (λ word. word.now) words.now))) }
+    ensures wrong { IfOk result (λ asked. IfNone asked (AreWrongWords (map (λ word. word.now) words.now))) }
+    ensures fault { IfErr result (λ fault. kind_of fault ≡ OutOfMemory) }
+{
+    match program(alloc)?.try_get_matches_from(words) {
+        Ok(matches) => Ok(asked_in(alloc, &matches)?),
+        Err(fault) => match fault.kind() {
+            ErrorKind::OutOfMemory => Err(fault),
+            _ => Ok(None),
+        },
     }
 }
 
