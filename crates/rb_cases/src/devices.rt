@@ -1,8 +1,7 @@
 use crate::flaw::Flaw;
 use crate::numbers::number;
-
-/// The timers over which a script is run.
-pub const TIMERS: [&str; 4] = ["list", "heap", "pairing", "wheel"];
+use crate::timers::timer_of;
+use rb_arguments::TimerKind;
 
 /// How many bytes of a script a read gives at most. The first value means the whole script.
 pub const SIZES: [usize; 3] = [usize::MAX, 1, 7];
@@ -15,7 +14,7 @@ pub const MOST_CUT: usize = 1_000;
 pub struct Devices {
     /// Whether the case says anything about devices.
     pub are_given: bool,
-    timer: Option<&'static str>,
+    timer: Option<TimerKind>,
     size: Option<usize>,
     /// Whether every second read is interrupted.
     pub is_interrupted: bool,
@@ -44,7 +43,7 @@ impl Devices {
     }
 
     /// Whether the script is run over this timer.
-    pub fn have_timer(&self, timer: &str) -> bool {
+    pub fn have_timer(&self, timer: TimerKind) -> bool {
         match self.timer {
             Some(only) => only == timer,
             None => true,
@@ -127,16 +126,6 @@ fn set_once<T: Copy>(place: &mut Option<T>, value: T) -> Result<(), Flaw> {
     }
     *place = Some(value);
     Ok(())
-}
-
-/// The timer of this name.
-pub fn timer_of(name: &str) -> Result<&'static str, Flaw> {
-    for timer in TIMERS {
-        if timer == name {
-            return Ok(timer);
-        }
-    }
-    Err(Flaw::Device)
 }
 
 fn size_of(name: &str) -> Result<usize, Flaw> {

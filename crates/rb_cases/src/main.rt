@@ -40,6 +40,7 @@ mod table;
 mod tables;
 mod text;
 mod timer_subject;
+mod timers;
 mod word_subject;
 
 use case::Case;

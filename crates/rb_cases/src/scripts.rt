@@ -1,11 +1,12 @@
 use crate::case::Case;
-use crate::devices::{MOST_CUT, SIZES, TIMERS};
+use crate::devices::{MOST_CUT, SIZES};
 use crate::differences::{of_bytes, of_texts};
 use crate::outcome::Outcome;
 use crate::reads::Reads;
 use crate::sink::Sink;
 use crate::source::Source;
-use rb_arguments::{ScriptOptions, Words, read_words};
+use crate::timers::{TIMERS, timer_name};
+use rb_arguments::{ScriptOptions, TimerKind, Words, read_words};
 use rb_ending::BrokerFault;
 use rb_queue::Opening;
 use rb_runs::{opening_in, run_script_gathered};
@@ -25,7 +26,7 @@ pub fn script_difference(alloc: Global, case: &Case) -> Result<Option<String>, A
 }
 
 // Runs the script over a timer, with each size of reads and cut at each place.
-fn over_timer(alloc: Global, case: &Case, timer: &str) -> Result<Option<String>, AllocError> {
+fn over_timer(alloc: Global, case: &Case, timer: TimerKind) -> Result<Option<String>, AllocError> {
     match options_of(alloc, case, timer)? {
         Some(options) => by_options(alloc, case, timer, &options),
         None => "the words of `args` are refused".to_string(alloc).map(Some),
@@ -35,7 +36,7 @@ fn over_timer(alloc: Global, case: &Case, timer: &str) -> Result<Option<String>,
 fn by_options(
     alloc: Global,
     case: &Case,
-    timer: &str,
+    timer: TimerKind,
     options: &ScriptOptions,
 ) -> Result<Option<String>, AllocError> {
     let by_sizes = by_sizes(alloc, case, timer, options)?;
@@ -48,14 +49,14 @@ fn by_options(
 fn by_sizes(
     alloc: Global,
     case: &Case,
-    timer: &str,
+    timer: TimerKind,
     options: &ScriptOptions,
 ) -> Result<Option<String>, AllocError> {
     for size in SIZES {
         if case.devices.have_size(size)
             && let Some(text) = by_reads(alloc, case, options, Reads::of_size(size))?
         {
-            let reads = size_name(size);
+            let (timer, reads) = (timer_name(timer), size_name(size));
             return format!(in alloc; "over {timer}, reads {reads}: {text}").map(Some);
         }
     }
@@ -73,11 +74,12 @@ fn size_name(size: usize) -> &'static str {
 fn by_cuts(
     alloc: Global,
     case: &Case,
-    timer: &str,
+    timer: TimerKind,
     options: &ScriptOptions,
 ) -> Result<Option<String>, AllocError> {
     for first in 1..case.input.bytes.len() {
         if let Some(text) = by_reads(alloc, case, options, Reads::cut_behind(first))? {
+            let timer = timer_name(timer);
             return format!(in alloc; "over {timer}, cut behind byte {first}: {text}").map(Some);
         }
     }
@@ -183,10 +185,10 @@ fn opening_of(alloc: Global, case: &Case) -> Result<Opening, BrokerFault> {
 fn options_of(
     alloc: Global,
     case: &Case,
-    timer: &str,
+    timer: TimerKind,
 ) -> Result<Option<ScriptOptions>, AllocError> {
     let mut words: Vec<&str> = Vec::new(alloc);
-    words.extend_from_slice(&["rb_broker", "script", "--timer", timer])?;
+    words.extend_from_slice(&["rb_broker", "script", "--timer", timer_name(timer)])?;
     for word in case.words() {
         words.push(word)?;
     }

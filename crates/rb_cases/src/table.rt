@@ -26,7 +26,6 @@
 //! | `words` | words of the command line | `word_subject.rt` |
 //! | `jobs` | jobs at the desks at which no call waits | `job_subject.rt` |
 
-use crate::devices::timer_of;
 use crate::entry::Entry;
 use crate::flaw::Flaw;
 use crate::kind::Kind;
@@ -34,6 +33,8 @@ use crate::malformed::Malformed;
 use crate::numbers::number;
 use crate::row::{Block, Line, Row};
 use crate::tables::table_difference;
+use crate::timers::timer_of;
+use rb_arguments::TimerKind;
 use std::alloc::{AllocError, Global};
 use std::sync::Wait;
 use std::time;
@@ -44,7 +45,7 @@ pub struct Table {
     pub line: usize,
     pub kind: Kind,
     name: String,
-    over: Option<&'static str>,
+    over: Option<TimerKind>,
     pub set_up: Vec<Line>,
     pub blocks: Vec<Block>,
     // Whether the last block began with `times` and has not ended.
@@ -115,7 +116,7 @@ impl Table {
     }
 
     /// Whether it is run over this timer.
-    pub fn is_over(&self, timer: &str) -> bool {
+    pub fn is_over(&self, timer: TimerKind) -> bool {
         match self.over {
             Some(only) => only == timer,
             None => true,

@@ -1,5 +1,4 @@
 use crate::desks::desks_difference;
-use crate::devices::TIMERS;
 use crate::flaw::Flaw;
 use crate::kind::Kind;
 use crate::line_subject::LineSubject;
@@ -10,11 +9,11 @@ use crate::subject::{FromSetUp, Subject};
 use crate::table::Table;
 use crate::text::bytes_of;
 use crate::timer_subject::TimerSubject;
+use crate::timers::{TIMERS, timer_name};
 use crate::word_subject::WordSubject;
-use rb_binary::BinaryTimer;
-use rb_pairing::PairingTimer;
-use rb_timer::{ListTimer, Timer};
-use rb_wheel::WheelTimer;
+use rb_arguments::TimerKind;
+use rb_runs::over_timer;
+use rb_timer::Timer;
 use std::alloc::Global;
 use std::sync::Wait;
 use std::time;
@@ -36,7 +35,7 @@ pub fn table_difference<R: Wait + time::Clock>(
 fn over_timers(alloc: Global, table: &Table) -> Result<Option<String>, Malformed> {
     for timer in TIMERS {
         if table.is_over(timer)
-            && let Some(text) = over_timer(alloc, table, timer)?
+            && let Some(text) = over(alloc, table, timer)?
         {
             return Ok(Some(text));
         }
@@ -44,16 +43,22 @@ fn over_timers(alloc: Global, table: &Table) -> Result<Option<String>, Malformed
     Ok(None)
 }
 
-fn over_timer(alloc: Global, table: &Table, timer: &str) -> Result<Option<String>, Malformed> {
-    match timer {
-        "heap" => over::<BinaryTimer>(alloc, table, "over heap, "),
-        "pairing" => over::<PairingTimer>(alloc, table, "over pairing, "),
-        "wheel" => over::<WheelTimer>(alloc, table, "over wheel, "),
-        _ => over::<ListTimer>(alloc, table, "over list, "),
-    }
+fn over(alloc: Global, table: &Table, timer: TimerKind) -> Result<Option<String>, Malformed> {
+    let place = at_line(table.line, place_of(alloc, timer))?;
+    over_timer!(timer, with_timer::<_>(alloc, table, &place))
 }
 
-fn over<T: Timer>(alloc: Global, table: &Table, place: &str) -> Result<Option<String>, Malformed> {
+// What a difference over this timer is printed behind.
+fn place_of(alloc: Global, timer: TimerKind) -> Result<String, Flaw> {
+    let timer = timer_name(timer);
+    format!(in alloc; "over {timer}, ").map_err(Flaw::from)
+}
+
+fn with_timer<T: Timer>(
+    alloc: Global,
+    table: &Table,
+    place: &str,
+) -> Result<Option<String>, Malformed> {
     match table.kind {
         Kind::Timer => run_table::<TimerSubject<T>>(alloc, table, place),
         _ => run_table::<QueueSubject<T>>(alloc, table, place),

@@ -22,8 +22,9 @@ use crate::flaw::Flaw;
 use crate::malformed::Malformed;
 use crate::row::Line;
 use crate::subject::{FromSetUp, Subject, refuse_set_up};
+use crate::timers::timer_name;
 use clap::Error;
-use rb_arguments::{ScriptOptions, ServeOptions, TimerKind, Words, read_words};
+use rb_arguments::{ScriptOptions, ServeOptions, Words, read_words};
 use rb_retry::{Pace, Policy};
 use std::alloc::{AllocError, Global};
 use std::str;
@@ -143,15 +144,6 @@ fn run_text(
     let history = file_text(alloc, "history", history)?;
     let from = file_text(alloc, "from", from)?;
     format!(in alloc; "{policy}{history}{from}")
-}
-
-fn timer_name(timer: TimerKind) -> &'static str {
-    match timer {
-        TimerKind::List => "list",
-        TimerKind::Heap => "heap",
-        TimerKind::Pairing => "pairing",
-        TimerKind::Wheel => "wheel",
-    }
 }
 
 fn policy_text(alloc: Global, policy: Policy) -> Result<String, AllocError> {
