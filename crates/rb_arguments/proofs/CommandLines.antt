@@ -2,21 +2,31 @@
 use Rattle.std.proofs.Common.{◌≡◌, ◌||◌, Bool, true, false, true≢false, cond, is_some, List, [], ◌∷◌, Option, Some, None, map, refl, sym, ap, ap₂, ◌∙◌}
 use Rattle.std.specs.Prelude.{IfOk, IfNone, IfSome, IsSome, Result, Ok, Err, find, option_map, option_and_then}
 use Rattle.std.specs.Option.{option_map_or}
+use Rattle.std.specs.Borrow.{Bor}
 use Rattle.std.specs.Str.{bytes_eq}
 use Rattle.std.proofs.lemmas.Option.{none-some, same_Some}
 use Rattle.clap.specs.Facts.{Entry, explicit_source}
 use Rattle.clap.specs.Takes.{is_given}
 use Rattle.clap.specs.Walk.{has_row, row_of, row_text}
-use Rattle.clap.specs.Words.{Row, Text, matched_of, one_of, rows_of}
+use Rattle.clap.specs.Words.{App, HasMatchesOf, Row, Text, is_simple, matched_of, one_of, rows_of, subcommand_of, subcommand_rows_of}
+use Rattle.clap.specs.declared.parser.matches.ArgMatches.{ArgMatches}
 use Rattle.clap.specs.declared.parser.matches.Found.{Found}
 use Rattle.clap.specs.declared.parser.matches.MatchedArg.{MatchedArg}
 use Rattle.clap.specs.declared.parser.matches.ValueSource.TheVariants.{DefaultValue, CommandLine}
 use Rattle.clap.proofs.TakesLemmas.{present_row}
-use Rattle.rb_arguments.specs.CommandLine.{IsAskedBy, SubcommandAsks, names_both}
+use Rattle.rb_arguments.specs.CommandLine.{IsAskedBy, SubcommandAsks, names_both, program}
 use Rattle.rb_arguments.specs.RightWords.{AreWrongWords}
 use Rattle.rb_arguments.specs.declared.words.Words.{Words}
 
 -- ---- which subcommand was met
+
+-- a command that is the program meets the subcommand that the program reads in the words
+pub met_by_program : {app : App} (scripted served : Bor (List (Bor Text))) (words : List Text) (matches : ArgMatches)
+    → app ≡ program scripted served → HasMatchesOf app words matches
+    → subcommand_rows_of matches ≡ subcommand_of (program scripted served) words
+met_by_program scripted served words matches is has =
+    let simple : is_simple (program scripted served) ≡ true = refl in
+    (has (ap is_simple is ∙ simple)).1 ∙ ap (λ app. subcommand_of app words) is
 
 -- what is met has this name and these rows, so it is the two
 pub name_with_rows : {B N R : Type 0} (pair : B → N × R) (met : Option B) (name : N) (rows : R)

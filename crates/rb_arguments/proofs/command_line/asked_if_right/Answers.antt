@@ -1,24 +1,23 @@
--- The parser ran the program of the spec, so the subcommand and the rows that it found are the spec's.
-use Rattle.std.proofs.Common.{◌≡◌, ◌∙◌, List, refl, ap, subst, true, map}
+-- The command is the program of the spec, so the subcommand and the rows that it met are those of the spec.
+use Rattle.std.proofs.Common.{◌∙◌, List, ap, subst, map}
 use Rattle.std.proofs.lemmas.Option.{IfSome_then}
-use Rattle.clap.specs.Words.{Text, is_simple, subcommand_of, takes}
-use Rattle.rb_arguments.specs.CommandLine.{SubcommandAsks, program}
-use Rattle.rb_arguments.proofs.CommandLines.{wrong_if_none}
+use Rattle.clap.specs.Words.{Text, takes}
+use Rattle.rb_arguments.specs.CommandLine.{SubcommandAsks}
+use Rattle.rb_arguments.proofs.CommandLines.{met_by_program, wrong_if_none}
 use Rattle.rb_arguments.proofs.command_line.asked_if_right.Goals as goal
 
 pub returns-in_ok-asked_in-in-Ok-clause-given : goal.returns-in_ok-asked_in-in-Ok-clause-given
 returns-in_ok-asked_in-in-Ok-clause-given c =
     let (scripted, served, scripted_are, served_are, program_is) = c.in_ok-program.ensures in
     let words : List Text = map (λ word. word.now) c.args.words.now in
-    let simple : is_simple (program scripted served) ≡ true = refl in
-    let read = (c.in-Ok.ensures.matches (ap is_simple program_is ∙ simple)).1 ∙ ap (λ app. subcommand_of app words) program_is in
+    let met = met_by_program scripted served words c.in-Ok.matches program_is c.in-Ok.ensures.matches in
     IfSome_then c.in_ok-asked_in-in-Ok.field-0 c.in_ok-asked_in-in-Ok.ensures.asked
     (λ asked asks. record {
       scripted = scripted;
       scripted_are = scripted_are;
       served = served;
       served_are = served_are;
-      asks = subst (λ met. SubcommandAsks met asked) read asks;
+      asks = subst (λ read. SubcommandAsks read asked) met asks;
     })
 
 -- right values are taken
@@ -26,8 +25,7 @@ pub returns-in_ok-asked_in-in-Ok-clause-wrong : goal.returns-in_ok-asked_in-in-O
 returns-in_ok-asked_in-in-Ok-clause-wrong c =
     let (scripted, served, scripted_are, served_are, program_is) = c.in_ok-program.ensures in
     let words : List Text = map (λ word. word.now) c.args.words.now in
-    let simple : is_simple (program scripted served) ≡ true = refl in
-    let read = (c.in-Ok.ensures.matches (ap is_simple program_is ∙ simple)).1 ∙ ap (λ app. subcommand_of app words) program_is in
+    let met = met_by_program scripted served words c.in-Ok.matches program_is c.in-Ok.ensures.matches in
     wrong_if_none c.in_ok-asked_in-in-Ok.field-0 words
     (λ none. record {
       scripted = scripted;
@@ -35,7 +33,7 @@ returns-in_ok-asked_in-in-Ok-clause-wrong c =
       served = served;
       served_are = served_are;
       wrong = λ right.
-          none (c.in_ok-asked_in-in-Ok.ensures.taken right.name right.rows (read ∙ right.met) right.alone right.right);
+          none (c.in_ok-asked_in-in-Ok.ensures.taken right.name right.rows (met ∙ right.met) right.alone right.right);
     })
 
 -- clap refuses no words that it takes, unless memory runs out
