@@ -1,4 +1,5 @@
-// The moments at which levels of the wheel begin, each for a wheel whose base stands at another.
+// Entries that expire where levels of the wheel begin, each put in while the wheel's base stands at
+// such a moment.
 
 use rb_timer::TimerAnswer::{Entry, Inserted, Removed};
 use rb_timer::TimerCommand::{Due, Insert, Least, Remove};
@@ -7,7 +8,8 @@ use rb_wheel::WheelTimer;
 use std::alloc::{AllocError, Global};
 use std::process::Abort;
 
-// 0, the greatest moment, and 64^k - 1, 64^k and 64^k + 1: a moment on each side of where a level begins.
+// 0, the greatest moment, and 64^k - 1, 64^k and 64^k + 1 for each k from 1 to 10: where a level
+// begins, and a moment on each side of that.
 static BOUNDARIES: [u64; 32] = [
     0,
     63,
@@ -43,15 +45,19 @@ static BOUNDARIES: [u64; 32] = [
     18446744073709551615,
 ];
 
-// Whether an entry that expires at `moment` is found due then, and not one nanosecond before, by
-// a timer whose base is `from`.
+// Returns whether an entry that expires at `moment` is found due then, and not one nanosecond
+// before, by a wheel whose base is `from` when the entry is put in. The base got there when an entry
+// that expires at 0 left one that expires at `from` behind.
 fn finds_due(alloc: Global, from: u64, moment: u64) -> Result<bool, AllocError> {
     let mut timer = WheelTimer::new(alloc);
-    timer.reserve(1)?;
+    timer.reserve(3)?;
     let found = Entry(Some((0, moment)));
     let commands = [
-        Due(from),
+        Insert(1, 0),
+        Insert(2, from),
+        Remove(1),
         Insert(0, moment),
+        Remove(2),
         Least,
         Due(moment.saturating_sub(1)),
         Due(moment),
@@ -60,8 +66,11 @@ fn finds_due(alloc: Global, from: u64, moment: u64) -> Result<bool, AllocError> 
     ];
     let early = if moment == 0 { found } else { Entry(None) };
     let expected = [
-        Entry(None),
         Inserted,
+        Inserted,
+        Removed(0),
+        Inserted,
+        Removed(from),
         found,
         early,
         found,
