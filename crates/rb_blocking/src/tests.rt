@@ -1,4 +1,4 @@
-//! Waits for an element: their clocks, bells, gates and threads.
+//! Tests of waits for an element: their clocks, bells, gates and threads.
 
 mod ample_memory;
 mod announcements;

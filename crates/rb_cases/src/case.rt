@@ -142,7 +142,7 @@ impl Case {
         }
     }
 
-    /// Whether a script is run; otherwise a history is replayed.
+    /// Returns whether the case runs a script. Otherwise it replays a history.
     pub fn is_script(&self) -> bool {
         self.ends.is_some()
     }
@@ -165,7 +165,7 @@ fn set_text(place: &mut Option<String>, alloc: Global, text: &str) -> Result<(),
     once(place, text.to_string(alloc)?)
 }
 
-// Sets a value, which must not be set yet.
+// Sets a value. It is a flaw if the value is set already.
 fn once<T: Drop>(place: &mut Option<T>, value: T) -> Result<(), Flaw> {
     if place.is_some() {
         return Err(Flaw::Twice);
@@ -174,7 +174,7 @@ fn once<T: Drop>(place: &mut Option<T>, value: T) -> Result<(), Flaw> {
     Ok(())
 }
 
-// The text of an end. The number of lost jobs in it must be a number.
+// Returns the text of an end. What follows `quit` or `input`, the lost jobs, must be a number.
 fn ending(text: &str) -> Result<&str, Flaw> {
     match text.split_once(' ') {
         Some(("quit" | "input", lost)) => number(lost).map(|_| text),

@@ -1,8 +1,8 @@
 use crate::flaw::Flaw;
 use crate::numbers::number;
 
-/// The counter after these steps, one after the other: `65` or `+65` adds, `*5` multiplies, and `%7` leaves the
-/// remainder.
+/// Returns the counter after `steps`, one after the other: `65` or `+65` adds, `*5` multiplies, and
+/// `%7` leaves the remainder.
 pub fn counted(counter: usize, steps: &str) -> Result<usize, Flaw> {
     let mut sum = counter;
     for step in steps.split_whitespace() {

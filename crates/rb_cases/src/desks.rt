@@ -27,7 +27,8 @@ struct SetUp {
     is_kept: bool,
 }
 
-/// What came in place of a right answer, at the first desk at which a row got none, if there is one.
+/// Returns a text about the first row that got no right answer, at the first desk at which there is
+/// such a row.
 pub fn desks_difference<R: Wait + time::Clock>(
     rt: &R,
     alloc: Global,

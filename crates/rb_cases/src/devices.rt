@@ -3,7 +3,8 @@ use crate::numbers::number;
 use crate::timers::timer_of;
 use rb_arguments::TimerKind;
 
-/// How many bytes of a script a read gives at most. The first value means the whole script.
+/// The greatest numbers of bytes of a script that a read gives. The first value means the whole
+/// script.
 pub const SIZES: [usize; 3] = [usize::MAX, 1, 7];
 
 /// A script of at most this many bytes is also cut in two, at every place.
@@ -18,13 +19,13 @@ pub struct Devices {
     size: Option<usize>,
     /// Whether every second read is interrupted.
     pub is_interrupted: bool,
-    /// After how many bytes a read fails.
+    /// The number of bytes after which a read fails.
     pub reader_fails: Option<usize>,
-    /// Which call of the writer fails, counted from 0.
+    /// The number of the writer's call that fails, counted from 0.
     pub writer_fails: Option<usize>,
     /// The greatest number of bytes that a write takes.
     pub writer_takes: Option<usize>,
-    /// Which call of the history's device fails, counted from 0.
+    /// The number of the call of the history's device that fails, counted from 0.
     pub recorder_fails: Option<usize>,
 }
 
@@ -42,7 +43,7 @@ impl Devices {
         }
     }
 
-    /// Whether the script is run over this timer.
+    /// Returns whether the script is run over `timer`.
     pub fn have_timer(&self, timer: TimerKind) -> bool {
         match self.timer {
             Some(only) => only == timer,
@@ -50,7 +51,7 @@ impl Devices {
         }
     }
 
-    /// Whether the script is read in pieces of this many bytes.
+    /// Returns whether the script is read in pieces of `size` bytes.
     pub fn have_size(&self, size: usize) -> bool {
         match self.size {
             Some(only) => only == size,
@@ -58,12 +59,12 @@ impl Devices {
         }
     }
 
-    /// Whether the case leaves open how the script is read.
+    /// Returns whether the case leaves open how the script is read.
     pub fn have_any_size(&self) -> bool {
         self.size.is_none()
     }
 
-    /// Takes a line that begins with this word.
+    /// Takes a line that begins with `word`. `text` is what follows.
     pub fn take(&mut self, word: &str, text: &str) -> Result<(), Flaw> {
         self.are_given = true;
         match word {
@@ -110,7 +111,7 @@ impl Devices {
         Ok(())
     }
 
-    /// Whether a read that is to fail can do so in an input of this many bytes.
+    /// Checks that a read that is to fail can do so in an input of `input` bytes.
     pub fn check(&self, input: usize) -> Result<(), Flaw> {
         match self.reader_fails {
             Some(behind) if behind > input => Err(Flaw::BehindInput),
@@ -119,7 +120,7 @@ impl Devices {
     }
 }
 
-// Sets a value, which must not be set yet.
+// Sets a value. It is a flaw if the value is set already.
 fn set_once<T: Copy>(place: &mut Option<T>, value: T) -> Result<(), Flaw> {
     if place.is_some() {
         return Err(Flaw::Twice);

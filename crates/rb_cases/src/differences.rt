@@ -3,7 +3,7 @@ use crate::replays::replay_difference;
 use crate::scripts::script_difference;
 use std::alloc::{AllocError, Global};
 
-/// What differs from the case, if anything does.
+/// Runs the case. Returns a text about what differs from it, if anything does.
 pub fn difference(alloc: Global, case: &Case) -> Result<Option<String>, AllocError> {
     if case.is_script() {
         script_difference(alloc, case)
@@ -12,7 +12,7 @@ pub fn difference(alloc: Global, case: &Case) -> Result<Option<String>, AllocErr
     }
 }
 
-/// What came instead of what was wanted, if they differ.
+/// Returns a text about what came instead of what was wanted, if they differ.
 pub fn of_texts(
     alloc: Global,
     what: &str,
@@ -25,7 +25,7 @@ pub fn of_texts(
     format!(in alloc; "{what}: {came:?} in place of {wanted:?}").map(Some)
 }
 
-/// The first line that came instead of another, if the texts differ.
+/// Returns a text about the first line that came instead of another one, if the texts differ.
 pub fn of_bytes(
     alloc: Global,
     what: &str,
@@ -42,7 +42,7 @@ pub fn of_bytes(
     format!(in alloc; "{what}, line {number}: {came:?} in place of {wanted:?}").map(Some)
 }
 
-// How many lines the texts have in common at their beginning.
+// Returns the number of lines that the texts have in common at their beginning.
 fn same_lines(one: &[u8], other: &[u8]) -> usize {
     let lines = one.split_inclusive(|&byte| byte == b'\n');
     let others = other.split_inclusive(|&byte| byte == b'\n');
@@ -52,7 +52,7 @@ fn same_lines(one: &[u8], other: &[u8]) -> usize {
         .count()
 }
 
-// The line with this number, counted from 0, or an empty text.
+// Returns line `number`, counted from 0, or an empty text if there is none.
 fn line_at(text: &[u8], number: usize) -> &[u8] {
     let mut lines = text.split_inclusive(|&byte| byte == b'\n');
     lines.nth(number).unwrap_or(&[])

@@ -1,4 +1,4 @@
-//! Elements, as the lines of a history have them: `ID EXPIRY ORIGIN FIRST ATTEMPT PAYLOAD`.
+//! Elements in the form of the lines of a history: `ID EXPIRY ORIGIN FIRST ATTEMPT PAYLOAD`.
 
 use crate::flaw::Flaw;
 use crate::numbers::number;
@@ -7,7 +7,7 @@ use rb_queue::Draft;
 use std::alloc::{AllocError, Global};
 use std::str;
 
-/// An element, with a word before it.
+/// Returns the text of an element, with `word` before it.
 pub fn element_text(alloc: Global, word: &str, element: &Element) -> Result<String, AllocError> {
     let payload = String::from_utf8_lossy(alloc, element.payload.as_bytes())?;
     let (id, expiry, origin) = (element.id, element.expiry, element.origin);
@@ -15,7 +15,7 @@ pub fn element_text(alloc: Global, word: &str, element: &Element) -> Result<Stri
     format!(in alloc; "{word}{id} {expiry} {origin} {first} {attempt} {payload}")
 }
 
-/// The element of these words.
+/// Returns the element that `words` spell.
 pub fn element_of(words: &[&str]) -> Result<Element, Flaw> {
     let [id, expiry, origin, first, attempt, payload] = *words else {
         return Err(Flaw::Command);
@@ -34,12 +34,12 @@ pub fn element_of(words: &[&str]) -> Result<Element, Flaw> {
     })
 }
 
-/// The draft of a job's first element.
+/// Returns the draft of a job's first element.
 pub fn first_draft(expiry: &str, payload: &str) -> Result<Draft, Flaw> {
     Ok(Draft::first(number(expiry)? as u64, payload_of(payload)?))
 }
 
-/// The draft of a later attempt. Its words are those of the element without the id.
+/// Returns the draft of a later attempt. Its words are those of an element without the id.
 pub fn later_draft(words: &[&str]) -> Result<Draft, Flaw> {
     let [expiry, origin, first, attempt, payload] = *words else {
         return Err(Flaw::Command);
@@ -57,7 +57,8 @@ pub fn later_draft(words: &[&str]) -> Result<Draft, Flaw> {
     })
 }
 
-// The number of an attempt. Its range is tested by the callers, since a function without clauses promises none.
+// Returns the number of an attempt. The callers test its range, since a function without clauses
+// promises none.
 fn attempt_of(word: &str) -> Result<u32, Flaw> {
     u32::try_from(number(word)?).map_err(|_| Flaw::Number)
 }
@@ -66,7 +67,7 @@ fn payload_of(word: &str) -> Result<Payload, Flaw> {
     Payload::new(word.as_bytes()).map_err(|_| Flaw::Payload)
 }
 
-/// The bytes of a payload, all of which are visible.
+/// Returns the bytes of a payload, all of which are visible, as a text.
 pub fn payload_text(payload: &Payload) -> &str {
     str::from_utf8(payload.as_bytes()).unwrap_or_default()
 }

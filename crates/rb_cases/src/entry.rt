@@ -9,21 +9,22 @@ pub trait Entry: Drop + Sized {
     /// The word that begins an entry.
     fn first_word() -> &'static str;
 
-    /// The entry that begins on this line. `rest` is what follows the word.
+    /// Returns the entry that begins on line `line` of the file. `rest` is what follows the first
+    /// word.
     fn begin(alloc: Global, line: usize, rest: &str) -> Result<Self, Flaw>;
 
-    /// Takes a further line, which has this number.
+    /// Takes another line of the entry, line `number` of the file.
     fn take(&mut self, alloc: Global, number: usize, line: &str) -> Result<(), Flaw>;
 
-    /// Checks that it has all that it needs, and nothing else.
+    /// Checks that the entry has all that it needs, and nothing else.
     fn check(&self) -> Result<(), Flaw>;
 
-    /// The number of its first line.
+    /// Returns the number of the entry's first line.
     fn line(&self) -> usize;
 
     fn name(&self) -> &str;
 
-    /// Runs it. Returns what came out otherwise, if anything did.
+    /// Runs the entry. Returns a text about what came out differently, if anything did.
     fn difference<R: Wait + time::Clock>(
         &self,
         rt: &R,

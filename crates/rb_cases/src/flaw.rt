@@ -9,7 +9,7 @@ pub enum Flaw {
     NoEntry,
     /// The case or table has no name.
     Name,
-    /// A case or table before has the same name.
+    /// An earlier case or table has the same name.
     SameName,
     /// What follows a `\` is not an escape.
     Escape,
@@ -27,7 +27,7 @@ pub enum Flaw {
     Mixed,
     /// The reader is to fail past the end of the input.
     BehindInput,
-    /// There is no kind of tables of this name.
+    /// No kind of table has this name.
     Kind,
     /// The kind has no set-up that begins with this word.
     SetUp,

@@ -13,7 +13,7 @@ pub enum Form {
 }
 
 impl Form {
-    /// The mark of a text, and the form that follows it.
+    /// Splits a word into the mark of a text and the form that follows the mark.
     pub fn split(word: &str) -> Result<(&str, Form), Flaw> {
         if let Some(mark) = word.strip_suffix('~') {
             return Ok((mark, Form::Part));

@@ -40,10 +40,10 @@ use std::collections::VecDeque;
 #[derive(Drop)]
 pub struct JobSubject<D: Desk> {
     desk: D,
-    // What the last drain by `call` gave.
+    // The elements that the last drain by `call` gave.
     given: Items,
     policy: Option<Policy>,
-    // In the order in which they were fetched.
+    // The jobs that are held, in the order in which they were fetched.
     held: VecDeque<Job>,
 }
 
@@ -242,7 +242,8 @@ impl<D: Desk + Drop> JobSubject<D> {
         }
     }
 
-    // Hands a job back, as the one that was fetched first.
+    // Puts back a job whose failure ended with a fault, as the one that was fetched first. Returns
+    // the text of the fault and of the job's element.
     fn hand_back(
         &mut self,
         alloc: Global,

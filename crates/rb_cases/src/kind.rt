@@ -16,7 +16,7 @@ pub enum Kind {
 }
 
 impl Kind {
-    /// The kind of this name.
+    /// Returns the kind named `name`.
     pub fn of(name: &str) -> Result<Kind, Flaw> {
         match name {
             "timer" => Ok(Kind::Timer),
@@ -28,7 +28,7 @@ impl Kind {
         }
     }
 
-    /// Whether its tables are run over each timer.
+    /// Returns whether tables of this kind are run over each timer.
     pub fn has_timer(self) -> bool {
         match self {
             Kind::Timer | Kind::Queue => true,

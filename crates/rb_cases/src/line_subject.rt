@@ -36,7 +36,8 @@ use rb_protocol::{
 };
 use std::alloc::{AllocError, Global};
 
-// The lengths of the texts to which a reply is appended, without room for more and with room for a reply.
+// The lengths of the texts to which a reply is appended. There are two texts of each length: one
+// without room for more, and one with room for a reply.
 const LENGTHS: [usize; 4] = [0, 10, 1_000, 100_000];
 
 #[derive(Drop)]
@@ -117,7 +118,8 @@ fn behind_texts(alloc: Global, reply: &LineReply) -> Result<String, AllocError> 
     String::from_utf8_lossy(alloc, &line)
 }
 
-// The length of the first text to which the reply is not appended as this line, if there is one.
+// Returns the length of the first text to which the reply is not appended as `line`, if there is
+// one.
 fn length_not_so(
     alloc: Global,
     reply: &LineReply,
@@ -132,7 +134,8 @@ fn length_not_so(
     Ok(None)
 }
 
-// Whether the reply is appended as this line to a text of this length, which does not grow if there is room.
+// Returns whether the reply is appended as `line` to a text of `length` bytes, and the text does
+// not grow if it has room.
 fn stands_behind(
     alloc: Global,
     reply: &LineReply,
@@ -154,7 +157,7 @@ fn text_with_room(alloc: Global, length: usize, room: usize) -> Result<Vec<u8>, 
     Ok(text)
 }
 
-// Whether the text has this line, and nothing else, after its first `length` bytes.
+// Returns whether the text has `line`, and nothing else, after its first `length` bytes.
 fn ends_with(text: &[u8], length: usize, line: &[u8]) -> bool {
     text.get(length..) == Some(line)
 }
@@ -230,7 +233,7 @@ fn reply_of(words: &[&str]) -> Result<LineReply, Flaw> {
     }
 }
 
-// The element whose words follow the first one.
+// Returns the element whose words follow the first word.
 fn element_behind(words: &[&str]) -> Result<Element, Flaw> {
     element_of(words.get(1..).unwrap_or(&[]))
 }

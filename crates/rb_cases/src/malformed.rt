@@ -7,7 +7,7 @@ pub struct Malformed {
     pub flaw: Flaw,
 }
 
-/// What came of a line, with the line's number if it has a flaw.
+/// Returns the outcome of a line. If the line has a flaw, its number is added.
 pub fn at_line<T: Drop>(line: usize, outcome: Result<T, Flaw>) -> Result<T, Malformed> {
     match outcome {
         Ok(value) => Ok(value),

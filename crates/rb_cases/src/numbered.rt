@@ -12,7 +12,7 @@ pub enum Numbered {
 }
 
 impl Numbered {
-    /// The one of this word.
+    /// Returns the kind of reply that `word` names.
     pub fn of(word: &str) -> Result<Numbered, Flaw> {
         match word {
             "drained" => Ok(Numbered::Drained),
@@ -24,7 +24,7 @@ impl Numbered {
         }
     }
 
-    /// The reply with its number.
+    /// Returns the reply of this kind that has the number `number`.
     pub fn reply(self, number: u64) -> LineReply {
         match self {
             Numbered::Drained => LineReply::Drained(number),

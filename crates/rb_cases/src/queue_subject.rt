@@ -52,7 +52,7 @@ use std::str;
 #[derive(Drop)]
 pub struct QueueSubject<T: Timer> {
     from: Text,
-    // The opening that a queue which could not be made handed back, for the next one.
+    // The opening that came back when a queue could not be made. The next queue begins with it.
     handed_back: Option<Opening>,
     run: Option<Run<T>>,
 }
@@ -62,7 +62,7 @@ struct Run<T: Timer> {
     kept: Kept<T>,
     share: Tally,
     other_share: Option<Tally>,
-    // What the last drain gave.
+    // The elements that the last drain gave.
     given: Items,
 }
 
@@ -205,14 +205,14 @@ impl<T: Timer> Run<T> {
         }
     }
 
-    // The step of a run of just this try.
+    // Runs one try alone. Returns its step.
     fn step_of(&mut self, alloc: Global, one: Try) -> Result<Option<Step>, AllocError> {
         let is_other = one.seat > 0;
         let mut steps = self.run_try(is_other, vec![in alloc; one]?)?;
         Ok(steps.pop())
     }
 
-    // Counts the try in the other share, if there is one and `is_other` says so.
+    // Runs the tries, and counts them in the other share if there is one and `is_other` says so.
     fn run_try(&mut self, is_other: bool, tries: Vec<Try>) -> Result<Vec<Step>, AllocError> {
         let Some(mut other) = self.other_share.take() else {
             return self.kept.run_tries(&mut self.share, tries);
@@ -276,7 +276,7 @@ fn try_of(seat: &str, asked: &str, words: &[&str]) -> Result<Try, Flaw> {
     })
 }
 
-/// The ask of these words.
+/// Returns the ask that `words` spell.
 pub fn ask_of(words: &[&str]) -> Result<Ask, Flaw> {
     match *words {
         [word] => ask_alone(word),
@@ -314,7 +314,7 @@ fn later_text(alloc: Global, next: Option<u64>) -> Result<String, AllocError> {
     }
 }
 
-/// The text of a reply to anything but a drain.
+/// Returns the text of a reply to any ask but a drain.
 pub fn reply_text(alloc: Global, reply: &Reply) -> Result<String, AllocError> {
     match reply {
         Reply::Offered(element) => element_text(alloc, "offered ", element),
@@ -328,7 +328,8 @@ pub fn reply_text(alloc: Global, reply: &Reply) -> Result<String, AllocError> {
     }
 }
 
-/// The element at a place, from 0, among those that a drain gave.
+/// Returns the text of the element at `place`, counted from 0, among those that a drain gave, or
+/// `none`.
 pub fn given_text(alloc: Global, given: &Items, place: &str) -> Result<String, Flaw> {
     match given.as_slice().get(number(place)?) {
         Some(element) => element_text(alloc, "", element).map_err(Flaw::from),
@@ -348,7 +349,8 @@ fn share_text(alloc: Global, tally: &Tally) -> Result<String, AllocError> {
     format!(in alloc; "{calls} {offered} {given}")
 }
 
-// The line of the last event. Before it are two lines and those of the opening's elements.
+// Returns the line of the last event, or `none`. In the written text two lines and those of the
+// opening's elements come before it.
 fn last_text(alloc: Global, opening: &Opening, history: &[Event]) -> Result<String, Flaw> {
     let last = history
         .get(history.len().saturating_sub(1)..)
@@ -372,7 +374,7 @@ fn history_text(alloc: Global, opening: &Opening, history: &[Event]) -> Result<V
     }
 }
 
-// The line with this number, counted from 0, without its end.
+// Returns line `number`, counted from 0, without its end, or `none` if there is no such line.
 fn line_in(alloc: Global, text: &[u8], number: usize) -> Result<String, AllocError> {
     let text = str::from_utf8(text).unwrap_or_default();
     text.lines().nth(number).unwrap_or("none").to_string(alloc)

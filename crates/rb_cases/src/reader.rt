@@ -1,4 +1,4 @@
-//! The reading of a file of cases or of tables.
+//! How a file of cases or of tables is read.
 //!
 //! A file is a list of lines. A line that is blank or begins with `#` is a comment. A line that begins
 //! with `case` or `table` begins an entry, and the lines up to the next one belong to it. No two entries
@@ -16,7 +16,7 @@ pub struct Reader<E: Entry> {
     entries: Vec<E>,
 }
 
-/// The entries of a file's text, at least one.
+/// Returns the entries of a file's text. There is at least one.
 pub fn read_entries<E: Entry>(alloc: Global, text: &str) -> Result<Vec<E>, Malformed> {
     let mut reader = Reader::new(alloc);
     let mut number = 0_usize;
@@ -35,7 +35,7 @@ impl<E: Entry> Reader<E> {
         }
     }
 
-    // Takes the line with this number.
+    // Takes line `number` of the file.
     fn take(&mut self, number: usize, line: &str) -> Result<(), Malformed> {
         if line.trim().is_empty() || line.starts_with('#') {
             return Ok(());
@@ -67,7 +67,7 @@ impl<E: Entry> Reader<E> {
         }
     }
 
-    // Checks the entry before, which gets no more lines.
+    // Checks the last entry, if there is one. It gets no more lines.
     fn check_last(&self) -> Result<(), Malformed> {
         match self.entries.last() {
             Some(entry) => at_line(entry.line(), entry.check()),

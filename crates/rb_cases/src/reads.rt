@@ -1,4 +1,5 @@
-/// How many bytes of a script a read gives at most: the first one, and each later one.
+/// The greatest number of bytes of a script that the first read gives, and that each later read
+/// gives.
 #[derive(Clone, Copy)]
 pub struct Reads {
     pub first: usize,
@@ -6,7 +7,7 @@ pub struct Reads {
 }
 
 impl Reads {
-    /// Each read gives at most this many bytes.
+    /// Makes each read give at most `size` bytes.
     pub fn of_size(size: usize) -> Reads {
         Reads {
             first: size,
@@ -14,7 +15,7 @@ impl Reads {
         }
     }
 
-    /// The script is cut in two after this many bytes.
+    /// Cuts the script in two after its first `first` bytes.
     pub fn cut_behind(first: usize) -> Reads {
         Reads {
             first,

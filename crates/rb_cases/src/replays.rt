@@ -4,7 +4,8 @@ use rb_arguments::{ReplayOptions, Words, read_words};
 use rb_runs::run_replay;
 use std::alloc::{AllocError, Global};
 
-/// What differs from the case when its history is replayed.
+/// Replays the history of a case. Returns a text about what differs from the case, if anything
+/// does.
 pub fn replay_difference(alloc: Global, case: &Case) -> Result<Option<String>, AllocError> {
     match options_of(alloc, case)? {
         Some(options) => by_options(alloc, case, &options),
@@ -23,7 +24,7 @@ fn by_options(
     }
 }
 
-// The first difference: in the line or in the status.
+// Returns a text about the first difference, in the line or in the status.
 fn compared(
     alloc: Global,
     case: &Case,
@@ -37,7 +38,7 @@ fn compared(
     }
 }
 
-// The line of the case's verdict.
+// Returns the line of the case's verdict, or an empty text if it has none.
 fn line_of(alloc: Global, case: &Case) -> Result<String, AllocError> {
     match &case.verdict {
         Some(verdict) => format!(in alloc; "{verdict}\n"),

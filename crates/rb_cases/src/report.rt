@@ -1,6 +1,7 @@
 use std::process::ExitCode;
 
-/// How many cases and tables were run, and how many of them did not come out as they must.
+/// The numbers of cases and tables that were run, and the number of those that did not come out as
+/// they must.
 #[derive(Clone, Copy)]
 pub struct Report {
     pub cases: u64,

@@ -10,11 +10,11 @@ pub struct Line {
 pub struct Row {
     pub line: usize,
     pub command: String,
-    /// With ` or ` between them, if there are several.
+    /// The right answers, with ` or ` between them if there are several.
     pub answers: String,
 }
 
-/// Rows that are run one after the other, in as many rounds as `times` says.
+/// Rows that are run one after the other, in `times` rounds.
 #[derive(Drop)]
 pub struct Block {
     pub times: usize,

@@ -13,7 +13,8 @@ use rb_runs::{opening_in, run_script_gathered};
 use rb_session::Ended;
 use std::alloc::{AllocError, Global};
 
-/// What differs from the case in the first run that does not come out as it must, if there is one.
+/// Returns a text about what differs from the case in the first run that does not come out as it
+/// must, if there is one.
 pub fn script_difference(alloc: Global, case: &Case) -> Result<Option<String>, AllocError> {
     for timer in TIMERS {
         if case.devices.have_timer(timer)
@@ -25,7 +26,7 @@ pub fn script_difference(alloc: Global, case: &Case) -> Result<Option<String>, A
     Ok(None)
 }
 
-// Runs the script over a timer, with each size of reads and cut at each place.
+// Runs the script over a timer, with reads of each size and cut in two at each place.
 fn over_timer(alloc: Global, case: &Case, timer: TimerKind) -> Result<Option<String>, AllocError> {
     match options_of(alloc, case, timer)? {
         Some(options) => by_options(alloc, case, timer, &options),
@@ -96,7 +97,7 @@ fn by_reads(
     compared(alloc, case, &outcome)
 }
 
-// The first difference: in the replies, the end or the history.
+// Returns a text about the first difference, in the replies, the end or the history.
 fn compared(alloc: Global, case: &Case, outcome: &Outcome) -> Result<Option<String>, AllocError> {
     if let Some(text) = of_bytes(alloc, "replies", &outcome.replies, &case.replies.bytes)? {
         return Ok(Some(text));
@@ -112,7 +113,7 @@ fn compared(alloc: Global, case: &Case, outcome: &Outcome) -> Result<Option<Stri
     }
 }
 
-// Runs the script over a timer, by these reads.
+// Runs the script with `options`, which choose the timer, and with `reads`.
 fn run(
     alloc: Global,
     case: &Case,
@@ -138,7 +139,7 @@ fn run(
     })
 }
 
-// How the script ends over these devices.
+// Runs the script over these devices. Returns how it ended.
 fn ended(
     alloc: Global,
     case: &Case,
@@ -198,7 +199,7 @@ fn options_of(
     }
 }
 
-// How a run ended, in the words of a case.
+// Returns how a run ended, in the words of a case.
 fn text_of(alloc: Global, ended: Result<Ended, BrokerFault>) -> Result<String, AllocError> {
     match ended {
         Ok(Ended::Quit { lost }) => format!(in alloc; "quit {lost}"),

@@ -1,7 +1,8 @@
 use std::alloc::Global;
 use std::io::{self, ErrorKind, Write};
 
-/// Holds what is written. Writes and flushes are counted together, and one of them may fail.
+/// A writer that holds what is written. Writes and flushes are counted together, and one of them
+/// may fail.
 #[derive(Drop)]
 pub struct Sink {
     pub bytes: Vec<u8>,

@@ -1,7 +1,7 @@
 use crate::reads::Reads;
 use std::io::{self, ErrorKind, Read};
 
-/// Gives its bytes, a limited number at each read, and then ends or fails.
+/// A reader that gives its bytes, a limited number at each read, and then ends or fails.
 #[derive(Drop)]
 pub struct Source<'a> {
     rest: &'a [u8],

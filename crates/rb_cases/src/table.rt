@@ -115,7 +115,7 @@ impl Table {
         Ok(table)
     }
 
-    /// Whether it is run over this timer.
+    /// Returns whether the table is run over `timer`.
     pub fn is_over(&self, timer: TimerKind) -> bool {
         match self.over {
             Some(only) => only == timer,

@@ -18,7 +18,7 @@ use std::alloc::Global;
 use std::sync::Wait;
 use std::time;
 
-/// What came in place of a right answer in the first row that got none, if there is one.
+/// Returns a text about the first row that got no right answer, if there is one.
 pub fn table_difference<R: Wait + time::Clock>(
     rt: &R,
     alloc: Global,
@@ -48,7 +48,7 @@ fn over(alloc: Global, table: &Table, timer: TimerKind) -> Result<Option<String>
     over_timer!(timer, with_timer::<_>(alloc, table, &place))
 }
 
-// What a difference over this timer is printed behind.
+// Returns the text that is printed before a difference over `timer`.
 fn place_of(alloc: Global, timer: TimerKind) -> Result<String, Flaw> {
     let timer = timer_name(timer);
     format!(in alloc; "over {timer}, ").map_err(Flaw::from)
@@ -144,7 +144,7 @@ fn answer_to<S: Subject>(
     subject.answer(alloc, &command)
 }
 
-// Whether the answer is one of the row's.
+// Returns whether `came` is one of the answers of the row.
 fn is_right(alloc: Global, row: &Row, round: usize, came: &str) -> Result<bool, Flaw> {
     for answer in row.answers.split(" or ") {
         if is_same(alloc, answer, round, came)? {

@@ -21,11 +21,11 @@ use std::alloc::{AllocError, Global};
 pub struct Text {
     alloc: Global,
     pub bytes: Vec<u8>,
-    /// Whether the case has a line of it. The text may still be empty.
+    /// Whether any line of the text is given. The text may still be empty.
     pub is_given: bool,
 }
 
-/// The bytes of a text on one line, with this counter.
+/// Returns the bytes that the text `told`, on one line, stands for. Its counter is `counter`.
 pub fn bytes_of(alloc: Global, counter: usize, told: &str) -> Result<Vec<u8>, Flaw> {
     let mut text = Text::new(alloc);
     text.push_told(counter, told)?;
@@ -101,7 +101,7 @@ impl Text {
         Ok(rest)
     }
 
-    // Appends the byte of the two digits at the front.
+    // Appends the byte that the first two digits spell. Returns what follows them.
     fn push_hex<'a>(&mut self, told: &'a str) -> Result<&'a str, Flaw> {
         let Some((digits, rest)) = told.split_at_checked(2) else {
             return Err(Flaw::Escape);
@@ -115,7 +115,8 @@ impl Text {
         }
     }
 
-    // Appends the text of `65 a)`, or the number of `# 65)`.
+    // Appends what an escape with a `(` stands for: the repeated text of `65 a)`, or the number
+    // of `# 65)`. Returns what follows the escape.
     fn push_repeated<'a>(&mut self, index: usize, told: &'a str) -> Result<&'a str, Flaw> {
         let Some((inner, rest)) = told.split_once(')') else {
             return Err(Flaw::Escape);

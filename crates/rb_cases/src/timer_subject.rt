@@ -65,7 +65,7 @@ fn get<T: Timer>(alloc: Global, timer: &T, slot: &str) -> Result<String, Flaw> {
     moment_text(alloc, timer.get(slot)).map_err(Flaw::from)
 }
 
-/// A moment, or `none`.
+/// Returns the text of a moment, or `none`.
 pub fn moment_text(alloc: Global, moment: Option<u64>) -> Result<String, AllocError> {
     match moment {
         Some(moment) => moment.to_string(alloc),

@@ -9,7 +9,7 @@ pub const TIMERS: [TimerKind; 4] = [
     TimerKind::Wheel,
 ];
 
-/// The timer's name.
+/// Returns the name of `timer`.
 pub fn timer_name(timer: TimerKind) -> &'static str {
     match timer {
         TimerKind::List => "list",
@@ -19,7 +19,7 @@ pub fn timer_name(timer: TimerKind) -> &'static str {
     }
 }
 
-/// The timer of this name.
+/// Returns the timer named `name`.
 pub fn timer_of(name: &str) -> Result<TimerKind, Flaw> {
     for timer in TIMERS {
         if timer_name(timer) == name {

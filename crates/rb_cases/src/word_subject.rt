@@ -55,7 +55,7 @@ fn answer_to(alloc: Global, words: &[&str]) -> Result<String, Flaw> {
     }
 }
 
-// The words of a command. Every second part of it was in quotes.
+// Returns the words of a command. The quotes cut it into parts, and every second part was quoted.
 fn words_of(alloc: Global, command: &str) -> Result<Vec<&str>, AllocError> {
     let mut words = Vec::new(alloc);
     for (place, part) in command.split('\'').enumerate() {
@@ -133,7 +133,7 @@ fn serve_text(
     format!(in alloc; "{door} sessions {sessions} turns {turns} calls {calls} {run}")
 }
 
-// The end of an answer: the policy, and the files that were given.
+// Returns the end of an answer: the policy, and the files that were given.
 fn run_text(
     alloc: Global,
     policy: Policy,
@@ -171,7 +171,7 @@ fn error_text(alloc: Global, error: &Error) -> Result<String, AllocError> {
     format!(in alloc; "{told} {kind:?} {status}")
 }
 
-// Whether the part is shown for the words after it.
+// Answers whether `part` is in the text that is shown for the words after it.
 fn shows(alloc: Global, words: &[&str], part: &str) -> Result<String, AllocError> {
     let line = words.get(2..).unwrap_or(&[]);
     match read_words(alloc, line) {

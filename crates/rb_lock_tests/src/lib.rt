@@ -1,6 +1,6 @@
-//! Tests of `rb_lock` by its public calls, with stated values.
+//! Tests of `rb_lock` through its public calls, with stated values.
 //!
-//! They are a crate of their own, so that the gate does not prove `rb_lock` once more with them.
+//! They are a crate of their own, so that the gate does not prove `rb_lock` again with them.
 #![tactic(auto)]
 
 #[cfg(test)]

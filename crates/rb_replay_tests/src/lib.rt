@@ -1,6 +1,6 @@
-//! Tests of `rb_replay` by its public calls, with stated values.
+//! Tests of `rb_replay` through its public calls, with stated values.
 //!
-//! They are a crate of their own, so that the gate does not prove `rb_replay` once more with them.
+//! They are a crate of their own, so that the gate does not prove `rb_replay` again with them.
 #![tactic(auto)]
 
 #[cfg(test)]

@@ -1,4 +1,4 @@
-//! Histories: their texts, the check of a run, and the check of its retries.
+//! Tests of histories: their texts, the check of a run, and the check of its retries.
 
 mod devices;
 mod fixtures;

@@ -1,7 +1,7 @@
-//! Tests of `rb_retry` by its public calls, with stated values: those that no row of `rb_cases` can be
-//! (`data/jobs.rows`).
+//! Tests of `rb_retry` through its public calls, with stated values: those that can't be rows of
+//! `rb_cases` (`data/jobs.rows`).
 //!
-//! They are a crate of their own, so that the gate does not prove `rb_retry` once more with them.
+//! They are a crate of their own, so that the gate does not prove `rb_retry` again with them.
 #![tactic(auto)]
 
 #[cfg(test)]

@@ -1,4 +1,4 @@
-// Each allocation of the reading of words, refused in turn.
+// Each allocation that reading words makes, refused in turn.
 
 use clap::Error;
 use clap::error::ErrorKind;
@@ -9,11 +9,12 @@ use rb_retry::Policy;
 use std::alloc::Global;
 use std::process::Abort;
 
-// How many refusals the test meets. `tools/refuse_allocations` sets 1, and refuses each allocation
-// of the test in turn.
+// The number of refusals that the test meets. `tools/refuse_allocations` sets 1 and refuses each
+// allocation of the test in turn.
 const REFUSALS: u32 = 0;
 
-// What a line asks for, with the files of each line here, or why it is refused.
+// What a line asks for, besides the files, which are the same in all lines here, or why it is
+// refused.
 #[derive(Clone, Copy, Debug, PartialEq, Eq)]
 enum Answer {
     Script(ScriptOptions),
@@ -22,7 +23,7 @@ enum Answer {
     Refused(ErrorKind),
 }
 
-// What the words were read as, if the files are those of each line.
+// Returns what the words were read as, or `None` if the files are not those of the lines here.
 fn answer_of(read: &Result<Words, Error>) -> Option<Answer> {
     match read {
         Ok(
@@ -65,12 +66,12 @@ fn is_text(found: &Option<String>, wanted: &str) -> bool {
     }
 }
 
-// A comparison is a function with no clause, which is proved once and not at each use.
+// Comparisons are functions without clauses, so tests that call them have nothing to prove.
 fn expect_same(rt: &impl Abort, words: &[&str], found: Option<Answer>, wanted: Answer) {
     assert_eq!(rt; found, Some(wanted), "{words:?}");
 }
 
-// Whether the line met a refusal. It is read once more then.
+// Returns whether the line met a refusal. If so, it is read once more.
 fn refused_line(rt: &impl Abort, alloc: Global, words: &[&str], answer: Answer) -> bool {
     let read = answer_of(&read_words(alloc, words));
     if read == Some(answer) {

@@ -1,5 +1,5 @@
-// An offer is answered while there is memory, whatever the numbers in it are. A contract lets a
-// body say at any time that there is none.
+// While there is memory, an offer is answered, whatever the numbers in it are. A contract lets a
+// body say at any time that memory ran out.
 
 ghost use Rattle.std.specs.Prelude.{◌≡◌};
 
@@ -16,7 +16,7 @@ use std::sync::Wait;
 use std::test::Fail;
 use std::time;
 
-// How many rounds are made, each an offer and a take.
+// The number of rounds, each an offer and a take.
 const ROUNDS: u64 = 5_000;
 
 fn expect_offer<R: Wait + Abort>(
@@ -34,7 +34,7 @@ fn expect_offer<R: Wait + Abort>(
     expect_offered(rt, offered, wanted);
 }
 
-// The last attempt of a job, of id 7 and expiry 8 at first.
+// Returns a draft of the last attempt of a job whose first attempt had id 7 and expiry 8.
 fn last_attempt(rt: &impl Abort, expiry: u64) -> Draft {
     Draft {
         expiry,
@@ -45,7 +45,7 @@ fn last_attempt(rt: &impl Abort, expiry: u64) -> Draft {
     }
 }
 
-// The element that it becomes.
+// Returns the element that this draft becomes, with id `id`.
 fn last_element(rt: &impl Abort, id: u64, expiry: u64) -> Element {
     Element {
         id,
@@ -57,7 +57,8 @@ fn last_element(rt: &impl Abort, id: u64, expiry: u64) -> Element {
     }
 }
 
-// A first and a last attempt of this expiry, offered at this moment. The ids go on from this one.
+// Offers a first and a last attempt. `moment` pairs the moment of both offers with the expiry of
+// both elements. Their ids are `id` and the next one.
 fn expect_moment<R: Wait + Abort>(
     rt: &R,
     shared: &ListShared,
@@ -87,7 +88,8 @@ fn offers_up_to_the_greatest_moment(rt: HostRuntime) -> Result<(), Fail> {
     Ok(())
 }
 
-// Offers the element of this id, and takes it.
+// Offers the element with id `id`, and takes it. The id is also its expiry and the moment of both
+// calls.
 fn expect_round<R: Wait + time::Clock + Abort>(
     rt: &R,
     shared: &ListShared,
@@ -120,7 +122,7 @@ fn offers_after_thousands_of_calls(rt: HostRuntime) -> Result<(), Fail> {
     Ok(())
 }
 
-// A new pass makes a round, and is folded.
+// Splits off a new pass, makes a round with it, and folds it back into `first`.
 fn expect_pass<R: Wait + time::Clock + Abort>(
     rt: &R,
     shared: &ListShared,

@@ -1,4 +1,5 @@
-// Waiting calls that rest, and what wakes them. A rest that misses its wake lasts longer than a test may.
+// Waiting calls that rest, and what wakes them. A rest that misses its wake lasts longer than a
+// test may.
 
 use crate::bell::Bell;
 use crate::fault::WaitFault;
@@ -13,13 +14,14 @@ use std::test::Fail;
 use std::thread::{Threads, join, map_indices, yield_now};
 use std::time::{Clock, Duration};
 
-// How long a rest lasts that misses its wake, in seconds.
+// The length of a rest that misses its wake, in seconds.
 const MISSED: u64 = 60;
 
-// How many things each of eight threads gives, and each of eight others takes.
+// The number of things that each of eight threads gives, and that each of eight others takes.
 const THINGS: u64 = 12_500;
 
-// Looks, tells it, and rests as a call that looks again at the moment 10. Whether it was woken.
+// Reads the count, raises `looks`, and rests like a call that looks again at moment 10. Then raises
+// `ends`. Returns whether the rest was woken.
 fn rest_once<R: Wait + Clock>(rt: &R, bell: &Bell, looks: &AtomicU64, ends: &AtomicU64) -> bool {
     let seen = bell.count(rt);
     looks.fetch_add(1, Ordering::SeqCst);
@@ -28,8 +30,8 @@ fn rest_once<R: Wait + Clock>(rt: &R, bell: &Bell, looks: &AtomicU64, ends: &Ato
     rested.woken
 }
 
-// A call that was woken, has found this as the least expiry and ends so, again and again until another's
-// rest is over.
+// Hands on like a call that was woken, found 9 as the least expiry, and ends as `waited` says. Does
+// so again and again until the rest of the other thread is over.
 fn hand_on_often<R: Wait>(
     rt: &R,
     bell: &Bell,
@@ -69,13 +71,14 @@ fn one_that_gives_up_wakes_another(rt: HostRuntime) -> Result<(), Fail> {
     Ok(())
 }
 
-// Offers what expires at the moment 9, behind another's look.
+// Announces an element that expires at moment 9, once the other thread has read the count.
 fn announce_behind<R: Wait>(rt: &R, bell: &Bell, looks: &AtomicU64) {
     await_more(rt, looks, 0);
     bell.announce(rt, 9);
 }
 
-// One looks and rests, and another offers.
+// Reads the count and rests in one thread, and announces an element in another. Asserts that the
+// rest has ended and that the bell has rung once.
 fn expect_announced<R: Threads + Wait + Clock + Abort + Sync>(rt: &R) {
     let (bell, looks, ends) = (&Bell::new(), &AtomicU64::new(0), &AtomicU64::new(0));
     let _ = join(
@@ -95,7 +98,7 @@ fn an_offer_ends_a_rest(rt: HostRuntime) -> Result<(), Fail> {
     Ok(())
 }
 
-// Takes one thing, as soon as one is there.
+// Takes one thing, and rests while there is none.
 fn take_thing<R: Wait + Clock>(rt: &R, bell: &Bell, things: &AtomicU64) {
     let mut seen = bell.count(rt);
     for _ in rt.forever() {
@@ -121,7 +124,8 @@ fn give_things(rt: &impl Wait, bell: &Bell, things: &AtomicU64) {
     }
 }
 
-// What the thread of this number does: of two, the first gives and the second takes. How often it did.
+// The work of thread `number`: even ones give, odd ones take. Returns the number of things that it
+// gave or took.
 fn give_or_take<R: Wait + Clock>(rt: &R, bell: &Bell, things: &AtomicU64, number: usize) -> u64 {
     if number % 2 == 0 {
         give_things(rt, bell, things);
@@ -145,7 +149,7 @@ fn give_and_take<R: Threads + Wait + Clock + Sync>(
     )
 }
 
-// Eight threads give and eight take: where a wake were lost, a taker would rest too long.
+// Eight threads give and eight take. If a wake were lost, a taker would rest too long.
 #[test]
 fn no_wake_is_lost_among_many(rt: HostRuntime) -> Result<(), Fail> {
     let (bell, things) = (&Bell::new(), &AtomicU64::new(0));

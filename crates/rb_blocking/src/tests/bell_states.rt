@@ -1,4 +1,5 @@
-// Which of the calls that rest is woken, by what a bell keeps under its lock.
+// The state that a bell keeps under its lock: which resting call it wakes, and which rings a call
+// has missed.
 
 use crate::bell_state::{BellState, PLACES};
 use crate::tests::fixtures::expect_number;
@@ -20,7 +21,8 @@ fn expect_left(rt: &impl Abort, state: &mut BellState, wanted: [bool; 3]) {
     assert_eq!(rt; [state.leave(0), state.leave(1), state.leave(2)], wanted);
 }
 
-// Three calls that look again at these moments, each at a place of its own.
+// Adds three resting calls, which look again at moments 10, 30 and 20. Asserts that each has a
+// place of its own.
 fn three_rest(rt: &impl Abort, state: &mut BellState) {
     let places = [state.enter(10), state.enter(30), state.enter(20)];
     assert_eq!(rt; places, [0, 1, 2]);
@@ -57,7 +59,8 @@ fn wakes_all_once(rt: HostRuntime) -> Result<(), Fail> {
     Ok(())
 }
 
-// A call that has left looks no more, so that what comes before another's look wakes nobody.
+// A call that has left does not look again, so its look does not count. An element that expires
+// before that look, but not before the look of a resting call, wakes nobody.
 #[test]
 fn looks_of_calls_that_left_do_not_count(rt: HostRuntime) -> Result<(), Fail> {
     let mut state = BellState::new();
@@ -69,14 +72,14 @@ fn looks_of_calls_that_left_do_not_count(rt: HostRuntime) -> Result<(), Fail> {
     Ok(())
 }
 
-// As many calls as are given rest.
+// Adds `calls` resting calls, which look again at moment 5.
 fn enter_often(state: &mut BellState, calls: usize) {
     for _ in 0..calls {
         let _ = state.enter(5);
     }
 }
 
-// How many wakes find a call, of so many.
+// Makes `wakes` wakes for an element that expires at 4. Returns the number that found a call.
 fn woken_of(state: &mut BellState, wakes: usize) -> u64 {
     let mut woken: u64 = 0;
     for _ in 0..wakes {
@@ -116,7 +119,7 @@ fn expect_missed(rt: &impl Abort, state: &BellState, seen: u64, wanted: [bool; 3
     assert_eq!(rt; missed, wanted);
 }
 
-// What expires at 10 is missed by a call that looks again after that.
+// A call misses an element that expires at 10 only if it looks again after 10.
 #[test]
 fn what_expires_later_is_not_missed(rt: HostRuntime) -> Result<(), Fail> {
     let mut state = BellState::new();
@@ -135,7 +138,8 @@ fn what_expires_later_is_not_missed(rt: HostRuntime) -> Result<(), Fail> {
     Ok(())
 }
 
-// Past the rings of which it is known what they were for.
+// A bell knows what its last 16 rings were for. After more rings than that, a call counts as having
+// missed one.
 #[test]
 fn many_rings_are_missed(rt: HostRuntime) -> Result<(), Fail> {
     let mut state = BellState::new();

@@ -1,4 +1,4 @@
-// A bell by itself: counts, and rests that a ring ends or that nothing ends.
+// A bell by itself: its count, rests that a ring ends, and rests that nothing ends.
 
 use crate::tests::fixtures::{await_more, expect, expect_number};
 use crate::{Bell, Clock as _, MachineClock};
@@ -10,13 +10,14 @@ use std::test::Fail;
 use std::thread::{Threads, join, map_indices, sleep, yield_now};
 use std::time::{Clock, Duration};
 
-// How often one thread rings between another's look at the count and its rest, or in the rest.
+// The number of times that one thread rings after another's look at the count: before the other's
+// rest or during it.
 const ROUNDS: u64 = 10_000;
 
-// How long a rest lasts that misses its ring, in seconds: as long as a test may take.
+// The length of a rest that misses its ring, in seconds: as long as a test may take.
 const MISSED: u64 = 60;
 
-// The count, and that of a rest that has seen no ring.
+// Asserts that the count is `wanted`, and that a rest with no ring seen returns it too.
 fn expect_counts<R: Wait + Clock + Abort>(rt: &R, bell: &Bell, wanted: u64) {
     expect_number(rt, bell.count(rt), wanted);
     expect_number(rt, bell.rest(rt, 0), wanted);
@@ -31,7 +32,8 @@ fn counts_its_rings(rt: HostRuntime) -> Result<(), Fail> {
     Ok(())
 }
 
-// One thread rests in this round, and another rings.
+// Rests in one thread and rings in another. `round` is the count before the ring. This rest may end
+// before the ring; one that begins after it returns the new count.
 fn expect_rung<R: Threads + Wait + Clock + Abort + Sync>(rt: &R, bell: &Bell, round: u64) {
     let (count, _) = join(rt, || bell.rest(rt, round), || bell.ring(rt));
     let rings = round.saturating_add(1);
@@ -39,7 +41,7 @@ fn expect_rung<R: Threads + Wait + Clock + Abort + Sync>(rt: &R, bell: &Bell, ro
     expect_number(rt, bell.rest(rt, round), rings);
 }
 
-// The rest of one thread ends when another rings, before it or in it.
+// The rest of one thread ends when another rings, whether before the rest or during it.
 #[test]
 fn a_ring_ends_a_rest(rt: HostRuntime) -> Result<(), Fail> {
     let bell = Bell::new();
@@ -49,14 +51,15 @@ fn a_ring_ends_a_rest(rt: HostRuntime) -> Result<(), Fail> {
     Ok(())
 }
 
-// One of two threads rests, once it has told that it is about to. The count after it.
+// Reads the count, raises `looks` to tell that it is about to rest, and rests. Returns the count
+// afterwards.
 fn rest_told<R: Wait + Clock>(rt: &R, bell: &Bell, looks: &AtomicU64) -> u64 {
     let seen = bell.count(rt);
     looks.fetch_add(1, Ordering::SeqCst);
     bell.rest_at_most(rt, seen, Duration::from_secs(MISSED))
 }
 
-// The same, as a call that waits for an element does.
+// Does the same, but rests like a call that waits for an element.
 fn rest_as_call<R: Wait + Clock>(rt: &R, bell: &Bell, looks: &AtomicU64) -> u64 {
     let seen = bell.count(rt);
     looks.fetch_add(1, Ordering::SeqCst);
@@ -64,7 +67,7 @@ fn rest_as_call<R: Wait + Clock>(rt: &R, bell: &Bell, looks: &AtomicU64) -> u64 
         .count
 }
 
-// Rings once, when so many threads have had time to fall asleep. The count after it.
+// Rings once `sleepers` threads have had time to fall asleep. Returns the count afterwards.
 fn ring_late<R: Wait + Clock>(rt: &R, bell: &Bell, looks: &AtomicU64, sleepers: u64) -> u64 {
     await_more(rt, looks, sleepers.saturating_sub(1));
     sleep(rt, Duration::from_millis(20));
@@ -72,8 +75,8 @@ fn ring_late<R: Wait + Clock>(rt: &R, bell: &Bell, looks: &AtomicU64, sleepers: 
     bell.count(rt)
 }
 
-// What the thread of this number does: two rest, two rest as calls that wait for an element do, and the last rings. The
-// count after it.
+// The work of thread `number`: two rest, two rest like calls that wait for an element, and the last
+// one rings. Returns the count afterwards.
 fn rest_or_ring<R: Wait + Clock>(rt: &R, bell: &Bell, looks: &AtomicU64, number: usize) -> u64 {
     match number {
         0 | 1 => rest_told(rt, bell, looks),
@@ -100,7 +103,7 @@ fn expect_all_woken(rt: &impl Abort, counts: &[u64]) {
     assert_eq!(rt; counts, [1; 5].as_slice());
 }
 
-// Each of them is woken, and none looks only when its rest is over.
+// The ring wakes each thread. None looks again only because its rest is over.
 #[test]
 fn one_ring_wakes_all(rt: HostRuntime) -> Result<(), Fail> {
     let watch = MachineClock::new(&rt);
@@ -110,7 +113,7 @@ fn one_ring_wakes_all(rt: HostRuntime) -> Result<(), Fail> {
     Ok(())
 }
 
-// The shortest of some rests that nothing ends, in milliseconds.
+// Makes five rests that nothing ends, and returns the length of the shortest, in milliseconds.
 fn shortest_rest<R: Wait + Clock>(rt: &R, bell: &Bell) -> u64 {
     let mut shortest = u64::MAX;
     for _ in 0..5 {
@@ -132,7 +135,7 @@ fn a_rest_lasts_about_20_milliseconds(rt: HostRuntime) -> Result<(), Fail> {
     Ok(())
 }
 
-// Lets other threads run, up to seven times.
+// Lets other threads run: a random number of times, at most seven.
 fn dawdle(random: &mut u64) {
     *random = random
         .wrapping_mul(6_364_136_223_846_793_005)
@@ -142,7 +145,7 @@ fn dawdle(random: &mut u64) {
     }
 }
 
-// Looks at the count and then rests, once a round. How many of the rests saw a ring.
+// Looks at the count and then rests, once per round. Returns the number of rests that saw a ring.
 fn rest_often<R: Wait + Clock>(rt: &R, bell: &Bell, looks: &AtomicU64) -> u64 {
     let mut random = 1;
     let mut seen_rings: u64 = 0;
@@ -157,7 +160,7 @@ fn rest_often<R: Wait + Clock>(rt: &R, bell: &Bell, looks: &AtomicU64) -> u64 {
     seen_rings
 }
 
-// Rings once a round, after the look.
+// Rings once per round, after the other thread's look.
 fn ring_often(rt: &impl Wait, bell: &Bell, looks: &AtomicU64) {
     let mut random = 2;
     for round in 0..ROUNDS {

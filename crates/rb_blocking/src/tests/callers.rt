@@ -1,5 +1,6 @@
-// Who calls a shared queue: a pass beside its queue and a bell. That the pass is of that queue is a fact of the value,
-// so what hands it on, to a thread too, has nothing to prove.
+// A caller of a shared queue: a pass, with its queue and a bell. The value carries the fact that
+// the pass is of that queue. So code that hands a caller on, also to a thread, has nothing to
+// prove.
 
 ghost use Rattle.std.specs.Prelude.{◌≡◌};
 
@@ -27,24 +28,24 @@ impl<'a> Caller<'a> {
         Caller { shared, bell, pass }
     }
 
-    /// Another one, with a new pass.
+    /// Makes a further caller, with a new pass.
     pub fn another<R: Wait + Abort>(&mut self, rt: &R) -> Caller<'a> {
         let (shared, bell) = (self.shared, self.bell);
         let pass = split_off(rt, shared, &mut self.pass);
         Caller { shared, bell, pass }
     }
 
-    /// The name of its pass.
+    /// Returns the name of its pass.
     pub fn name(&self) -> u64 {
         self.pass.name()
     }
 
-    /// How many of its calls were answered.
+    /// Returns the number of its calls that were answered.
     pub fn calls(&self) -> u64 {
         self.pass.calls()
     }
 
-    /// Offers an element of this expiry at the moment `asked`.
+    /// Offers an element with expiry `expiry` at moment `asked`.
     pub fn offer<R: Wait + Abort>(
         &mut self,
         rt: &R,
@@ -56,13 +57,13 @@ impl<'a> Caller<'a> {
         offer_ring(rt, shared, &mut self.pass, asked, draft, bell)
     }
 
-    /// Offers an element that expires so far ahead, in nanoseconds.
+    /// Offers an element that expires `ahead` nanoseconds from now.
     pub fn offer_ahead<C: Clock, R: Wait + Abort>(&mut self, rt: &R, clock: &C, ahead: u64) {
         let now = clock.now();
         let _ = self.offer(rt, now, now.saturating_add(ahead));
     }
 
-    /// Takes an element, as soon as there is one.
+    /// Takes an element, as soon as one is expired.
     pub fn take<C: Clock, G: Gate, R: Wait + time::Clock>(
         &mut self,
         rt: &R,
@@ -73,7 +74,8 @@ impl<'a> Caller<'a> {
         take(rt, shared, &mut self.pass, clock, gate, bell)
     }
 
-    /// Takes an element, and gives how long it was due by then, in nanoseconds: 2^64 - 1 if none came.
+    /// Takes an element and returns how long it had been due, in nanoseconds, or 2^64 - 1 if none
+    /// came.
     pub fn lateness<C: Clock, G: Gate, R: Wait + time::Clock>(
         &mut self,
         rt: &R,
@@ -87,15 +89,15 @@ impl<'a> Caller<'a> {
     }
 }
 
-/// Another one than this, for one more of the threads that share it.
+/// Makes a further caller, for another thread.
 pub fn another<'a, R: Wait + Abort>(rt: &R, first: &Mutex<Caller<'a>>) -> Caller<'a> {
     first.lock(rt).another(rt)
 }
 
-/// A gate that tells of a wait's first turn, and ends the wait after so many.
+/// A gate that counts a wait's first turn in `waits`, and ends the wait after `limit` turns.
 #[derive(Drop)]
 pub struct TellingGate<'a> {
-    /// How many waits have found nothing at first.
+    /// The number of waits whose first try found nothing.
     pub waits: &'a AtomicU64,
     pub limit: u64,
 }

@@ -1,4 +1,5 @@
-// Eight threads that offer and eight that wait: how late an element is taken that was due when it was offered.
+// Eight threads offer elements that are due at once, and eight wait for them. The test bounds how
+// late an element is taken.
 
 use crate::tests::callers::{Caller, another};
 use crate::tests::fixtures::{expect, opened};
@@ -11,19 +12,20 @@ use std::test::Fail;
 use std::thread::{Threads, map_indices, yield_now};
 use std::time;
 
-// How many threads there are. Each second one offers.
+// The number of threads. Every second one offers.
 const THREADS: usize = 16;
 
-// How many elements each thread offers, or takes.
+// The number of elements that each thread offers or takes.
 const EACH: u64 = 12_500;
 
-// How many elements may stand before those that offer wait for those that take.
+// The number of standing elements at which threads that offer wait for those that take.
 const STANDING: u64 = 8;
 
-// How late an element may be taken, in nanoseconds: many rests, for other work on the machine.
+// The lateness that no taken element may reach, in nanoseconds. It is as long as many rests, to
+// allow for other work on the machine.
 const LATEST: u64 = 1_000_000_000;
 
-// Waits until few elements stand.
+// Waits until fewer than `STANDING` elements stand.
 fn await_few(rt: &impl Wait, standing: &AtomicU64) {
     for _ in rt.forever() {
         if standing.load(Ordering::SeqCst) < STANDING {
@@ -33,7 +35,7 @@ fn await_few(rt: &impl Wait, standing: &AtomicU64) {
     }
 }
 
-// Offers elements that are due.
+// Offers `EACH` elements that are due, each once few elements stand.
 fn offer_all<R: Wait + time::Clock + Abort>(
     rt: &R,
     mut giver: Caller<'_>,
@@ -47,7 +49,7 @@ fn offer_all<R: Wait + time::Clock + Abort>(
     }
 }
 
-// Takes an element, and gives how long it was due by then.
+// Takes an element, and returns how long it had been due, in nanoseconds.
 fn take_one<R: Wait + time::Clock>(
     rt: &R,
     taker: &mut Caller<'_>,
@@ -60,7 +62,7 @@ fn take_one<R: Wait + time::Clock>(
     late
 }
 
-// The greatest of those times.
+// Takes `EACH` elements, and returns the greatest of those times.
 fn take_all<R: Wait + time::Clock>(
     rt: &R,
     mut taker: Caller<'_>,
@@ -74,8 +76,8 @@ fn take_all<R: Wait + time::Clock>(
     latest
 }
 
-// What the thread of this number does: of two, the first offers and the second takes. The greatest time that an element
-// was due when it was taken.
+// The work of thread `number`: even ones offer, odd ones take. Returns the longest time for which
+// an element had been due when the thread took it, or 0 if the thread offers.
 fn offer_or_take<R: Wait + time::Clock + Abort>(
     rt: &R,
     first: &Mutex<Caller<'_>>,
@@ -92,7 +94,7 @@ fn offer_or_take<R: Wait + time::Clock + Abort>(
     }
 }
 
-// That time of each thread.
+// Returns that time for each thread.
 fn times<R: Threads + Wait + time::Clock + Abort + Sync>(
     rt: &R,
     alloc: Global,

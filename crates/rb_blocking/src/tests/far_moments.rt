@@ -12,8 +12,8 @@ use std::sync::Wait;
 use std::test::Fail;
 use std::time;
 
-// Polls at this moment for 9 nanoseconds from the greatest moment on. The gate lets one turn be
-// made.
+// Polls at `moment`, with a timeout of 9 nanoseconds from the greatest moment on. The gate allows
+// one turn.
 fn expect_poll<R: Wait + time::Clock + Abort>(
     rt: &R,
     shared: &ListShared,

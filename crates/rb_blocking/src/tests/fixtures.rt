@@ -19,10 +19,10 @@ pub type ListShared = Shared<ListTimer>;
 
 pub type ListPass = Pass<ListTimer>;
 
-/// Half of the rest that a call makes which nobody wakes, in nanoseconds.
+/// Half the rest of a call that nobody wakes, in nanoseconds.
 pub const SOON: u64 = 10_000_000;
 
-/// A clock that always reads this moment.
+/// A clock that always reads the moment that it holds.
 #[derive(Clone, Copy)]
 pub struct FixedClock(pub u64);
 
@@ -34,7 +34,7 @@ impl Clock for FixedClock {
     }
 }
 
-/// A clock that always reads 7, and counts how often it is read.
+/// A clock that always reads 7, and counts its readings.
 #[derive(Drop)]
 pub struct CountingClock {
     pub readings: AtomicU64,
@@ -57,7 +57,7 @@ impl Clock for CountingClock {
     }
 }
 
-/// A gate that ends a wait after so many turns, and counts how often it is asked.
+/// A gate that ends a wait after a number of turns, and counts how often it is asked.
 #[derive(Drop)]
 pub struct CountingGate {
     gate: TurnGate,
@@ -82,7 +82,7 @@ impl Gate for CountingGate {
     }
 }
 
-/// A shared queue with room for so many calls, and its first pass.
+/// Opens a shared queue with room for `capacity` calls, and returns it with its first pass.
 pub fn opened(alloc: Global, capacity: u64) -> Result<(ListShared, ListPass), Fail>
     ensures { IfOk result (λ opened. opened.1.table ≡ opened.0) }
 {
@@ -90,7 +90,7 @@ pub fn opened(alloc: Global, capacity: u64) -> Result<(ListShared, ListPass), Fa
     shared(alloc, kept, tally)
 }
 
-/// The same of a kept queue that was not called yet.
+/// Shares a kept queue that has had no calls.
 pub fn shared(
     alloc: Global,
     kept: Kept<ListTimer>,
@@ -106,7 +106,7 @@ pub fn shared(
     }
 }
 
-/// A new pass.
+/// Splits off a new pass.
 pub fn split_off<R: Wait + Abort>(rt: &R, shared: &ListShared, pass: &mut ListPass) -> ListPass
     requires { pass.old.table ≡ shared.now }
     ensures first { pass.new.table ≡ pass.old.table }
@@ -115,8 +115,7 @@ pub fn split_off<R: Wait + Abort>(rt: &R, shared: &ListShared, pass: &mut ListPa
     shared.split(rt, pass).ok().expect(rt, "a name is left")
 }
 
-// Each comparison is a function of its own with no clause, so that a test that makes it has nothing
-// to prove.
+// Comparisons are functions without clauses, so tests that call them have nothing to prove.
 
 pub fn expect_number(rt: &impl Abort, number: u64, wanted: u64) {
     assert_eq!(rt; number, wanted);
@@ -158,7 +157,7 @@ pub fn draft(rt: &impl Abort, expiry: u64) -> Draft {
     Draft::first(expiry, payload(rt))
 }
 
-/// The element that a first offer becomes.
+/// Returns the element that a first offer becomes.
 pub fn element(rt: &impl Abort, id: u64, expiry: u64) -> Element {
     Element {
         id,
@@ -170,7 +169,7 @@ pub fn element(rt: &impl Abort, id: u64, expiry: u64) -> Element {
     }
 }
 
-/// Waits until a count of another thread's is more than this.
+/// Waits until `count`, which another thread raises, is more than `than`.
 pub fn await_more(rt: &impl Wait, count: &AtomicU64, than: u64) {
     for _ in rt.forever() {
         if count.load(Ordering::SeqCst) > than {

@@ -1,4 +1,4 @@
-// A history with no room for a further call.
+// A history without room for another call.
 
 ghost use Rattle.std.specs.Prelude.{◌≡◌};
 
@@ -13,7 +13,7 @@ use std::sync::Wait;
 use std::test::Fail;
 use std::time;
 
-// The two calls for which the history has room, and two more.
+// Makes the two calls for which the history has room, and two more, which find the history full.
 fn expect_answers<R: Wait + time::Clock + Abort>(
     rt: &R,
     shared: &ListShared,

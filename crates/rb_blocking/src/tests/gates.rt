@@ -1,4 +1,4 @@
-// Gates that end a wait after so many turns, each with its rest.
+// Gates that end a wait after a number of turns, each with its rest.
 
 ghost use Rattle.std.specs.Prelude.{◌≡◌};
 
@@ -11,14 +11,14 @@ use std::sync::Wait;
 use std::test::Fail;
 use std::time;
 
-// More turns than a wait makes of a server that is told no other number.
+// More turns than a wait makes in a server that is started without `--turns`.
 const TURNS: u64 = 12_000;
 
-// How long a rest lasts that nothing ends, in nanoseconds.
+// The length of a rest that nothing ends, in nanoseconds.
 const REST: u64 = 20_000_000;
 
-// A gate that rings the bell, so that no rest lasts, and ends the wait after so many turns, or at one that is
-// not the next.
+// A gate that rings the bell at each turn, so that no rest lasts. It ends the wait after `TURNS`
+// turns, or at a turn whose number is not the next one.
 #[derive(Drop)]
 struct RingingGate<'a, R> {
     rt: &'a R,
@@ -39,7 +39,8 @@ impl<'a, R: Wait> Gate for RingingGate<'a, R> {
     }
 }
 
-// How many turns, each with its own number, a take makes whose rests don't last.
+// Makes a take whose rests don't last. Returns the number of its turns, counted while each turn has
+// the next number.
 fn turns_of<R: Wait + time::Clock>(rt: &R, shared: &ListShared, pass: &mut ListPass) -> u64
     requires { pass.old.table ≡ shared.now }
 {
@@ -60,8 +61,8 @@ fn each_turn_is_counted(rt: HostRuntime) -> Result<(), Fail> {
     Ok(())
 }
 
-// How often a gate of this limit is asked by a take that finds nothing, how long the take lasted,
-// and how it ended.
+// Makes a take that finds nothing, with a gate of limit `limit`. Returns how often the take asked
+// the gate, how long the take lasted, in nanoseconds, and how it ended.
 fn asked<R: Wait + time::Clock>(
     rt: &R,
     shared: &ListShared,

@@ -1,4 +1,4 @@
-// A taker that is woken and stopped by its gate at once, beside one that waits on.
+// A taker that its gate stops as soon as it is woken, beside a second taker that waits on.
 
 use crate::tests::callers::{Caller, TellingGate};
 use crate::tests::fixtures::{FixedClock, SOON, await_more, element, expect, expect_taken, opened};
@@ -14,7 +14,8 @@ use std::time::{Clock, Duration};
 
 type Taken = Result<Element, WaitFault>;
 
-// How the two takes ended, and how long after the offer the second did, in nanoseconds.
+// How the two takes ended, and how long after the beginning of the offer the second one ended, in
+// nanoseconds.
 #[derive(Drop)]
 struct Ends {
     first: Taken,
@@ -22,14 +23,14 @@ struct Ends {
     late: u64,
 }
 
-// By a clock that stands at 7 nothing is due, and the wait has one turn.
+// Takes by a clock that stands at 7, at which nothing is due. The wait has one turn.
 fn give_up<R: Wait + Clock>(rt: &R, mut taker: Caller<'_>, waits: &AtomicU64) -> Taken {
     let mut gate = TellingGate { waits, limit: 1 };
     taker.take(rt, &FixedClock(7), &mut gate)
 }
 
-// By a clock that stands at 10 what is offered is due, and the wait begins behind the other's. When it ended, by
-// the watch.
+// Takes by a clock that stands at 10, at which the offered element is due. The wait begins after
+// that of the other taker. Returns how the take ended, and when, by the watch.
 fn wait_on<R: Wait + Clock>(
     rt: &R,
     mut taker: Caller<'_>,
@@ -43,7 +44,8 @@ fn wait_on<R: Wait + Clock>(
     (taken, watch.now())
 }
 
-// Offers what expires at 10, once both have had time to fall asleep. When it began, by the watch.
+// Offers an element that expires at 10, once both takers have had time to fall asleep. Returns when
+// the offer began, by the watch.
 fn offer_late<R: Wait + Clock + Abort>(
     rt: &R,
     mut giver: Caller<'_>,
@@ -81,7 +83,7 @@ fn ends_of_two<R: Threads + Wait + Clock + Abort + Sync>(
     }
 }
 
-// How long after the offer the second ended.
+// Asserts how the two takes ended. Returns how long after the offer the second one ended.
 fn expect_ends(rt: &impl Abort, ends: Ends) -> u64 {
     expect_taken(rt, ends.first, Err(WaitFault::Stopped));
     expect_taken(rt, ends.second, Ok(element(rt, 0, 10)));
@@ -107,7 +109,7 @@ fn expect_round<R: Threads + Wait + Clock + Abort + Sync>(
     Ok(late)
 }
 
-// One that was handed nothing on would look again some 18 ms after the offer.
+// If nothing were handed on to the second taker, it would look again about 18 ms after the offer.
 #[test]
 fn what_one_was_woken_for_another_takes_soon(rt: HostRuntime) -> Result<(), Fail> {
     let mut least = u64::MAX;

@@ -1,4 +1,4 @@
-// Waiting by the machine's clock.
+// Waits by the machine's clock, and readings of it.
 
 ghost use Rattle.std.specs.Prelude.{◌≡◌};
 
@@ -14,8 +14,8 @@ use std::thread::sleep;
 use std::time;
 use std::time::Duration;
 
-// Offers an element that expires so many nanoseconds from now, and takes it: it comes, and not
-// before.
+// Offers an element that expires `ahead` nanoseconds from now, and takes it. Asserts that it comes,
+// and not before its expiry.
 fn expect_on_time<R: Wait + time::Clock + Abort>(
     rt: &R,
     shared: &ListShared,
@@ -83,7 +83,8 @@ fn gives_up_at_the_deadline(rt: HostRuntime) -> Result<(), Fail> {
     Ok(())
 }
 
-// Two readings with this much between them, in milliseconds. Nothing else may end the sleep.
+// Reads the clock twice, with a sleep of `millis` milliseconds in between, which nothing may end
+// sooner. Returns the time between the readings, in milliseconds.
 fn passed<R: time::Clock>(rt: &R, millis: u64) -> u64 {
     let clock = MachineClock::new(rt);
     let before = clock.now();
@@ -91,7 +92,7 @@ fn passed<R: time::Clock>(rt: &R, millis: u64) -> u64 {
     clock.now().saturating_sub(before) / 1_000_000
 }
 
-// For longer than a second, in which some clocks begin again.
+// The sleep is longer than a second, after which some clocks begin again.
 #[test]
 fn goes_on_past_a_second(rt: HostRuntime) -> Result<(), Fail> {
     expect(&rt, passed(&rt, 1_200) >= 1_200);

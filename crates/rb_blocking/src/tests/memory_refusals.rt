@@ -1,4 +1,4 @@
-// Each growth that an offer may want, refused in turn.
+// Each growth that an offer may need, refused in turn.
 
 ghost use Rattle.std.specs.Prelude.{◌≡◌, [], IfOk};
 ghost use Rattle.rb_ledger.specs.Totals.{nothing};
@@ -17,14 +17,15 @@ use std::process::Abort;
 use std::sync::Wait;
 use std::test::Fail;
 
-// How many refusals the run meets. `tools/refuse_allocations` sets 1, and refuses each allocation
-// of the run in turn.
+// The number of refusals that the test meets. `tools/refuse_allocations` sets 1 and refuses each
+// allocation of the test in turn.
 const REFUSALS: u32 = 0;
 
-// Past several growths of slots, timer and directory.
+// The number of elements: enough for several growths of slots, timer and directory.
 const MANY: u64 = 20;
 
-// A kept queue, made once more where it was refused: this test is not about it.
+// Makes a kept queue, and tries once more if memory is refused. The test is not about that
+// refusal.
 fn kept_at_last(alloc: Global) -> Result<(Kept<ListTimer>, Tally), NewFault>
     ensures history { IfOk result (λ made. made.0.history ≡ []) }
     ensures tally { IfOk result (λ made. made.1 ≡ nothing) }
@@ -35,7 +36,7 @@ fn kept_at_last(alloc: Global) -> Result<(Kept<ListTimer>, Tally), NewFault>
     }
 }
 
-// What the calls are made on, made once more likewise.
+// Opens the shared queue on which the calls are made, and tries once more if memory is refused.
 fn opened_at_last(alloc: Global) -> Result<(ListShared, ListPass), Fail>
     ensures { IfOk result (λ opened. opened.1.table ≡ opened.0) }
 {
@@ -50,8 +51,8 @@ fn expect_fault(rt: &impl Abort, offered: &Result<Element, CallFault>) {
     assert_eq!(rt; offered.err(), Some(CallFault::Memory));
 }
 
-// An offer, made once more where there was no memory. A refused offer is no call, and rings
-// nothing.
+// Makes an offer, and tries once more if memory is refused. Asserts that a refused offer counts as
+// no call and does not ring the bell.
 fn offer_at_last<R: Wait + Abort>(
     rt: &R,
     shared: &ListShared,
@@ -107,7 +108,7 @@ fn expect_offers<R: Wait + Abort>(
     expect_number(rt, bell.count(rt), MANY);
 }
 
-// The id of an element that is taken, which takes no memory.
+// Takes an element, which takes no memory, and returns its id.
 fn taken_id<R: Wait + Abort + std::time::Clock>(
     rt: &R,
     shared: &ListShared,
@@ -122,7 +123,7 @@ fn taken_id<R: Wait + Abort + std::time::Clock>(
     taken.ok().expect(rt, "an element is expired").id
 }
 
-// The sum of the ids of all that was offered.
+// Takes all elements that were offered, and returns the sum of their ids.
 fn taken_ids<R: Wait + Abort + std::time::Clock>(
     rt: &R,
     shared: &ListShared,

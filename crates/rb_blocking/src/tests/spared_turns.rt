@@ -1,4 +1,5 @@
-// Offers that wake no more calls than may take what is offered: how many turns the waits make.
+// Offers that wake no more calls than may take what is offered. The tests count the turns that the
+// waits make.
 
 use crate::tests::callers::{Caller, another};
 use crate::tests::fixtures::{await_more, opened};
@@ -12,22 +13,23 @@ use std::thread::{Threads, map_indices, sleep};
 use std::time;
 use std::time::Duration;
 
-// How many elements are offered, one by one.
+// The number of elements that are offered one by one.
 const ELEMENTS: u64 = 1_000;
 
-// How many calls wait for those that are due.
+// The number of calls that wait for elements that are due.
 const TAKERS: u64 = 4;
 
 // An hour, in nanoseconds.
 const HOUR: u64 = 3_600_000_000_000;
 
-// How long a rest lasts that nothing ends, in nanoseconds.
+// The length of a rest that nothing ends, in nanoseconds.
 const REST: u64 = 20_000_000;
 
-// A bell knows of so many rings what they were for. A call that gets to its rest behind more looks again.
+// The number of last rings of which a bell knows what they were for. A call that gets to its rest
+// after more rings than that looks again.
 const RECENT: u64 = 16;
 
-// How many turns all waits have made, and how many elements were taken.
+// The number of turns that all waits have made, and the number of elements that were taken.
 #[derive(Drop)]
 struct Counts {
     turns: AtomicU64,
@@ -43,7 +45,7 @@ impl Counts {
     }
 }
 
-// A gate that ends no wait, and counts the turns of all.
+// A gate that ends no wait, and counts the turns of all waits.
 #[derive(Drop)]
 struct CrowdGate<'a> {
     counts: &'a Counts,
@@ -69,7 +71,7 @@ fn take_one<R: Wait + time::Clock>(
     counts.taken.fetch_add(1, Ordering::SeqCst);
 }
 
-// Takes so many elements. How many calls were answered.
+// Takes `elements` elements. Returns the number of calls that were answered.
 fn take_some<R: Wait + time::Clock>(
     rt: &R,
     mut taker: Caller<'_>,
@@ -83,8 +85,8 @@ fn take_some<R: Wait + time::Clock>(
     taker.calls()
 }
 
-// Offers elements that expire in an hour, one after the other, and at last one that is due. How many calls were
-// answered.
+// Waits until the taker has found nothing. Then offers elements that expire in an hour, one after
+// the other, and finally one that is due. Returns the number of calls that were answered.
 fn offer_far_ahead<R: Wait + time::Clock + Abort>(
     rt: &R,
     mut giver: Caller<'_>,
@@ -100,7 +102,8 @@ fn offer_far_ahead<R: Wait + time::Clock + Abort>(
     giver.calls()
 }
 
-// What the thread of this number does: the first takes, and the other offers what it can't take yet.
+// The work of thread `number`: the first takes one element; the other offers elements that it can't
+// take yet, and finally one that it can. Returns the number of calls that were answered.
 fn take_or_offer_far_ahead<R: Wait + time::Clock + Abort>(
     rt: &R,
     first: &Mutex<Caller<'_>>,
@@ -116,8 +119,8 @@ fn take_or_offer_far_ahead<R: Wait + time::Clock + Abort>(
     }
 }
 
-// Offers elements that are due, each once the one before was taken and its taker has had time to rest again. How many
-// calls were answered.
+// Offers elements that are due, each once the one before has been taken and its taker has had time
+// to rest again. Returns the number of calls that were answered.
 fn offer_due<R: Wait + time::Clock + Abort>(
     rt: &R,
     mut giver: Caller<'_>,
@@ -132,7 +135,8 @@ fn offer_due<R: Wait + time::Clock + Abort>(
     giver.calls()
 }
 
-// What the thread of this number does: four take, and the last offers.
+// The work of thread `number`: four take, and the last one offers. Returns the number of calls that
+// were answered.
 fn take_or_offer_due<R: Wait + time::Clock + Abort>(
     rt: &R,
     first: &Mutex<Caller<'_>>,
@@ -148,7 +152,8 @@ fn take_or_offer_due<R: Wait + time::Clock + Abort>(
     }
 }
 
-// How many turns so many calls may have made by themselves since the clock was made, and so many more.
+// Returns the most turns that `calls` waiting calls may have made by themselves since the clock was
+// made, plus `more`.
 fn most_turns<R: time::Clock>(clock: &MachineClock<'_, R>, calls: u64, more: u64) -> u64 {
     let rests = clock.now() / REST;
     let unwoken = rests.saturating_add(2).saturating_mul(calls);
@@ -207,8 +212,8 @@ fn expect_one_woken<R: Threads + Wait + time::Clock + Abort + Sync>(
     Ok(())
 }
 
-// Each take makes a turn when it finds nothing at first, and some make one more. If each offer woke all four, three of
-// them would make one more each time.
+// Each take makes a turn when it finds nothing at first, and some make one more. If each offer woke
+// all four takers, three of them would make one more each time.
 #[test]
 fn an_offer_of_what_is_due_wakes_one(rt: HostRuntime) -> Result<(), Fail> {
     let (shared, pass) = opened(rt.alloc(), 2 * ELEMENTS)?;

@@ -1,4 +1,4 @@
-// Two takers that wait, and one element.
+// Two takers that wait for one element.
 
 use crate::tests::callers::Caller;
 use crate::tests::fixtures::{FixedClock, await_more, opened};
@@ -10,14 +10,15 @@ use std::test::Fail;
 use std::thread::{Threads, join};
 use std::time::Clock;
 
-// How many takers wait, and how many have got an element.
+// The number of takers that have begun to wait, and the number that have got an element.
 #[derive(Drop)]
 struct Counts {
     waiting: AtomicU64,
     served: AtomicU64,
 }
 
-// A gate that ends a wait three turns after another taker was served.
+// A gate that ends a wait `left` turns after another taker was served. `left` counts those turns
+// down.
 #[derive(Drop)]
 struct LosersGate<'a> {
     counts: &'a Counts,
@@ -38,10 +39,12 @@ impl<'a> Gate for LosersGate<'a> {
     }
 }
 
-// How a take ended, and how many turns its gate had left.
+// How a take ended, and the number of turns that its gate had left.
 type Ended = (Option<WaitFault>, u64);
 
-// Takes one element, and tells the other taker.
+// Takes one element, and tells the other taker if it got one. The gate ends the wait three turns
+// after the other taker was served. Returns how the take ended and the turns that its gate had
+// left.
 fn take_one<R: Wait + Clock>(rt: &R, mut taker: Caller<'_>, counts: &Counts) -> Ended {
     let mut gate = LosersGate { counts, left: 3 };
     let ended = taker.take(rt, &FixedClock(9), &mut gate).err();
@@ -51,13 +54,13 @@ fn take_one<R: Wait + Clock>(rt: &R, mut taker: Caller<'_>, counts: &Counts) -> 
     (ended, gate.left)
 }
 
-// Offers one element, once both takers wait.
+// Offers one element, once both takers wait. Returns whether the offer was answered.
 fn offer_one<R: Wait + Abort>(rt: &R, mut giver: Caller<'_>, counts: &Counts) -> bool {
     await_more(rt, &counts.waiting, 1);
     giver.offer(rt, 9, 9).is_ok()
 }
 
-// How two takes ended that waited when one element was offered.
+// Offers one element while two takes wait, and returns how they ended.
 fn ended_of_two<R: Threads + Wait + Clock + Abort + Sync>(
     rt: &R,
     one: Caller<'_>,
@@ -80,7 +83,8 @@ fn ended_of_two<R: Threads + Wait + Clock + Abort + Sync>(
     ended
 }
 
-// The one that got the element first.
+// Asserts that one take got the element, and that the other was stopped by its gate. The take that
+// got the element is compared first.
 fn expect_ends(rt: &impl Abort, ended: (Ended, Ended)) {
     let (one, other) = ended;
     let ends = if one.0.is_none() {
@@ -91,7 +95,7 @@ fn expect_ends(rt: &impl Abort, ended: (Ended, Ended)) {
     assert_eq!(rt; ends, [(None, 3), (Some(WaitFault::Stopped), 0)]);
 }
 
-// Two takers and a giver, each with a pass of its own.
+// Runs two takers and a giver, each with a pass of its own. Asserts that one taker is served.
 fn expect_one_served<R: Threads + Wait + Clock + Abort + Sync>(rt: &R, first: &mut Caller<'_>) {
     let one = first.another(rt);
     let other = first.another(rt);

@@ -1,4 +1,4 @@
-// A clock that stands still, and a queue with nothing in it.
+// Takes and timed polls by a clock that stands still, of a queue with at most one element in it.
 
 ghost use Rattle.std.specs.Prelude.{◌≡◌};
 
@@ -15,7 +15,7 @@ use std::sync::atomic::Ordering;
 use std::test::Fail;
 use std::time;
 
-// Takes at moment 0, where the gate lets no turn be made.
+// Takes at moment 0. The gate allows no turn.
 fn expect_take<R: Wait + time::Clock + Abort>(
     rt: &R,
     shared: &ListShared,
@@ -55,8 +55,8 @@ fn takes_what_was_offered(rt: HostRuntime) -> Result<(), Fail> {
     Ok(())
 }
 
-// Polls at moment 7 until so many nanoseconds later. The gate has been asked so often then, and one
-// call was answered.
+// Polls at moment 7, with a timeout of `timeout` nanoseconds. Asserts that the gate has then been
+// asked `asked` times in all, and that the pass has had one call answered in all.
 fn expect_poll<R: Wait + time::Clock + Abort>(
     rt: &R,
     shared: &ListShared,
@@ -76,7 +76,8 @@ fn expect_poll<R: Wait + time::Clock + Abort>(
     expect_number(rt, gate.asked, asked);
 }
 
-// How often the gate was asked and the clock read by a take that finds nothing.
+// Makes a take that finds nothing. Returns how often it asked the gate, and how often it read the
+// clock.
 fn asked_and_read<R: Wait + time::Clock + Abort>(
     rt: &R,
     caller: &mut Caller<'_>,
@@ -96,7 +97,8 @@ fn expect_both(rt: &impl Abort, found: (u64, u64), wanted: u64) {
     expect_number(rt, found.1, wanted);
 }
 
-// The gate is asked after each try and not again, and there is no try after its no. No name is given.
+// Asserts that the gate is asked once after each try, and that no try follows its no. The takes use
+// no name, so the next pass has name 1.
 fn expect_one_reading_a_try<R: Wait + time::Clock + Abort>(rt: &R, mut caller: Caller<'_>) {
     for limit in 0..4_u64 {
         let found = asked_and_read(rt, &mut caller, limit);

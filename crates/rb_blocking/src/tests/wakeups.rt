@@ -1,4 +1,4 @@
-// A thread that waits, and another that offers once it does.
+// One thread waits, and another offers once the first one waits.
 
 use crate::Bell;
 use crate::tests::callers::{Caller, TellingGate};
@@ -19,7 +19,7 @@ fn take_one<R: Wait + Clock>(rt: &R, taker: &mut Caller<'_>, waits: &AtomicU64) 
     let _ = taker.take(rt, &FixedClock(9), &mut gate);
 }
 
-// Takes an element a round. How many calls were answered.
+// Takes an element per round. Returns the number of calls that were answered.
 fn take_all<R: Wait + Clock>(rt: &R, mut taker: Caller<'_>, waits: &AtomicU64) -> u64 {
     for _ in 0..ROUNDS {
         take_one(rt, &mut taker, waits);
@@ -27,7 +27,8 @@ fn take_all<R: Wait + Clock>(rt: &R, mut taker: Caller<'_>, waits: &AtomicU64) -
     taker.calls()
 }
 
-// Offers an element that is expired at moment 9 a round, once the take has found nothing. How many calls were answered.
+// Offers one element per round, which is expired at moment 9, once the take has found nothing.
+// Returns the number of calls that were answered.
 fn offer_all<R: Wait + Abort>(rt: &R, mut giver: Caller<'_>, waits: &AtomicU64) -> u64 {
     for round in 0..ROUNDS {
         await_more(rt, waits, round);
@@ -36,7 +37,7 @@ fn offer_all<R: Wait + Abort>(rt: &R, mut giver: Caller<'_>, waits: &AtomicU64) 
     giver.calls()
 }
 
-// How many calls were answered to the taker and to the giver.
+// Returns the number of calls that were answered for the taker, and for the giver.
 fn answered_of_two<R: Threads + Wait + Clock + Abort + Sync>(
     rt: &R,
     taker: Caller<'_>,

@@ -1,4 +1,4 @@
-// How soon an element that was due when it was offered comes to a call that rests.
+// How soon a resting call gets an element that was due when it was offered.
 
 use crate::tests::callers::{Caller, TellingGate};
 use crate::tests::fixtures::{SOON, await_more, expect, opened};
@@ -11,10 +11,10 @@ use std::thread::{Threads, join, sleep};
 use std::time;
 use std::time::Duration;
 
-// How many elements are offered, one by one.
+// The number of elements that are offered, one by one.
 const ELEMENTS: u64 = 200;
 
-// Takes an element. Whether it came soon after its expiry.
+// Takes an element. Returns whether it came soon after its expiry.
 fn takes_soon<R: Wait + time::Clock>(
     rt: &R,
     taker: &mut Caller<'_>,
@@ -26,7 +26,7 @@ fn takes_soon<R: Wait + time::Clock>(
     taker.lateness(rt, clock, &mut gate) < SOON
 }
 
-// How many came soon.
+// Takes `ELEMENTS` elements. Returns the number that came soon.
 fn take_all<R: Wait + time::Clock>(
     rt: &R,
     mut taker: Caller<'_>,
@@ -40,7 +40,7 @@ fn take_all<R: Wait + time::Clock>(
     soon
 }
 
-// Offers elements that are due, each once the take has had time to fall asleep.
+// Offers `ELEMENTS` elements that are due, each once the take has had time to fall asleep.
 fn offer_all<R: Wait + time::Clock + Abort>(
     rt: &R,
     mut giver: Caller<'_>,
@@ -68,7 +68,7 @@ fn taken_soon<R: Threads + Wait + time::Clock + Abort + Sync>(
     soon
 }
 
-// A take that nobody wakes would find nearly each of them about 19 ms late.
+// A take that nobody wakes would get nearly every element about 19 ms late.
 #[test]
 fn a_resting_take_is_woken(rt: HostRuntime) -> Result<(), Fail> {
     let (shared, pass) = opened(rt.alloc(), 2 * ELEMENTS)?;

@@ -8,7 +8,7 @@ fn ids_of(alloc: Global, values: &[u64]) -> Result<Ids, AllocError> {
     Ok(Ids::new(values.to_vec(alloc)?))
 }
 
-// How many elements an act offered, gave, removed and, of seven, cleared.
+// Asserts how many elements an act offered, gave and removed, and how many of seven it cleared.
 fn expect_counts(rt: &impl Abort, act: &Act, counts: [u64; 4]) {
     let [offered, given, removed, cleared] = counts;
     expect_number(rt, act.offered(), offered);

@@ -1,6 +1,7 @@
-// Calls that take no memory. `tools/count_allocations` counts what the two tests of this file allocate:
-// they make the same things, and only the second makes the calls, so they have to allocate as often. All things
-// are made before the first call, so that the tool can also refuse every allocation from that call on.
+// Calls that take no memory. Both tests of this file make the same things, and only
+// `each_of_the_calls` makes the calls, so both have to allocate equally often.
+// `tools/count_allocations` counts their allocations. All things are made before the first call, so
+// that the tool can also refuse every allocation from that call on.
 
 use crate::tests::fixtures::{expect, expect_number, payload};
 use rb_binary::BinaryTimer;
@@ -16,21 +17,22 @@ use rb_wheel::WheelTimer;
 use std::alloc::Global;
 use std::process::Abort;
 
-// How often each call is made.
+// The number of rounds, in each of which the calls are made.
 const ROUNDS: u64 = 100;
 
-// How many elements the calls take out: three of them by a fetch, one by a removal, in each round.
+// The number of elements of a queue. The calls of a kept queue take all of them out: three by
+// fetches and one by a removal in each round.
 const ELEMENTS: u64 = 400;
 
-// A moment at which all of them have expired.
+// A moment at which all elements are expired.
 const LATE: u64 = 1_000;
 
-// How many slots a timer has, all of which are filled. A call that asks for more behind the last entry
-// would have to get it.
+// The number of slots of a timer, all of which are filled. A call that asked for room behind the
+// last entry would have to allocate it.
 const ROOM: usize = 70;
 
-// How many calls a kept queue has room for, all of which are made: its offers, six in each round, and two
-// at the end.
+// The number of calls that a kept queue has room for. All are made: its offers, six in each round,
+// and two at the end.
 const CALLS: u64 = 1_002;
 
 #[test]
@@ -43,7 +45,7 @@ fn each_of_the_calls(rt: HostRuntime) {
     expect_answers(&rt, rt.alloc(), ROUNDS);
 }
 
-// What the calls are made on.
+// The things that the calls are made on.
 #[derive(Drop)]
 struct Things {
     text: Vec<u8>,
@@ -54,7 +56,7 @@ struct Things {
     wheel: Over<WheelTimer>,
 }
 
-// A timer with room, a queue and a kept queue with elements.
+// A timer with room, and a queue and a kept queue with elements.
 #[derive(Drop)]
 struct Over<T: Timer> {
     timer: T,
@@ -84,7 +86,7 @@ fn made_over<T: Timer>(rt: &impl Abort, alloc: Global) -> Over<T> {
     }
 }
 
-// Room for the longest reply.
+// Returns an empty text with room for the longest reply.
 fn text(rt: &impl Abort, alloc: Global) -> Vec<u8> {
     let text = Vec::with_capacity(alloc, 128);
     text.ok().expect(rt, "a text")
@@ -102,7 +104,7 @@ fn timer<T: Timer>(rt: &impl Abort, alloc: Global) -> T {
     timer
 }
 
-// A queue of elements whose expiries are their ids.
+// Makes a queue of `ELEMENTS` elements whose expiries are their ids.
 fn queue<T: Timer>(rt: &impl Abort, alloc: Global) -> DelayQueue<T> {
     let mut queue = DelayQueue::new(alloc);
     for expiry in 0..ELEMENTS {
@@ -118,7 +120,7 @@ fn offers<T: Timer>(rt: &impl Abort, queue: &mut DelayQueue<T>, expiry: u64) {
     }
 }
 
-// A kept queue of such elements.
+// Makes a kept queue of `ELEMENTS` elements whose expiries are their ids.
 fn kept_queue<T: Timer>(rt: &impl Abort, alloc: Global) -> (Kept<T>, Tally) {
     let begun = Kept::new_from(alloc, CALLS, Opening::empty(alloc));
     let (mut kept, mut tally) = begun.ok().expect(rt, "a kept queue");
@@ -129,7 +131,8 @@ fn kept_queue<T: Timer>(rt: &impl Abort, alloc: Global) -> (Kept<T>, Tally) {
     (kept, tally)
 }
 
-// Each round of each group counts how many of its calls answered as they have to.
+// Makes the calls, in groups, and asserts that all were answered as they have to be. Each round of
+// a group counts the right answers.
 fn expect_answers(rt: &impl Abort, alloc: Global, rounds: u64) {
     let mut things = made(rt, alloc);
     expect_number(rt, values(rt, rounds), rounds.saturating_mul(7));
@@ -146,8 +149,8 @@ fn expect_answers(rt: &impl Abort, alloc: Global, rounds: u64) {
     expect_over(rt, alloc, &mut things.heap, rounds);
     expect_over(rt, alloc, &mut things.pairing, rounds);
     expect_over(rt, alloc, &mut things.wheel, rounds);
-    // At the end of the scope each field of each timer's queue would be dropped in this body, which costs two
-    // minutes to prove.
+    // Without this call each field of each timer's queue would be dropped in this body, at the end
+    // of the scope, which costs two minutes to prove.
     drop(things);
 }
 
@@ -174,7 +177,7 @@ fn count(answers: &[bool]) -> u64 {
     answers.iter().filter(|&&answer| answer).count() as u64
 }
 
-// Payloads, moments and delays.
+// Makes the calls of payloads, moments and delays. Returns the number of right answers.
 fn values(rt: &impl Abort, rounds: u64) -> u64 {
     let element = element(rt);
     let mut right = 0_u64;
@@ -207,7 +210,8 @@ fn value_round(element: &Element, round: u64) -> u64 {
     ])
 }
 
-// What a queue or a run begins with, and what an act came to.
+// Makes a draft, and openings with which a queue or a run begins, and asks what acts came to.
+// Returns the number of right answers.
 fn beginnings(rt: &impl Abort, alloc: Global, rounds: u64) -> u64 {
     let mut right = 0_u64;
     for _ in 0..rounds {
@@ -225,7 +229,7 @@ fn beginning_round(rt: &impl Abort, alloc: Global) -> u64 {
     ])
 }
 
-// Books, and shares of them.
+// Makes the calls of books and of their shares. Returns the number of right answers.
 fn books(rounds: u64) -> u64 {
     let mut right = 0_u64;
     for _ in 0..rounds {
@@ -247,7 +251,8 @@ fn book_round() -> u64 {
     ])
 }
 
-// Lines of each form and with each fault, and each kind of reply into room for the longest one.
+// Reads lines of each form and with each fault, and writes each kind of reply into `text`, which
+// has room for the longest one. Returns the number of right answers.
 fn lines(rt: &impl Abort, text: &mut Vec<u8>, rounds: u64) -> u64 {
     let mut right = 0_u64;
     for _ in 0..rounds {
@@ -270,7 +275,7 @@ fn request_round() -> u64 {
     ])
 }
 
-// The element whose line is the longest.
+// Returns the element whose line is the longest.
 fn longest(rt: &impl Abort) -> Element {
     Element {
         id: u64::MAX,
@@ -309,7 +314,8 @@ fn reply_round(rt: &impl Abort, text: &mut Vec<u8>) -> u64 {
     written
 }
 
-// The one event of a history that was read, and its opening.
+// Looks at the one event of a history that was read, and at its opening. Returns the number of
+// right answers.
 fn histories(history: &History, rounds: u64) -> u64 {
     let mut right = 0_u64;
     for _ in 0..rounds {
@@ -321,7 +327,7 @@ fn histories(history: &History, rounds: u64) -> u64 {
     right
 }
 
-// A timer, except for its room.
+// Makes the calls of a timer except `reserve`. Returns the number of right answers.
 fn timers<T: Timer>(alloc: Global, timer: &mut T, rounds: u64) -> u64 {
     let mut right = 0_u64;
     for round in 0..rounds {
@@ -330,7 +336,8 @@ fn timers<T: Timer>(alloc: Global, timer: &mut T, rounds: u64) -> u64 {
     right
 }
 
-// An entry near the round's moment and one far behind it, and then one in each slot.
+// Puts in an entry at the round's moment and one far after it, takes each out when it is due, and
+// then fills each slot. Clears the timer at the end.
 fn timer_round<T: Timer>(alloc: Global, timer: &mut T, round: u64) -> u64 {
     let far = round.saturating_add(1_000_000);
     let answers = [
@@ -375,7 +382,8 @@ fn draft(rt: &impl Abort, expiry: u64) -> Draft {
     Draft::first(expiry, payload(rt, b"a"))
 }
 
-// A queue, except for its offers and drains.
+// Makes the calls of a queue that take no memory: all but `new_from`, offers and drains. Returns
+// the number of right answers.
 fn queues<T: Timer>(alloc: Global, queue: &mut DelayQueue<T>, rounds: u64) -> u64 {
     let mut right = 0_u64;
     for round in 0..rounds {
@@ -403,7 +411,8 @@ fn empty<T: Timer>(queue: &mut DelayQueue<T>, rounds: u64) {
     }
 }
 
-// A kept queue, except for its offers and drains.
+// Makes the calls of a kept queue, except offers, drains and runs, which take memory. `clears`
+// makes the last ones. Returns the number of right answers.
 fn kept_queues<T: Timer>(kept: &mut Kept<T>, tally: &mut Tally, rounds: u64) -> u64 {
     let mut right = 0_u64;
     for round in 0..rounds {
@@ -444,7 +453,8 @@ fn answers<T: Timer>(kept: &mut Kept<T>, tally: &mut Tally, ask: Ask) -> bool {
     matches!(&step, Ok(Outcome::Done(_)))
 }
 
-// What is empty lets a take wait, which is no event. What is full refuses each call.
+// Clears the queue and fills its history, if there were any rounds. A take from an empty queue
+// would wait, which is no event. A full history refuses each call.
 fn clears<T: Timer>(rt: &impl Abort, kept: &mut Kept<T>, tally: &mut Tally, rounds: u64) {
     if rounds > 0 {
         let cleared = kept.act(tally, 0, LATE, Ask::Clear);

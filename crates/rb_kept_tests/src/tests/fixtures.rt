@@ -1,5 +1,5 @@
-// The values that the tests tell of, and their comparisons. Each is a function of its own with no clause, so that a
-// test that makes it has nothing to prove.
+// The values that the tests use, and comparisons of them. Comparisons are functions without
+// clauses, so tests that call them have nothing to prove.
 
 use rb_delayed::{Element, Payload};
 use rb_kept::{NewFault, Outcome, Step};
@@ -10,7 +10,7 @@ pub fn payload(rt: &impl Abort, bytes: &[u8]) -> Payload {
     Payload::new(bytes).ok().expect(rt, "a payload")
 }
 
-/// The element that a first offer becomes.
+/// Returns the element that a first offer becomes.
 pub fn element(rt: &impl Abort, id: u64, expiry: u64, bytes: &[u8]) -> Element {
     Element {
         id,
@@ -22,27 +22,27 @@ pub fn element(rt: &impl Abort, id: u64, expiry: u64, bytes: &[u8]) -> Element {
     }
 }
 
-/// A first offer.
+/// Returns the ask of a first offer.
 pub fn offer(rt: &impl Abort, expiry: u64, bytes: &[u8]) -> Ask {
     Ask::Offer(Draft::first(expiry, payload(rt, bytes)))
 }
 
-/// The reply to a first offer.
+/// Returns the reply to a first offer.
 pub fn offered(rt: &impl Abort, id: u64, expiry: u64, bytes: &[u8]) -> Reply {
     Reply::Offered(element(rt, id, expiry, bytes))
 }
 
-/// The reply that gives out an element of a first offer.
+/// Returns the reply that gives out an element of a first offer.
 pub fn item(rt: &impl Abort, id: u64, expiry: u64, bytes: &[u8]) -> Reply {
     Reply::Item(element(rt, id, expiry, bytes))
 }
 
-/// The step of a try that was answered.
+/// Returns the step of a try that was answered.
 pub fn done(reply: Reply) -> Step {
     Ok(Outcome::Done(reply))
 }
 
-/// The step of a try that would wait, for this expiry.
+/// Returns the step of a try that would wait, where `next` is the least expiry, if there is one.
 pub fn later(next: Option<u64>) -> Step {
     Ok(Outcome::Later(next))
 }
@@ -79,7 +79,7 @@ pub fn expect_opening(rt: &impl Abort, opening: &Opening, wanted: &Opening) {
     assert_eq!(rt; *opening, *wanted);
 }
 
-/// An opening with its fault, if one was handed back.
+/// Asserts what was handed back: an opening with its fault, or nothing.
 pub fn expect_handed_back(
     rt: &impl Abort,
     refused: &Option<(Opening, NewFault)>,

@@ -8,7 +8,7 @@ use rb_timer::ListTimer;
 use std::alloc::{AllocError, Global};
 use std::process::Abort;
 
-// As many as tries: each odd one polls what the try before it has offered.
+// The number of tries. Each odd one polls what the try before it has offered.
 const LONG: u64 = 100_000;
 
 fn try_in_turn(rt: &impl Abort, n: u64) -> Try {
@@ -47,7 +47,7 @@ fn expect_turns(rt: &impl Abort, steps: &[Step]) {
     }
 }
 
-// The steps of all tries in one run.
+// Makes all tries in one run, and returns their steps.
 fn steps_of(
     rt: &impl Abort,
     alloc: Global,

@@ -12,14 +12,15 @@ use rb_timer::{ListTimer, Timer};
 use std::alloc::{AllocError, Global};
 use std::process::Abort;
 
-// How many refusals the run meets. `tools/refuse_allocations` sets 1, and refuses each allocation of
-// the run in turn.
+// The number of refusals that the test meets. `tools/refuse_allocations` sets 1 and refuses each
+// allocation of the test in turn.
 const REFUSALS: u32 = 0;
 
-// Past several growths of slots, timer and directory.
+// The number of elements, past several growths of slots, timer and directory.
 const MANY: u64 = 20;
 
-// The later the offer, the sooner it expires. At 95 elements 5 to 19 are expired.
+// Returns the expiry of element `id`. The later the offer, the sooner the element expires. At 95,
+// elements 5 to 19 are expired.
 fn expiry_of(id: u64) -> u64 {
     100 - id % 100
 }
@@ -28,7 +29,7 @@ fn numbered(rt: &impl Abort, id: u64) -> Element {
     element(rt, id, expiry_of(id), b"a")
 }
 
-// A queue with its one caller, and how many refusals they met.
+// A queue with the tally of its one caller, and the number of refusals that they met.
 #[derive(Drop)]
 struct Caller<T: Timer> {
     kept: Kept<T>,
@@ -36,7 +37,8 @@ struct Caller<T: Timer> {
     met: u32,
 }
 
-// The numbers that a refused call must leave.
+// The numbers that a refused call must leave as they were: the audit, the number of events, the
+// capacity and the caller's totals.
 type Snapshot = (Audit, usize, u64, Totals);
 
 fn snapshot<T: Timer>(caller: &Caller<T>) -> Snapshot {
@@ -49,8 +51,8 @@ fn expect_snapshot(rt: &impl Abort, found: Snapshot, wanted: Snapshot) {
     assert_eq!(rt; found, wanted);
 }
 
-// A refused call has left these numbers, the opening and each event. The elements are shown by the
-// calls after it, up to the last.
+// Asserts that a refused call has left the numbers of `before`, the opening and each event, and
+// counts the refusal. The calls after it, up to the last, show the elements.
 fn expect_unchanged<T: Timer>(rt: &impl Abort, caller: &mut Caller<T>, before: Snapshot) {
     expect_snapshot(rt, snapshot(caller), before);
     expect_events(rt, caller.kept.opening(), caller.kept.history());
@@ -72,13 +74,13 @@ fn elements_of(rt: &impl Abort, alloc: Global, count: u64) -> Result<Items, Allo
     Ok(Items::new(elements))
 }
 
-// The opening of the first elements.
+// Makes the opening of the first `count` elements.
 pub fn opening_of(rt: &impl Abort, alloc: Global, count: u64) -> Opening {
     let items = elements_of(rt, alloc, count).ok().expect(rt, "elements");
     Opening::new(items, count, 0).expect(rt, "an opening")
 }
 
-// A new queue that was refused once is asked for once more.
+// Makes a queue whose memory was refused once, which is the first refusal met.
 fn made_again<T: Timer>(rt: &impl Abort, alloc: Global, fault: NewFault) -> Caller<T> {
     expect(
         rt,
@@ -104,7 +106,8 @@ fn made<T: Timer>(rt: &impl Abort, alloc: Global) -> Caller<T> {
     }
 }
 
-// The same from an opening, which a refusal hands back.
+// Makes a queue from an opening, which the refusal handed back, and asserts that it came back
+// unchanged.
 fn begun_again<T: Timer>(
     rt: &impl Abort,
     alloc: Global,
@@ -141,7 +144,7 @@ fn asks<T: Timer>(caller: &mut Caller<T>, ask: Ask) -> Step {
     caller.kept.act(&mut caller.tally, 0, 95, ask)
 }
 
-// Asks at 95, and again after a refusal.
+// Asks at 95, and once more after a refusal, which must change nothing. Returns the last step.
 fn answered<T: Timer>(rt: &impl Abort, caller: &mut Caller<T>, ask: Ask) -> Step {
     let (before, again) = (snapshot(caller), ask);
     match asks(caller, ask) {
@@ -158,7 +161,7 @@ fn answered<T: Timer>(rt: &impl Abort, caller: &mut Caller<T>, ask: Ask) -> Step
     }
 }
 
-// Elements 19 to 5 are drained.
+// Asserts that elements 19 to 5 are drained, in this order.
 fn expect_items(rt: &impl Abort, items: &[Element]) {
     expect_number(rt, items.len() as u64, 15);
     let mut id = MANY;
@@ -168,7 +171,7 @@ fn expect_items(rt: &impl Abort, items: &[Element]) {
     }
 }
 
-// Their ids are recorded.
+// Asserts that the ids of elements 19 to 5 are recorded, in this order.
 fn expect_ids(rt: &impl Abort, ids: &[u64]) {
     expect_number(rt, ids.len() as u64, 15);
     let mut wanted = MANY;
@@ -185,7 +188,7 @@ fn expect_drained(rt: &impl Abort, step: &Step) {
     }
 }
 
-// A run of one try, which offers element 20.
+// Returns the tries of a run: one, which offers element 20.
 fn one_try(rt: &impl Abort, alloc: Global) -> Result<Vec<Try>, AllocError> {
     let mut tries = Vec::new(alloc);
     tries.push(Try {
@@ -203,7 +206,8 @@ fn one_try_at_last(rt: &impl Abort, alloc: Global) -> Result<Vec<Try>, AllocErro
     }
 }
 
-// Whether the run's one step offers element 20. A refused offer is a step too.
+// Returns whether the run's one step offers element 20. Otherwise the step must be a refusal: a
+// refused offer is a step too.
 fn has_offered(rt: &impl Abort, steps: &[Step]) -> bool {
     let step = [done(offered(rt, 20, 80, b"a"))];
     let has_offered = steps == step.as_slice();
@@ -215,7 +219,8 @@ fn is_refused(steps: &[Step]) -> bool {
     matches!(steps, [Err(CallFault::Memory)])
 }
 
-// Whether a run was made and offered element 20. A refused offer gives no id away.
+// Returns whether a run was made and offered element 20. A refused offer uses up no id, so a
+// further run offers the same element.
 fn has_run<T: Timer>(rt: &impl Abort, alloc: Global, caller: &mut Caller<T>) -> bool {
     let tries = one_try_at_last(rt, alloc).ok().expect(rt, "a try");
     match caller.kept.run_tries(&mut caller.tally, tries) {
@@ -233,7 +238,7 @@ fn runs_once<T: Timer>(rt: &impl Abort, alloc: Global, caller: &mut Caller<T>) -
     has_run
 }
 
-// Offers element 20 in a run, again after a refusal.
+// Offers element 20 in a run, and in one more run after a refusal.
 fn runs<T: Timer>(rt: &impl Abort, alloc: Global, caller: &mut Caller<T>) {
     let has_run = runs_once(rt, alloc, caller) || runs_once(rt, alloc, caller);
     expect(rt, has_run, "no memory for a run");
@@ -252,7 +257,7 @@ fn offers_many<T: Timer>(rt: &impl Abort, caller: &mut Caller<T>) {
     }
 }
 
-// The opening has elements from 0 on, and no other. Answers how many.
+// Asserts that the opening has elements from 0 on and no others. Returns how many.
 fn expect_elements(rt: &impl Abort, opening: &Opening) -> u64 {
     let mut count = 0_u64;
     for element in opening.elements.as_slice() {
@@ -264,7 +269,8 @@ fn expect_elements(rt: &impl Abort, opening: &Opening) -> u64 {
     count
 }
 
-// Elements 0 to 19 stand in the opening or were offered. Then comes the drain, and then element 20.
+// Asserts that elements 0 to 19 stand in the opening or were offered, as far as there are any, and
+// that the events after them are the drain and the offer of element 20.
 fn expect_events(rt: &impl Abort, opening: &Opening, history: &[Event]) {
     let mut place = expect_elements(rt, opening);
     for event in history {
@@ -273,7 +279,8 @@ fn expect_events(rt: &impl Abort, opening: &Opening, history: &[Event]) {
     }
 }
 
-// Places count the opening's elements and the events after them.
+// Asserts that `found` is the event at `place`. Places count the opening's elements, and then the
+// events.
 fn expect_event(rt: &impl Abort, found: &Event, place: u64) {
     expect_number(rt, found.seat, 0);
     expect_number(rt, found.asked, 95);
@@ -298,7 +305,7 @@ fn expect_offer(rt: &impl Abort, element: &Element, place: u64) {
     }
 }
 
-// With elements 0 to 19 in the queue, drains and runs.
+// Drains a queue with elements 0 to 19, offers element 20 in a run, and polls what is left.
 fn goes_on<T: Timer>(rt: &impl Abort, alloc: Global, caller: &mut Caller<T>) {
     expect_drained(rt, &answered(rt, caller, Ask::Drain(MANY)));
     let next = answered(rt, caller, Ask::Take);
@@ -313,7 +320,7 @@ fn polls<T: Timer>(rt: &impl Abort, caller: &mut Caller<T>, reply: Reply) {
     expect_step(rt, &polled, &done(reply), 100);
 }
 
-// Elements 20 and 4 to 0 are left, which expire in this order.
+// Polls what is left: elements 20 and 4 to 0, which expire in this order.
 fn polls_the_rest<T: Timer>(rt: &impl Abort, caller: &mut Caller<T>) {
     for id in [20, 4, 3, 2, 1, 0] {
         polls(rt, caller, Reply::Item(numbered(rt, id)));
@@ -322,7 +329,7 @@ fn polls_the_rest<T: Timer>(rt: &impl Abort, caller: &mut Caller<T>) {
     expect_number(rt, caller.kept.audit().left, 0);
 }
 
-// The calls of a queue that began empty, by the audit and by the caller's share.
+// Asserts the number of calls of a queue that began empty, by the audit and by the caller's share.
 fn expect_calls(rt: &impl Abort, audit: Audit, totals: Totals) {
     expect_number(rt, audit.calls, 29);
     expect_number(rt, audit.offered, 21);
@@ -332,7 +339,7 @@ fn expect_calls(rt: &impl Abort, audit: Audit, totals: Totals) {
     expect_number(rt, totals.given, 21);
 }
 
-// Makes each call that may want memory, and returns how often it was refused.
+// Makes each call that may take memory, and returns the number of refusals.
 pub fn run_through<T: Timer>(rt: &impl Abort, alloc: Global) -> u32 {
     let mut caller = made::<T>(rt, alloc);
     offers_many(rt, &mut caller);
@@ -341,7 +348,7 @@ pub fn run_through<T: Timer>(rt: &impl Abort, alloc: Global) -> u32 {
     caller.met
 }
 
-// The same for a queue that begins with an opening.
+// Does the same for a queue that begins with an opening of elements 0 to 19, which are not offered.
 fn run_on(rt: &impl Abort, alloc: Global) -> u32 {
     let mut caller = begun::<ListTimer>(rt, alloc);
     goes_on(rt, alloc, &mut caller);

@@ -23,7 +23,7 @@ fn an_empty_opening_begins_at_zero(rt: HostRuntime) {
     expect(&rt, is_made, "the opening of no element");
 }
 
-// Elements of these ids and expiries.
+// Returns elements with the ids and expiries of `entries`, in this order.
 fn standing(rt: &impl Abort, alloc: Global, entries: &[(u64, u64)]) -> Result<Items, AllocError> {
     let mut elements = Vec::new(alloc);
     for &(id, expiry) in entries {
@@ -45,7 +45,8 @@ fn expect_opening(rt: &impl Abort, opening: &Opening, entries: &[(u64, u64)], ne
     expect_number(rt, opening.last_at, 40);
 }
 
-// Whether these elements and this next id make an opening, which then holds what was given.
+// Returns whether `items` and `next_id` make an opening. If so, asserts that it holds what was
+// given.
 fn make_opening(rt: &impl Abort, items: Items, entries: &[(u64, u64)], next_id: u64) -> bool {
     match Opening::new(items, next_id, 40) {
         None => false,
@@ -83,7 +84,7 @@ fn an_opening_has_rising_ids_below_the_next(rt: HostRuntime) -> Result<(), Fail>
     Ok(())
 }
 
-// Elements of one expiry, in the order of their ids, with room for one more.
+// Returns a million elements of one expiry, in the order of their ids, with room for one more.
 fn million(rt: &impl Abort, alloc: Global) -> Result<Vec<Element>, AllocError> {
     let mut elements = Vec::with_capacity(alloc, 1_000_001)?;
     let payload = payload(rt, b"job");
@@ -100,7 +101,8 @@ fn million(rt: &impl Abort, alloc: Global) -> Result<Vec<Element>, AllocError> {
     Ok(elements)
 }
 
-// A queue begins with the most elements and the greatest next id. Gives the elements.
+// Asserts that a queue can begin with the most elements and the greatest next id. Returns the
+// elements.
 fn expect_most(rt: &impl Abort, alloc: Global, elements: Vec<Element>) -> Vec<Element> {
     let opening = Opening::new(Items::new(elements), 1_099_511_627_776, u64::MAX);
     let opening = opening.expect(rt, "an opening");

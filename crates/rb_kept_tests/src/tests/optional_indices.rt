@@ -6,7 +6,7 @@ fn expect_index(rt: &impl Abort, index: OptionalIndex, option: Option<usize>) {
     assert_eq!(rt; index.as_option(), option);
 }
 
-// The word of the greatest index is beside that of none.
+// The word of the greatest index, `usize::MAX - 1`, is next to the word that stands for none.
 #[test]
 fn has_the_index_that_it_was_made_of(rt: HostRuntime) {
     expect_index(&rt, OptionalIndex::none(), None);
@@ -18,7 +18,7 @@ fn has_the_index_that_it_was_made_of(rt: HostRuntime) {
     );
 }
 
-// What is taken is given once.
+// An index that was taken is not given again.
 #[test]
 fn has_no_index_once_it_was_taken(rt: HostRuntime) {
     let mut index = OptionalIndex::some(7);

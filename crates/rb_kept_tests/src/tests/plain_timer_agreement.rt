@@ -10,13 +10,15 @@ use std::alloc::{AllocError, Global};
 use std::process::Abort;
 use std::test::Fail;
 
-// As many bits as another random number says, so that each level of a wheel has its share.
+// Returns a random number of random size: another random number says how many bits it has, so that
+// each level of a wheel has its share.
 fn of_any_size(random: &mut Pcg32) -> u64 {
     let size = random.next_u32() % 64;
     random.next_u64() >> size
 }
 
-// A command at one of 48 slots. Moments stand around `now`, on either side.
+// Returns a random command. Its slot is one of 48, and its moment is `now` or lies on either side
+// of it.
 fn next_command(random: &mut Pcg32, now: u64) -> TimerCommand {
     let slot = (random.next_u32() % 48) as usize;
     match random.next_u32() % 64 {
@@ -30,7 +32,9 @@ fn next_command(random: &mut Pcg32, now: u64) -> TimerCommand {
     }
 }
 
-// 1,000 commands, and in the first run 20,024. The time goes on by steps of any size, from 0 to its end.
+// Returns 20,024 commands in run 0 and 1,000 in each other run. The time starts at 0 and goes on by
+// steps of any size, shifted right by `run % 60` bits. It stays at the greatest moment once it is
+// there.
 fn next_commands(
     random: &mut Pcg32,
     alloc: Global,
@@ -46,7 +50,8 @@ fn next_commands(
     Ok(commands)
 }
 
-// The answers are equal, but that another entry of the same expiry may be given.
+// Returns whether two answers are equal. Entries agree if their expiries are equal, since any entry
+// of least expiry may be given.
 fn agree(one: &TimerAnswer, other: &TimerAnswer) -> bool {
     match (one, other) {
         (Entry(Some((_, expiry))), Entry(Some((_, another)))) => expiry == another,
@@ -86,7 +91,8 @@ fn expect_agrees<T: Timer>(
     Ok(())
 }
 
-// 100 runs, the same each time.
+// Asserts that a timer agrees with the list in 100 runs. The seed is fixed, so the runs are the
+// same each time.
 fn expect_always_agrees<T: Timer>(rt: &impl Abort, alloc: Global) -> Result<(), AllocError> {
     let mut random = Pcg32::new(88172645463325252, 1);
     for run in 0..100u32 {

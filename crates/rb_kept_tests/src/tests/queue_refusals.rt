@@ -1,5 +1,6 @@
-// A queue, whose offers and drains are refused memory: after a refusal all is as before it, what the queue shows then
-// and each element that it gives up to the end, and the call, made again, finds memory.
+// A queue that is refused memory when it begins and by its offers and drains. After a refusal
+// everything is as before it: what the queue shows then, and each element that it gives until the
+// end. The call, made again, finds memory.
 
 use super::fixtures::{element, expect_found, expect_moment, expect_number, payload};
 use rb_delayed::Element;
@@ -8,10 +9,11 @@ use rb_timer::Timer;
 use std::alloc::{AllocError, Global};
 use std::process::Abort;
 
-// How many elements there are, past two growths of slots, timer and directory.
+// The number of elements, past two growths of slots, timer and directory.
 const COUNT: u64 = 20;
 
-// The later the offer, the sooner it expires: 81 to 100.
+// Returns the expiry of element `id`. The later the offer, the sooner the element expires: from 100
+// down to 81.
 fn expiry_of(id: u64) -> u64 {
     100_u64.saturating_sub(id)
 }
@@ -20,7 +22,7 @@ fn numbered(rt: &impl Abort, id: u64) -> Element {
     element(rt, id, expiry_of(id), b"job")
 }
 
-// All that a queue shows of itself.
+// All that a queue shows of itself: its size, its next id, its head and its least expiry.
 type Shown = (u64, u64, Option<Element>, Option<u64>);
 
 fn shown<T: Timer>(queue: &DelayQueue<T>) -> Shown {
@@ -47,7 +49,7 @@ fn five_elements(rt: &impl Abort, alloc: Global) -> Result<Items, AllocError> {
     Ok(Items::new(elements))
 }
 
-// The opening of five elements. Their memory is asked for again after a refusal.
+// Makes the opening of elements 0 to 4, and tries once more if memory is refused.
 fn five(rt: &impl Abort, alloc: Global) -> Result<Opening, AllocError> {
     let items = match five_elements(rt, alloc) {
         Ok(items) => items,
@@ -56,7 +58,7 @@ fn five(rt: &impl Abort, alloc: Global) -> Result<Opening, AllocError> {
     Ok(Opening::new(items, 5, 0).expect(rt, "an opening"))
 }
 
-// A queue, and how often it was refused.
+// A queue, and the number of refusals when it began.
 type Begun<T> = (DelayQueue<T>, u32);
 
 fn begun_again<T: Timer>(alloc: Global, opening: &Opening) -> Result<Begun<T>, AllocError> {
@@ -75,7 +77,8 @@ fn offered<T: Timer>(
     queue.offer(Draft::first(expiry, payload(rt, b"job")))
 }
 
-// The element that is offered, and how often it was refused.
+// Offers an element, and tries once more if memory is refused, which must change nothing. Returns
+// the element and the number of refusals.
 fn offered_again<T: Timer>(
     rt: &impl Abort,
     queue: &mut DelayQueue<T>,
@@ -91,7 +94,8 @@ fn offered_again<T: Timer>(
     }
 }
 
-// The elements that are drained, and how often they were refused.
+// Drains at most `max` elements, and tries once more if memory is refused, which must change
+// nothing. Returns the elements and the number of refusals.
 fn drained_again<T: Timer>(
     rt: &impl Abort,
     queue: &mut DelayQueue<T>,
@@ -108,7 +112,7 @@ fn drained_again<T: Timer>(
     }
 }
 
-// The items must be this many elements, from the id `last` down.
+// Asserts that there are `count` items, whose ids go down from `last`.
 fn expect_down_from(rt: &impl Abort, items: &[Element], last: u64, count: u64) {
     expect_number(rt, items.len() as u64, count);
     let mut id = last;
@@ -118,7 +122,7 @@ fn expect_down_from(rt: &impl Abort, items: &[Element], last: u64, count: u64) {
     }
 }
 
-// Offers an element again after each refusal, and returns how often it was refused.
+// Offers element `id`, once more after a refusal, and returns the number of refusals.
 fn offers<T: Timer>(
     rt: &impl Abort,
     queue: &mut DelayQueue<T>,
@@ -129,7 +133,7 @@ fn offers<T: Timer>(
     Ok(times)
 }
 
-// Offers elements 5 to 19, and returns how often it was refused.
+// Offers elements 5 to 19, and returns the number of refusals.
 fn offers_many<T: Timer>(rt: &impl Abort, queue: &mut DelayQueue<T>) -> Result<u32, AllocError> {
     let mut refused = 0_u32;
     for id in 5..COUNT {
@@ -138,7 +142,8 @@ fn offers_many<T: Timer>(rt: &impl Abort, queue: &mut DelayQueue<T>) -> Result<u
     Ok(refused)
 }
 
-// Drains at most `max`, which are this many elements from the id `last` down, and answers how often it was refused.
+// Drains at most `max` elements that are expired at `now`, asserts that they are `count` elements
+// from the id `last` down, and returns the number of refusals.
 fn drains<T: Timer>(
     rt: &impl Abort,
     queue: &mut DelayQueue<T>,
@@ -150,7 +155,7 @@ fn drains<T: Timer>(
     Ok(refused)
 }
 
-// Drains seven, and then all, and returns how often it was refused.
+// Drains seven elements and then all others, and returns the number of refusals.
 fn drains_twice<T: Timer>(rt: &impl Abort, queue: &mut DelayQueue<T>) -> Result<u32, AllocError> {
     let few = drains(rt, queue, (90, 7), (19, 7))?;
     let all = drains(rt, queue, (u64::MAX, u64::MAX), (12, 13))?;
@@ -175,7 +180,8 @@ fn run_through<T: Timer>(rt: &impl Abort, alloc: Global) -> Result<u32, AllocErr
     Ok(refused.saturating_add(further))
 }
 
-/// Begins, offers and drains, each call made again after a refusal, and returns the number of refusals.
+/// Begins a queue, offers and drains. Each call is made once more after a refusal. Returns the
+/// number of refusals.
 pub fn queue_refusals<T: Timer>(rt: &impl Abort, alloc: Global) -> u32 {
     run_through::<T>(rt, alloc)
         .ok()

@@ -1,4 +1,5 @@
-// Only the timer is refused memory, once, by a queue's ninth element or by an opening.
+// Only the timer is refused memory, once: when the ninth element is offered to a queue, or by an
+// opening of nine elements.
 
 use super::fixtures::{expect, expect_handed_back, expect_number};
 use super::memory_refusals::{opening_of, run_through};

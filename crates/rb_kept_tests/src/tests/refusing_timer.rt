@@ -1,7 +1,8 @@
 use rb_timer::Timer;
 use std::alloc::{AllocError, Global};
 
-/// A timer that says once that there is no memory, at the first room above `MOST`, as its contract allows.
+/// A timer that refuses memory once: when it is first asked for more room than `MOST`. Its contract
+/// allows it to.
 #[derive(Debug, Drop)]
 pub struct RefusingTimer<T: Timer, const MOST: usize> {
     timer: T,

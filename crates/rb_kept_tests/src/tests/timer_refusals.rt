@@ -1,5 +1,6 @@
-// A timer that asks for room, and a run of commands, refused in turn. The same for each timer: after a
-// refusal it has its entries and its room as before, and the call, made again, finds memory.
+// Each growth of a timer's room, and a run of commands, refused in turn. For each timer the same
+// holds: after a refusal it has its entries and its room as before, and the call, made again, finds
+// memory.
 
 use super::fixtures::{expect, expect_number};
 use rb_binary::BinaryTimer;
@@ -11,18 +12,19 @@ use rb_wheel::WheelTimer;
 use std::alloc::Global;
 use std::process::Abort;
 
-// The rooms of a timer, one after the other. Each is filled before the next is asked for, and most arrays
-// have to move for it.
+// The rooms that a timer gets, one after the other. Each is filled before the next is asked for,
+// and most arrays have to move to grow that far.
 const ROOMS: [usize; 4] = [3, 8, 20, MOST];
 
 const MOST: usize = 70;
 
-// The higher the slot, the sooner it expires: 1,000 down to 931.
+// Returns the expiry of the entry at `slot`. The higher the slot, the sooner it expires: from 1,000
+// down to 931.
 fn expiry_of(slot: usize) -> u64 {
     1_000_u64.saturating_sub(slot as u64)
 }
 
-// The entry of least expiry, where the slots below `count` are filled.
+// Returns the entry of least expiry when exactly the slots below `count` are filled.
 fn least_of(count: usize) -> Option<(usize, u64)> {
     let slot = count.checked_sub(1)?;
     Some((slot, expiry_of(slot)))
@@ -43,7 +45,7 @@ fn takes<T: Timer>(timer: &mut T, slot: usize) -> bool {
     timer.remove(slot) == expiry_of(slot)
 }
 
-// The timer has exactly this many slots, and an entry in each.
+// Asserts that the timer has exactly `count` slots, and an entry in each.
 fn expect_filled<T: Timer>(rt: &impl Abort, timer: &T, count: usize) {
     expect_number(rt, timer.room() as u64, count as u64);
     expect_number(rt, timer.len() as u64, count as u64);
@@ -57,7 +59,8 @@ fn expect_filled<T: Timer>(rt: &impl Abort, timer: &T, count: usize) {
     }
 }
 
-// Asks a filled timer for room, again after a refusal, and returns how often it was.
+// Asks a timer whose `count` slots are filled for a room of `wanted` slots, and once more after a
+// refusal. Returns the number of refusals.
 fn reserves<T: Timer>(rt: &impl Abort, timer: &mut T, count: usize, wanted: usize) -> u32 {
     if timer.reserve(wanted).is_ok() {
         return 0;
@@ -67,8 +70,8 @@ fn reserves<T: Timer>(rt: &impl Abort, timer: &mut T, count: usize, wanted: usiz
     1
 }
 
-// Fills the new slots. The last one is emptied and filled once more, and by then the wheel has moved past it:
-// all that comes later is early for the wheel.
+// Fills the new slots. The last one, which expires first, is emptied and filled again. By then the
+// wheel's base has moved past its expiry, so everything that comes later is early for the wheel.
 fn fills<T: Timer>(rt: &impl Abort, timer: &mut T, count: usize, room: usize) {
     for slot in count..room {
         expect(rt, puts(timer, slot), "a slot is filled");
@@ -82,7 +85,7 @@ fn fills<T: Timer>(rt: &impl Abort, timer: &mut T, count: usize, room: usize) {
     expect_filled(rt, timer, room);
 }
 
-// Grows from room to room.
+// Grows from room to room, and returns the number of refusals.
 fn grows<T: Timer>(rt: &impl Abort, timer: &mut T) -> u32 {
     let (mut met, mut count) = (0_u32, 0);
     for room in ROOMS {
@@ -93,7 +96,7 @@ fn grows<T: Timer>(rt: &impl Abort, timer: &mut T) -> u32 {
     met
 }
 
-// Commands that leave a filled timer as it was, with their answers.
+// Commands that leave a filled timer as it was. `ANSWERS` has their answers.
 const COMMANDS: [TimerCommand; 7] = [
     Least,
     Remove(0),
@@ -126,7 +129,7 @@ fn has_run<T: Timer>(rt: &impl Abort, alloc: Global, timer: &mut T) -> bool {
     }
 }
 
-// Runs the commands, again after a refusal, and returns how often it was.
+// Runs the commands, once more after a refusal, and returns the number of refusals.
 fn runs<T: Timer>(rt: &impl Abort, alloc: Global, timer: &mut T) -> u32 {
     if has_run(rt, alloc, timer) {
         return 0;
@@ -135,7 +138,7 @@ fn runs<T: Timer>(rt: &impl Abort, alloc: Global, timer: &mut T) -> u32 {
     1
 }
 
-// Takes out all entries, each when it is due.
+// Takes out all entries, each when the timer gives it as the due one.
 fn drains<T: Timer>(rt: &impl Abort, timer: &mut T) {
     for taken in 0..MOST {
         let count = MOST.saturating_sub(taken);
@@ -157,7 +160,7 @@ fn refusals_over<T: Timer>(rt: &impl Abort, alloc: Global) -> u32 {
     growing.saturating_add(running)
 }
 
-/// Makes the calls of each timer that may want memory, and returns how often they were refused.
+/// Makes the calls of each timer that may take memory, and returns the number of refusals.
 pub fn timer_refusals(rt: &impl Abort, alloc: Global) -> u32 {
     let list = refusals_over::<ListTimer>(rt, alloc);
     let heap = refusals_over::<BinaryTimer>(rt, alloc);

@@ -4,7 +4,7 @@ use super::fixtures::expect_number;
 use rb_ledger::{Books, GREATEST_COUNT, Tally, Totals};
 use std::process::Abort;
 
-// Calls, elements offered and elements given.
+// The three numbers of a `wanted` are those of calls, of elements offered and of elements given.
 
 fn expect_share(rt: &impl Abort, tally: &Tally, wanted: [u64; 3]) {
     let [calls, offered, given] = wanted;

@@ -1,5 +1,5 @@
-// A call is answered while there is memory, whatever the numbers in it are. A contract lets a body
-// say at any time that there is none.
+// While there is memory, a call is answered, whatever the numbers in it are. A contract lets a body
+// say at any time that memory ran out.
 
 ghost use Rattle.std.specs.Prelude.{◌≡◌};
 
@@ -16,13 +16,14 @@ use std::process::Abort;
 use std::sync::Wait;
 use std::test::Fail;
 
-// How many rounds of calls one pass makes: many more than the first growths of anything.
+// The number of rounds of calls that one pass makes: many more than the first growths of anything
+// take.
 const ROUNDS: u64 = 5_000;
 
-// Each name but the first pass's.
+// The number of names, without the first pass's.
 const NAMES: u64 = 65_535;
 
-// Opens a queue with room for so many calls, and makes one.
+// Opens a queue with room for `capacity` calls, and makes one call.
 fn expect_open(rt: &(impl Wait + Abort), alloc: Global, capacity: u64) -> Result<(), Fail> {
     let (shared, mut pass): (HeapShared, HeapPass) = opened(alloc, capacity)?;
     expect_call(rt, &shared, &mut pass, 0, offer(rt, 9), offered(rt, 0, 9));
@@ -37,7 +38,7 @@ fn opens_with_room_for_any_number_of_calls(rt: HostRuntime) -> Result<(), Fail> 
     Ok(())
 }
 
-// Offers the last attempt of a job, of id 7 and expiry 8 at first.
+// Returns an offer of the last attempt of a job whose first attempt had id 7 and expiry 8.
 fn last_attempt(rt: &impl Abort, expiry: u64) -> Ask {
     Ask::Offer(Draft {
         expiry,
@@ -48,7 +49,7 @@ fn last_attempt(rt: &impl Abort, expiry: u64) -> Ask {
     })
 }
 
-// How it ends.
+// Returns how this offer ends, if the element gets id `id`.
 fn last_offered(rt: &impl Abort, id: u64, expiry: u64) -> Result<Outcome, CallFault> {
     done(Reply::Offered(Element {
         id,
@@ -68,8 +69,8 @@ fn expect_drain<R: Wait + Abort>(rt: &R, shared: &HeapShared, pass: &mut HeapPas
     expect_drained(rt, drained);
 }
 
-// A first and a last attempt of this expiry at this moment, and a drain. The ids go on from this
-// one.
+// Offers a first and a last attempt, and drains. `moment` pairs the moment of the three calls with
+// the expiry of both elements. Their ids are `id` and the next one.
 fn expect_moment<R: Wait + Abort>(
     rt: &R,
     shared: &HeapShared,
@@ -107,7 +108,8 @@ fn answers_up_to_the_greatest_moment(rt: HostRuntime) -> Result<(), Fail> {
     Ok(())
 }
 
-// Offers the element of this id, and drains it.
+// Offers the element with id `id`, and drains it. The id is also its expiry and the moment of both
+// calls.
 fn expect_round<R: Wait + Abort>(rt: &R, shared: &HeapShared, pass: &mut HeapPass, id: u64)
     requires { pass.old.table ≡ shared.now }
     ensures { pass.new.table ≡ pass.old.table }
@@ -125,7 +127,8 @@ fn expect_rounds<R: Wait + Abort>(rt: &R, shared: &HeapShared, pass: &mut HeapPa
     }
 }
 
-// Offers elements that stand side by side. Their ids go on from those of the rounds.
+// Offers `ROUNDS` elements that all stand at the same time. Their ids go on from those of the
+// rounds.
 fn expect_standing<R: Wait + Abort>(rt: &R, shared: &HeapShared, pass: &mut HeapPass)
     requires { pass.old.table ≡ shared.now }
     ensures { pass.new.table ≡ pass.old.table }
@@ -147,7 +150,7 @@ fn answers_after_thousands_of_calls(rt: HostRuntime) -> Result<(), Fail> {
     Ok(())
 }
 
-// A pass split off under this name makes a round, and is folded.
+// Splits off a pass with name `name`, makes a round with it, and folds it back into `first`.
 fn expect_pass<R: Wait + Abort>(rt: &R, shared: &HeapShared, first: &mut HeapPass, name: u64)
     requires { first.old.table ≡ shared.now }
     ensures { first.new.table ≡ first.old.table }

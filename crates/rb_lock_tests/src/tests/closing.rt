@@ -1,4 +1,5 @@
-// An offer and a poll by two passes, a closing that is refused, and one that is not.
+// Two passes, one of which offers and the other polls. A first closing is refused, and a second one
+// is not.
 
 ghost use Rattle.std.specs.Prelude.{◌≡◌};
 
@@ -15,7 +16,7 @@ use std::process::Abort;
 use std::sync::Wait;
 use std::test::Fail;
 
-// An offer by one pass and a poll by the other, which then meet.
+// Offers by one pass and polls by the other. Then the two meet.
 fn call_and_meet<R: Wait + Abort>(
     rt: &R,
     shared: &ListShared,
@@ -41,7 +42,8 @@ fn expect_refused(rt: &impl Abort, fault: CloseFault) {
     assert_eq!(rt; fault, refused);
 }
 
-// What a closing hands back that is refused, as a pass with a call is outside.
+// Closes with `pass`, which is refused, since a pass with a call is outside. Returns the queue and
+// the pass that the closing hands back.
 fn handed_back<R: Wait + Abort>(
     rt: &R,
     shared: ListShared,
@@ -63,7 +65,7 @@ fn expect_run(rt: &impl Abort, kept: &Kept<ListTimer>, tally: &Tally, audit: Aud
     expect_audit(rt, kept.audit(), audit);
 }
 
-// Closes by the pass into which the other is folded.
+// Closes with the pass into which the other has been folded.
 fn expect_closed<R: Wait + Abort>(rt: &R, shared: ListShared, pass: ListPass)
     requires { pass.table ≡ shared }
 {
@@ -72,7 +74,7 @@ fn expect_closed<R: Wait + Abort>(rt: &R, shared: ListShared, pass: ListPass)
     expect_run(rt, &kept, &tally, audit);
 }
 
-// Closes while one of the two is outside, and then once it is folded.
+// Closes while one of the two passes is outside, and again once it has been folded.
 fn fold_both<R: Wait + Abort>(rt: &R, shared: ListShared, first: ListPass, second: ListPass)
     requires first { first.table ≡ shared }
     requires second { second.table ≡ shared }

@@ -16,7 +16,7 @@ pub type ListShared = Shared<ListTimer>;
 
 pub type ListPass = Pass<ListTimer>;
 
-/// A shared queue with room for so many calls, and its first pass.
+/// Opens a shared queue with room for `capacity` calls, and returns it with its first pass.
 pub fn opened<T: Timer>(alloc: Global, capacity: u64) -> Result<(Shared<T>, Pass<T>), Fail>
     ensures { IfOk result (λ opened. opened.1.table ≡ opened.0) }
 {
@@ -24,7 +24,7 @@ pub fn opened<T: Timer>(alloc: Global, capacity: u64) -> Result<(Shared<T>, Pass
     shared(alloc, kept, tally)
 }
 
-/// The same of a kept queue that was not called yet.
+/// Shares a kept queue that has had no calls.
 pub fn shared<T: Timer>(
     alloc: Global,
     kept: Kept<T>,
@@ -40,7 +40,7 @@ pub fn shared<T: Timer>(
     }
 }
 
-/// Makes a call, and compares how it ended.
+/// Makes a call, and asserts how it ends.
 pub fn expect_call<T: Timer, R: Wait + Abort>(
     rt: &R,
     shared: &Shared<T>,
@@ -56,7 +56,7 @@ pub fn expect_call<T: Timer, R: Wait + Abort>(
     expect_outcome(rt, outcome, wanted);
 }
 
-/// A new pass, under this name.
+/// Splits off a new pass, and asserts that its name is `name`.
 pub fn split_off<T: Timer, R: Wait + Abort>(
     rt: &R,
     shared: &Shared<T>,
@@ -72,8 +72,7 @@ pub fn split_off<T: Timer, R: Wait + Abort>(
     split
 }
 
-// Each comparison is a function of its own with no clause, so that a test that makes it has nothing
-// to prove.
+// Comparisons are functions without clauses, so tests that call them have nothing to prove.
 
 pub fn expect_outcome(
     rt: &impl Abort,
@@ -103,12 +102,12 @@ pub fn payload(rt: &impl Abort) -> Payload {
     Payload::new(b"a").ok().expect(rt, "a payload")
 }
 
-/// A first offer.
+/// Returns a first offer, of an element with expiry `expiry`.
 pub fn offer(rt: &impl Abort, expiry: u64) -> Ask {
     Ask::Offer(Draft::first(expiry, payload(rt)))
 }
 
-/// The element that a first offer becomes.
+/// Returns the element that a first offer becomes.
 pub fn element(rt: &impl Abort, id: u64, expiry: u64) -> Element {
     Element {
         id,
@@ -120,12 +119,12 @@ pub fn element(rt: &impl Abort, id: u64, expiry: u64) -> Element {
     }
 }
 
-/// How a call ends that is answered.
+/// Returns how a call ends that is answered with `reply`.
 pub fn done(reply: Reply) -> Result<Outcome, CallFault> {
     Ok(Outcome::Done(reply))
 }
 
-/// How a first offer ends.
+/// Returns how a first offer ends, if the element gets id `id`.
 pub fn offered(rt: &impl Abort, id: u64, expiry: u64) -> Result<Outcome, CallFault> {
     done(Reply::Offered(element(rt, id, expiry)))
 }
@@ -138,7 +137,7 @@ pub fn totals(calls: u64, offered: u64, given: u64) -> Totals {
     }
 }
 
-/// The audit of a run that began and ended with an empty queue.
+/// Returns the audit of a run that began and ended with an empty queue, and gave all its elements.
 pub fn all_given(calls: u64, elements: u64) -> Audit {
     Audit {
         calls,

@@ -11,7 +11,8 @@ use std::process::Abort;
 use std::sync::Wait;
 use std::test::Fail;
 
-// The four calls for which the history has room, and one more.
+// Makes the four calls for which the history has room, and one more, which is refused. Also makes
+// two takes that would wait, which are not counted as calls.
 fn expect_answers<R: Wait + Abort>(rt: &R, shared: &ListShared, pass: &mut ListPass)
     requires { pass.old.table ≡ shared.now }
 {

@@ -1,5 +1,5 @@
-// Threads that offer and as many that take: nothing is lost and nothing doubled, and each seat has
-// just the calls that its thread made.
+// Threads that offer, and as many that take. Nothing is lost and nothing doubled, and each seat has
+// exactly the calls that its thread made.
 
 ghost use Rattle.std.specs.Prelude.{◌≡◌, IfSome};
 
@@ -17,13 +17,13 @@ pub(super) type HeapShared = Shared<BinaryTimer>;
 
 pub(super) type HeapPass = Pass<BinaryTimer>;
 
-// How many elements go through the queue in each run.
+// The number of elements that go through the queue in each run.
 const ELEMENTS: u64 = 100_000;
 
-// Room for the calls of a run.
+// The room for the calls of a run: an offer and a take of each element.
 pub(super) const ROOM: u64 = 2 * ELEMENTS;
 
-// Offers an element, which is expired at once.
+// Offers an element that is expired at once.
 fn offer_one<R: Wait + Abort>(rt: &R, shared: &HeapShared, pass: &mut HeapPass)
     requires { pass.old.table ≡ shared.now }
     ensures { pass.new.table ≡ pass.old.table }
@@ -31,7 +31,7 @@ fn offer_one<R: Wait + Abort>(rt: &R, shared: &HeapShared, pass: &mut HeapPass)
     let _ = shared.call(rt, pass, 9, offer(rt, 9));
 }
 
-// Offers so many of them.
+// Offers `count` such elements. Returns the pass.
 pub(super) fn offer_all<R: Wait + Abort>(
     rt: &R,
     shared: &HeapShared,
@@ -47,7 +47,7 @@ pub(super) fn offer_all<R: Wait + Abort>(
     pass
 }
 
-// Whether an element was expired, which then was taken.
+// Takes an element if one is expired. Returns whether one was.
 fn has_taken(rt: &impl Wait, shared: &HeapShared, pass: &mut HeapPass) -> bool
     requires { pass.old.table ≡ shared.now }
     ensures { pass.new.table ≡ pass.old.table }
@@ -56,7 +56,7 @@ fn has_taken(rt: &impl Wait, shared: &HeapShared, pass: &mut HeapPass) -> bool
     matches!(outcome, Ok(Outcome::Done(_)))
 }
 
-// Takes so many elements, and tries again where nothing is expired.
+// Takes `wanted` elements, and tries again whenever nothing is expired. Returns the pass.
 pub(super) fn take_all(
     rt: &impl Wait,
     shared: &HeapShared,
@@ -77,8 +77,8 @@ pub(super) fn take_all(
     pass
 }
 
-// One thread offers so many elements and another takes as many. Their passes are folded into the
-// one given.
+// Offers `count` elements in one thread and takes as many in another. Returns the pass that
+// offered, into which the one that took is folded, or `None` if no name is left.
 fn pair<R: Threads + Wait + Abort + Sync>(
     rt: &R,
     shared: &HeapShared,
@@ -104,7 +104,7 @@ fn pair<R: Threads + Wait + Abort + Sync>(
     Some(giver)
 }
 
-// Two such pairs at once.
+// Runs two such pairs at once, each with `count` elements.
 fn two_pairs<R: Threads + Wait + Abort + Sync>(
     rt: &R,
     shared: &HeapShared,
@@ -131,7 +131,7 @@ fn two_pairs<R: Threads + Wait + Abort + Sync>(
     Some(first)
 }
 
-// Four of them.
+// Runs four such pairs at once, each with `count` elements.
 fn four_pairs<R: Threads + Wait + Abort + Sync>(
     rt: &R,
     shared: &HeapShared,
@@ -158,12 +158,12 @@ fn four_pairs<R: Threads + Wait + Abort + Sync>(
     Some(first)
 }
 
-// How many events a seat has.
+// Returns the number of events that seat `seat` has.
 fn events_of(history: &[Event], seat: u64) -> usize {
     history.iter().filter(|event| event.seat == seat).count()
 }
 
-// This share of the calls was made by each seat.
+// Asserts that seat `seat` made its share of the calls: one of `seats` equal shares.
 fn expect_share(rt: &impl Abort, history: &[Event], seat: u64, seats: u64) {
     let count = events_of(history, seat) as u64;
     expect_number(rt, count.saturating_mul(seats), ROOM);
@@ -176,8 +176,8 @@ fn expect_shares(rt: &impl Abort, history: &[Event], audit: Audit, seats: u64) {
     }
 }
 
-// Closes the queue by the pass into which all are folded: so many seats have made their share of
-// the calls.
+// Closes the queue with the pass into which all others are folded. Asserts that each of `seats`
+// seats has made its share of the calls.
 fn expect_calls<R: Wait + Abort>(rt: &R, shared: HeapShared, folded: Option<HeapPass>, seats: u64)
     requires { IfSome folded (λ pass. pass.table ≡ shared) }
 {

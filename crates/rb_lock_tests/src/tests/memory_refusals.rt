@@ -1,4 +1,4 @@
-// Each growth that a call may want, refused in turn.
+// Each growth that a call may need, refused in turn.
 
 ghost use Rattle.std.specs.Prelude.{◌≡◌, [], IfOk};
 ghost use Rattle.rb_ledger.specs.Totals.{nothing};
@@ -17,14 +17,14 @@ use std::process::Abort;
 use std::sync::Wait;
 use std::test::Fail;
 
-// How many refusals the run meets. `tools/refuse_allocations` sets 1, and refuses each allocation
-// of the run in turn.
+// The number of refusals that the test meets. `tools/refuse_allocations` sets 1 and refuses each
+// allocation of the test in turn.
 const REFUSALS: u32 = 0;
 
-// Past several growths of slots, timer and directory.
+// The number of elements: enough for several growths of slots, timer and directory.
 const MANY: u64 = 20;
 
-// A kept queue, made once more where it was refused.
+// Makes a kept queue, and tries once more if memory is refused.
 fn kept_at_last(alloc: Global) -> Result<(Kept<ListTimer>, Tally), NewFault>
     ensures history { IfOk result (λ made. made.0.history ≡ []) }
     ensures tally { IfOk result (λ made. made.1 ≡ nothing) }
@@ -41,7 +41,8 @@ fn expect_untouched(rt: &impl Abort, kept: &Kept<ListTimer>, tally: &Tally) {
     expect_totals(rt, tally.totals(), totals(0, 0, 0));
 }
 
-// A shared queue, asked for once more where it was refused, with what was handed back.
+// Opens a shared queue. If memory is refused, asserts that what was handed back is untouched, and
+// tries once more with it.
 fn opened_at_last(
     rt: &impl Abort,
     alloc: Global,
@@ -64,7 +65,8 @@ fn is_refused(outcome: &Result<Outcome, CallFault>) -> bool {
     matches!(outcome, Err(CallFault::Memory))
 }
 
-// How a call ends, which is made again where it was refused.
+// Makes a call, and tries once more if memory is refused. Asserts that a refused call is not
+// counted. Returns how the call ended.
 fn ended_at_last<R: Wait + Abort>(
     rt: &R,
     shared: &ListShared,
@@ -100,7 +102,7 @@ fn expect_offer<R: Wait + Abort>(
     expect_outcome(rt, outcome, offered(rt, id, 9));
 }
 
-// Makes each call that may want memory.
+// Makes each kind of call that may need memory.
 fn expect_growths<R: Wait + Abort>(rt: &R, shared: &ListShared, pass: &mut ListPass, met: &mut u32)
     requires { pass.old.table ≡ shared.now }
     ensures { pass.new.table ≡ pass.old.table }
@@ -124,7 +126,7 @@ fn expect_answer<R: Wait + Abort>(rt: &R, shared: &ListShared, pass: &mut ListPa
     expect_done(rt, outcome);
 }
 
-// Makes each call that takes no memory.
+// Makes each kind of call that takes no memory.
 fn expect_answers<R: Wait + Abort>(rt: &R, shared: &ListShared, pass: &mut ListPass)
     requires { pass.old.table ≡ shared.now }
     ensures { pass.new.table ≡ pass.old.table }
@@ -142,7 +144,7 @@ fn expect_answers<R: Wait + Abort>(rt: &R, shared: &ListShared, pass: &mut ListP
     expect_answer(rt, shared, pass, Ask::Clear);
 }
 
-// From here on no memory is taken: where an allocation were refused, a call would not be answered.
+// From here on no memory is taken; if an allocation were refused, a call would fail.
 fn split_and_fold<R: Wait + Abort>(rt: &R, shared: &ListShared, pass: &mut ListPass)
     requires { pass.old.table ≡ shared.now }
     ensures { pass.new.table ≡ pass.old.table }

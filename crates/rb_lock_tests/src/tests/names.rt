@@ -1,4 +1,4 @@
-// Every name, and the one after the last.
+// Every name, and the split after the last one, which is refused.
 
 ghost use Rattle.std.specs.Prelude.{◌≡◌};
 
@@ -8,7 +8,7 @@ use std::process::Abort;
 use std::sync::Wait;
 use std::test::Fail;
 
-// Splits the pass of this name off, and folds it.
+// Splits off the pass with name `name`, and folds it back into `first`.
 fn expect_name<R: Wait + Abort>(rt: &R, shared: &ListShared, first: &mut ListPass, name: u64)
     requires { first.old.table ≡ shared.now }
     ensures { first.new.table ≡ first.old.table }

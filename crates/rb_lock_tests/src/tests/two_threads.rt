@@ -11,8 +11,8 @@ use std::sync::Wait;
 use std::test::Fail;
 use std::thread::{Threads, join};
 
-// One thread offers so many elements and another takes as many. Then their passes meet, and are
-// folded into the giver's.
+// Offers `count` elements in one thread and takes as many in another. Then the two passes meet, and
+// the taker's is folded into the giver's, which is returned.
 fn exchange<R: Threads + Wait + Abort + Sync>(
     rt: &R,
     shared: &HeapShared,
@@ -40,7 +40,8 @@ fn exchange<R: Threads + Wait + Abort + Sync>(
     giver
 }
 
-// What a run came to whose passes are folded into this one.
+// Closes a queue whose passes are all folded into `folded`. Returns the audit of the run, or `None`
+// if the closing is refused.
 fn audit_of(rt: &impl Wait, shared: HeapShared, folded: HeapPass) -> Option<Audit>
     requires { folded.table ≡ shared }
 {
@@ -48,7 +49,7 @@ fn audit_of(rt: &impl Wait, shared: HeapShared, folded: HeapPass) -> Option<Audi
     Some(audit)
 }
 
-// What a run comes to in which one thread offers so many elements and another takes them.
+// Returns the audit of a run in which one thread offers `count` elements and another takes them.
 fn audit_of_two<R: Threads + Wait + Abort + Sync>(
     rt: &R,
     alloc: Global,
@@ -77,7 +78,7 @@ fn one_offers_and_one_takes(rt: HostRuntime) -> Result<(), Fail> {
     expect_two(&rt, rt.alloc(), 999, all_given(1_998, 999))
 }
 
-// Asks what would wait: no event is made, and the lock is taken and given back.
+// Makes a take that would wait: no event is made, and the lock is taken and given back.
 fn ask(rt: &impl Wait, shared: &HeapShared, pass: &mut HeapPass)
     requires { pass.old.table ≡ shared.now }
     ensures { pass.new.table ≡ pass.old.table }
@@ -85,7 +86,7 @@ fn ask(rt: &impl Wait, shared: &HeapShared, pass: &mut HeapPass)
     let _ = shared.call(rt, pass, 0, Ask::Take);
 }
 
-// Asks so often. How many calls were answered.
+// Asks `rounds` times. Returns the number of calls that were answered.
 fn ask_often(rt: &impl Wait, shared: &HeapShared, mut pass: HeapPass, rounds: u64) -> u64
     requires { pass.table ≡ shared.now }
 {
@@ -95,8 +96,8 @@ fn ask_often(rt: &impl Wait, shared: &HeapShared, mut pass: HeapPass, rounds: u6
     pass.calls()
 }
 
-// Two threads that want the lock all the time: one that finds it taken sleeps, and is woken. How
-// many calls were answered to each.
+// Runs two threads that want the lock all the time. One that finds it taken sleeps, and is woken.
+// Returns the number of calls that were answered in each thread.
 fn answered_of_two<R: Threads + Wait + Sync>(
     rt: &R,
     shared: &HeapShared,

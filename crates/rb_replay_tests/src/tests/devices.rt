@@ -4,10 +4,11 @@ use std::alloc::Global;
 use std::io::{self, ErrorKind, Write};
 use std::process::Abort;
 
-/// A call that never comes.
+/// The number of a call that never comes.
 pub const NEVER: usize = usize::MAX;
 
-/// Takes at most `most` bytes in one write, and fails at the call with this number, from 0.
+/// A writer that takes at most `most` bytes in one write, and fails at call `fails_at`, counted
+/// from 0. Writes and flushes are counted together.
 #[derive(Drop)]
 pub struct Device {
     pub bytes: Vec<u8>,
@@ -49,7 +50,7 @@ impl Write for Device {
     }
 }
 
-/// Takes at most `most` bytes at each third write, and is interrupted at the others.
+/// A writer that takes at most `most` bytes at each third write, and is interrupted at the others.
 #[derive(Drop)]
 pub struct Restless {
     pub bytes: Vec<u8>,
@@ -85,8 +86,7 @@ pub fn write_to<W: Write>(
     write_history(alloc, opening, events, device)
 }
 
-// Each comparison is a function of its own with no clause, so that a test that makes it has nothing
-// to prove.
+// Comparisons are functions without clauses, so tests that call them have nothing to prove.
 
 pub fn expect(rt: &impl Abort, holds: bool) {
     assert!(rt; holds);

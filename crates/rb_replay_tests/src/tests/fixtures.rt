@@ -9,39 +9,40 @@ use std::alloc::{AllocError, Global};
 use std::process::Abort;
 use std::test::Fail;
 
-/// What an event did, as a row tells it: a row is copied, and owns nothing.
+/// What an event did, as a row states it. It owns nothing, so a row can be copied.
 #[derive(Clone, Copy)]
 pub enum Deed {
     Offer(Element),
     Poll(Option<u64>),
     Take(u64),
-    /// The start, the timeout, and what was got.
+    /// The start, the timeout, and the id of the element that came, if one did.
     PollFor(u64, u64, Option<u64>),
     Peek(Option<u64>),
     /// The id, and whether it was found.
     Remove(u64, bool),
-    /// The greatest number, and at most three ids.
+    /// The greatest number of elements to take, and the ids of those taken, at most three.
     Drain(u64, [Option<u64>; 3]),
     Clear,
     Size(u64),
 }
 
-/// An event: its seat, the moment that was asked for, that at which it took place, and what it did.
+/// An event: its seat, the moment asked for, the moment at which it took place, and what it did.
 pub type Row = (u64, u64, u64, Deed);
 
-/// What a run begins with: its elements, and the next id, or else the empty opening. Moments begin at 0.
+/// What a run begins with: its elements and the next id, or `None` for the empty opening. Moments
+/// begin at 0.
 pub type Start<'a> = Option<(&'a [Element], u64)>;
 
 pub const EMPTY: Start<'static> = None;
 
-/// What stands after a job failed once has this next id.
+/// The next id after a run of one job that failed once.
 pub const NEXT_ID: u64 = 2;
 
 pub fn payload(rt: &impl Abort, bytes: &[u8]) -> Payload {
     Payload::new(bytes).ok().expect(rt, "a payload")
 }
 
-/// The attempt of job 0 with this number, with the payload `a`.
+/// Returns the attempt of job 0 that has number `attempt`, with payload `a`.
 pub fn attempt(rt: &impl Abort, id: u64, expiry: u64, attempt: u32) -> Element {
     assert!(rt; attempt >= 1 && attempt <= 1_000);
     Element {
@@ -54,7 +55,8 @@ pub fn attempt(rt: &impl Abort, id: u64, expiry: u64, attempt: u32) -> Element {
     }
 }
 
-/// Element 0 or 1 of a run: the first of its job, with payload `a` or `b`.
+/// Returns element `id` of a run: the first attempt of its job. The payload is `a` for element 0,
+/// and `b` for any other.
 pub fn first(rt: &impl Abort, id: u64, expiry: u64) -> Element {
     let bytes: &[u8] = if id == 0 { b"a" } else { b"b" };
     Element {
@@ -67,12 +69,12 @@ pub fn first(rt: &impl Abort, id: u64, expiry: u64) -> Element {
     }
 }
 
-/// The second attempt of job 0, offered as element 1.
+/// Returns the second attempt of job 0, offered as element 1.
 pub fn second(rt: &impl Abort) -> Element {
     attempt(rt, 1, 1000, 2)
 }
 
-/// A run of two seats: an offer, its poll, a timed poll that gives up, and a count.
+/// Returns a run of two seats: an offer, its poll, a timed poll that gives up, and a count.
 pub fn two_seats(rt: &impl Abort) -> [Row; 4] {
     [
         (0, 10, 10, Deed::Offer(first(rt, 0, 10))),
@@ -82,7 +84,7 @@ pub fn two_seats(rt: &impl Abort) -> [Row; 4] {
     ]
 }
 
-/// A job that was offered, polled, failed at once, and was offered again.
+/// Returns a run in which a job is offered, polled, fails at once, and is offered again as `again`.
 pub fn one_retry(rt: &impl Abort, again: Element) -> [Row; 3] {
     [
         (0, 0, 0, Deed::Offer(first(rt, 0, 0))),
@@ -91,7 +93,8 @@ pub fn one_retry(rt: &impl Abort, again: Element) -> [Row; 3] {
     ]
 }
 
-/// The run behind one in which a job failed once: a count, its poll, and another job.
+/// Returns a run that follows one in which a job failed once: a count, the poll of that job, and
+/// the offer of another.
 pub fn next_run(rt: &impl Abort) -> [Row; 3] {
     let mut offered = first(rt, 1, 1000);
     offered.id = 2;
@@ -181,15 +184,15 @@ pub fn history_of(opening: Opening, events: Vec<Event>) -> Result<History, Fail>
     }
 }
 
-// Each call and each comparison is a function of its own with no clause, so that a test that makes it
-// has nothing to prove.
+// Calls and comparisons are functions without clauses, so tests that call them have nothing to
+// prove.
 
 pub fn checked(rt: &impl Abort, alloc: Global, history: &History) -> Result<Audit, ReplayFault> {
     assert!(rt; history.events().len() <= 1_000_000);
     check(alloc, history.opening(), history.events())
 }
 
-/// Whether a history, which is to be legal, is chained.
+/// Asserts that a history is legal, and returns the answer of the check of its retries.
 pub fn linked(
     rt: &impl Abort,
     alloc: Global,

@@ -1,7 +1,8 @@
-//! Histories with as many events, elements and bytes as make each array and map grow many times.
+//! Histories with enough events, elements and bytes to make each array and map grow many times.
 //!
-//! A run has 1,000 rounds of 100 events. Each number of it is given by its round, from 0, and its place
-//! in the round, from 0 to 99, and has as many digits in each round, but for attempts and sizes.
+//! A run has 1,000 rounds of 100 events. Each number in it follows from its round, from 0, and its
+//! place in the round, from 0 to 99. It has the same number of digits in each round, except for
+//! attempts and sizes.
 
 use crate::tests::devices::{
     Device, NEVER, Restless, expect, expect_count, expect_unreadable, expect_written, write_to,
@@ -23,30 +24,31 @@ use std::test::Fail;
 
 const ROUNDS: u64 = 1_000;
 
-// The round that ends in a clear, the 500th.
+// The round that ends in a clear: the 500th.
 const CLEARED_ROUND: u64 = 499;
 
 const FIRST_ID: u64 = 100_000;
 
-// A round offers 50 elements, of which 10 are given, 10 are removed, and 30 are left.
+// A round offers 50 elements. Of these, 10 are given, 10 are removed, and 30 are left.
 const OFFERS_A_ROUND: u64 = 50;
 
 const LEFT_A_ROUND: u64 = 30;
 
-// The moment at which a round begins.
+// Returns the moment at which a round begins.
 fn begin(round: u64) -> u64 {
     1_000_000_u64.saturating_add(round.saturating_mul(1_000))
 }
 
-// The id of the element that is offered at this place, 0 to 49.
+// Returns the id of the element that is offered at `place`, 0 to 49.
 fn id(round: u64, place: u64) -> u64 {
     FIRST_ID
         .saturating_add(round.saturating_mul(OFFERS_A_ROUND))
         .saturating_add(place)
 }
 
-// The expiry of what is offered at this place: 10 for the retry, 1 to 9 for what is given, 30 to 39 for
-// what is removed, all after the round began, and a moment behind the run for what is left.
+// Returns the expiry of what is offered at `place`. It is 10 nanoseconds after the start of the
+// round for the retry, 1 to 9 for what else is given, and 30 to 39 for what is removed. For what is
+// left it is a moment after the run.
 fn expiry(round: u64, place: u64) -> u64 {
     match place {
         0 => begin(round).saturating_add(10),
@@ -56,8 +58,9 @@ fn expiry(round: u64, place: u64) -> u64 {
     }
 }
 
-// The element that is offered at this place. The first of a round is an attempt of one job, which fails
-// at the start of each round but the first, and is offered again 10 nanoseconds later.
+// Returns the element that is offered at `place`. At place 0 it is an attempt of one job that all
+// rounds share. This job fails at the start of each round but the first, and its next attempt
+// expires 10 nanoseconds later.
 fn offered(rt: &impl Abort, round: u64, place: u64) -> Element {
     let retry = place == 0;
     let begun = if retry { 0 } else { round };
@@ -74,7 +77,8 @@ fn offered(rt: &impl Abort, round: u64, place: u64) -> Element {
     }
 }
 
-// How many elements of the rounds up to this one are left, since the clear where it was.
+// Returns the number of elements that are left of the rounds up to `round`, or, after the clear, of
+// the rounds since it.
 fn left(round: u64) -> u64 {
     let rounds = if round > CLEARED_ROUND {
         round.saturating_sub(CLEARED_ROUND)
@@ -84,7 +88,7 @@ fn left(round: u64) -> u64 {
     rounds.saturating_mul(LEFT_A_ROUND)
 }
 
-// The id of the element that is least of those that are left.
+// Returns the id of the element of least expiry among those that are left.
 fn least_left(round: u64) -> u64 {
     if round > CLEARED_ROUND {
         id(CLEARED_ROUND.saturating_add(1), 20)
@@ -93,7 +97,7 @@ fn least_left(round: u64) -> u64 {
     }
 }
 
-// The act that gives, shows or counts at this place, 50 to 60.
+// Returns the act at `place`, 50 to 60, which gives, shows or counts.
 fn giving(round: u64, place: u64) -> Deed {
     let begin = begin(round);
     match place {
@@ -114,7 +118,8 @@ fn giving(round: u64, place: u64) -> Deed {
     }
 }
 
-// The act that removes, shows or counts at this place, 61 to 99.
+// Returns the act at `place`, 61 to 99, which removes, shows or counts. At place 99 it clears in
+// the round that ends in a clear, and drains nothing in any other.
 fn closing(round: u64, place: u64) -> Deed {
     match place {
         61..=70 => Deed::Remove(id(round, place.saturating_sub(51)), true),
@@ -126,7 +131,8 @@ fn closing(round: u64, place: u64) -> Deed {
     }
 }
 
-// How many nanoseconds after the round began the moment was asked for.
+// Returns the moment that the event at `place` asked for, in nanoseconds after the start of the
+// round.
 fn asked(place: u64) -> u64 {
     match place {
         0..=51 => 0,
@@ -139,7 +145,8 @@ fn asked(place: u64) -> u64 {
     }
 }
 
-// How many nanoseconds after the round began the event took place: the moment of place 55 had passed.
+// Returns the moment at which the event at `place` took place, in nanoseconds after the start of
+// the round. At place 55 the moment asked for has already passed.
 fn took_place(place: u64) -> u64 {
     if place == 55 { 3 } else { asked(place) }
 }
@@ -181,17 +188,17 @@ fn rounds(rt: &impl Abort, alloc: Global, count: u64) -> Result<Vec<Event>, Allo
     Ok(events)
 }
 
-// The history of these events behind the opening of all rounds.
+// Returns the history of `events` after the opening of all rounds.
 fn run_of(alloc: Global, events: Vec<Event>) -> Result<History, Fail> {
     history_of(opening(alloc, Some((&[], FIRST_ID)))?, events)
 }
 
-// The history of the first rounds.
+// Returns the history of the first `count` rounds.
 fn run(rt: &impl Abort, alloc: Global, count: u64) -> Result<History, Fail> {
     run_of(alloc, rounds(rt, alloc, count)?)
 }
 
-// Appends what is left of a round.
+// Appends the elements that are left of a round.
 fn push_left(elements: &mut Vec<Element>, rt: &impl Abort, round: u64) -> Result<(), AllocError> {
     for place in 20..OFFERS_A_ROUND {
         elements.push(offered(rt, round, place))?;
@@ -199,7 +206,7 @@ fn push_left(elements: &mut Vec<Element>, rt: &impl Abort, round: u64) -> Result
     Ok(())
 }
 
-// What is left of the rounds behind the clear, in the order of ids and of expiries.
+// Returns what is left of the rounds after the clear, in the order of ids and of expiries.
 fn all_left(rt: &impl Abort, alloc: Global) -> Result<Vec<Element>, AllocError> {
     let mut elements = Vec::new(alloc);
     for round in CLEARED_ROUND.saturating_add(1)..ROUNDS {
@@ -208,15 +215,15 @@ fn all_left(rt: &impl Abort, alloc: Global) -> Result<Vec<Element>, AllocError> 
     Ok(elements)
 }
 
-// What all rounds lead to: the last of them ended 10 nanoseconds after it began.
+// Returns the opening that all rounds lead to. The last round ends 10 nanoseconds after it begins.
 fn end(rt: &impl Abort, alloc: Global) -> Result<Opening, Fail> {
     opening_at(Items::new(all_left(rt, alloc)?), id(ROUNDS, 0), 1_999_010)
 }
 
-// The moment at which all that was left is expired.
+// A moment at which everything that is left is expired.
 const EXPIRED: u64 = 2_200_000;
 
-// The history of a run that polls each of the elements that stand at its start.
+// Returns the history of a run that polls each of the elements that stand at its start.
 fn polls(opening: Opening, alloc: Global) -> Result<History, Fail> {
     let mut events = Vec::new(alloc);
     for element in opening.elements.as_slice() {
@@ -229,7 +236,7 @@ fn polls(opening: Opening, alloc: Global) -> Result<History, Fail> {
     history_of(opening, events)
 }
 
-// That the history has a text of so many bytes, and is read from it.
+// Asserts that the text of the history has `bytes` bytes, and that the history is read from it.
 fn is_written_and_read(rt: &impl Abort, alloc: Global, history: &History, bytes: usize) {
     let mut device = Device::new(alloc, NEVER, NEVER);
     let ended = write_to(rt, alloc, history.opening(), history.events(), &mut device);
@@ -238,7 +245,7 @@ fn is_written_and_read(rt: &impl Abort, alloc: Global, history: &History, bytes:
     expect(rt, is_read_as(alloc, &device.bytes, history));
 }
 
-// Whether a run may begin so where the history ends.
+// Returns whether a run that begins where the history ends has the opening `end`.
 fn leads_to(rt: &impl Abort, alloc: Global, history: &History, end: &Opening) -> bool {
     match opened(rt, alloc, history) {
         Ok(opening) => opening == *end,
@@ -246,7 +253,7 @@ fn leads_to(rt: &impl Abort, alloc: Global, history: &History, end: &Opening) ->
     }
 }
 
-// That each call takes the history.
+// Asserts that each call accepts the history.
 fn passes(
     rt: &impl Abort,
     alloc: Global,
@@ -265,12 +272,14 @@ fn passes(
     expect(rt, leads_to(rt, alloc, history, end));
 }
 
-// The bytes of the text of all rounds. The lines of a round have, but for the digits of attempts and
-// of sizes: 49 offers 58 each, that of the retry 61, places 50 to 60 30, 28, 30, 30, 43, 41, 47, 40, 30,
-// 24 and 30, removals 10 times 36 and 10 times 35, the last peek 30, the sizes 17 times 24, the drain 26.
-// So that is 4,450 for each round, less 2 where a clear stands for the drain. The attempts have 2,893
-// digits. The 500 sizes before a clear or the end have 2,134 at place 59, and 17 times 2,131 behind.
-// The lines round the events have 10, 16 and 11.
+// The number of bytes of the text of all rounds. The lines of a round have these numbers of bytes,
+// without the digits of the retry's attempt and of the sizes: 58 for each of 49 offers, and 61 for
+// the retry; 30, 28, 30, 30, 43, 41, 47, 40, 30, 24 and 30 at places 50 to 60; 36 for each of ten
+// removals that find an element, and 35 for each of ten that do not; 30 for the last peek, 24 for
+// each of 17 sizes, and 26 for the drain. That is 4,450 for each round, less 2 in the round that
+// has a clear in place of the drain. The attempts have 2,893 digits. The sizes of the 500 rounds up
+// to the clear, and those of the 500 rounds after it, have 2,134 digits at place 59, and 17 times
+// 2,131 digits at places 82 to 98. The lines around the events have 10, 16 and 11 bytes.
 const BYTES: usize = 4_450_000 - 2 + 2_893 + 2 * 2_134 + 34 * 2_131 + 37;
 
 #[test]
@@ -290,7 +299,8 @@ fn a_long_history_passes_each_call(rt: HostRuntime) -> Result<(), Fail> {
     Ok(())
 }
 
-// The lines have 39 bytes for an element and 30 for a poll, and those round them 10, 26 and 10.
+// A line has 39 bytes for an element and 30 for a poll. The lines around these have 10, 26 and 10
+// bytes.
 const POLLED_BYTES: usize = 15_000 * 39 + 15_000 * 30 + 46;
 
 #[test]
@@ -311,10 +321,11 @@ fn a_long_opening_passes_each_call(rt: HostRuntime) -> Result<(), Fail> {
     Ok(())
 }
 
-// The event of this index is the last.
+// The index of the last event.
 const LAST: u64 = 99_999;
 
-// The history of all rounds, whose last event counts nothing where 15,000 elements stand.
+// Returns the history of all rounds, except that its last event counts 0 elements where 15,000
+// stand.
 fn forged(rt: &impl Abort, alloc: Global) -> Result<History, Fail> {
     let mut events = rounds(rt, alloc, ROUNDS)?;
     if let Some(event) = events.last_mut() {
@@ -353,10 +364,11 @@ fn a_late_attempt_too_many_is_told(rt: HostRuntime) -> Result<(), Fail> {
     Ok(())
 }
 
-// How many elements the texts of the first versions tell.
+// The number of elements in the texts of the first two versions.
 const TOLD: u64 = 100_000;
 
-// Two elements have each job, of which the first expires at 5 and the other at 6.
+// Returns element `id`. Each job has two elements, of which the first expires at 5 and the second
+// at 6.
 fn told(rt: &impl Abort, id: u64) -> Element {
     Element {
         id,
@@ -368,7 +380,7 @@ fn told(rt: &impl Abort, id: u64) -> Element {
     }
 }
 
-// Appends a line for each of the elements.
+// Appends a line for each of the elements, which begins with `front`.
 fn push_lines(text: &mut String, front: &str) -> Result<(), AllocError> {
     for id in 0..TOLD {
         writeln!(text, "{front} {id} {} {} 1 j", 5 + id % 2, id / 2)?;
@@ -376,7 +388,8 @@ fn push_lines(text: &mut String, front: &str) -> Result<(), AllocError> {
     Ok(())
 }
 
-// A text of the second version, whose opening tells the elements, and whose events offer them again.
+// Returns a text of the second version, whose opening lists the elements, and whose events offer
+// them again.
 fn second_text(alloc: Global) -> Result<String, AllocError> {
     let mut text = String::new(alloc);
     text.push_str("history 2\nopen 100000 0 100000\n")?;
@@ -402,7 +415,7 @@ fn told_elements(rt: &impl Abort, alloc: Global) -> Result<Vec<Element>, AllocEr
     Ok(elements)
 }
 
-// The history in which such elements stand at the start, and all are offered.
+// Returns the history that begins with `start` and offers all of the elements.
 fn told_history(rt: &impl Abort, alloc: Global, start: Start<'_>) -> Result<History, Fail> {
     let mut events = Vec::new(alloc);
     for id in 0..TOLD {
@@ -430,8 +443,9 @@ fn a_long_text_of_the_second_version_is_read(rt: HostRuntime) -> Result<(), Fail
     Ok(())
 }
 
-// How many rounds have a text of more than 100,000 bytes. Their attempts have 41 digits, their sizes 73
-// at place 59 and 17 times 72 behind, and the lines round the events 10, 16 and 9 bytes.
+// A number of rounds whose text has more than 100,000 bytes. Their attempts have 41 digits. Their
+// sizes have 73 digits at place 59, and 17 times 72 at places 82 to 98. The lines around the events
+// have 10, 16 and 9 bytes.
 const FEW_ROUNDS: u64 = 25;
 
 const FEW_BYTES: usize = 25 * 4_450 + 41 + 73 + 17 * 72 + 35;
@@ -441,7 +455,7 @@ fn is_whole(rt: &impl Abort, alloc: Global, history: &History, bytes: &[u8]) {
     expect(rt, is_read_as(alloc, bytes, history));
 }
 
-// Each byte is one write, behind which comes one flush.
+// Each byte is one write, and one flush follows them.
 #[test]
 fn a_device_may_take_a_byte_at_a_time(rt: HostRuntime) -> Result<(), Fail> {
     let alloc = rt.alloc();
@@ -454,8 +468,8 @@ fn a_device_may_take_a_byte_at_a_time(rt: HostRuntime) -> Result<(), Fail> {
     Ok(())
 }
 
-// That a device that is interrupted at two writes of three, and takes so many bytes at the third, gets
-// the whole text.
+// Asserts that a device gets the whole text if it is interrupted at two of three writes and takes
+// at most `most` bytes at the third.
 fn is_written_between(rt: &impl Abort, alloc: Global, history: &History, most: usize) {
     let bytes = Vec::new(alloc);
     let mut device = Restless {
@@ -478,7 +492,7 @@ fn a_write_that_is_interrupted_is_made_again(rt: HostRuntime) -> Result<(), Fail
     Ok(())
 }
 
-// Ids of 20 digits.
+// Returns 100,000 ids of 20 digits.
 fn long_ids(alloc: Global) -> Result<Vec<u64>, AllocError> {
     let mut ids = Vec::new(alloc);
     for number in 0..100_000 {
@@ -499,7 +513,7 @@ fn push_drain(events: &mut Vec<Event>, alloc: Global) -> Result<(), AllocError> 
     Ok(())
 }
 
-// The history of 50 drains of 100,000 ids.
+// Returns the history of 50 drains of 100,000 ids each.
 fn drains(alloc: Global) -> Result<History, Fail> {
     let mut events = Vec::new(alloc);
     for _ in 0..50 {
@@ -508,7 +522,8 @@ fn drains(alloc: Global) -> Result<History, Fail> {
     history_of(Opening::empty(alloc), events)
 }
 
-// A drain's line has 19 bytes and 21 for each id. The lines round them have 10, 11 and 7.
+// A drain's line has 19 bytes, and 21 more for each id. The lines around the drains have 10, 11 and
+// 7 bytes.
 const DRAINED_BYTES: usize = 50 * (19 + 100_000 * 21) + 28;
 
 #[test]

@@ -12,11 +12,11 @@ use std::alloc::{AllocError, Global};
 use std::io::{self, Write};
 use std::process::Abort;
 
-// How many refusals the test meets. `tools/refuse_allocations` sets 1, and refuses each allocation
-// of the test in turn.
+// The number of refusals that the test meets. `tools/refuse_allocations` sets 1 and refuses each
+// allocation of the test in turn.
 const REFUSALS: u32 = 0;
 
-// A run with more elements, origins, ids and events than fit into the first room for them.
+// A run with more elements, origins, ids and events than the first allocations have room for.
 const TEXT: &[u8] =
     b"history 2\nopen 20 0 12\nkeep 0 0 0 1 a\nkeep 1 0 1 1 a\nkeep 2 0 2 1 a\nkeep 3 0 3 1 a\n\
         keep 4 0 4 1 a\nkeep 5 0 5 1 a\nkeep 6 0 6 1 a\nkeep 7 0 7 1 a\nkeep 8 0 8 1 a\n\
@@ -27,7 +27,7 @@ const TEXT: &[u8] =
         0 0 0 offer 29 9 29 1 b\n0 0 0 offer 30 9 30 1 b\n0 0 0 offer 31 9 31 1 b\n0 0 0 size 19\n\
         end 14\n";
 
-// Counts what it is given.
+// A writer that counts the bytes that it is given.
 #[derive(Drop)]
 struct Scale {
     bytes: usize,
@@ -44,8 +44,9 @@ impl Write for Scale {
     }
 }
 
-// Each call is made again where it was refused, and is not refused twice. A call that owns nothing
-// while it compares has little to prove.
+// Each of these functions makes one call, and returns whether it was refused. If it was, the
+// function makes the call again, and asserts that it is not refused twice. A function that owns
+// nothing while it compares has little to prove.
 
 fn refused_reading(rt: &impl Abort, alloc: Global) -> bool {
     let fault = read_history(alloc, TEXT).err();
@@ -91,7 +92,7 @@ fn refused_opening(rt: &impl Abort, alloc: Global, history: &History) -> bool {
     fault.is_some()
 }
 
-// Where the text was refused nothing was written.
+// Asserts that nothing is written if memory for the text is refused.
 fn refused_writing(rt: &impl Abort, alloc: Global, opening: &Opening, events: &[Event]) -> bool {
     let mut scale = Scale { bytes: 0 };
     let fault = write_to(rt, alloc, opening, events, &mut scale).err();
@@ -102,7 +103,7 @@ fn refused_writing(rt: &impl Abort, alloc: Global, opening: &Opening, events: &[
     fault.is_some()
 }
 
-// How many of the calls over the history that was read were refused.
+// Returns the number of refused calls on the history that was read.
 fn refused_calls(rt: &impl Abort, alloc: Global, history: &History) -> u32 {
     let (opening, events) = (history.opening(), history.events());
     let mut refusals = u32::from(refused_check(rt, alloc, opening, events));
@@ -116,7 +117,7 @@ fn refused_calls(rt: &impl Abort, alloc: Global, history: &History) -> u32 {
     refusals
 }
 
-// How many of the calls were refused, of which the second reading is one.
+// Returns the number of refused calls. The second reading is one of them.
 fn refused(rt: &impl Abort, alloc: Global) -> u32 {
     let read = u32::from(refused_reading(rt, alloc));
     match read_history(alloc, TEXT) {
@@ -125,15 +126,15 @@ fn refused(rt: &impl Abort, alloc: Global) -> u32 {
     }
 }
 
-// A reply, and its line.
+// A reply and its line.
 const REPLY: LineReply = LineReply::Size(u64::MAX);
 
 const LINE: &[u8] = b"SIZE 18446744073709551615\n";
 
-// How many lines a text of replies gets, past several of its growths.
+// The number of lines of a text of replies, which grows several times on the way.
 const LINES: usize = 100;
 
-// A text of one line and no room for another. Its memory is asked for again where it was refused.
+// Makes a text of one line, without room for another, and tries once more if memory is refused.
 fn full_text(alloc: Global) -> Result<Vec<u8>, AllocError> {
     match Vec::from_slice(alloc, LINE) {
         Ok(text) => Ok(text),
@@ -141,7 +142,8 @@ fn full_text(alloc: Global) -> Result<Vec<u8>, AllocError> {
     }
 }
 
-// Whether a reply was refused. It then left the text as it was, and was written again.
+// Writes a reply, and returns whether it was refused. A refused reply leaves the text as it was,
+// and is written again.
 fn refused_line(rt: &impl Abort, text: &mut Vec<u8>) -> bool {
     let before = text.len();
     let is_refused = write_reply(&REPLY, text).is_err();
@@ -159,7 +161,7 @@ fn expect_lines(rt: &impl Abort, text: &[u8]) {
     }
 }
 
-// How many replies were refused.
+// Returns the number of replies that were refused.
 fn refused_replies(rt: &impl Abort, alloc: Global) -> Result<u32, AllocError> {
     let mut text = full_text(alloc)?;
     let mut refusals = 0_u32;

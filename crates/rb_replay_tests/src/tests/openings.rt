@@ -7,7 +7,7 @@ use std::alloc::Global;
 use std::process::Abort;
 use std::test::Fail;
 
-// That no run begins where this one ends, for this fault.
+// Asserts that no run can begin where this one ends, because of `fault`.
 fn refused(
     rt: &impl Abort,
     alloc: Global,

@@ -1,4 +1,5 @@
-// A text that stops before its end is refused, wherever it stops. The other faults of texts are cases.
+// A text that stops before its end is refused, wherever it stops. The other faults of texts are
+// cases, in `cases/unreadable.case` and `cases/replays.case`.
 
 use crate::tests::devices::{expect, expect_unreadable};
 use rb_replay::{TextReason, read_history};
@@ -9,17 +10,17 @@ const NEXT_RUN: &[u8] =
     b"history 3\nopen 2 0 1\nkeep 1 1000 0 0 2 a\n0 0 0 size 1\n0 1000 1000 poll 1\n\
         0 1000 1000 offer 2 1000 2 1000 1 b\nend 3\n";
 
-// That the text has this first fault.
+// Asserts that the first fault of the text is `reason`, on line `line`.
 fn unreadable(rt: &impl Abort, alloc: Global, text: &[u8], line: u64, reason: TextReason) {
     expect_unreadable(rt, read_history(alloc, text).err(), line, reason);
 }
 
-// How many lines of a text are whole.
+// Returns the number of whole lines of the text.
 fn whole_lines(text: &[u8]) -> u64 {
     text.iter().filter(|&&byte| byte == b'\n').count() as u64
 }
 
-// That a prefix of the text is refused after its last whole line.
+// Asserts that the first `len` bytes of the text are refused after their last whole line.
 fn prefix_is_unreadable(rt: &impl Abort, alloc: Global, len: usize) {
     let text = NEXT_RUN.get(..len).unwrap_or_default();
     match whole_lines(text) {

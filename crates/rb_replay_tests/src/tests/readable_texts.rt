@@ -8,7 +8,7 @@ use std::alloc::Global;
 use std::process::Abort;
 use std::test::Fail;
 
-// That the text is read as this history.
+// Asserts that the text is read as the history of `start` and `rows`.
 fn read_as(
     rt: &impl Abort,
     alloc: Global,
@@ -66,7 +66,7 @@ fn a_retry_is_read_in_each_version(rt: HostRuntime) -> Result<(), Fail> {
     read_as(&rt, alloc, text, EMPTY, &one_retry(&rt, other))
 }
 
-// Each act that no other text here has.
+// The acts that no other text of this file has.
 #[test]
 fn each_act_is_read(rt: HostRuntime) -> Result<(), Fail> {
     let rows = [
@@ -110,7 +110,7 @@ fn the_greatest_next_id_is_read(rt: HostRuntime) -> Result<(), Fail> {
     read_as(&rt, rt.alloc(), text, Some((&[], next_id)), &rows)
 }
 
-// The first expiries of what an event offered.
+// Returns the first expiry of the element that the event offered.
 fn first_of(event: &Event) -> Option<u64> {
     match &event.act {
         Act::Offer(element) => Some(element.first),

@@ -17,7 +17,8 @@ const NEXT_RUN: &[u8] =
     b"history 3\nopen 2 0 1\nkeep 1 1000 0 0 2 a\n0 0 0 size 1\n0 1000 1000 poll 1\n\
         0 1000 1000 offer 2 1000 2 1000 1 b\nend 3\n";
 
-// That a device that takes so many bytes at a time, and fails at this call, has got these.
+// Asserts the answer of the call that writes the history, and what a device has received that takes
+// at most `most` bytes at a time and fails at call `fails_at`.
 fn written_as(
     rt: &impl Abort,
     alloc: Global,

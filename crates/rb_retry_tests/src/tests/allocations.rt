@@ -1,6 +1,6 @@
-// Calls that take no memory, at desks and through passes. `tools/count_allocations` counts what the two
-// tests of this file allocate: they make the same things, and only the second makes the calls, so they have
-// to allocate as often.
+// Calls that take no memory, at desks and through passes. Both tests of this file make the same
+// things, and only `each_of_the_calls` makes the calls, so both have to allocate equally often.
+// `tools/count_allocations` counts their allocations.
 
 ghost use Rattle.std.specs.Prelude.{◌≡◌};
 
@@ -19,13 +19,13 @@ use std::process::Abort;
 use std::sync::Wait;
 use std::time;
 
-// How often each call is made.
+// The number of rounds, in each of which the calls are made.
 const ROUNDS: u64 = 20;
 
-// How many elements there are, more than the calls of a desk or of a pass take out.
+// The number of elements of a queue, more than the calls of a desk or of a pass take out.
 const ELEMENTS: u64 = 200;
 
-// A moment at which all of them have expired.
+// A moment at which all elements are expired.
 const LATE: u64 = 1_000;
 
 #[test]
@@ -38,8 +38,8 @@ fn each_of_the_calls(rt: HostRuntime) {
     expect_answers(&rt, rt.alloc(), ROUNDS);
 }
 
-// All things are made before the first call. Each round of each group counts how many of its calls answered as they
-// have to.
+// Makes the calls, in groups, and asserts that all were answered as they have to be. All things are
+// made before the first call. Each round of a group counts the right answers.
 fn expect_answers<R: Wait + Abort + time::Clock>(rt: &R, alloc: Global, rounds: u64) {
     let (mut kept, mut tally) = kept::<ListTimer>(rt, alloc, 10_000);
     offer_all(rt, &mut KeptDesk::new(&mut kept, &mut tally));
@@ -72,7 +72,7 @@ fn expect_answers<R: Wait + Abort + time::Clock>(rt: &R, alloc: Global, rounds: 
     );
 }
 
-// A shared queue with elements, and its first pass.
+// Opens a shared queue, offers the elements, and returns the queue with its first pass.
 fn opened_with_elements<R: Wait + Abort + time::Clock>(
     rt: &R,
     alloc: Global,
@@ -112,7 +112,8 @@ fn offer_all<D: Desk>(rt: &impl Abort, desk: &mut D)
     }
 }
 
-// A desk over a kept queue, made anew in each round.
+// Makes the calls of a desk over a kept queue, with a new desk in each round. Returns the number of
+// right answers.
 fn kept_desks(rt: &impl Abort, kept: &mut Kept<ListTimer>, tally: &mut Tally, rounds: u64) -> u64 {
     let mut right = 0_u64;
     for round in 0..rounds {
@@ -123,7 +124,8 @@ fn kept_desks(rt: &impl Abort, kept: &mut Kept<ListTimer>, tally: &mut Tally, ro
     right.saturating_add(clears(&mut KeptDesk::new(kept, tally), rounds))
 }
 
-// A desk over a shared queue, made anew in each round.
+// Makes the calls of a desk over a shared queue, with a new desk in each round. Returns the number
+// of right answers.
 fn shared_desks<R: Wait + Abort + time::Clock>(
     rt: &R,
     shared: &ListShared,
@@ -139,7 +141,7 @@ fn shared_desks<R: Wait + Abort + time::Clock>(
     right.saturating_add(shared_clears(rt, shared, pass, rounds))
 }
 
-// What the rounds have left is cleared, if there were any.
+// Clears what the rounds have left, if there were any. Returns the number of right answers, 1 or 0.
 fn clears<D: Desk>(desk: &mut D, rounds: u64) -> u64 {
     if rounds == 0 {
         return 0;
@@ -183,7 +185,8 @@ fn shared_round<R: Wait + Abort + time::Clock>(
     desk_round(rt, &mut desk, round)
 }
 
-// Seven elements leave by fetches and calls, and one is removed.
+// Makes the calls of one round, and returns the number of right answers. Seven elements leave by
+// fetches and calls, and one is removed.
 fn desk_round<D: Desk>(rt: &impl Abort, desk: &mut D, round: u64) -> u64
     ensures name { D.name (D.state desk.new) ≡ D.name (D.state desk.old) }
 {
@@ -206,7 +209,7 @@ fn desk_round<D: Desk>(rt: &impl Abort, desk: &mut D, round: u64) -> u64
     count(&answers)
 }
 
-// Whether a job was fetched, which is done then.
+// Returns whether a job was fetched. If so, the job is done.
 fn ends(fetched: Result<Option<Job>, DeskFault>) -> bool {
     match fetched {
         Ok(Some(job)) => {
@@ -217,7 +220,7 @@ fn ends(fetched: Result<Option<Job>, DeskFault>) -> bool {
     }
 }
 
-// Whether a job was fetched that fails at its last attempt.
+// Returns whether a job was fetched that is dead once it fails, since it was at its last attempt.
 fn dies<D: Desk>(desk: &mut D, policy: &Policy) -> bool
     ensures name { D.name (D.state desk.new) ≡ D.name (D.state desk.old) }
 {
@@ -231,7 +234,8 @@ fn is_dead(failed: &Result<Verdict, (Job, rb_kept::CallFault)>) -> bool {
     matches!(failed, Ok(Verdict::Dead(_)))
 }
 
-// Calls of a pass that is cut in two and folded together again in each round.
+// Makes the calls of a pass that is split in two and folded together again in each round. Returns
+// the number of right answers.
 fn pass_rounds<R: Wait + Abort>(
     rt: &R,
     shared: &ListShared,
@@ -275,7 +279,8 @@ fn pass_round<R: Wait + Abort>(rt: &R, shared: &ListShared, pass: &mut ListPass,
     count(&[pass.calls() == calls.saturating_add(6)]).saturating_add(count(&answers))
 }
 
-// Waits that are answered at once.
+// Makes waits that are answered at once, and calls of a bell and of the machine's clock. Returns
+// the number of right answers.
 fn wait_rounds<R: Wait + Abort + time::Clock>(
     rt: &R,
     shared: &ListShared,
@@ -312,7 +317,7 @@ fn wait_round<R: Wait + Abort + time::Clock>(
     count(&answers)
 }
 
-// Waits that are stopped.
+// Makes waits that are stopped, and a rest that no ring ends. Returns the number of right answers.
 fn stop_rounds<R: Wait + Abort + time::Clock>(
     rt: &R,
     shared: &ListShared,
@@ -346,7 +351,8 @@ fn stop_round<R: Wait + Abort + time::Clock>(
     ])
 }
 
-// A closing that is refused, since a pass with a call is not folded in, and one that is not.
+// Makes a closing that is refused, since a pass with a call is not folded in, and one that is not
+// refused, if there are any rounds. Returns 1 if both were answered so, and otherwise 0.
 fn closed<R: Wait + Abort>(rt: &R, shared: ListShared, mut pass: ListPass, rounds: u64) -> u64
     requires { pass.table ≡ shared }
 {

@@ -9,7 +9,8 @@ use rb_timer::{ListTimer, Timer};
 use std::alloc::Global;
 use std::process::Abort;
 
-// A take is made at the desk's moment, whatever was handed in, and does not wait.
+// Makes calls at a desk and asserts their answers. A take or a timed poll is made at the desk's
+// moment, whatever moment is handed in, and does not wait.
 fn expect_calls<D: Desk>(rt: &impl Abort, desk: &mut D) {
     expect_same(rt, desk.now(), 0);
     offer(rt, desk, 3, 10);

@@ -10,7 +10,7 @@ pub type ListShared = Shared<ListTimer>;
 
 pub type ListPass = Pass<ListTimer>;
 
-/// A clock that always reads this moment.
+/// A clock that always reads the moment that it holds.
 #[derive(Clone, Copy)]
 pub struct FixedClock(pub u64);
 
@@ -22,7 +22,7 @@ impl Clock for FixedClock {
     }
 }
 
-// Each comparison is a function of its own with no clause, so that a test that makes it has nothing to prove.
+// Comparisons are functions without clauses, so tests that call them have nothing to prove.
 
 pub fn expect_same<T: PartialEq + Debug + Drop>(rt: &impl Abort, found: T, wanted: T) {
     assert_eq!(rt; found, wanted);

@@ -17,7 +17,7 @@ use std::time;
 // The moment after the run, which begins at 0.
 const AFTER: u64 = 100;
 
-// A clock that reads this moment.
+// A clock that reads the moment that it refers to.
 #[derive(Drop)]
 struct MovedClock<'a>(&'a AtomicU64);
 
@@ -29,7 +29,7 @@ impl<'a> Clock for MovedClock<'a> {
     }
 }
 
-// Work that lasts until the moment after the run, and fails.
+// Work that lasts until the moment after the run, to which it moves the clock, and fails.
 #[derive(Drop)]
 struct LongWork<'a>(&'a AtomicU64);
 
@@ -42,7 +42,7 @@ impl<'a> Work for LongWork<'a> {
     }
 }
 
-// When the element that a peek showed expires.
+// Returns when the element that a peek showed expires, or `None` if it showed none.
 fn expiry_of(peeked: &Result<Reply, DeskFault>) -> Option<u64> {
     match peeked {
         Ok(Reply::Head(element)) => Some(element.expiry),
@@ -50,7 +50,8 @@ fn expiry_of(peeked: &Result<Reply, DeskFault>) -> Option<u64> {
     }
 }
 
-// Works off one job, which comes back 10 after it failed, and gives what came of it and when it expires.
+// Works off one job, whose next attempt expires 10 ns after it failed. Returns the worker's report,
+// and when that attempt expires.
 fn works_off<D: Desk>(
     rt: &impl Abort,
     desk: &mut D,
@@ -89,7 +90,7 @@ fn expect_again(rt: &impl Abort, found: (WorkReport, Option<u64>)) {
     expect_same(rt, found, (report, Some(AFTER.saturating_add(10))));
 }
 
-// If it failed at the moment before its run, its next attempt would be due at once.
+// If the job failed at the moment before its run, its next attempt would be due at once.
 #[test]
 fn a_job_fails_at_the_moment_after_its_run(rt: HostRuntime) {
     let (shared, mut pass) = opened(&rt, rt.alloc(), 10);

@@ -12,9 +12,11 @@ use rb_timer::Timer;
 use std::alloc::Global;
 use std::process::Abort;
 
-// What is refused is asked for once more, since `tools/refuse_allocations` refuses the memory of these too.
+// Each queue is made once more if memory is refused, since `tools/refuse_allocations` refuses the
+// allocations of fixtures too.
 
-/// A kept queue with room for this many calls, and its tally.
+/// Makes a kept queue with room for `calls` calls, and tries once more if memory is refused.
+/// Returns it with its tally.
 pub fn kept<T: Timer>(rt: &impl Abort, alloc: Global, calls: u64) -> (Kept<T>, Tally)
     ensures history { result.0.history ≡ [] }
     ensures tally { result.1 ≡ nothing }
@@ -25,7 +27,7 @@ pub fn kept<T: Timer>(rt: &impl Abort, alloc: Global, calls: u64) -> (Kept<T>, T
     }
 }
 
-/// A shared queue with room for this many calls, and its first pass.
+/// Opens a shared queue with room for `calls` calls, and returns it with its first pass.
 pub fn opened(rt: &impl Abort, alloc: Global, calls: u64) -> (ListShared, ListPass)
     ensures { result.1.table ≡ result.0 }
 {
@@ -38,12 +40,12 @@ pub fn opened(rt: &impl Abort, alloc: Global, calls: u64) -> (ListShared, ListPa
     }
 }
 
-/// What each element carries.
+/// Returns the payload that each element carries.
 pub fn payload(rt: &impl Abort) -> Payload {
     Payload::new(b"a").ok().expect(rt, "a payload")
 }
 
-/// Offers an element that expires at this moment.
+/// Offers an element that expires at `expiry`.
 pub fn offer<D: Desk>(rt: &impl Abort, desk: &mut D, asked: u64, expiry: u64)
     ensures name { D.name (D.state desk.new) ≡ D.name (D.state desk.old) }
 {
@@ -55,7 +57,8 @@ fn expect_offered(rt: &impl Abort, offered: Result<Reply, DeskFault>) {
     assert!(rt; offered.is_ok());
 }
 
-/// The outcome of a call, in short: the id of an element that was taken, or a count.
+/// Returns the outcome of a call in short: the id of an element that was taken, a count, `None` for
+/// any other reply, or the fault.
 fn number_of(reply: &Result<Reply, DeskFault>) -> Result<Option<u64>, DeskFault> {
     match reply {
         Ok(Reply::Item(element)) => Ok(Some(element.id)),
@@ -65,7 +68,7 @@ fn number_of(reply: &Result<Reply, DeskFault>) -> Result<Option<u64>, DeskFault>
     }
 }
 
-/// Makes a call, and compares its outcome.
+/// Makes a call, and asserts its outcome, as `number_of` shortens it.
 pub fn expect<D: Desk>(
     rt: &impl Abort,
     desk: &mut D,
@@ -87,7 +90,7 @@ fn expect_number_of(
     expect_same(rt, number_of(&reply), number);
 }
 
-/// Sets a desk's clock, and compares the answer.
+/// Sets a desk's clock, and asserts the answer.
 pub fn expect_set<D: Desk>(rt: &impl Abort, desk: &mut D, moment: u64, wanted: Option<u64>)
     ensures name { D.name (D.state desk.new) ≡ D.name (D.state desk.old) }
 {

@@ -1,6 +1,7 @@
-// Each growth that a call at a desk may need, refused in turn: a table of deeds, done in their order and each at a new
-// desk, over a kept queue and over a shared one. A refused deed leaves all that can be seen of the queue, its caller
-// and the jobs, and is done once more.
+// Each growth that a call at a desk may need, refused in turn. The deeds of a table are done in
+// their order, each at a new desk, over a kept queue and over a shared one. A refused deed leaves
+// everything that can be seen of the queue, its caller and the jobs as it was, and is done once
+// more.
 
 ghost use Rattle.std.specs.Prelude.{◌≡◌};
 
@@ -27,28 +28,28 @@ use std::sync::Wait;
 use std::test::Fail;
 use std::time;
 
-// How many refusals the test meets. `tools/refuse_allocations` sets 1, and refuses each allocation
-// of the test in turn.
+// The number of refusals that the test meets. `tools/refuse_allocations` sets 1 and refuses each
+// allocation of the test in turn.
 const REFUSALS: u32 = 0;
 
-// How many jobs there are, past several growths of slots, timer and directory.
+// The number of jobs, past several growths of slots, timer and directory.
 const JOBS: u64 = 20;
 
-// How many calls a queue has room for, more than are made.
+// The number of calls that a queue has room for, more than are made.
 const CALLS: u64 = 200;
 
-// What is done. A refused deed is answered `Memory`.
+// What a row does. A refused deed is answered `Memory`.
 #[derive(Clone, Copy)]
 enum Deed {
-    // The first attempt of a job is offered.
+    // Offers the first attempt of a job.
     Offer,
-    // An element is polled, and becomes the last job.
+    // Polls an element, which becomes the last job.
     Poll,
-    // The last job fails, and its next attempt is offered.
+    // Lets the last job fail, so that its next attempt is offered.
     Fail,
-    // At most 30 elements are drained by the desk's call.
+    // Drains at most 30 elements by the desk's call.
     Drain,
-    // At most 50 elements are drained as jobs, behind the one that was polled.
+    // Drains at most 50 elements as jobs, behind the one that was polled.
     Fetch,
 }
 
@@ -61,12 +62,13 @@ struct Row {
     count: u64,
 }
 
-// How many rows are for one queue. The rows after them offer a worker's jobs to another queue.
+// The number of rows for one queue. The rows after them offer a worker's jobs to another queue.
 const ROWS: u64 = 133;
 
-// The table. Jobs 0 to 19 are fetched, each before the next is offered, and then they fail. So their failures find no
-// element in the queue, one, and so on. After their next attempts 20 to 39 come elements 40 to 89, which leave before
-// them.
+// Returns the row at `place` of the table. Jobs 0 to 19 are fetched, each before the next is
+// offered, and then they fail. So the first failure finds no element in the queue, the next finds
+// one, and so on. After the next attempts of these jobs, elements 20 to 39, come elements 40 to 89,
+// which leave before them.
 fn row_of(place: u64) -> Row {
     let behind = place.saturating_sub(JOBS);
     let (deed, moment, id, count) = match place {
@@ -88,13 +90,13 @@ fn row_of(place: u64) -> Row {
     }
 }
 
-// The ids of what a row gives, in their order.
+// Returns the ids of what a row gives, in their order.
 fn ids_of(row: Row) -> Rev<Range<u64>> {
     (row.id..row.id.saturating_add(row.count)).rev()
 }
 
-// The later an element was first offered, the sooner it expires. Elements 20 to 39 are the second
-// attempts of jobs 19 to 0.
+// Returns element `id`. The later an element was first offered, the sooner it expires. Elements 20
+// to 39 are the second attempts of jobs 19 to 0.
 fn element(rt: &impl Abort, id: u64) -> Element {
     let is_retry = id >= JOBS && id < 2 * JOBS;
     let origin = if is_retry {
@@ -136,7 +138,7 @@ fn expect_drained(rt: &impl Abort, reply: &Reply, row: Row) {
     }
 }
 
-// The fetched jobs are behind the one that was polled before.
+// Asserts that the fetched jobs are behind the one that was polled before.
 fn expect_jobs(rt: &impl Abort, jobs: &[Job], row: Row) {
     let count = row.count.saturating_add(1);
     let wanted = ids_of(Row { count, ..row }).map(|id| element(rt, id));
@@ -159,7 +161,7 @@ fn expect_event(rt: &impl Abort, event: &Event, row: Row) {
     }
 }
 
-// Each row from the first of this queue on has made its event.
+// Asserts that the events are those of the rows from `first` on, where this queue begins.
 fn expect_history(rt: &impl Abort, history: &[Event], first: u64) {
     let mut place = first;
     for event in history {
@@ -180,7 +182,7 @@ fn last_of(rt: &impl Abort, jobs: &mut Vec<Job>) -> Job {
     jobs.pop().expect(rt, "a job")
 }
 
-// Does a row's deed at a desk, and compares what it gives.
+// Does a row's deed at a desk, and asserts what it gives.
 fn does<D: Desk>(
     rt: &impl Abort,
     desk: &mut D,
@@ -213,7 +215,7 @@ fn does<D: Desk>(
     Ok(())
 }
 
-// A job that is handed back is the last once more.
+// Lets the last job fail. A job that is handed back becomes the last one again.
 fn fails<D: Desk>(
     rt: &impl Abort,
     desk: &mut D,
@@ -234,22 +236,24 @@ fn fails<D: Desk>(
     }
 }
 
-// What a refused deed leaves of a queue and its caller.
+// What can be seen of a queue and its caller. A refused deed leaves it as it was.
 #[derive(Clone, Copy, Debug, PartialEq, Eq)]
 enum Seen {
     Kept(Audit, Totals),
-    // The pass's calls, and how often the bell was rung. The history is seen when the queue is closed.
+    // The number of calls of the pass, and of rings of the bell. The history is seen when the queue
+    // is closed.
     Shared(u64, u64),
 }
 
-// And of the jobs: how many there are, and the element of the last.
+// What can be seen of the jobs, which a refused deed leaves as it was too: how many there are, and
+// the element of the last.
 type Held = (usize, Option<Element>);
 
 fn held(jobs: &[Job]) -> Held {
     (jobs.len(), jobs.last().map(|job| *job.element()))
 }
 
-// Who does the deeds, each at a new desk.
+// A caller, who does each deed at a new desk.
 trait Caller {
     fn does(&mut self, row: Row, jobs: &mut Vec<Job>) -> Result<(), DeskFault>;
 
@@ -342,7 +346,8 @@ fn shared_caller<R: Wait + time::Clock + Abort>(rt: &R, alloc: Global) -> Shared
     }
 }
 
-// What the queue and the caller's share of its calls have come to.
+// Closes the queue. Returns the kept queue, the caller's share of its calls and the audit, or the
+// fault.
 fn closed<R: Wait + time::Clock + Abort>(
     caller: SharedCaller<'_, R>,
 ) -> Result<(Kept<ListTimer>, Tally, Audit), CloseFault> {
@@ -355,7 +360,7 @@ fn closed<R: Wait + time::Clock + Abort>(
     shared.close(rt, pass).map_err(|(_, _, fault)| fault)
 }
 
-// Does a row's deed, and once more if it was refused. Answers how often it was.
+// Does a row's deed, and once more if it was refused. Returns the number of refusals.
 fn does_at_last<C: Caller>(rt: &impl Abort, caller: &mut C, row: Row, jobs: &mut Vec<Job>) -> u32 {
     let before = (caller.seen(), held(jobs));
     match caller.does(row, jobs) {
@@ -369,7 +374,7 @@ fn does_at_last<C: Caller>(rt: &impl Abort, caller: &mut C, row: Row, jobs: &mut
     }
 }
 
-// Does the deeds of these rows. Answers how often one was refused.
+// Does the deeds of `rows`. Returns the number of refusals.
 fn does_all<C: Caller>(
     rt: &impl Abort,
     caller: &mut C,
@@ -383,7 +388,7 @@ fn does_all<C: Caller>(
     met
 }
 
-// Room for the jobs, asked for once more after a refusal.
+// Makes room for the jobs, and tries once more if memory is refused.
 fn room(rt: &impl Abort, alloc: Global) -> Vec<Job> {
     match Vec::with_capacity(alloc, 100) {
         Ok(jobs) => jobs,
@@ -391,7 +396,7 @@ fn room(rt: &impl Abort, alloc: Global) -> Vec<Job> {
     }
 }
 
-// What all deeds come to.
+// Asserts what the deeds of all `ROWS` rows come to.
 fn expect_all(rt: &impl Abort, history: &[Event], audit: Audit, totals: Totals) {
     expect_same(rt, history.len() as u64, ROWS);
     expect_history(rt, history, 0);
@@ -418,8 +423,9 @@ fn refused_at_shared<R: Wait + time::Clock + Abort>(rt: &R, alloc: Global) -> Re
     Ok(met)
 }
 
-// Lets each job fail, counts how often each was run, and before that offers an element that never
-// expires at a desk of its own. So what is offered again finds one element more than its job has left.
+// Work that lets each job fail, and counts how often each was run. Before that it offers a filler,
+// an element that expires only at the greatest moment, at a desk of its own, if it has one. So the
+// next attempt of a job finds one element more in the queue than the job left there.
 #[derive(Drop)]
 struct Failing<D: Desk> {
     crowd: Option<RefCell<D>>,
@@ -428,7 +434,7 @@ struct Failing<D: Desk> {
 }
 
 impl<D: Desk> Failing<D> {
-    // Once more after a refusal, which is not counted.
+    // Offers a filler, and once more after a refusal, which is not counted.
     fn offer_filler(&self) {
         if let Some(crowd) = &self.crowd
             && let Ok(mut desk) = crowd.try_borrow_mut()
@@ -453,7 +459,7 @@ impl<D: Desk> Work for Failing<D> {
     }
 }
 
-// Works the jobs off while elements are offered at the other desk, if there is one.
+// Works the jobs off, while fillers are offered at the desk `crowd`, if there is one.
 fn works_off<D: Desk, C: Desk + Drop>(rt: &impl Abort, desk: &mut D, crowd: Option<C>) -> WorkReport
     ensures name { D.name (D.state desk.new) ≡ D.name (D.state desk.old) }
 {
@@ -470,7 +476,7 @@ fn works_off<D: Desk, C: Desk + Drop>(rt: &impl Abort, desk: &mut D, crowd: Opti
     report
 }
 
-// What is left are the elements that the work offered.
+// Asserts that what is left are the fillers, the elements that the work offered.
 fn expect_fillers<D: Desk>(rt: &impl Abort, desk: &mut D, fillers: u64)
     ensures name { D.name (D.state desk.new) ≡ D.name (D.state desk.old) }
 {
@@ -480,7 +486,7 @@ fn expect_fillers<D: Desk>(rt: &impl Abort, desk: &mut D, fillers: u64)
     expect_same(rt, size, Ok(Reply::Size(fillers)));
 }
 
-// A job whose second attempt was refused was run once, and each other twice.
+// Asserts that each job whose second attempt was refused was run once, and each other twice.
 fn expect_report(rt: &impl Abort, report: WorkReport, runs: &[u32]) {
     let again = JOBS.saturating_sub(report.lost);
     let expected = WorkReport {
@@ -496,7 +502,7 @@ fn expect_report(rt: &impl Abort, report: WorkReport, runs: &[u32]) {
     expect_same(rt, once as u64, report.lost);
 }
 
-// The totals of a run with this report and this many fillers. A refused offer is not in them.
+// Returns the totals of a run with `report` and `fillers` fillers. A refused offer is not in them.
 fn totals_of(report: WorkReport, fillers: u64) -> Totals {
     let offered = JOBS.saturating_add(report.agains).saturating_add(fillers);
     Totals {
@@ -506,8 +512,9 @@ fn totals_of(report: WorkReport, fillers: u64) -> Totals {
     }
 }
 
-// At a desk that nobody shares no more elements stand than were there at first, so that no memory is
-// wanted, and no job is lost.
+// Works the jobs off at a desk over a queue that is not shared. There are never more elements than
+// at first, so no memory is taken and no job is lost. Returns how often an offer of a job was
+// refused.
 fn works_at_kept<T: Timer>(rt: &impl Abort, alloc: Global) -> u32 {
     let mut caller = kept_caller::<T, _>(rt, alloc, ROWS);
     let met = offers_jobs(rt, alloc, &mut caller);
@@ -517,7 +524,8 @@ fn works_at_kept<T: Timer>(rt: &impl Abort, alloc: Global) -> u32 {
     met
 }
 
-// Works off at a desk of the caller's pass, while elements are offered at one of another.
+// Works the jobs off at a desk of the caller's pass, while fillers are offered at a desk of another
+// pass.
 fn worked_off_shared<R: Wait + time::Clock + Abort>(
     rt: &R,
     caller: &mut SharedCaller<'_, R>,
@@ -531,7 +539,8 @@ fn worked_off_shared<R: Wait + time::Clock + Abort>(
     Ok(works_off(rt, &mut desk, Some(crowd)))
 }
 
-// A refused attempt loses its job. The totals of both passes, and those of the first, are those of the
+// Works the jobs off at a desk over a shared queue, and returns the number of refusals. A refused
+// attempt loses its job. The totals of both passes, and those of the first, are those of the
 // report.
 fn works_at_shared<R: Wait + time::Clock + Abort>(rt: &R, alloc: Global) -> Result<u32, Fail> {
     let mut caller = shared_caller(rt, alloc);
@@ -544,7 +553,7 @@ fn works_at_shared<R: Wait + time::Clock + Abort>(rt: &R, alloc: Global) -> Resu
     Ok(met.saturating_add(u32::from(report.lost == 1)))
 }
 
-// Offers the jobs of a worker. Answers how often an offer was refused.
+// Offers the jobs of a worker. Returns how often an offer was refused.
 fn offers_jobs<C: Caller>(rt: &impl Abort, alloc: Global, caller: &mut C) -> u32 {
     let rows = ROWS..ROWS.saturating_add(JOBS);
     does_all(rt, caller, rows, &mut Vec::new(alloc))
@@ -553,8 +562,8 @@ fn offers_jobs<C: Caller>(rt: &impl Abort, alloc: Global, caller: &mut C) -> u32
 #[test]
 fn a_refusal_changes_nothing(rt: HostRuntime) -> Result<(), Fail> {
     let alloc = rt.alloc();
-    // The work comes first: the tool ends after several runs in a row that meet no refusal, and a refused filler is
-    // not counted.
+    // The workers come first: the tool ends after several runs in a row that meet no refusal, and a
+    // refused filler is not counted.
     let kept_worker = works_at_kept::<BinaryTimer>(&rt, alloc);
     let shared_worker = works_at_shared(&rt, alloc)?;
     let kept = refused_at_kept::<BinaryTimer>(&rt, alloc);

@@ -1,4 +1,4 @@
-// Desks over a shared queue, by clocks that stand still.
+// Desks over a shared queue, with clocks that stand still.
 
 ghost use Rattle.std.specs.Prelude.{◌≡◌};
 
@@ -32,7 +32,8 @@ impl Gate for CountingGate {
     }
 }
 
-// The clock can't be set, and waits are made at its readings, whatever moment is handed in.
+// Makes calls at a desk and asserts their answers. The clock can't be set, and waits are made at
+// its readings, whatever moment is handed in.
 fn expect_calls<D: Desk>(rt: &impl Abort, desk: &mut D)
     ensures name { D.name (D.state desk.new) ≡ D.name (D.state desk.old) }
 {
@@ -60,7 +61,7 @@ fn expect_event(rt: &impl Abort, event: &Event, moment: (u64, u64)) {
     );
 }
 
-// The history that was made, with its moments.
+// Asserts that the history has four events of seat 0, with their moments.
 fn expect_history(rt: &impl Abort, history: &[Event]) {
     let moments = [(3, 3), (7, 7), (7, 7), (11, 11)];
     expect_same(rt, history.len(), 4);
@@ -69,7 +70,7 @@ fn expect_history(rt: &impl Abort, history: &[Event]) {
     }
 }
 
-// The kept queue, if this pass made the whole history.
+// Closes the shared queue and returns the kept one. Aborts unless `pass` made the whole history.
 fn closed<R: Wait + Abort>(rt: &R, shared: ListShared, pass: ListPass) -> Kept<ListTimer>
     requires { pass.table ≡ shared }
 {
@@ -79,7 +80,7 @@ fn closed<R: Wait + Abort>(rt: &R, shared: ListShared, pass: ListPass) -> Kept<L
     }
 }
 
-// Makes the calls at a desk over this pass.
+// Makes the calls of `expect_calls` at a desk over `pass`.
 fn expect_run<R: Wait + time::Clock + Abort>(
     rt: &R,
     shared: &ListShared,
@@ -95,7 +96,8 @@ fn expect_run<R: Wait + time::Clock + Abort>(
     expect_calls(rt, &mut desk);
 }
 
-// Only an offer rings, and the gate is asked if a wait finds nothing.
+// Only an offer rings. The gate is asked when a wait finds nothing and its time is not up: by the
+// first take, and by the timed poll whose timeout is 1.
 #[test]
 fn a_shared_desk_waits_by_its_gate(rt: HostRuntime) {
     let (shared, mut pass) = opened(&rt, rt.alloc(), 4);
@@ -106,7 +108,8 @@ fn a_shared_desk_waits_by_its_gate(rt: HostRuntime) {
     expect_history(&rt, closed(&rt, shared, pass).history());
 }
 
-// What became of a failed job, in numbers: the id and the expiry of its next attempt, or its own id.
+// What became of a failed job, in numbers: the id and the expiry of its next attempt, or its own
+// id, with the fault if it was refused.
 #[derive(Clone, Copy, Debug, PartialEq, Eq)]
 enum End {
     Again(u64, u64),
@@ -134,7 +137,7 @@ fn taken(rt: &impl Abort, job: Result<Job, DeskFault>) -> Job {
     job.ok().expect(rt, "a job")
 }
 
-// Takes a job, lets it fail at this moment, and compares what became of it.
+// Takes a job, lets it fail at `now`, and asserts what became of it.
 fn expect_end<D: Desk>(rt: &impl Abort, desk: &mut D, now: u64, wanted: End) {
     let job = taken(rt, take(desk));
     let ended = fail(desk, &two_attempts(rt), job, now);
@@ -147,7 +150,7 @@ fn fails_once<D: Desk>(rt: &impl Abort, desk: &mut D) {
     expect(rt, desk, 0, Ask::Take, Err(DeskFault::Stopped));
 }
 
-// A job fails once at a desk over this pass.
+// Offers a job and lets it fail once, at a desk over `pass`.
 fn fails_at<R: Wait + time::Clock + Abort>(
     rt: &R,
     shared: &ListShared,
@@ -161,7 +164,7 @@ fn fails_at<R: Wait + time::Clock + Abort>(
     fails_once(rt, &mut desk);
 }
 
-// The next attempt is taken at a desk over this pass, and is dead.
+// Takes the next attempt at a desk over `pass`, and lets it fail, so that the job is dead.
 fn dies_at<R: Wait + time::Clock + Abort>(
     rt: &R,
     shared: &ListShared,
@@ -192,7 +195,7 @@ fn is_taken(job: Result<Job, DeskFault>) -> bool {
     job.is_ok()
 }
 
-// Whether a take at a desk gets an element before its gate ends the wait.
+// Returns whether a take at a desk gets an element before its gate ends the wait.
 fn gets_one<R: Wait + time::Clock>(
     rt: &R,
     shared: &ListShared,

@@ -9,7 +9,7 @@ use std::alloc::Global;
 use std::cell::Cell;
 use std::process::Abort;
 
-// Answers the same of each element.
+// Work that gives the same answer for each element.
 #[derive(Drop)]
 struct Always(bool);
 
@@ -21,10 +21,10 @@ impl Work for Always {
     }
 }
 
-/// At which attempt each of three jobs is done, if ever.
+/// The attempt at which each of three jobs is done, or `None` if it never is.
 const DONE_AT: [Option<u32>; 3] = [Some(1), None, Some(2)];
 
-// Does the three jobs, and counts how often each was run, and each element.
+// Work that does the three jobs, and counts how often each job and each element was run.
 #[derive(Drop)]
 struct Counting {
     by_job: Cell<[u64; 3]>,
@@ -53,14 +53,14 @@ impl Work for Counting {
     }
 }
 
-// One more of this id.
+// Counts one more for `id`.
 fn count(counts: &mut [u64], id: u64) {
     if let Some(count) = counts.get_mut(id as usize) {
         *count = count.saturating_add(1);
     }
 }
 
-// This many jobs at moment 0, and how many attempts each has. No time passes between two of them.
+// `count` jobs at moment 0, and how many attempts each has. No time passes between two attempts.
 #[derive(Clone, Copy)]
 struct Jobs {
     count: u64,
@@ -78,7 +78,7 @@ fn worked_off<D: Desk, W: Work>(rt: &impl Abort, desk: &mut D, jobs: Jobs, work:
     rb_retry::work(desk, &policy(rt, jobs.attempts), work)
 }
 
-// Works the jobs off if there is room for this many calls.
+// Works the jobs off in a queue with room for `calls` calls, and returns the report.
 fn report_of<W: Work>(
     rt: &impl Abort,
     alloc: Global,
@@ -101,7 +101,7 @@ fn report(runs: u64, dones: u64, agains: u64, deads: u64, lost: u64) -> WorkRepo
     }
 }
 
-// One job, whose runs all give the same answer.
+// Works off one job whose runs all give `answer`, and asserts the report.
 fn expect_always(
     rt: &impl Abort,
     alloc: Global,
@@ -131,7 +131,8 @@ fn expect_counts(rt: &impl Abort, work: &Counting) {
     expect_same(rt, work.by_element.get(), [1; 6]);
 }
 
-// Six elements are taken: the three jobs, two more attempts of the second, and one of the third.
+// Six elements are taken: those of the three jobs, two more attempts of the second, and one of the
+// third.
 #[test]
 fn each_element_is_run_once(rt: HostRuntime) {
     let work = Counting::new();
@@ -144,8 +145,8 @@ fn each_element_is_run_once(rt: HostRuntime) {
     expect_counts(&rt, &work);
 }
 
-// The offer and the take fill the history. An attempt that is left is then refused, and the last one
-// needs no event.
+// The offer and the take fill the history. If an attempt is left, its offer is then refused. A
+// failure at the last attempt needs no event.
 #[test]
 fn a_refused_failure_is_lost_and_not_dead(rt: HostRuntime) {
     let alloc = rt.alloc();

@@ -4,23 +4,24 @@ use std::alloc::{AllocError, Global};
 use std::process::Abort;
 use std::test::Fail;
 
-// How many elements are offered. It is a prime, so that `rank_of` scatters them, and it lies past
-// many growths of each array.
+// The number of elements that are offered. It is a prime, so that `rank_of` scatters them, and it
+// lies past many growths of each array.
 const ELEMENTS: u64 = 2503;
 
-// The expiry at rank 0, in nanoseconds. It has 20 digits, and so have all the others.
+// The expiry at rank 0, in nanoseconds. Like all the others it has 20 digits.
 const LEAST_EXPIRY: u64 = 18_446_744_073_709_500_000;
 
-// Each element is offered and taken. `SIZE`, `PEEK` and `POLL` are asked once between, and `POLL`
-// and `SIZE` once more at the end.
+// The number of calls that the queue has room for. Each element is offered and polled. `SIZE`,
+// `PEEK` and `POLL` are asked once in between, and `POLL` and `SIZE` once more at the end.
 const CALLS: u64 = 5011;
 
-// An id by the one is its rank, and a rank by the other its id: by `ELEMENTS` the product leaves 1.
+// An id times `TO_RANK` gives its rank and a rank times `TO_ID` its id, both modulo `ELEMENTS`: the
+// product of the two leaves 1.
 const TO_RANK: u64 = 1117;
 
 const TO_ID: u64 = 977;
 
-// How many elements expire before the one with this id.
+// Returns the number of elements that expire before the one with id `id`.
 fn rank_of(id: u64) -> u64 {
     id.wrapping_mul(TO_RANK) % ELEMENTS
 }
@@ -33,7 +34,7 @@ fn expiry_at(rank: u64) -> u64 {
     LEAST_EXPIRY.saturating_add(rank)
 }
 
-// What is sent, and what has to come back.
+// The script that is sent, and the replies that must come back.
 #[derive(Drop)]
 struct Dialogue {
     script: Vec<u8>,
@@ -49,7 +50,7 @@ impl Dialogue {
         Ok(())
     }
 
-    // At moment 0 a delay is an expiry. The payload is the rank in 64 digits.
+    // Adds an offer. At moment 0 its delay is its expiry. Its payload is the rank in 64 digits.
     fn push_offer(&mut self, alloc: Global, id: u64) -> Result<(), AllocError> {
         let rank = rank_of(id);
         let expiry = expiry_at(rank);
@@ -100,7 +101,7 @@ impl Dialogue {
     }
 }
 
-// All elements are in the queue.
+// The lines between the offers and the polls, when all elements are in the queue.
 const BETWEEN: [(&str, &str); 4] = [
     ("SIZE", "SIZE 2503"),
     (
@@ -111,7 +112,7 @@ const BETWEEN: [(&str, &str); 4] = [
     ("AT 18446744073709551615", "NOW 18446744073709551615"),
 ];
 
-// None is in the queue.
+// The lines after the last poll, when no element is in the queue.
 const AT_LAST: [(&str, &str); 4] = [
     ("POLL", "NONE"),
     ("SIZE", "SIZE 0"),

@@ -32,7 +32,7 @@ pub enum Fault {
     IsInterrupted,
 }
 
-/// The fault of the call with this number, the first of which is 0.
+/// A fault, and the number of the call that has it. The first call is 0.
 #[derive(Clone, Copy)]
 pub struct FaultAt {
     pub call: usize,
@@ -44,18 +44,18 @@ pub struct FaultAt {
 pub enum End {
     Comes,
     Fails,
-    /// A byte that ends no line at every 16th read. The others are interrupted.
+    /// Every 16th read gives a byte that ends no line. The others are interrupted.
     NeverComes,
 }
 
-/// A client that sends the next request when it has the replies to all before it.
+/// A client that sends its next request once it has the replies to all earlier ones.
 #[derive(Clone, Copy)]
 pub struct Client<'a> {
     pub received: &'a Cell<usize>,
     pub replies: &'a [u8],
 }
 
-/// Gives its bytes in pieces of at most `most` bytes.
+/// A reader that gives its bytes in pieces of at most `most` bytes.
 #[derive(Drop)]
 pub struct Source<'a> {
     pub rest: &'a [u8],
@@ -80,28 +80,29 @@ impl<'a> Source<'a> {
         }
     }
 
-    /// Has a fault at the call with this number.
+    /// Makes a reader that has `fault` at call `call`.
     pub fn faulty(rest: &'a [u8], most: usize, call: usize, fault: Fault) -> Source<'a> {
         let mut source = Source::of(rest, most);
         source.fault = Some(FaultAt { call, fault });
         source
     }
 
-    /// Ends otherwise than by the end of the input.
+    /// Makes a reader that gives `rest`, as much as each read has room for, and then `end`.
     pub fn ending(rest: &'a [u8], end: End) -> Source<'a> {
         let mut source = Source::of(rest, usize::MAX);
         source.end = end;
         source
     }
 
-    /// Gives a request once the replies to those before have come, and otherwise fails.
+    /// Makes a reader that gives a request once the replies to all earlier ones have come. A read
+    /// before that fails.
     pub fn asking(rest: &'a [u8], most: usize, client: Client<'a>) -> Source<'a> {
         let mut source = Source::of(rest, most);
         source.client = Some(client);
         source
     }
 
-    // What comes at the end.
+    // Returns what a read gives after the last byte.
     fn give_end(&self, buf: &mut [u8]) -> io::Result<usize>
         ensures { IfOk result (λ count. count ≤ length buf.old) }
     {
@@ -122,7 +123,8 @@ impl<'a> Source<'a> {
         count
     }
 
-    // How many bytes the next read may give, if the client may ask.
+    // Returns the greatest number of bytes that the next read may give, or `None` if the client may
+    // not ask yet.
     fn next_most(&self) -> Option<usize> {
         let Some(client) = self.client else {
             return Some(self.most);
@@ -166,8 +168,8 @@ impl Read for Source<'_> {
     }
 }
 
-/// Holds what is written, up to its room. If it is full, a write takes nothing or fails. Writes and
-/// flushes are counted together.
+/// A writer that holds what is written, up to its room. Once it is full, a write takes nothing or
+/// fails. Its calls are writes and flushes, counted together.
 #[derive(Drop)]
 pub struct Sink<'a> {
     pub bytes: Vec<u8>,
@@ -180,7 +182,7 @@ pub struct Sink<'a> {
 }
 
 impl<'a> Sink<'a> {
-    /// In these bytes.
+    /// Makes a writer that appends what is written to `bytes`.
     pub fn of(bytes: Vec<u8>) -> Sink<'a> {
         Sink {
             bytes,
@@ -197,14 +199,15 @@ impl<'a> Sink<'a> {
         Sink::of(Vec::new(alloc))
     }
 
-    /// Has a fault at the call with this number.
+    /// Makes a writer that has `fault` at call `call`, counted over writes and flushes.
     pub fn faulty(alloc: Global, call: usize, fault: Fault) -> Sink<'a> {
         let mut sink = Sink::new(alloc);
         sink.fault = Some(FaultAt { call, fault });
         sink
     }
 
-    /// Has room for this many bytes. After them a write fails if it is closed, and otherwise takes nothing.
+    /// Makes a writer with room for `room` bytes. Once it is full, a write fails if `is_closed` and
+    /// takes nothing otherwise.
     pub fn bounded(alloc: Global, room: usize, is_closed: bool) -> Sink<'a> {
         let mut sink = Sink::new(alloc);
         sink.room = room;
@@ -212,7 +215,7 @@ impl<'a> Sink<'a> {
         sink
     }
 
-    /// Counts the bytes that a client got.
+    /// Makes a writer that sets `received` to the number of bytes that a client has received.
     pub fn received(alloc: Global, received: &'a Cell<usize>) -> Sink<'a> {
         let mut sink = Sink::new(alloc);
         sink.received = Some(received);
@@ -267,12 +270,12 @@ fn fault_of(fault: Option<FaultAt>, call: usize) -> Option<Fault> {
     }
 }
 
-/// How many line feeds the text has.
+/// Returns the number of line feeds in `text`.
 pub fn feeds_of(text: &[u8]) -> usize {
     text.iter().filter(|&&byte| byte == b'\n').count()
 }
 
-/// The first lines of the text.
+/// Returns the first `count` lines of `text`, each with its line feed, or all if there are fewer.
 pub fn first_lines(text: &[u8], count: usize) -> &[u8] {
     let mut len = 0;
     let mut lines = 0;
@@ -285,7 +288,8 @@ pub fn first_lines(text: &[u8], count: usize) -> &[u8] {
     text.get(..len).unwrap_or(text)
 }
 
-/// The options of a run with three attempts a job, each 1,000 nanoseconds after the failure.
+/// Returns the options of a run in which a job has three attempts, the later ones 1,000 nanoseconds
+/// after the failure before them.
 pub fn options(rt: &impl Abort, timer: TimerKind, calls: u64) -> ScriptOptions {
     assert!(rt; calls >= 1);
     assert!(rt; calls <= 1_000_000);
@@ -297,19 +301,19 @@ pub fn options(rt: &impl Abort, timer: TimerKind, calls: u64) -> ScriptOptions {
     }
 }
 
-/// How a run came out.
+/// The outcome of a run.
 #[derive(Drop)]
 pub struct Outcome {
     pub ended: Result<Ended, BrokerFault>,
     pub reads: usize,
     pub unread: usize,
     pub bytes: Vec<u8>,
-    /// Writes and flushes.
+    /// The number of writes and flushes.
     pub calls: usize,
     pub writes: usize,
 }
 
-/// Runs a script from the start, and keeps no history.
+/// Runs a script from the empty opening, and keeps no history.
 pub fn ran(
     rt: &impl Abort,
     alloc: Global,
@@ -322,7 +326,7 @@ pub fn ran(
     recorded(rt, alloc, timer, calls, source, sink, &mut nothing)
 }
 
-/// Runs a script from the start, and writes its history, if there is a device for it.
+/// Runs a script from the empty opening, and writes its history if there is a device for it.
 pub fn recorded(
     rt: &impl Abort,
     alloc: Global,
@@ -346,8 +350,8 @@ pub fn recorded(
     outcome_of(ended, source, sink)
 }
 
-/// Runs a script of at most 100 calls from the start, each of whose replies is written at once, and
-/// writes its history.
+/// Runs a script of at most 100 calls from the empty opening, and writes each reply at once. Writes
+/// the history if there is a device for it.
 pub fn replied_at_once(
     rt: &impl Abort,
     alloc: Global,
@@ -380,7 +384,7 @@ fn outcome_of(ended: Result<Ended, BrokerFault>, source: Source<'_>, sink: Sink<
     }
 }
 
-// Each comparison is a function of its own with no clause, so that a test that makes it has nothing to prove.
+// Comparisons are functions without clauses, so tests that call them have nothing to prove.
 
 pub fn expect_end(
     rt: &impl Abort,

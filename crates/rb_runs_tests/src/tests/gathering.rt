@@ -12,13 +12,14 @@ use std::cell::Cell;
 use std::process::Abort;
 use std::test::Fail;
 
-// A conversation of one reply to each request.
+// A conversation with one reply to each request.
 const REQUESTS: &[u8] = b"AT 100\nOFFER 50 a\nSIZE\npoll\nAT 150\nPOLL\nDONE 0\nQUIT\n";
 
 const REPLIES: &[u8] =
     b"NOW 100\nOFFERED 0 150\nSIZE 1\nERR 1 syntax\nNOW 150\nITEM 0 150 1 a\nDONE 0\nBYE\n";
 
-// A client that asks when it has the replies to all before, at most `most` bytes at a time.
+// Asserts that a client gets all replies if it sends each request once it has the replies to all
+// earlier ones. It sends at most `most` bytes at a time.
 fn expect_answered(rt: &impl Abort, alloc: Global, most: usize) {
     let cell = Cell::new(0);
     let received = &cell;
@@ -45,13 +46,13 @@ fn many(alloc: Global, line: &[u8], count: usize) -> Result<Vec<u8>, AllocError>
     Ok(text)
 }
 
-// Runs a script that is read at once, over a writer that takes all.
+// Runs a script that one read gives whole, over a writer that takes everything.
 fn batch(rt: &impl Abort, alloc: Global, calls: u64, script: &[u8]) -> Outcome {
     let source = Source::of(script, usize::MAX);
     ran(rt, alloc, TimerKind::Heap, calls, source, Sink::new(alloc))
 }
 
-// 70,000 bytes of replies to 50,000 bytes of requests: the room is full once.
+// 50,000 bytes of requests get 70,000 bytes of replies, so the room for replies is full once.
 #[test]
 fn ten_thousand_requests_are_a_few_writes(rt: HostRuntime) -> Result<(), Fail> {
     let alloc = rt.alloc();
@@ -65,7 +66,7 @@ fn ten_thousand_requests_are_a_few_writes(rt: HostRuntime) -> Result<(), Fail> {
     Ok(())
 }
 
-// No take waits in a script, so none costs a write.
+// In a script no take waits, so none costs a write.
 #[test]
 fn a_hundred_takes_of_a_script_are_one_write(rt: HostRuntime) -> Result<(), Fail> {
     let alloc = rt.alloc();
@@ -78,7 +79,8 @@ fn a_hundred_takes_of_a_script_are_one_write(rt: HostRuntime) -> Result<(), Fail
     Ok(())
 }
 
-// Runs the conversation over a writer with room for this many bytes.
+// Runs the conversation over a writer with room for `room` bytes. Asserts which bytes it received,
+// and how the run ended.
 fn expect_first_bytes(rt: &impl Abort, alloc: Global, room: usize, is_closed: bool) {
     let source = Source::of(REQUESTS, usize::MAX);
     let sink = Sink::bounded(alloc, room, is_closed);
@@ -101,14 +103,16 @@ fn an_output_may_be_full_or_closed_at_any_byte(rt: HostRuntime) {
     }
 }
 
-// Runs a request whose second read fails, over a writer with room for this many bytes.
+// Runs a script of one request whose second read fails, over a writer that fails after `room`
+// bytes.
 fn broken_off(rt: &impl Abort, alloc: Global, room: usize) -> Outcome {
     let source = Source::ending(b"SIZE\n", End::Fails);
     let sink = Sink::bounded(alloc, room, true);
     ran(rt, alloc, TimerKind::Heap, 100, source, sink)
 }
 
-// What is held back is handed on before the read, so its fault is the first.
+// Replies that are held back are handed on before the next read, so a fault of their write comes
+// first.
 #[test]
 fn a_late_write_fault_is_no_read_fault(rt: HostRuntime) {
     let outcome = broken_off(&rt, rt.alloc(), 3);
@@ -120,7 +124,7 @@ fn a_late_write_fault_is_no_read_fault(rt: HostRuntime) {
     expect_bytes(&rt, &outcome.bytes, b"SIZE 0\n", 0);
 }
 
-// How a session came out whose writer has room for five bytes.
+// The outcome of a session whose writer has room for five bytes.
 #[derive(Drop)]
 struct Cut {
     ended: Result<Ended, SessionFault>,
@@ -149,7 +153,8 @@ fn expect_cut(rt: &impl Abort, cut: &Cut) {
     assert_eq!(rt; cut.ended, Err(SessionFault::Write { lost: 0 }));
 }
 
-// Two jobs are held when the reply to the second is lost. Both come back, and all lines were served.
+// All lines were served and two jobs are held when the write of the replies fails. The reply with
+// the second job is lost, and both jobs come back.
 #[test]
 fn held_jobs_fail_after_a_late_write_fault(rt: HostRuntime) -> Result<(), Fail> {
     let script = b"OFFER 0 a\nOFFER 0 b\nPOLL\nPOLL\n";
@@ -159,7 +164,8 @@ fn held_jobs_fail_after_a_late_write_fault(rt: HostRuntime) -> Result<(), Fail> 
     Ok(())
 }
 
-// What a take would fetch stays in the queue if the replies before it can't be handed on.
+// The element that a take would fetch stays in the queue if the replies before the take can't be
+// handed on.
 #[test]
 fn a_take_behind_a_write_fault_is_not_served(rt: HostRuntime) -> Result<(), Fail> {
     let script = b"OFFER 0 a\nTAKE\n";

@@ -5,7 +5,7 @@ use std::alloc::{AllocError, Global};
 use std::process::Abort;
 use std::test::Fail;
 
-// More than two pieces of 64 KiB.
+// Returns 200,000 bytes: three pieces of 64 KiB, and a rest.
 fn long_text(alloc: Global) -> Result<Vec<u8>, AllocError> {
     let mut text = Vec::new(alloc);
     for byte in 0..200_000_u32 {
@@ -14,7 +14,7 @@ fn long_text(alloc: Global) -> Result<Vec<u8>, AllocError> {
     Ok(text)
 }
 
-// What is read has these bytes. Returns how many reads were made.
+// Asserts that `source` is read as the bytes `wanted`. Returns the number of reads.
 fn expect_text(
     rt: &impl Abort,
     alloc: Global,
@@ -51,7 +51,7 @@ fn a_file_is_read_in_pieces_of_any_size(rt: HostRuntime) -> Result<(), Fail> {
     Ok(())
 }
 
-// Three whole pieces, the rest, and the end.
+// The five reads give three whole pieces, the rest, and the end.
 #[test]
 fn a_read_of_a_file_takes_64_kib(rt: HostRuntime) -> Result<(), Fail> {
     let alloc = rt.alloc();
@@ -61,7 +61,7 @@ fn a_read_of_a_file_takes_64_kib(rt: HostRuntime) -> Result<(), Fail> {
     Ok(())
 }
 
-// A read that is interrupted counts as one that gives a byte.
+// An interrupted read counts like a read that gives a byte.
 #[test]
 fn a_file_without_an_end_is_given_up(rt: HostRuntime) {
     let source = Source::ending(b"", End::NeverComes);
@@ -69,7 +69,7 @@ fn a_file_without_an_end_is_given_up(rt: HostRuntime) {
     expect_count(&rt, reads, 10_000_000, 0);
 }
 
-// A file whose reads give a byte each.
+// Asserts that a file takes `wanted` reads if each gives one byte.
 fn expect_reads(rt: &impl Abort, alloc: Global, text: &[u8], wanted: usize) {
     let reads = expect_text(rt, alloc, Source::of(text, 1), text, wanted);
     expect_count(rt, reads, wanted, wanted);

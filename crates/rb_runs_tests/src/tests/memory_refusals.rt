@@ -1,4 +1,5 @@
-// Each allocation of a script's run, and of what is read, told and audited, refused in turn.
+// Each allocation of a script's run, and of a replay, an audit line, an opening and a read of a
+// file, is refused in turn.
 
 use crate::tests::devices::{KINDS, Sink, Source, expect, expect_bytes, recorded};
 use rb_arguments::{ReplayOptions, TimerKind};
@@ -11,17 +12,18 @@ use std::alloc::{AllocError, Global};
 use std::process::Abort;
 use std::test::Fail;
 
-// How many refusals the test meets. `tools/refuse_allocations` sets 1, and refuses each allocation
-// of the test in turn.
+// The number of refusals that the test meets. `tools/refuse_allocations` sets 1 and refuses each
+// allocation of the test in turn.
 const REFUSALS: u32 = 0;
 
-// Past the text of each run.
+// A number of bytes that no text of a run reaches.
 const PAGE_BYTES: usize = 1024;
 
-// Two elements that are drained. The first fails by a request, the second at the end.
+// Two elements are offered and drained. The job of the first fails by a request, and the job of the
+// second at the end of the session.
 const SCRIPT: &[u8] = b"OFFER 1 a\nOFFER 2 b\nAT 5\nDRAIN 9\nFAIL 0\nQUIT\n";
 
-// What a run of the script gives.
+// The replies of a run of the script, its number of lost jobs, and its history.
 struct Run<'a> {
     replies: &'a [u8],
     lost: u64,
@@ -44,7 +46,8 @@ const WHOLE: Run<'static> = Run {
     history: WHOLE_HISTORY,
 };
 
-// Where one request is refused, the first offer, the second, the drain or the failure; or the last failure.
+// The runs in which memory is refused to one request (the first offer, the second offer, the drain
+// or the failure), and the run in which it is refused to the failure at the end.
 const REFUSED: [Run<'static>; 5] = [
     Run {
         replies: b"ERR 7 memory\nOFFERED 0 2\nNOW 5\nDRAINED 1\nITEM 0 2 1 b\nAGAIN 1 1005\nBYE\n",
@@ -76,7 +79,7 @@ const REFUSED: [Run<'static>; 5] = [
     },
 ];
 
-// Room for a text, asked for again after a refusal.
+// Makes room for a text, and tries once more if memory is refused.
 fn page(alloc: Global) -> Result<Vec<u8>, AllocError> {
     match Vec::with_capacity(alloc, PAGE_BYTES) {
         Ok(page) => Ok(page),
@@ -84,7 +87,8 @@ fn page(alloc: Global) -> Result<Vec<u8>, AllocError> {
     }
 }
 
-// How a run of the script ended, how many of its bytes were not read, and what the devices got.
+// How a run of the script ended, the number of the script's bytes that were not read, and what the
+// devices received.
 #[derive(Drop)]
 struct Outcome {
     ended: Result<Ended, BrokerFault>,
@@ -100,8 +104,9 @@ impl Outcome {
             && self.history.as_slice() == run.history
     }
 
-    // A run that could not begin did nothing, and one whose history has no text did all else. A run that
-    // came to its end was refused one request.
+    // Asserts that the run met one refusal. A run that came to its end is one of `REFUSED`. Any
+    // other ended with `Memory`: it could not begin and did nothing, or it got no memory for the
+    // text of its history and did everything else.
     fn expect_refused(&self, rt: &impl Abort) {
         if self.ended.is_ok() {
             expect(rt, REFUSED.iter().any(|run| self.is_as(run)));
@@ -114,7 +119,7 @@ impl Outcome {
         expect_bytes(rt, &self.history, b"", 0);
     }
 
-    // Whether the run is whole. Else it met a refusal.
+    // Returns whether the run is whole. If it is not, asserts that it met a refusal.
     fn is_whole(&self, rt: &impl Abort) -> bool {
         if self.is_as(&WHOLE) {
             return true;
@@ -141,7 +146,8 @@ fn runs(rt: &impl Abort, alloc: Global, timer: TimerKind) -> Result<bool, Fail> 
     Ok(outcome.is_whole(rt))
 }
 
-// Whether the run met a refusal. It is made once more then, and is whole.
+// Returns whether the run met a refusal. If it did, runs the script once more and asserts that the
+// second run is whole.
 fn refused_run(rt: &impl Abort, alloc: Global, timer: TimerKind) -> Result<bool, Fail> {
     if runs(rt, alloc, timer)? {
         return Ok(false);
@@ -150,13 +156,14 @@ fn refused_run(rt: &impl Abort, alloc: Global, timer: TimerKind) -> Result<bool,
     Ok(true)
 }
 
-// The fault of a call that is not whole.
+// Asserts that a call that is not whole ended with `Memory`. Returns false: the call is not whole.
 fn is_refused(rt: &impl Abort, fault: BrokerFault) -> bool {
     expect(rt, fault == BrokerFault::Memory);
     false
 }
 
-// Each of these calls is whole, or it met a refusal.
+// Each of the next four functions makes a call. It returns true if the call is whole, and false if
+// the call met a refusal.
 
 fn replays(rt: &impl Abort, alloc: Global) -> bool {
     let chains = Policy::fixed(1_000, 3);
@@ -211,7 +218,7 @@ fn reads(rt: &impl Abort, alloc: Global) -> bool {
     }
 }
 
-// What the second call is that is made after a refusal.
+// Asserts that the second call, which is made after a refusal, is whole. Returns true.
 fn again(rt: &impl Abort, is_whole: bool) -> bool {
     expect(rt, is_whole);
     true

@@ -8,12 +8,13 @@ use std::alloc::{AllocError, Global};
 use std::process::Abort;
 use std::test::Fail;
 
-// Requests, each of one reply.
+// Requests with one reply each.
 const SCRIPT: &[u8] = b"AT 100\nOFFER 50 a\nSIZE\nPOLL\nPEEK\n";
 
 const REPLIES: &[u8] = b"NOW 100\nOFFERED 0 150\nSIZE 1\nNONE\nHEAD 0 150 1 a\n";
 
-// A reader that gives one byte at each call and fails at this one.
+// Runs the script over a reader that gives one byte at each call and fails at call `call`. Asserts
+// that the session ended there, with the replies to all whole lines.
 fn expect_read_fault(rt: &impl Abort, alloc: Global, timer: TimerKind, call: usize) {
     let source = Source::faulty(SCRIPT, 1, call, Fault::Fails);
     let outcome = ran(rt, alloc, timer, 10, source, Sink::new(alloc));
@@ -54,7 +55,7 @@ fn many(alloc: Global, line: &[u8], count: usize) -> Result<Vec<u8>, AllocError>
     Ok(text)
 }
 
-// Lines of eight bytes, so that each read of 65,536 bytes ends with a whole line.
+// Each line has eight bytes, so each read of 65,536 bytes ends with a whole line.
 #[test]
 fn a_read_takes_64_kib(rt: HostRuntime) -> Result<(), Fail> {
     let alloc = rt.alloc();
@@ -77,7 +78,8 @@ fn expect_history(rt: &impl Abort, history: &Option<Sink<'static>>, wanted: &[u8
     expect_bytes(rt, &history.bytes, wanted, 0);
 }
 
-// A read that is interrupted counts as one that gives a byte. The history is written all the same.
+// An interrupted read counts like a read that gives a byte. The history is written although the
+// input is given up.
 #[test]
 fn an_input_without_an_end_is_given_up(rt: HostRuntime) {
     let alloc = rt.alloc();
@@ -91,7 +93,7 @@ fn an_input_without_an_end_is_given_up(rt: HostRuntime) {
     expect_history(&rt, &history, HELD);
 }
 
-// A job with three attempts, whose third failure is its last.
+// A job with three attempts. The third failure is the last.
 const JOB: &[u8] =
     b"AT 100\nOFFER 0 j\nPOLL\nAT 200\nFAIL 0\nAT 1200\nPOLL\nFAIL 1\nAT 2200\nPOLL\nFAIL 2\nFAIL 2\n";
 
@@ -99,7 +101,8 @@ const JOB_REPLIES: &[u8] =
     b"NOW 100\nOFFERED 0 100\nITEM 0 100 1 j\nNOW 200\nAGAIN 1 1200\nNOW 1200\nITEM 1 1200 2 j\n\
         AGAIN 2 2200\nNOW 2200\nITEM 2 2200 3 j\nDEAD 2\nERR 5 not-held\n";
 
-// The replies to the whole lines of a part of the job, and one line more where a part of a line is left.
+// Returns the replies to the whole lines of `part`, a first part of the job's lines. There is one
+// more reply if a part of a line is left.
 fn replies_to(alloc: Global, part: &[u8]) -> Result<Vec<u8>, AllocError> {
     let mut replies = Vec::from_slice(alloc, first_lines(JOB_REPLIES, feeds_of(part)))?;
     if part.last().is_some_and(|&byte| byte != b'\n') {

@@ -1,4 +1,4 @@
-// Scripts each of whose replies is written when its request is served.
+// Scripts in which each reply is written when its request is served.
 
 use crate::tests::devices::{
     AT_END, Sink, Source, expect_bytes, expect_count, expect_end, first_lines, replied_at_once,
@@ -11,13 +11,13 @@ use std::test::Fail;
 
 const OFFERS: &[u8] = b"OFFER 0 a\nOFFER 0 b\nOFFER 0 c\n";
 
-// Twelve bytes each.
+// Replies of twelve bytes each.
 const REPLIES: &[u8] = b"OFFERED 0 0\nOFFERED 1 0\nOFFERED 2 0\n";
 
 const EVENTS: &[u8] =
     b"0 0 0 offer 0 0 0 0 1 a\n0 0 0 offer 1 0 1 0 1 b\n0 0 0 offer 2 0 2 0 1 c\n";
 
-// The history of the first of the offers.
+// Returns the history of the first `offers` offers.
 fn history_of(alloc: Global, offers: usize) -> Result<Vec<u8>, Fail> {
     let mut text = Vec::new(alloc);
     text.extend_from_slice(b"history 3\nopen 0 0 0\n")?;
@@ -37,7 +37,8 @@ fn each_reply_is_a_write_and_a_flush(rt: HostRuntime) {
     expect_count(&rt, outcome.calls, 6, 0);
 }
 
-// What a script over a writer with room for this many bytes has offered, by its history.
+// Runs the script over a writer with room for `room` bytes. Asserts how it ended, which bytes the
+// writer received and, by the history, what was offered.
 fn expect_offers(rt: &impl Abort, alloc: Global, room: usize, is_closed: bool) -> Result<(), Fail> {
     let source = Source::of(OFFERS, usize::MAX);
     let sink = Sink::bounded(alloc, room, is_closed);
@@ -65,7 +66,8 @@ fn expect_offers(rt: &impl Abort, alloc: Global, room: usize, is_closed: bool) -
     Ok(())
 }
 
-// All three lines come with one read. The one whose reply does not go out is the last that is served.
+// One read gives all three lines. The line whose reply does not go out is the last one that is
+// served.
 #[test]
 fn no_line_is_served_after_a_failing_write(rt: HostRuntime) -> Result<(), Fail> {
     for room in 0..=REPLIES.len() {

@@ -1,4 +1,4 @@
-// What a run tells of its session and of its history, each by itself.
+// What a run reports of its session and of its history, each by itself.
 
 use crate::tests::devices::{End, Fault, Sink, Source, expect, expect_bytes, options};
 use rb_arguments::TimerKind;
@@ -13,7 +13,7 @@ const REQUESTS: &[u8] = b"OFFER 5 a\n";
 
 const HISTORY: &[u8] = b"history 3\nopen 0 0 0\n0 0 0 offer 0 5 0 5 1 a\nend 1\n";
 
-// An end of the input, and how the session ends there.
+// Ends of the input, each with the end of the session there.
 const ENDS: [(End, Result<Ended, SessionFault>); 2] = [
     (End::Comes, Ok(Ended::EndOfInput { lost: 0 })),
     (End::Fails, Err(SessionFault::Read { lost: 0 })),

@@ -6,12 +6,12 @@ use rb_ending::BrokerFault;
 use std::alloc::Global;
 use std::process::Abort;
 
-// Requests, each of one reply.
+// Requests with one reply each.
 const SCRIPT: &[u8] = b"AT 100\nOFFER 50 a\nSIZE\nPOLL\nPEEK\n";
 
 const REPLIES: &[u8] = b"NOW 100\nOFFERED 0 150\nSIZE 1\nNONE\nHEAD 0 150 1 a\n";
 
-// A conversation whose replies come to the writer by so many calls, where each read gives one byte.
+// A conversation. Its replies reach the writer by `calls` calls if each read gives one byte.
 #[derive(Clone, Copy)]
 struct Row {
     script: &'static [u8],
@@ -37,7 +37,8 @@ const ROWS: [Row; 3] = [
     },
 ];
 
-// A writer that fails at this call has the replies before, and that of the call if it was a flush.
+// Asserts that a writer that fails at call `call` ends the session. It has received the replies
+// before that call, and the reply of the call itself if the call is a flush.
 fn expect_write_fault(rt: &impl Abort, alloc: Global, timer: TimerKind, row: Row, call: usize) {
     let sink = Sink::faulty(alloc, call, Fault::Fails);
     let outcome = ran(rt, alloc, timer, 10, Source::of(row.script, 1), sink);
@@ -57,8 +58,8 @@ fn expect_write_faults(rt: &impl Abort, alloc: Global, timer: TimerKind, row: Ro
     }
 }
 
-// Where each read gives one byte, each reply is handed on by one write and one flush. So call 2 k is
-// the write of reply k, and the next its flush.
+// If each read gives one byte, each reply is handed on by one write and one flush. So call 2 k
+// writes reply k, and the next call flushes it.
 #[test]
 fn a_writer_that_fails_ends_the_session(rt: HostRuntime) {
     for row in ROWS {

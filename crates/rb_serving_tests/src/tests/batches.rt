@@ -1,4 +1,4 @@
-// Batches of requests over visits that lie in memory: when their replies are handed on.
+// When the replies to batches of requests are handed on, over visits that lie in memory.
 
 use crate::tests::devices::{
     Counts, Plan, Received, Sends, at_once, counts_of, expect_audit, expect_counts, expect_number,
@@ -14,7 +14,8 @@ use std::test::Fail;
 use std::thread::Threads;
 use std::time;
 
-// The second take waits for an offer that another makes when it sees the replies to what was before.
+// The second take waits for an offer. Another visitor makes the offer once it sees the replies to
+// the lines before that take.
 #[test]
 fn no_reply_waits_for_a_take(rt: HostRuntime) {
     let alloc = rt.alloc();
@@ -31,13 +32,13 @@ fn no_reply_waits_for_a_take(rt: HostRuntime) {
     expect_text(&rt, &second, b"OFFERED 1 7\nBYE\n");
     let all = b"OFFERED 0 7\nITEM 0 7 1 a\nITEM 1 7 1 b\nDONE 0\nDONE 1\nBYE\n";
     expect_text(&rt, &first, all);
-    // One before each take, and one at the end.
+    // There is one write before each take, and one at the end.
     expect_writes(&rt, &first, 3);
     expect_counts(&rt, counts, 2, 0, 0);
     expect_audit(&rt, counts.audit, all_given(2));
 }
 
-// So it is with a poll that may wait.
+// The same holds for a poll that may wait.
 #[test]
 fn no_reply_waits_for_a_timed_poll(rt: HostRuntime) {
     let alloc = rt.alloc();
@@ -55,7 +56,7 @@ fn no_reply_waits_for_a_timed_poll(rt: HostRuntime) {
     expect_counts(&rt, counts, 2, 0, 0);
 }
 
-// The lines of 32 offers, and their replies.
+// Returns the lines of 32 offers, and the replies to them.
 fn batch(alloc: Global) -> Result<(Vec<u8>, Vec<u8>), Fail> {
     let (mut lines, mut replies) = (Vec::new(alloc), Vec::new(alloc));
     for id in 0..32 {
@@ -80,7 +81,7 @@ fn a_batch_of_offers_is_one_write(rt: HostRuntime) -> Result<(), Fail> {
     Ok(())
 }
 
-// What one worker comes to that writes each reply at once.
+// Serves `plans` by one worker that writes each reply at once. Returns what was counted.
 fn replied<R: Threads + Wait + time::Clock + Abort + Sync>(
     rt: &R,
     alloc: Global,

@@ -1,4 +1,4 @@
-// A server's visits that lie in memory, and a clock that always reads 7.
+// Visits of a server that lie in memory, and a clock that always reads 7.
 
 ghost use Rattle.std.specs.Prelude.{◌≡◌, ◌≤◌, ◌↔◌, ◌<◌, true};
 
@@ -21,10 +21,10 @@ use std::thread::Threads;
 use std::time::Duration;
 use std::{io, thread, time};
 
-// How often a reader looks whether it may begin, a millisecond apart.
+// The greatest number of times that a reader looks whether it may begin, a millisecond apart.
 const MOST_LOOKS: u64 = 10_000;
 
-// After how many turns a wait ends.
+// The number of turns after which a wait ends.
 const MOST_TURNS: u64 = 200;
 
 /// A clock that always reads 7.
@@ -38,7 +38,8 @@ impl Clock for SevenClock {
     }
 }
 
-/// A gate that ends a wait after so many turns, and counts them where a reader sees it.
+/// A gate that ends a wait after a number of turns, and counts the turns where a reader sees the
+/// count.
 #[derive(Drop)]
 pub struct NotedGate<'a> {
     turns: &'a AtomicU64,
@@ -55,8 +56,8 @@ impl<'a> Gate for NotedGate<'a> {
     }
 }
 
-/// What a visitor does: it sends these lines at once, or after both counts have risen, or when another
-/// was sent this text, or its first read fails.
+/// What a visitor does: it sends its lines at once, after both counts have risen, or once another
+/// visitor was sent a text; or its first read fails.
 #[derive(Clone, Copy)]
 pub enum Sends<'a> {
     AtOnce(&'a [u8]),
@@ -65,7 +66,7 @@ pub enum Sends<'a> {
     Nothing,
 }
 
-/// What a visitor was sent, and by how many writes.
+/// What a visitor was sent, and the number of writes that sent it.
 #[derive(Drop)]
 pub struct Received {
     pub text: Vec<u8>,
@@ -73,7 +74,8 @@ pub struct Received {
 }
 
 impl Received {
-    /// Nothing yet. The text comes to lie in this empty vector.
+    /// Makes the record of a visitor that was sent nothing yet. What it is sent comes to lie in
+    /// `text`, which is empty.
     pub fn into(text: Vec<u8>) -> Mutex<Received> {
         Mutex::new(Received { text, writes: 0 })
     }
@@ -83,7 +85,7 @@ impl Received {
     }
 }
 
-/// Reads what a visitor sends.
+/// The reader of what a visitor sends.
 #[derive(Drop)]
 pub struct Sender<'a, R> {
     rt: &'a R,
@@ -91,7 +93,7 @@ pub struct Sender<'a, R> {
 }
 
 impl<'a, R: Wait + time::Clock> Sender<'a, R> {
-    // Waits until both counts have risen, and says whether they have.
+    // Waits until both counts have risen. Returns false if they have not after `MOST_LOOKS` looks.
     fn sees_both(&self, first: &AtomicU64, second: &AtomicU64) -> bool {
         for _ in 0..MOST_LOOKS {
             if first.load(Ordering::SeqCst) > 0 && second.load(Ordering::SeqCst) > 0 {
@@ -102,7 +104,8 @@ impl<'a, R: Wait + time::Clock> Sender<'a, R> {
         false
     }
 
-    // Waits until the other was sent this text, and says whether it was.
+    // Waits until what `other` was sent is `text`. Returns false if it is not after `MOST_LOOKS`
+    // looks.
     fn sees_text(&self, other: &Mutex<Received>, text: &[u8]) -> bool {
         for _ in 0..MOST_LOOKS {
             if other.lock(self.rt).text.as_slice() == text {
@@ -130,7 +133,7 @@ impl<'a, R: Wait + time::Clock> Read for Sender<'a, R> {
     }
 }
 
-/// Keeps what a visitor is sent, where the test reads it.
+/// The writer of what a visitor is sent. It keeps the text where the test can read it.
 #[derive(Drop)]
 pub struct Receiver<'a, R> {
     rt: &'a R,
@@ -150,7 +153,8 @@ impl<'a, R: Wait> Write for Receiver<'a, R> {
     }
 }
 
-/// One visit, what it is sent, and how many turns its waits made; or one that is refused.
+/// A visit, what it is sent, and the number of turns of its waits. If `sends` is `None`, the visit
+/// is refused.
 #[derive(Drop)]
 pub struct Plan<'a> {
     sends: Option<Sends<'a>>,
@@ -182,7 +186,7 @@ pub fn after<'a>(
     Some(Sends::After(lines, first, second))
 }
 
-/// Gives one visit after the other.
+/// A door that gives the planned visits, one after the other.
 #[derive(Drop)]
 pub struct PlannedDoor<'a, R> {
     rt: &'a R,
@@ -224,7 +228,7 @@ impl<'a, R: Wait + time::Clock + Sync> Door for PlannedDoor<'a, R> {
     }
 }
 
-/// Room for 100 calls, and three attempts a job.
+/// Returns the options of a server with room for 100 calls and three attempts per job.
 pub fn hundred_calls(rt: &impl Abort, workers: u64) -> ServerRunOptions
     requires some { 1 ≤ workers }
     requires few { workers ≤ 16 }
@@ -236,7 +240,7 @@ pub fn hundred_calls(rt: &impl Abort, workers: u64) -> ServerRunOptions
     }
 }
 
-/// Serves these visits over the plain timer with these options, and gathers their replies.
+/// Serves `plans` over the plain timer with `options`, and gathers the replies.
 pub fn served_so<R: Threads + Wait + time::Clock + Sync>(
     rt: &R,
     alloc: Global,
@@ -258,7 +262,7 @@ pub fn served_so<R: Threads + Wait + time::Clock + Sync>(
     )
 }
 
-/// Serves these visits like `served_so`, but writes each reply at once.
+/// Serves `plans` like `served_so`, but writes each reply at once.
 pub fn served_at_once<R: Threads + Wait + time::Clock + Sync>(
     rt: &R,
     alloc: Global,
@@ -289,7 +293,7 @@ pub struct Counts {
     pub audit: Audit,
 }
 
-/// What a server came to that served these visits with these options.
+/// Serves `plans` with `options`, and asserts that the history is legal. Returns what was counted.
 pub fn counted<R: Threads + Wait + time::Clock + Abort + Sync>(
     rt: &R,
     alloc: Global,
@@ -312,14 +316,14 @@ pub fn counts_of(report: &ServeReport<ListTimer>) -> Counts {
     }
 }
 
-// Each comparison is a function of its own with no clause, so that a test that makes it has nothing to prove.
+// Comparisons are functions without clauses, so tests that call them have nothing to prove.
 
-/// Compares what a visitor was sent.
+/// Asserts that a visitor was sent `wanted`.
 pub fn expect_text<R: Wait + Abort>(rt: &R, received: &Mutex<Received>, wanted: &[u8]) {
     expect_bytes(rt, received.lock(rt).text.as_slice(), wanted);
 }
 
-/// Compares by how many writes.
+/// Asserts that a visitor was sent its text by `wanted` writes.
 pub fn expect_writes<R: Wait + Abort>(rt: &R, received: &Mutex<Received>, wanted: u64) {
     expect_number(rt, received.lock(rt).writes, wanted);
 }
@@ -339,15 +343,15 @@ pub fn expect_counts(rt: &impl Abort, counts: Counts, sessions: u64, faults: u64
     );
 }
 
-/// The history is to be legal, and the audit that of the history.
+/// Asserts that the history is legal, and that the report's audit is the audit of the history.
 pub fn expect_legal(rt: &impl Abort, alloc: Global, report: &ServeReport<ListTimer>) {
-    // For the proof: there are few events.
+    // For the proof: the contract of `capacity` says that there are few events.
     let _ = report.kept.capacity();
     let checked = check(alloc, report.kept.opening(), report.kept.history());
     assert_eq!(rt; checked, Ok(report.audit));
 }
 
-/// Compares an audit's line.
+/// Asserts that the line of an audit is `wanted`.
 pub fn expect_audit_line(rt: &impl Abort, alloc: Global, audit: &Audit, wanted: &[u8]) {
     let line = audit_line(alloc, audit).ok().expect(rt, "memory");
     assert_eq!(rt; line.as_bytes(), wanted);

@@ -1,4 +1,4 @@
-// What a server prints, and leaves behind.
+// What a server prints and what it leaves behind.
 
 ghost use Rattle.std.specs.Prelude.{◌≡◌};
 
@@ -12,14 +12,15 @@ use std::alloc::Global;
 use std::io::{self, ErrorKind, Write};
 use std::process::Abort;
 
-// The numbers are those of no run: each is another one.
+// The numbers are not those of a run: they all differ.
 const TEXT: &[u8] =
     b"sessions 8 faults 9 lost 18446744073709551615\n{\"calls\":1,\"cleared\":2,\"given\":3,\
         \"left\":4,\"offered\":5,\"opening\":6,\"removed\":7}\n";
 
 const HISTORY: &[u8] = b"history 3\nopen 0 0 0\nend 0\n";
 
-// Holds what is written, and fails at one of its calls, if any. Writes and flushes are counted together.
+// A writer that holds what is written. If `fails_at` is a number, the call with that number fails.
+// Writes and flushes are counted together, from 0.
 #[derive(Drop)]
 struct Held {
     bytes: Vec<u8>,
@@ -72,7 +73,7 @@ fn report(rt: &impl Abort, alloc: Global) -> ServeReport<ListTimer> {
     }
 }
 
-// A device that fails at the call with this number, if one is given.
+// Makes a device that fails at call `fails_at`, if a number is given.
 fn device_failing(alloc: Global, fails_at: Option<usize>) -> Held {
     Held {
         bytes: Vec::new(alloc),
@@ -89,7 +90,8 @@ fn expect_outcome(
     assert_eq!(rt; outcome, wanted);
 }
 
-// How a server ends: where its writer and its history's device fail, what is answered, and what both get.
+// How a server ends: the calls at which its writer and its history's device fail, the outcome that
+// is returned, and what both of them receive.
 #[derive(Clone, Copy)]
 struct End {
     writer_fails_at: Option<usize>,
@@ -141,7 +143,7 @@ fn expect_end_without_history(rt: &impl Abort, alloc: Global) {
     expect(rt, none.is_none());
 }
 
-// A call of a device is a write and then a flush.
+// Each device gets a write, which is call 0, and then a flush, which is call 1.
 #[test]
 fn the_first_fault_of_an_end_is_answered(rt: HostRuntime) {
     let alloc = rt.alloc();
@@ -185,7 +187,7 @@ fn a_server_says_where_it_listens(rt: HostRuntime) {
     let alloc = rt.alloc();
     expect_listening(&rt, alloc, 1, b"listening 127.0.0.1:1\n");
     expect_listening(&rt, alloc, 65_535, b"listening 127.0.0.1:65535\n");
-    // The second call is the flush.
+    // Call 1 is the flush.
     let printed = print_listening(alloc, &mut device_failing(alloc, Some(1)), 80);
     expect_outcome(&rt, printed, Err(BrokerFault::Write));
 }

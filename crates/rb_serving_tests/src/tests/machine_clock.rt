@@ -4,7 +4,8 @@ use rb_serving::ServeClock;
 use std::thread;
 use std::time::Duration;
 
-// What it reads lies between the readings of two others of the machine, one made before it and one after.
+// The reading of a server's clock lies between those of two machine clocks, one made before it and
+// one made after it.
 #[test]
 fn the_clock_of_a_server_goes_as_the_machines(rt: HostRuntime) {
     let earlier = MachineClock::new(&rt);

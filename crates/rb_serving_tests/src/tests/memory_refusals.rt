@@ -1,4 +1,4 @@
-// Each allocation of a server, and of what is printed and written at its end, refused in turn.
+// Each allocation of a server, and of what is printed and written at its end, is refused in turn.
 
 ghost use Rattle.std.specs.Prelude.{◌≤◌};
 
@@ -17,14 +17,14 @@ use std::test::Fail;
 use std::thread::Threads;
 use std::time;
 
-// How many refusals the test meets. `tools/refuse_allocations` sets 1, and refuses each allocation
-// of the test in turn.
+// The number of refusals that the test meets. `tools/refuse_allocations` sets 1 and refuses each
+// allocation of the test in turn.
 const REFUSALS: u32 = 0;
 
-// Past the text of each run.
+// A number of bytes that no text of a run reaches.
 const PAGE_BYTES: usize = 1024;
 
-// Room for a text, asked for once more where it was refused.
+// Makes room for a text, and tries once more if memory is refused.
 fn page(alloc: Global) -> Result<Vec<u8>, AllocError> {
     match Vec::with_capacity(alloc, PAGE_BYTES) {
         Ok(page) => Ok(page),
@@ -32,10 +32,11 @@ fn page(alloc: Global) -> Result<Vec<u8>, AllocError> {
     }
 }
 
-// What each of a server's visitors sends.
+// The lines that each visitor of a server sends.
 const LINES: &[u8] = b"OFFER 0 a\nQUIT\n";
 
-// What the visitors were sent: how many an id, 0 or 1, how many a refusal, and how many nothing.
+// The numbers of visitors that were sent id 0, that were sent id 1, that were sent a refusal, and
+// that were sent nothing.
 #[derive(Clone, Copy)]
 struct Sent {
     first: u64,
@@ -66,7 +67,7 @@ impl Sent {
         self.first.saturating_add(self.second)
     }
 
-    // Each of so many visitors was sent an id of its own.
+    // Returns whether each of `visitors` visitors was sent an id of its own.
     fn is_whole(self, visitors: u64) -> bool {
         self.first == 1 && self.second == visitors.saturating_sub(1) && self.offered() == visitors
     }
@@ -79,7 +80,8 @@ struct Served {
     sent: Sent,
 }
 
-// How many workers serve, 1 or 2, and how many visitors, as many or 2.
+// The number of workers and the number of visitors, each 1 or 2. There are never more workers than
+// visitors.
 #[derive(Clone, Copy)]
 struct Crowd {
     workers: u64,
@@ -93,7 +95,7 @@ const ALONE: Crowd = Crowd {
     visitors: 1,
 };
 
-// The one worker serves the second visitor, whatever became of the first.
+// One worker serves the second visitor, whatever became of the first.
 const IN_TURN: Crowd = Crowd {
     workers: 1,
     visitors: 2,
@@ -104,7 +106,7 @@ const AT_ONCE: Crowd = Crowd {
     visitors: 2,
 };
 
-// Serves the visitors.
+// Serves the visitors of `crowd`. Returns how the server ended and what they were sent.
 fn served_lines<R: Threads + Wait + time::Clock + Abort + Sync>(
     rt: &R,
     alloc: Global,
@@ -139,8 +141,8 @@ fn served_into<R: Threads + Wait + time::Clock + Abort + Sync>(
     Served { outcome, sent }
 }
 
-// A server that ends well has served each visitor, but for those who were sent nothing, and has the calls
-// of those who were sent an id.
+// Asserts that a server that ended well has served each visitor except those that were sent
+// nothing, which are its faults, and has the calls of those that were sent an id.
 fn expect_report(rt: &impl Abort, counts: Counts, events: usize, sent: Sent, visitors: u64) {
     expect_counts(rt, counts, visitors, sent.nothing, 0);
     let (audit, offered) = (counts.audit, sent.offered());
@@ -153,7 +155,9 @@ fn expect_report(rt: &impl Abort, counts: Counts, events: usize, sent: Sent, vis
     expect(rt, u64::try_from(events) == Ok(offered));
 }
 
-// Who was started before a worker that could not be has served all.
+// Asserts what visitors were sent by a server that ended with a fault. If the fault is `Memory`,
+// they were sent nothing. Otherwise a worker could not be started. The workers that were started
+// before it have served all visitors; if there are none, the visitors were sent nothing.
 fn expect_fault(rt: &impl Abort, fault: BrokerFault, sent: Sent, visitors: u64) {
     if fault == BrokerFault::Memory {
         expect_number(rt, sent.nothing, visitors);
@@ -163,7 +167,8 @@ fn expect_fault(rt: &impl Abort, fault: BrokerFault, sent: Sent, visitors: u64) 
     }
 }
 
-// The report of a server that was refused nothing.
+// Returns the report of a server that met no refusal, or `None` if it met one. Asserts what its
+// visitors were sent in either case.
 fn whole_report(rt: &impl Abort, served: Served, visitors: u64) -> Option<ServeReport<ListTimer>> {
     let Served { outcome, sent } = served;
     match outcome {
@@ -183,7 +188,8 @@ fn whole_report(rt: &impl Abort, served: Served, visitors: u64) -> Option<ServeR
     }
 }
 
-// That report, and how many refusals were met. The server is run once more where one was.
+// Returns that report, and the number of refusals that were met. Runs the server once more if one
+// was met.
 fn report_at_last<R: Threads + Wait + time::Clock + Abort + Sync>(
     rt: &R,
     alloc: Global,
@@ -233,7 +239,8 @@ fn ended_into(
     }
 }
 
-// Whether the end met no refusal. One of both texts is missing where it met one.
+// Returns whether the end met no refusal. If it met one, asserts that one of the two texts is
+// missing and the other is whole.
 fn is_whole(rt: &impl Abort, end: &End) -> bool {
     let printed = end.printed.as_slice();
     let history = end.history.as_ref().expect(rt, "a history").as_slice();
@@ -251,7 +258,8 @@ fn is_whole(rt: &impl Abort, end: &End) -> bool {
     false
 }
 
-// How many refusals the end of a server met. What is missing then is there the next time.
+// Returns the number of refusals that the end of a server met. If it met one, ends the server once
+// more and asserts that nothing is missing.
 fn refused_ends(
     rt: &impl Abort,
     alloc: Global,
@@ -264,7 +272,7 @@ fn refused_ends(
     Ok(1)
 }
 
-// What a server of one worker meets, and its end.
+// Returns the number of refusals that a server with one worker, and its end, meet.
 fn refused_server<R: Threads + Wait + time::Clock + Abort + Sync>(
     rt: &R,
     alloc: Global,

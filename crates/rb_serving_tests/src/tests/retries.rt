@@ -1,4 +1,4 @@
-// What becomes of jobs that a server's visits fail or leave, by a clock that always reads 7.
+// What becomes of jobs that a server's visits fail or leave, with a clock that always reads 7.
 
 ghost use Rattle.std.specs.Prelude.{◌≤◌};
 
@@ -21,8 +21,8 @@ fn options(rt: &impl Abort, calls: u64, policy: Option<Policy>) -> ServerRunOpti
     }
 }
 
-// With a period of 2 the second attempt expires at 5, and there is no third. What the first visit holds
-// at its end the second is given.
+// With a period of 2 the second attempt expires at 5, and there is no third attempt. The second
+// visit is given the job that the first visit holds at its end.
 #[test]
 fn jobs_come_back_by_the_policy(rt: HostRuntime) {
     let alloc = rt.alloc();

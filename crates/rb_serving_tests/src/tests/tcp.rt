@@ -1,4 +1,4 @@
-// A server over TCP on loopback, both ends in one process.
+// A server over TCP on loopback, with both ends in one process.
 
 ghost use Rattle.std.specs.Prelude.{◌≤◌};
 
@@ -20,25 +20,26 @@ use std::test::Fail;
 use std::thread::Threads;
 use std::time;
 
-// One element was offered and given.
+// The audit line of a server whose one element was offered and given.
 const AUDIT: &[u8] =
     b"{\"calls\":2,\"cleared\":0,\"given\":1,\"left\":0,\"offered\":1,\"opening\":0,\"removed\":0}\n";
 
-// A client that has sent these lines.
+// Connects a client to `server` and sends `lines`. Returns the client's stream.
 fn client(rt: &HostRuntime, server: SocketAddr, lines: &[u8]) -> Result<TcpStream, Fail> {
     let mut stream = TcpStream::connect(rt, server)?;
     stream.write_all(lines)?;
     Ok(stream)
 }
 
-// What the client was sent until the server closed.
+// Returns what the client was sent until the server closed the connection.
 fn sent(alloc: Global, mut stream: TcpStream) -> Result<Vec<u8>, Fail> {
     let mut text = Vec::new(alloc);
     let _ = stream.read_to_end(&mut text)?;
     Ok(text)
 }
 
-// Serves the clients of this door by so many workers.
+// Serves the clients of `door` by `workers` workers, and asserts that the history is legal. Returns
+// what was counted.
 fn served<R: Threads + Wait + time::Clock + Abort + Sync>(
     rt: &R,
     alloc: Global,
@@ -86,7 +87,8 @@ fn two_clients_share_a_queue(rt: HostRuntime) -> Result<(), Fail> {
     expect_sent(&rt, alloc, giver, b"OFFERED 0 7\nBYE\n")
 }
 
-// What one worker counts that serves the clients of this door, and after how many milliseconds.
+// Serves the clients of `door` by one worker. Returns what was counted, and the time it took, in
+// milliseconds.
 fn served_within<R: Threads + Wait + time::Clock + Abort + Sync>(
     rt: &R,
     alloc: Global,
@@ -104,8 +106,8 @@ fn expect_refused(rt: &impl Abort, found: (Counts, u64)) {
     expect(rt, lasted >= 50);
 }
 
-// Nobody has connected and the listener does not wait, so that no client can be accepted. Each is a session and a
-// fault, after 10 ms.
+// Nobody has connected and the listener does not wait, so no client can be accepted. Each attempt
+// counts as a session and a fault, and takes 10 ms.
 #[test]
 fn sessions_are_not_used_up_at_once(rt: HostRuntime) -> Result<(), Fail> {
     let listener = TcpListener::bind(&rt, port_of_the_system())?;

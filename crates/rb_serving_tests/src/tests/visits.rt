@@ -1,4 +1,4 @@
-// Servers over visits that lie in memory, by a clock that always reads 7.
+// Servers over visits that lie in memory, with a clock that always reads 7.
 
 ghost use Rattle.std.specs.Prelude.{◌≤◌};
 
@@ -15,14 +15,14 @@ use std::test::Fail;
 use std::thread::Threads;
 use std::time;
 
-// The audit lines of servers whose one or two elements were offered and given.
+// The audit lines of servers whose elements, one or two, were offered and given.
 const ONE_GIVEN: &[u8] =
     b"{\"calls\":2,\"cleared\":0,\"given\":1,\"left\":0,\"offered\":1,\"opening\":0,\"removed\":0}\n";
 
 const TWO_GIVEN: &[u8] =
     b"{\"calls\":4,\"cleared\":0,\"given\":2,\"left\":0,\"offered\":2,\"opening\":0,\"removed\":0}\n";
 
-/// What a server of so many workers comes to that serves these visits.
+/// Serves `plans` by `workers` workers. Returns what was counted.
 pub fn served<R: Threads + Wait + time::Clock + Abort + Sync>(
     rt: &R,
     alloc: Global,
@@ -35,7 +35,8 @@ pub fn served<R: Threads + Wait + time::Clock + Abort + Sync>(
     counted(rt, alloc, plans, &hundred_calls(rt, workers))
 }
 
-/// So many elements were offered, each was given, and nothing else was asked.
+/// Returns the audit of a run in which `offered` elements were offered, each was given, and nothing
+/// else was asked.
 pub fn all_given(offered: u64) -> Audit {
     Audit {
         calls: offered.saturating_add(offered),
@@ -48,7 +49,8 @@ pub fn all_given(offered: u64) -> Audit {
     }
 }
 
-// A take waits in one session until another has offered.
+// Serves a visitor that takes, and one that offers once that take waits. Asserts that they were
+// sent `taker` and `giver`. Returns what was counted.
 fn expect_two<R: Threads + Wait + time::Clock + Abort + Sync>(
     rt: &R,
     alloc: Global,
@@ -83,7 +85,7 @@ fn workers_run_together(rt: HostRuntime) {
     expect_audit_line(&rt, rt.alloc(), &counts.audit, ONE_GIVEN);
 }
 
-// One worker serves the visits one after the other, so that the take finds nothing.
+// One worker serves the visits one after the other, so the take finds nothing.
 #[test]
 fn one_worker_serves_in_turn(rt: HostRuntime) {
     let taker = b"STOPPED\nERR 5 not-held\nBYE\n";
@@ -93,7 +95,7 @@ fn one_worker_serves_in_turn(rt: HostRuntime) {
     expect_number(&rt, counts.audit.left, 1);
 }
 
-// Whether the two were sent these texts, in either order.
+// Returns whether the two visitors were sent these two texts, in either order.
 fn are_sent<R: Wait>(
     rt: &R,
     first: &Mutex<Received>,
@@ -130,7 +132,7 @@ fn each_taker_gets_its_own(rt: HostRuntime) {
     expect_audit_line(&rt, alloc, &counts.audit, TWO_GIVEN);
 }
 
-// A refused visit and one whose first read fails are two faults, and make no call.
+// A refused visit and a visit whose first read fails are two faults, and make no call.
 #[test]
 fn faults_are_counted(rt: HostRuntime) {
     let turns = AtomicU64::new(0);
@@ -145,7 +147,7 @@ fn faults_are_counted(rt: HostRuntime) {
     expect_audit(&rt, counts.audit, all_given(0));
 }
 
-// The one worker serves on behind both.
+// The one worker goes on serving after both faults.
 #[test]
 fn faults_end_no_other_visit(rt: HostRuntime) {
     let turns = AtomicU64::new(0);
@@ -160,8 +162,8 @@ fn faults_end_no_other_visit(rt: HostRuntime) {
     expect_text(&rt, &text, b"OFFERED 0 7\nBYE\n");
 }
 
-// Each take waits before the next begins, and the fifth visit offers for all four: so none of the five
-// workers may idle.
+// Each take waits before the next one begins, and the fifth visit makes the offers for all four. So
+// none of the five workers may be idle.
 #[test]
 fn each_worker_serves(rt: HostRuntime) {
     let alloc = rt.alloc();
@@ -198,7 +200,7 @@ fn each_worker_serves(rt: HostRuntime) {
     expect_audit(&rt, counts.audit, all_given(4));
 }
 
-// As many visitors as a server has workers at most.
+// The greatest number of workers of a server, and the number of visitors.
 const MOST_WORKERS: u64 = 16;
 
 const COUNTS: &[u8] = b"SIZE\nQUIT\n";
@@ -213,7 +215,8 @@ fn nothing_received(alloc: Global) -> Result<Vec<Mutex<Received>>, AllocError> {
     Ok(received)
 }
 
-// Each visitor begins when the one after it has been served, and the last one at once.
+// Plans one visit for each of `received`. Each visitor begins once the one after it has been
+// served, and the last one at once.
 fn last_first<'a>(
     alloc: Global,
     received: &'a [Mutex<Received>],
@@ -234,7 +237,7 @@ fn begins_after<'a>(next: Option<&'a Mutex<Received>>) -> Option<Sends<'a>> {
     }
 }
 
-// So none of them is served before all 16 workers run.
+// The visitors are served last first, so none of them is served before all 16 workers run.
 #[test]
 fn sixteen_workers_run_together(rt: HostRuntime) -> Result<(), Fail> {
     let alloc = rt.alloc();
@@ -250,7 +253,7 @@ fn sixteen_workers_run_together(rt: HostRuntime) -> Result<(), Fail> {
     Ok(())
 }
 
-// No client sets the clock that all share.
+// No client can set the clock that all of them share.
 #[test]
 fn no_client_sets_the_clock(rt: HostRuntime) {
     let turns = AtomicU64::new(0);

@@ -60,7 +60,7 @@ impl<'a, T: Timer> Desk for CountingDesk<'a, T> {
     ghost stays = { kept_stays };
 }
 
-// How a session came out, and how often it read the desk's clock.
+// The outcome of a session, and the number of times that it read the desk's clock.
 #[derive(Drop)]
 struct Outcome {
     ended: Result<Ended, SessionFault>,
@@ -99,7 +99,7 @@ fn expect_readings(
     Ok(())
 }
 
-// Each of the requests.
+// A script with each kind of request.
 const SCRIPT: &[u8] =
     b"AT 100\nOFFER 0 a\nOFFERAT 99 b\nOFFER 9 c\nPEEK\nPOLL\nPOLLFOR 5\nPOLL\nTAKE\nDONE 1\n\
         FAIL 0\nFAIL 7\nREMOVE 2\nSIZE\nDRAIN 3\nCLEAR\nQUIT\n";
@@ -123,7 +123,7 @@ fn what_is_no_request_reads_no_clock(rt: HostRuntime) -> Result<(), Fail> {
     expect_readings(&rt, rt.alloc(), (script, replies), ended, 0)
 }
 
-// At the end the clock is read once for each job that is still held.
+// At the end of a session the clock is read once for each job that is still held.
 #[test]
 fn a_job_that_is_held_at_the_end_reads_the_clock_once(rt: HostRuntime) -> Result<(), Fail> {
     let script = b"OFFERAT 0 a\nOFFERAT 1 b\nAT 1\nDRAIN 9\n".as_slice();

@@ -6,7 +6,7 @@ use rb_retry::{KeptDesk, Policy};
 use rb_session::{Delivery, Ended, run_limited};
 use std::test::Fail;
 
-// A session ends with its input, long before all reads are made.
+// A session ends with its input, long before it has made all the reads that its reader allows.
 #[test]
 fn a_session_over_a_reader_that_counts_leaves_reads(rt: HostRuntime) -> Result<(), Fail> {
     let alloc = rt.alloc();

@@ -8,7 +8,7 @@ use std::io::{self, ErrorKind, Read, Write};
 use std::process::Abort;
 use std::test::Fail;
 
-/// Gives its bytes one by one, and fails at the call with this number, the first of which is 0.
+/// A reader that gives its bytes one at a time, and fails at call `fails_at`, counted from 0.
 #[derive(Drop)]
 pub struct Bytes<'a> {
     pub rest: &'a [u8],
@@ -40,8 +40,8 @@ impl Read for Bytes<'_> {
     }
 }
 
-/// Keeps what is written, and fails at the call with this number. Writes and flushes are counted
-/// together.
+/// A writer that keeps what is written, and fails at call `fails_at`, counted from 0. Writes and
+/// flushes are counted together.
 #[derive(Drop)]
 pub struct Sheet {
     pub bytes: Vec<u8>,
@@ -82,7 +82,7 @@ impl Write for Sheet {
     }
 }
 
-/// Keeps what is written, and takes one byte at each write.
+/// A writer that keeps what is written, and takes one byte at each write.
 #[derive(Drop)]
 pub struct Slip {
     pub bytes: Vec<u8>,
@@ -100,11 +100,11 @@ impl Write for Slip {
     }
 }
 
-/// A call that never comes.
+/// The number of a call that never comes.
 pub const NEVER: usize = usize::MAX;
 
-/// Runs a session over the kept queue, with three attempts a job, each 1,000 nanoseconds after the
-/// failure.
+/// Runs a session over the kept queue. A job has three attempts, and each retry expires 1,000
+/// nanoseconds after the failure.
 pub fn run<T: Timer, W: Write>(
     rt: &impl Abort,
     alloc: Global,
@@ -117,7 +117,7 @@ pub fn run<T: Timer, W: Write>(
     run_by(alloc, kept, tally, reader, writer, &policy)
 }
 
-/// Runs a session over the kept queue by a policy.
+/// Runs a session over the kept queue, whose jobs fail by `policy`.
 pub fn run_by<T: Timer, R: Read, W: Write>(
     alloc: Global,
     kept: &mut Kept<T>,
@@ -130,7 +130,7 @@ pub fn run_by<T: Timer, R: Read, W: Write>(
     run_session(alloc, reader, writer, &mut desk, policy)
 }
 
-/// How a session came out.
+/// The outcome of a session.
 #[derive(Drop)]
 pub struct Outcome {
     pub ended: Result<Ended, SessionFault>,
@@ -138,7 +138,8 @@ pub struct Outcome {
     pub calls: usize,
 }
 
-/// Runs a session over a queue of its own, whose reader and writer fail at these calls.
+/// Runs a session over a queue of its own. The reader fails at call `read_fails_at`, and the writer
+/// at call `write_fails_at`.
 pub fn ran<T: Timer>(
     rt: &impl Abort,
     alloc: Global,
@@ -181,12 +182,12 @@ impl Dialogue {
     }
 }
 
-// Appends the last digit of a number.
+// Appends the last decimal digit of `number`.
 fn push_digit(text: &mut Vec<u8>, number: u64) -> Result<(), AllocError> {
     text.extend_from_slice(&[b"0123456789"[(number % 10) as usize]])
 }
 
-// Appends a number of at most 20 digits.
+// Appends `number`, which has at most 20 digits.
 fn push_number(text: &mut Vec<u8>, number: u64) -> Result<(), AllocError> {
     let mut power = 10_000_000_000_000_000_000_u64;
     for _ in 0..19 {
@@ -198,7 +199,7 @@ fn push_number(text: &mut Vec<u8>, number: u64) -> Result<(), AllocError> {
     push_digit(text, number)
 }
 
-/// Appends a number with what stands round it.
+/// Appends `front`, the number and `back`.
 pub fn push_line(
     text: &mut Vec<u8>,
     front: &[u8],
@@ -210,7 +211,7 @@ pub fn push_line(
     text.extend_from_slice(back)
 }
 
-// Each comparison is a function with no clause, which is proved once and not at each use.
+// Comparisons are functions without clauses, so tests that call them have nothing to prove.
 
 pub fn expect_end(
     rt: &impl Abort,

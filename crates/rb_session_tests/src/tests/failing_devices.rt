@@ -6,7 +6,8 @@ use std::alloc::Global;
 use std::process::Abort;
 use std::test::Fail;
 
-// A job with three attempts, whose third failure is its last.
+// A job with three attempts, whose third failure is its last. A fourth one finds the job no longer
+// held.
 const JOB: &[u8] =
     b"AT 100\nOFFER 0 j\nPOLL\nAT 200\nFAIL 0\nAT 1200\nPOLL\nFAIL 1\nAT 2200\nPOLL\nFAIL 2\nFAIL 2\n";
 
@@ -24,7 +25,7 @@ fn slipped(rt: &impl Abort, alloc: Global) -> Result<Slipped, Fail> {
     Ok((ended, writer.bytes))
 }
 
-// What a write does not take is written again, however often.
+// What a write does not take is written again, as often as needed.
 #[test]
 fn a_writer_may_take_a_byte_at_a_time(rt: HostRuntime) -> Result<(), Fail> {
     let (ended, bytes) = slipped(&rt, rt.alloc())?;
@@ -33,7 +34,7 @@ fn a_writer_may_take_a_byte_at_a_time(rt: HostRuntime) -> Result<(), Fail> {
     Ok(())
 }
 
-// How many bytes the first lines of the replies have, with their ends.
+// Returns the number of bytes of the first `lines` lines of the replies, including their ends.
 fn end_of_line(lines: usize) -> usize {
     let mut seen = 0_usize;
     let mut end = 0;
@@ -50,7 +51,7 @@ fn first_replies(lines: usize) -> &'static [u8] {
     REPLIES.get(..end_of_line(lines)).unwrap_or(REPLIES)
 }
 
-// Each line has one reply, so a read that fails behind `lines` whole lines leaves as many.
+// Each line has one reply, so a read that fails after `lines` whole lines leaves as many replies.
 #[test]
 fn a_read_may_fail_anywhere(rt: HostRuntime) -> Result<(), Fail> {
     let mut lines = 0_usize;
@@ -65,8 +66,8 @@ fn a_read_may_fail_anywhere(rt: HostRuntime) -> Result<(), Fail> {
     Ok(())
 }
 
-// Each reply is one write and one flush, so call 2 k is the write of reply k, and the next its
-// flush.
+// Each reply is one write and one flush, so call 2k is the write of reply k, and call 2k + 1 is its
+// flush. Both are counted from 0.
 #[test]
 fn a_write_or_a_flush_may_fail_anywhere(rt: HostRuntime) -> Result<(), Fail> {
     for call in 0..24_usize {

@@ -10,7 +10,7 @@ use std::alloc::{AllocError, Global};
 use std::process::Abort;
 use std::test::Fail;
 
-// How a session came out, and the origins of the elements that the last events offered.
+// The outcome of a session, and the origins of the elements that its last events offered.
 #[derive(Drop)]
 struct Outcome {
     ended: Result<Ended, SessionFault>,
@@ -61,7 +61,7 @@ fn expect_origins(rt: &impl Abort, origins: &[u64], wanted: &[u64]) {
     assert_eq!(rt; origins, wanted);
 }
 
-// What is held at the end fails in the order of the fetches.
+// Asserts that the jobs that are held at the end fail in the order of their fetches, `held`.
 fn expect_order<T: Timer>(
     rt: &impl Abort,
     alloc: Global,
@@ -75,7 +75,8 @@ fn expect_order<T: Timer>(
     Ok(())
 }
 
-// The element of this id, which has expired.
+// Appends the offer of element `id`. It expires at moment `id`, and so is expired: the clock is at
+// 100,000.
 fn push_offer(dialogue: &mut Dialogue, id: u64) -> Result<(), AllocError> {
     push_line(&mut dialogue.script, b"OFFERAT ", id, b" j\n")?;
     push_line(&mut dialogue.replies, b"OFFERED ", id, b" ")?;
@@ -98,7 +99,8 @@ fn push_done(dialogue: &mut Dialogue, id: u64) -> Result<(), AllocError> {
     push_line(&mut dialogue.replies, b"DONE ", id, b"\n")
 }
 
-// Two jobs are fetched, of which the later one is done, and then the other, unless it is held on.
+// Appends two jobs that are fetched. The second is done, and then the first, unless its id is a
+// multiple of 16. Such a job stays held.
 fn push_pair(dialogue: &mut Dialogue, first: u64) -> Result<(), AllocError> {
     push_fetch(dialogue, first)?;
     push_fetch(dialogue, first.saturating_add(1))?;
@@ -122,7 +124,7 @@ fn pairs(alloc: Global) -> Result<Dialogue, AllocError> {
     Ok(dialogue)
 }
 
-// Every sixteenth of 600 jobs, but for the one that failed.
+// Returns the ids of the jobs that stay held: every sixteenth of 600, except job 160, which failed.
 fn held_on(alloc: Global) -> Result<Vec<u64>, AllocError> {
     let mut held = Vec::new(alloc);
     for id in 0..600_u64 {
@@ -140,7 +142,7 @@ fn jobs_stay_in_order_while_hundreds_end(rt: HostRuntime) -> Result<(), Fail> {
     expect_order::<BinaryTimer>(&rt, alloc, &dialogue, &held)
 }
 
-// So many jobs are offered, fetched by one request, and done, the last of them first.
+// Appends 54 jobs that are offered, fetched by one request, and done, the last of them first.
 fn push_drain(dialogue: &mut Dialogue, first: u64) -> Result<(), AllocError> {
     let end = first.saturating_add(54);
     for id in first..end {
@@ -156,7 +158,8 @@ fn push_drain(dialogue: &mut Dialogue, first: u64) -> Result<(), AllocError> {
     Ok(())
 }
 
-// Ten jobs are held on, and beside them as many as may be, again and again.
+// Returns a dialogue in which ten jobs stay held. Beside them 54 jobs, as many as possible, are
+// held and done, 20 times over.
 fn drains(alloc: Global) -> Result<Dialogue, AllocError> {
     let mut dialogue = Dialogue::new(alloc);
     dialogue.push(b"AT 100000\n", b"NOW 100000\n")?;
@@ -176,7 +179,8 @@ fn jobs_stay_in_order_beside_drains(rt: HostRuntime) -> Result<(), Fail> {
     expect_order::<BinaryTimer>(&rt, alloc, &dialogue, &[0, 1, 2, 3, 4, 5, 6, 7, 8, 9])
 }
 
-// Three jobs are held, eight elements stand, and the timer has no room for a ninth, once.
+// Returns a dialogue in which one of three held jobs fails while eight elements stand. The timer
+// refuses the room for a ninth, once.
 fn refusals(alloc: Global) -> Result<Dialogue, AllocError> {
     let mut dialogue = Dialogue::new(alloc);
     dialogue.push(b"AT 100000\n", b"NOW 100000\n")?;

@@ -10,7 +10,7 @@ use std::alloc::Global;
 use std::process::Abort;
 use std::test::Fail;
 
-// What an event did, in one letter.
+// Returns one letter for what the event did.
 fn letter(event: &Event) -> u8 {
     match event.act {
         Act::Offer(_) => b'o',
@@ -29,7 +29,8 @@ fn expect_event(rt: &impl Abort, event: &Event, wanted: u8, moment: (u64, u64)) 
     expect_number(rt, event.seat, 0, 0);
 }
 
-// Compares what the events did, and at which moments they were asked and took place.
+// Asserts what the events did, and for each the moment asked for and the moment at which it took
+// place.
 fn expect_events(rt: &impl Abort, events: &[Event], letters: &[u8], moments: &[(u64, u64)]) {
     expect_count(rt, events.len(), letters.len(), 0);
     expect_count(rt, events.len(), moments.len(), 0);
@@ -52,14 +53,16 @@ fn expect_calls<T: Timer>(rt: &impl Abort, alloc: Global) -> Result<(), Fail> {
     Ok(())
 }
 
-// What asks nothing of the queue is no event: AT, and a request that was refused.
+// What asks nothing of the queue makes no event: `AT`, a line that is no request, and a request
+// that is refused.
 #[test]
 fn each_call_is_one_event(rt: HostRuntime) -> Result<(), Fail> {
     expect_calls::<ListTimer>(&rt, rt.alloc())?;
     expect_calls::<BinaryTimer>(&rt, rt.alloc())
 }
 
-// The job that is held at the end failed then, by an offer of its second attempt.
+// Asserts that the job that is held at the end fails then: the last event offers its second
+// attempt, which expires at `expiry`.
 fn expect_retry(rt: &impl Abort, events: &[Event], expiry: u64) {
     expect_events(rt, events, b"opo", &[(0, 0); 3]);
     match events.last() {

@@ -1,4 +1,4 @@
-// What is known of devices that tell their bytes.
+// The laws of readers and writers that tell their bytes.
 
 use rb_session::{came_first, sent_last};
 

@@ -16,7 +16,7 @@ const PAYLOAD: &[u8] = b"!\"#$%&'()*+,-./0123456789:;<=>?@ABCDEFGHIJKLMNOPQRSTUV
 // The first of 2,048 expiries, the last of which is 2^64 - 1.
 const FIRST_EXPIRY: u64 = u64::MAX - 2_047;
 
-// How a session came out.
+// The outcome of a session.
 #[derive(Drop)]
 struct Outcome {
     ended: Result<Ended, SessionFault>,
@@ -34,7 +34,7 @@ fn ran_by<R: Read>(rt: &impl Abort, alloc: Global, reader: &mut R) -> Result<Out
     })
 }
 
-// Compares what comes of a dialogue that is read in pieces of 64 KiB.
+// Asserts the outcome of a dialogue that is read in pieces of 64 KiB.
 fn expect_dialogue(rt: &impl Abort, alloc: Global, dialogue: &Dialogue) -> Result<(), Fail> {
     let mut reader = dialogue.script.as_slice();
     let outcome = ran_by(rt, alloc, &mut reader)?;
@@ -42,7 +42,7 @@ fn expect_dialogue(rt: &impl Abort, alloc: Global, dialogue: &Dialogue) -> Resul
     Ok(())
 }
 
-// Compares what comes of a dialogue that is read byte by byte.
+// Asserts the outcome of a dialogue that is read byte by byte.
 fn expect_bytewise(rt: &impl Abort, alloc: Global, dialogue: &Dialogue) -> Result<(), Fail> {
     let mut reader = Bytes::of(&dialogue.script, NEVER);
     let outcome = ran_by(rt, alloc, &mut reader)?;
@@ -55,7 +55,8 @@ fn expect_outcome(rt: &impl Abort, outcome: &Outcome, replies: &[u8]) {
     expect_bytes(rt, &outcome.text, replies, 0);
 }
 
-// A line of so many letters, which is no request. One of at most 256 bytes is read.
+// Appends a line of `count` letters, which is no request. A line of at most 256 bytes is read, and
+// gets `ERR 1 syntax`. A longer one gets `ERR 8 line`.
 fn push_letters(dialogue: &mut Dialogue, count: usize, end: &[u8]) -> Result<(), AllocError> {
     for _ in 0..count {
         dialogue.script.push(b'x')?;
@@ -85,7 +86,7 @@ fn a_line_of_any_length_is_answered(rt: HostRuntime) -> Result<(), Fail> {
     expect_bytewise(&rt, alloc, &dialogue)
 }
 
-// The payload of the job of this id: 1 to 64 bytes.
+// Returns the payload of job `id`, which has 1 to 64 bytes.
 fn payload_of(id: u64) -> &'static [u8] {
     let len = (id % 64).saturating_add(1) as usize;
     PAYLOAD.get(..len).unwrap_or(PAYLOAD)
@@ -122,7 +123,7 @@ fn push_round(dialogue: &mut Dialogue, id: u64) -> Result<(), AllocError> {
     push_done(dialogue, id)
 }
 
-// Jobs that are offered, fetched and done one after the other.
+// Returns a dialogue in which 2,048 jobs are offered, fetched and done, one after the other.
 fn rounds(alloc: Global) -> Result<Dialogue, AllocError> {
     let mut dialogue = Dialogue::new(alloc);
     dialogue.push(b"AT 18446744073709551615\n", b"NOW 18446744073709551615\n")?;
@@ -140,7 +141,8 @@ fn thousands_of_jobs_are_served(rt: HostRuntime) -> Result<(), Fail> {
     expect_bytewise(&rt, alloc, &dialogue)
 }
 
-// All jobs are offered while none has expired, so that 2,048 stand.
+// Appends the offers of all jobs while none is expired, so that 2,048 stand. Then sets the clock to
+// a moment at which all are expired.
 fn push_offers(dialogue: &mut Dialogue) -> Result<(), AllocError> {
     for id in 0..2_048 {
         push_offer(dialogue, id)?;
@@ -151,7 +153,7 @@ fn push_offers(dialogue: &mut Dialogue) -> Result<(), AllocError> {
     )
 }
 
-// Fetches 64 jobs by one request.
+// Appends one request that fetches 64 jobs.
 fn push_drain(dialogue: &mut Dialogue, first: u64) -> Result<(), AllocError> {
     dialogue.push(b"DRAIN 65\n", b"DRAINED 64\n")?;
     for id in first..first.saturating_add(64) {
@@ -160,7 +162,7 @@ fn push_drain(dialogue: &mut Dialogue, first: u64) -> Result<(), AllocError> {
     Ok(())
 }
 
-// Fetches 64 jobs by one request each.
+// Appends 64 requests that fetch one job each.
 fn push_polls(dialogue: &mut Dialogue, first: u64) -> Result<(), AllocError> {
     for id in first..first.saturating_add(64) {
         dialogue.push(b"POLL\n", b"")?;
@@ -169,7 +171,8 @@ fn push_polls(dialogue: &mut Dialogue, first: u64) -> Result<(), AllocError> {
     Ok(())
 }
 
-// With 64 held no more is fetched. They are done in the order of their fetches.
+// Appends fetches that get no job, because 64 are held. These 64 are then done, in the order of
+// their fetches.
 fn push_full(dialogue: &mut Dialogue, first: u64) -> Result<(), AllocError> {
     dialogue.push(
         b"POLL\nPOLLFOR 5\nTAKE\nDRAIN 1\n",
@@ -181,7 +184,8 @@ fn push_full(dialogue: &mut Dialogue, first: u64) -> Result<(), AllocError> {
     Ok(())
 }
 
-// The jobs are fetched and held 64 at a time, by a drain and by polls in turn.
+// Returns a dialogue in which the jobs are fetched and held 64 at a time, by a drain and by polls
+// in turn.
 fn holds(alloc: Global) -> Result<Dialogue, AllocError> {
     let mut dialogue = Dialogue::new(alloc);
     push_offers(&mut dialogue)?;

@@ -4,7 +4,7 @@ use std::alloc::{AllocError, Global};
 use std::process::Abort;
 use std::test::Fail;
 
-// A megabyte and more, in lines of 26 bytes.
+// The number of lines. With 26 bytes each, they have more than a megabyte.
 const LINES: usize = 50_000;
 
 const LINE: &[u8] = b"SIZE 18446744073709551615\n";
@@ -24,7 +24,7 @@ fn expect_lines(rt: &impl Abort, text: &[u8]) {
     }
 }
 
-// However long the text is, one more reply is written behind it.
+// One more reply can be appended to a text, however long it is.
 #[test]
 fn a_reply_is_written_behind_a_megabyte(rt: HostRuntime) -> Result<(), Fail> {
     let text = text_of_lines(rt.alloc())?;

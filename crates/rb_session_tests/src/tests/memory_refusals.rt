@@ -11,19 +11,19 @@ use std::alloc::{AllocError, Global};
 use std::process::Abort;
 use std::test::Fail;
 
-// How many refusals the test meets. `tools/refuse_allocations` sets 1, and refuses each allocation
-// of the test in turn.
+// The number of refusals that the test meets. `tools/refuse_allocations` sets 1 and refuses each
+// allocation of the test in turn.
 const REFUSALS: u32 = 0;
 
 const REFUSED: &[u8] = b"ERR 7 memory\n";
 
-// How many jobs are held before the first of them fails.
+// The number of jobs that are held before the first of them fails.
 const JOBS: u64 = 64;
 
-// How many elements stand at most when the one job fails.
+// The greatest number of elements that stand when the one job fails.
 const MOST_STANDING: u64 = 64;
 
-// Memory of the test's own. It is asked for again where it was refused.
+// Takes memory for the test itself, and tries once more if memory is refused.
 fn roomy(alloc: Global) -> Result<Vec<u8>, AllocError> {
     match Vec::with_capacity(alloc, 8192) {
         Ok(bytes) => Ok(bytes),
@@ -50,7 +50,8 @@ fn is_memory(ended: &Result<Ended, SessionFault>) -> bool {
     matches!(ended, Err(SessionFault::Memory))
 }
 
-// Counts the offers that were refused, once nothing was refused at the start.
+// Runs a session with one offer. Returns the number of refusals: 1 if memory is refused for the
+// session itself or for the offer.
 fn refused_offer(rt: &impl Abort, alloc: Global) -> Result<u32, Fail> {
     let script = b"AT 100\nOFFER 50 a\nSIZE\nPOLL\nPEEK\n";
     let (mut kept, mut tally) = kept(alloc)?;
@@ -60,7 +61,8 @@ fn refused_offer(rt: &impl Abort, alloc: Global) -> Result<u32, Fail> {
     Ok(offers_refused(rt, ended, calls, &kept, &writer.bytes))
 }
 
-// What it compares is borrowed: what a function owns is let go at each of its exits.
+// Returns the number of refusals. The queue and the text are borrowed, because a function drops
+// what it owns at each of its exits.
 fn offers_refused(
     rt: &impl Abort,
     ended: Result<Ended, SessionFault>,
@@ -85,7 +87,8 @@ fn offers_refused(
     1
 }
 
-// Jobs that are offered and fetched, each before the next is offered, while no other element stands.
+// Returns a dialogue in which jobs are offered and fetched. Each is fetched before the next is
+// offered, while no other element stands.
 fn fetches(alloc: Global) -> Result<Dialogue, AllocError> {
     let (mut script, mut replies) = (roomy(alloc)?, roomy(alloc)?);
     script.extend_from_slice(b"AT 100\n")?;
@@ -98,8 +101,9 @@ fn fetches(alloc: Global) -> Result<Dialogue, AllocError> {
     Ok(Dialogue { script, replies })
 }
 
-// The same, and then the first job fails while no element stands, and one more is fetched in its place.
-// Behind that each of the others fails.
+// Returns the dialogue of `fetches`, followed by failures. First job 0 fails while no element
+// stands, and a further job is fetched in its place. Then each of the other jobs fails. The replies
+// to these last 64 failures are left out.
 fn failures(alloc: Global) -> Result<Dialogue, AllocError> {
     let Dialogue {
         mut script,
@@ -114,7 +118,7 @@ fn failures(alloc: Global) -> Result<Dialogue, AllocError> {
     Ok(Dialogue { script, replies })
 }
 
-// How many of these lines are refusals for want of memory.
+// Returns how many of these lines say that memory ran out.
 fn refused_lines(text: &[u8]) -> u32 {
     let mut count = 0_u32;
     for line in text.split_inclusive(|&byte| byte == b'\n') {
@@ -125,7 +129,8 @@ fn refused_lines(text: &[u8]) -> u32 {
     count
 }
 
-// The replies to the last 64 failures: the next ids in their order, but where one was refused.
+// Asserts that the replies to the last 64 failures have the next ids in order, except where memory
+// was refused. Returns the number of refusals.
 fn expect_again(rt: &impl Abort, replies: &[u8], line: &mut Vec<u8>) -> Result<u32, AllocError> {
     let (mut next_id, mut refused) = (66_u64, 0_u32);
     for reply in replies.split_inclusive(|&byte| byte == b'\n') {
@@ -142,14 +147,15 @@ fn expect_again(rt: &impl Abort, replies: &[u8], line: &mut Vec<u8>) -> Result<u
     Ok(refused)
 }
 
-// What a session over a queue of its own came to.
+// The outcome of a session over a queue of its own.
 #[derive(Drop)]
 struct Session {
     ended: Result<Ended, SessionFault>,
     text: Vec<u8>,
     calls: (usize, usize),
     offered: u64,
-    /// The id, the origin and the attempt of the element that the last event offered.
+    /// The id, the origin and the attempt of the element that the last event offered. `None` if the
+    /// last event is not an offer.
     last: Option<(u64, u64, u32)>,
 }
 
@@ -179,8 +185,8 @@ fn session_at_last(rt: &impl Abort, alloc: Global, script: &[u8]) -> Result<Sess
     })
 }
 
-// Jobs fail while no element stands, one, and so on up to 64. One whose failure was refused is held on,
-// and offered again at the end.
+// Runs a session in which jobs fail while 0, 1, and so on up to 64 elements stand. A job whose
+// failure is refused stays held, and is offered again at the end. Returns the number of refusals.
 fn refused_failures(rt: &impl Abort, alloc: Global) -> Result<u32, Fail> {
     let dialogue = failures(alloc)?;
     let session = session_at_last(rt, alloc, &dialogue.script)?;
@@ -204,14 +210,15 @@ fn failures_refused(
 ) -> Result<u32, AllocError> {
     expect_end(rt, session.ended, Ok(Ended::EndOfInput { lost: 0 }), 0);
     let Some(replies) = session.text.strip_prefix(wanted) else {
-        // An offer was refused, so that its job was not fetched.
+        // An offer was refused, so its job was not fetched.
         return Ok(refused_lines(&session.text));
     };
     expect_number(rt, session.offered, 130, 0);
     expect_again(rt, replies, line)
 }
 
-// All jobs are held at the end, and fail then. One whose failure is refused is lost.
+// Runs a session at whose end all jobs are held, and fail. A job whose failure is refused is lost.
+// Returns the number of refusals.
 fn refused_endings(rt: &impl Abort, alloc: Global) -> Result<u32, Fail> {
     let dialogue = fetches(alloc)?;
     let session = session_at_last(rt, alloc, &dialogue.script)?;
@@ -242,14 +249,15 @@ fn endings_refused(
         }
     };
     if text != wanted {
-        // An offer was refused, so that its job was not fetched.
+        // An offer was refused, so its job was not fetched.
         return refused_lines(text);
     }
     expect_number(rt, offered.saturating_add(lost), 128, 0);
     u32::from(lost == 1)
 }
 
-// A job is fetched, so many others are offered, and the job fails. Its replies are those before the failure.
+// Returns a dialogue in which a job is fetched, `standing` others are offered, and the job fails.
+// The reply to the failure is left out.
 fn failure_among(alloc: Global, standing: u64) -> Result<Dialogue, AllocError> {
     let (mut script, mut replies) = (roomy(alloc)?, roomy(alloc)?);
     script.extend_from_slice(b"AT 100\nOFFER 0 j\nPOLL\n")?;
@@ -262,8 +270,8 @@ fn failure_among(alloc: Global, standing: u64) -> Result<Dialogue, AllocError> {
     Ok(Dialogue { script, replies })
 }
 
-// A failure that was refused takes no id: the job is held on, and the end of the session offers it under the
-// next one.
+// Asserts that a refused failure takes no id: the job stays held, and the end of the session offers
+// it under the next id. Returns the number of refusals.
 fn failure_refused(
     rt: &impl Abort,
     session: &Session,
@@ -301,7 +309,8 @@ fn expect_refusals(rt: &impl Abort, refusals: u32) {
     assert_eq!(rt; refusals, REFUSALS);
 }
 
-// One job fails while no element stands, one, and so on up to 64.
+// Runs 65 sessions, in each of which one job fails, while 0, 1, and so on up to 64 elements stand.
+// Returns the number of refusals.
 fn refused_failures_among(rt: &impl Abort, alloc: Global) -> Result<u32, Fail> {
     let mut refused = 0_u32;
     for standing in 0..=MOST_STANDING {

@@ -7,16 +7,16 @@ use std::alloc::{AllocError, Global};
 use std::process::Abort;
 use std::test::Fail;
 
-// Two jobs are fetched at moment 300, which were to expire at 150 and at 160. The first fails by
-// its line, the second at the end of the session.
+// Two jobs that expire at 150 and at 160 are fetched at moment 300. The first fails by its line,
+// the second at the end of the session. `REMOVE 2` takes out the first job's next attempt.
 const SCRIPT: &[u8] = b"AT 300\nOFFERAT 150 a\nPOLL\nOFFERAT 160 b\nPOLL\nFAIL 0\nREMOVE 2\n";
 
 const FETCHED: &[u8] = b"NOW 300\nOFFERED 0 150\nITEM 0 150 1 a\nOFFERED 1 160\nITEM 1 160 1 b\n";
 
-// What a second session asks, to see what the first left.
+// The script of a second session, which shows what the first one left.
 const AFTER: &[u8] = b"PEEK\nSIZE\n";
 
-// How two sessions over one queue came out, one after the other.
+// The outcome of two sessions over one queue, one after the other.
 #[derive(Drop)]
 struct Outcome {
     ended: Result<Ended, SessionFault>,
@@ -51,7 +51,8 @@ fn ran_twice(alloc: Global, script: &[u8], policy: &Policy) -> Result<Outcome, F
     })
 }
 
-// Compares the text that stands behind these replies, and that both sessions came to their end.
+// Asserts that both sessions reach the end of their input, and that the text is `replies` followed
+// by `wanted`.
 fn expect_outcome(rt: &impl Abort, outcome: &Outcome, replies: &[u8], wanted: &[u8], at: usize) {
     expect_end(rt, outcome.ended, Ok(Ended::EndOfInput { lost: 0 }), at);
     expect_end(rt, outcome.after, Ok(Ended::EndOfInput { lost: 0 }), at);
@@ -73,7 +74,7 @@ fn expect_failures(
     Ok(())
 }
 
-// A delay counts from the failure, a rate from the first expiry, and neither leads past 2^64 - 1.
+// A delay counts from the failure, and a rate from the first expiry. Neither leads past 2^64 - 1.
 #[test]
 fn what_fails_follows_the_policy(rt: HostRuntime) -> Result<(), Fail> {
     for (at, (policy, wanted)) in [
@@ -129,8 +130,9 @@ fn the_first_attempt_may_be_the_last(rt: HostRuntime) -> Result<(), Fail> {
     Ok(())
 }
 
-// A job that fails at 2^64 - 1, the greatest moment. It was to expire at 5, and after k failures k
-// steps behind the start.
+// A job that fails at 2^64 - 1, the greatest moment. Its first attempt expires at 5. The attempt
+// after k failures expires k times `step` after `start`, or at the greatest moment if that is
+// earlier.
 #[derive(Clone, Copy)]
 struct Chain {
     start: u64,
@@ -146,7 +148,8 @@ impl Chain {
             .saturating_add(self.step.saturating_mul(failures))
     }
 
-    // The line of the attempt behind so many failures, each of which gave the next id.
+    // Appends the line of the attempt that follows `failures` failures. The attempt's id is that
+    // number, because each failure gives the next id.
     fn push_attempt(
         &self,
         replies: &mut Vec<u8>,
@@ -158,7 +161,7 @@ impl Chain {
         push_line(replies, b"", failures.saturating_add(1), b" j\n")
     }
 
-    // The attempt behind so many failures is fetched and fails.
+    // Appends the fetch and the failure of the attempt that follows `failures` failures.
     fn push_failure(&self, dialogue: &mut Dialogue, failures: u64) -> Result<(), AllocError> {
         push_line(&mut dialogue.script, b"POLL\nFAIL ", failures, b"\n")?;
         self.push_attempt(&mut dialogue.replies, b"ITEM ", failures)?;
@@ -167,7 +170,7 @@ impl Chain {
         push_line(&mut dialogue.replies, b"", self.expiry(next), b"\n")
     }
 
-    // The job fails so often, and is then fetched once more.
+    // Appends the offer of a job that fails `failures` times and is then fetched once more.
     fn push_failures(&self, dialogue: &mut Dialogue, failures: u64) -> Result<(), AllocError> {
         dialogue.push(
             b"AT 18446744073709551615\nOFFERAT 5 j\n",
@@ -181,7 +184,7 @@ impl Chain {
     }
 }
 
-// The 999th attempt is held at the end, and a 1,000th is offered.
+// Asserts that a 1,000th attempt is offered if the 999th is held at the end.
 fn expect_one_more(
     rt: &impl Abort,
     alloc: Global,
@@ -199,7 +202,8 @@ fn expect_one_more(
     Ok(())
 }
 
-// The 1,000th attempt is held at the end, or fails by its line: nothing follows it.
+// Asserts that nothing follows the 1,000th attempt, which is held at the end or fails by its line.
+// `last` is the rest of the script, and what both sessions reply from there on.
 fn expect_no_more(
     rt: &impl Abort,
     alloc: Global,

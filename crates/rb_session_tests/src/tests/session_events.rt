@@ -1,4 +1,5 @@
-// Which events a session makes is a law of every desk, and of the kept one.
+// Laws say which events a session makes: `events_of_..` at every desk, and `history_of_..` at the
+// kept one.
 
 use rb_binary::BinaryTimer;
 use rb_retry::KeptDesk;
