@@ -17,7 +17,7 @@ mod steps;
 mod view;
 
 pub use fault::{CloseFault, OpenFault, SplitFault};
-pub use laws::most_names_has_its_value;
+pub use laws::{looks_have_their_value, most_names_has_its_value};
 pub use pair::MOST_NAMES;
 pub use pass::Pass;
 pub use shared::Shared;

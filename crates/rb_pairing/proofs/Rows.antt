@@ -10,12 +10,12 @@ use Rattle.rb_pairing.proofs.Expiries.{same_length}
 use Rattle.rb_pairing.proofs.InRoom.{in_room-row}
 use Rattle.rb_pairing.proofs.Neighbours.{Joined, joined}
 
--- an entry of the row under `parent` with so many ranks below its own
+-- an entry of the row under `parent` with at least `count` ranks below its own
 pub record RankFrom (nodes : List Node) (parent slot count : ℕ) : Type 0 where
   pub row : Row nodes parent slot
   pub risen : count ≤ row.forest.rank slot
 
--- an entry of the row under `parent` with so many ranks above its own
+-- an entry of the row under `parent` with at least `count` ranks above its own
 pub record RankTo (nodes : List Node) (parent slot count : ℕ) : Type 0 where
   pub row : Row nodes parent slot
   pub sunk : row.forest.rank slot + count < length nodes

@@ -25,7 +25,9 @@ pub use audit::Audit;
 pub use delay_queue::DelayQueue;
 pub use draft::Draft;
 pub use event::Event;
-pub use laws::{each_element_counted, each_id_once, opening_limits_have_their_values};
+pub use laws::{
+    each_element_counted, each_id_once, no_events_sum_to_none, opening_limits_have_their_values,
+};
 pub use opening::{GREATEST_OPENING_ID, MOST_OPENING_ELEMENTS, Opening};
 pub use reply::Reply;
 pub use sequence::{Ids, Items, Sequence};

@@ -42,7 +42,7 @@ abbrev pub all_visits : List (List (Option Served)) → List (Option Served)
 all_visits [] = []
 all_visits (visits ∷ others) = visits ++ all_visits others
 
--- The number under which a worker asks for the visit after so many others. It counts no further than the greatest.
+-- The number under which a worker asks for a visit after `earlier` others. It stays at the greatest count.
 abbrev pub number_of : ℕ → ℕ → VisitNumber
 number_of worker earlier = record { worker = worker; earlier = min earlier GREATEST_COUNT }
 
@@ -97,8 +97,8 @@ module _ {I O G C : Type 0} (terms : Terms I O G C) where
     pub left : Visit I O G
     pub ran : RanVisit visit left old served new
 
-  -- Behind so many earlier visits, the worker asked for these, each under a number of its own. Its pass served those
-  -- who were let in, one after the other, and did nothing else.
+  -- After `earlier` visits the worker asked for these, each under a number of its own. Its pass served those who were
+  -- let in, one after the other, and did nothing else.
   abbrev pub AreVisits : ℕ → ℕ → Seen → List (Option Served) → Seen → Type 0
   AreVisits worker earlier old [] new = new ≡ old
   AreVisits worker earlier old (None ∷ visits) new =

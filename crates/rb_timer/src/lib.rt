@@ -8,6 +8,7 @@
 
 mod clearing;
 mod command;
+mod laws;
 mod list_timer;
 pub mod optional_index;
 mod run;
@@ -15,6 +16,7 @@ mod timer;
 
 pub use clearing::clears_one_by_one;
 pub use command::{TimerAnswer, TimerCommand};
+pub use laws::timer_constants_have_their_values;
 pub use list_timer::ListTimer;
 pub use run::run_timer;
 pub use timer::Timer;

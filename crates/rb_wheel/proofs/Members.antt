@@ -17,7 +17,7 @@ further : {next : ℕ → Option ℕ} {from : Option ℕ} {slot : ℕ} (other : 
 further {next} other here is = later (subst (λ o. Reaches next o other) (sym is) here)
 further other (later way) is = later (further other way is)
 
--- the slots from one on, at most so many
+-- the slots from `from` on, each the next of the one before it: at most `fuel` of them
 abbrev pub walk : (ℕ → Option ℕ) → ℕ → Option ℕ → List ℕ
 walk next zero from = []
 walk next (suc fuel) None = []

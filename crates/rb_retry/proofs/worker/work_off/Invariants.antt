@@ -15,6 +15,6 @@ invariant-loop-job g l = record {
   few : l.report.runs ≤ length (g.D.Desk.mine (g.D.Desk.state l.desk));
 }
 
--- each run makes an event, and no desk makes more than so many
+-- each run makes an event, and no desk makes more than MOST_CALLS
 abbrev pub decreases-loop-job : goal.decreases-loop-job
 decreases-loop-job g l = MOST_CALLS - length (g.D.Desk.mine (g.D.Desk.state l.desk))
