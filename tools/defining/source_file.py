@@ -76,6 +76,8 @@ class SourceFile:
         for member in members_of(item):
             if member.kind == "ghost":
                 self.given[f"{name} as {trait}.{member.name}"] = item, scope, member
+            if member.kind == "const" and not trait:
+                self.types[f"{name}::{member.name}"] = member._replace(code=dedented(member.code, 4))
         self._add_functions(item, name, scope, trait)
 
     def _add_functions(self, item: Item, owner: str, scope: Scope, trait: str = "") -> None:

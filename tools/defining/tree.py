@@ -104,8 +104,9 @@ class Tree:
 
     def _declared(self, crate: str, path: List[str], name: str) -> Optional[Key]:
         """The type or constant of src/ that a generated module stands for."""
-        if path[-1:] == ["TheConstants"]:
-            return Key(self._module_path(crate, path[:-1]), name)
+        if "TheConstants" in path:  # followed by the type, if the constant is one of a type's
+            place = path.index("TheConstants")
+            return Key(self._module_path(crate, path[:place]), "::".join([*path[place + 1:], name]))
         if path and path[-1].startswith("The"):
             path = path[:-1]
         return Key(self._module_path(crate, path[:-1]), path[-1]) if path else None

@@ -14,6 +14,7 @@ use Rattle.rb_shelf.specs.declared.book.Book.{Book}
 use Rattle.rb_shelf.specs.declared.kind.Kind.TheVariants.{Thin}
 use Rattle.rb_shelf.specs.declared.kind.Kind.TheVariants as kinds
 use Rattle.rb_shelf.specs.declared.kind.TheConstants.{MOST}
+use Rattle.rb_shelf.specs.declared.kind.TheConstants.Kind.{USUAL}
 
 pub data Change : Type 0 where
   -- a book comes
@@ -37,7 +38,19 @@ abbrev pub of_other : ℕ → ℕ
 of_other n = others.width n
 """
 OTHER = "use Rattle.std.specs.Prelude.{ℕ}\n\nabbrev pub width : ℕ → ℕ\nwidth n = n\n"
-KIND = "/// How thick it is.\npub enum Kind {\n    Thin,\n    Thick,\n}\n\npub const MOST: u64 = 9;\n"
+KIND = """/// How thick it is.
+pub enum Kind {
+    Thin,
+    Thick,
+}
+
+pub const MOST: u64 = 9;
+
+impl Kind {
+    /// What most books are.
+    pub const USUAL: Kind = Kind::Thin;
+}
+"""
 BLOCK = """module _ {S : Type 0} (width : S → Book)
     (given : ℕ) where
   -- of a book
@@ -158,6 +171,10 @@ class Specs(InCrates):
 
     def test_a_constant(self) -> None:
         self.assertEqual({"MOST"}, self.cites("abbrev pub f : ℕ\nf = MOST\n"))
+
+    def test_a_constant_of_a_type(self) -> None:
+        self.assertEqual({"Kind::USUAL"}, self.cites("abbrev pub f : List Kind\nf = USUAL ∷ []\n"))
+        self.assertEqual({"Kind"}, self.cited("rb_shelf/src/kind.rt", "Kind::USUAL"))
 
     def test_names_of_libraries(self) -> None:
         text = "abbrev pub f : ℕ → List ℕ\nf n = if n ≡ 1 then [] else n ∷ []\n"
