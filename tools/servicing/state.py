@@ -1,0 +1,261 @@
+"""All that the service knows and shows at one moment.
+
+Dates are seconds since 1970 in UTC, spans are seconds, moments of the server are whole nanoseconds. A count has no
+unit. What is not known is None, never 0.
+"""
+from __future__ import annotations
+
+import threading
+from dataclasses import dataclass
+from enum import Enum
+from typing import Optional, Tuple
+
+
+class Phase(Enum):
+    """What the service is doing. A phase follows the one before, or SERVING and the rest again with the next run."""
+
+    STARTING = "starting"  # the folder is locked; the server does not listen yet
+    SERVING = "serving"  # clients are served
+    ENDING = "ending"  # the run ends in good order: clients are leaving, and new ones wait for the next run
+    BETWEEN = "between runs"  # no server: the history is being written and checked, and the next opening is made
+    STOPPED = "stopped"  # the service has ended in good order
+
+
+class Reason(Enum):
+    """Why a run ends."""
+
+    ASKED = "asked"  # SIGTERM or SIGINT
+    TIME = "time"  # --every
+    CALLS = "calls"  # few are left, or none
+    SESSIONS = "sessions"
+    ELEMENTS = "elements"  # elements that were set aside have room again, or are due
+    KILLED = "killed"  # the server's process ended before its run did: the run is lost
+    UNKNOWN = "unknown"  # it ended in good order while no service was there
+
+
+class Doing(Enum):
+    """What a client does, the worst first."""
+
+    NOT_READING = "does not read"  # its replies pile up on the way to it
+    HUNG_UP = "has hung up"  # while its request waits
+    WAITING = "waits for a worker"
+    SILENT = "says nothing"
+    IN_CALL = "in a call"  # a guess: the system counts pieces, not requests
+    ACTIVE = "active"
+
+
+@dataclass(frozen=True)
+class Client:
+    """A client's connection. The service's own is not among them."""
+
+    port: int  # the client's own
+    program: Optional[str]  # its name, as far as this user may see it
+    pid: Optional[int]
+    doing: Doing
+    seconds: Optional[float]  # since something last came from it
+    unread_by_client: int  # bytes
+    unread_by_server: int  # bytes
+
+
+@dataclass(frozen=True)
+class Clients:
+    """The clients at the last look."""
+
+    all: Tuple[Client, ...]  # the worst first
+    workers: int  # how many clients can be served at once
+    silent_from: float  # seconds of silence that count
+
+    def count(self, *doings: Doing) -> int:
+        return sum(it.doing in doings for it in self.all)
+
+    @property
+    def served(self) -> int:
+        return len(self.all) - self.count(Doing.WAITING)
+
+    @property
+    def silent(self) -> Tuple[Client, ...]:
+        """Those that have said nothing for so long that it counts, the longest silence first."""
+        silent = [it for it in self.all if it.doing is Doing.SILENT and (it.seconds or 0) >= self.silent_from]
+        return tuple(sorted(silent, key=lambda it: -(it.seconds or 0)))
+
+
+@dataclass(frozen=True)
+class Head:
+    """The element that expires first."""
+
+    id: int
+    expiry: int  # a moment
+    attempt: int  # which comes next, from 1
+    payload: str
+    late: float  # seconds since its expiry, below 0 before it
+
+
+@dataclass(frozen=True)
+class Queue:
+    """The queue at the last look at which the server answered."""
+
+    at: float  # when it was looked at
+    elements: int  # the depth: expired or not, without those that are set aside
+    head: Optional[Head]  # None if the queue is empty
+
+
+@dataclass(frozen=True)
+class Supply:
+    """Something of which a run has so many."""
+
+    used: int
+    is_least: bool  # whether more may be used than was seen
+    limit: int
+    a_second: Optional[float]  # over the last minute
+
+    @property
+    def lasts(self) -> Optional[float]:
+        """In how many seconds nothing is left at this pace."""
+        return max(self.limit - self.used, 0) / self.a_second if self.a_second else None
+
+
+@dataclass(frozen=True)
+class Traffic:
+    """What was counted since this service began, over all its runs, and how fast it rises.
+
+    The present run is counted by ids, which rise by one for each offer and for each job that comes back: the two can't
+    be told apart before its history is there. So `failed` is that of runs that have ended.
+    """
+
+    offered: int  # elements, a job that came back among them
+    left: int  # elements that were given, removed or cleared
+    failed: int  # jobs that came back, in the runs that have ended in good order
+    dead_or_done: int  # jobs that were given their last attempt, in those runs
+    offered_a_second: Optional[float]  # over the last minute
+    left_a_second: Optional[float]
+    failed_a_second: Optional[float]  # over the last run that has ended in good order
+
+
+@dataclass(frozen=True)
+class Run:
+    """The present run, or the one that is about to begin."""
+
+    number: int  # from 1, as in the names of its files
+    id: str  # which no other run of any service has, also after a lost one: FOLDER's id, a hyphen and the number
+    began: float  # when its server began
+    moment: int  # the moment at its beginning
+    next_id: int  # the id of its first offer
+    opening: int  # elements that it began with
+    aside: int  # elements beyond the 1,000,000 of an opening, which wait in a file
+    server: Optional[int]  # the process
+
+
+@dataclass(frozen=True)
+class PastRun:
+    """A run that has ended. The counts of a lost run are not known."""
+
+    number: int
+    id: str
+    began: float
+    ended: float  # for a lost run, when that was found
+    why: Reason
+    opening: int
+    history: Optional[str]  # the path of the file, which ends in .gz if it is compressed; None if there is none
+    calls: Optional[int]
+    offered: Optional[int]  # new jobs
+    failed: Optional[int]  # jobs that came back
+    given: Optional[int]
+    left: Optional[int]  # elements at its end
+    lost_jobs: Optional[int]  # held at a session's end in a full run, so that they could not come back
+    closed: Optional[float]  # seconds without a server that served new clients, before the next run
+    held_by: Tuple[str, ...] = ()  # the clients that were waited for longest, and those that were cut
+    cut: int = 0  # sessions that were cut
+
+    @property
+    def is_lost(self) -> bool:
+        return self.why is Reason.KILLED
+
+    @property
+    def lasted(self) -> float:
+        return self.ended - self.began
+
+
+@dataclass(frozen=True)
+class Alert:
+    """Something that an operator has to know of or to do, for as long as it is so."""
+
+    name: str  # one word or several with hyphens, the same as long as it is the same alert
+    text: str  # a sentence
+    since: float
+
+
+@dataclass(frozen=True)
+class DiskFault:
+    """A file could not be written. It is kept in memory, and tried again."""
+
+    file: str
+    why: str  # the system's words, such as "No space left on device"
+    since: float
+    kept: int  # bytes that are in memory only
+
+
+@dataclass(frozen=True)
+class Settings:
+    """How the service was started, as far as others show it."""
+
+    port: int
+    folder: str
+    every: float  # seconds
+    stop_within: float  # seconds
+    attempts: int
+    policy: str  # such as "--delay 30s"
+
+
+@dataclass(frozen=True)
+class State:
+    """The whole."""
+
+    at: float  # when this was made
+    settings: Settings
+    began: float  # when the service began
+    phase: Phase
+    since: float  # when that phase began
+    why: Optional[Reason]  # in ENDING, BETWEEN and STOPPED: why the run ends
+    waits_for: Tuple[str, ...]  # what the phase waits for, a text each: the clients that hold a run up, a full disk
+    run: Optional[Run]
+    queue: Optional[Queue]
+    clients: Optional[Clients]
+    calls: Optional[Supply]
+    sessions: Optional[Supply]
+    traffic: Traffic
+    runs: Tuple[PastRun, ...]  # those that are kept, the latest first
+    lost_runs: int  # since the folder exists
+    alerts: Tuple[Alert, ...]
+    disk: Optional[DiskFault]
+
+    @property
+    def is_healthy(self) -> bool:
+        """Whether clients are served, or will be within seconds."""
+        return self.disk is None and self.phase in (Phase.SERVING, Phase.ENDING)
+
+
+class Board:
+    """Holds the latest state. Any thread may look at it; the service's own puts it there."""
+
+    def __init__(self) -> None:
+        self._changed = threading.Condition()
+        self._state: Optional[State] = None
+        self._version = 0
+
+    def put(self, state: State) -> None:
+        with self._changed:
+            self._state, self._version = state, self._version + 1
+            self._changed.notify_all()
+
+    @property
+    def state(self) -> Optional[State]:
+        """The latest, or None before the first."""
+        with self._changed:
+            return self._state
+
+    def wait(self, seen: int, seconds: float) -> Tuple[int, Optional[State]]:
+        """Waits until there is a state after the one of version `seen`, at first 0, or so long. Returns the latest
+        with its version."""
+        with self._changed:
+            self._changed.wait_for(lambda: self._version > seen, seconds)
+            return self._version, self._state

@@ -1,0 +1,3 @@
+"""The tests of tools/service, which tools/check_service runs."""
+
+NEEDS_PROGRAM = True
