@@ -6,6 +6,7 @@
     history.py, reader.py, events.py, reported_queue.py  a history in columns, with the queue that it describes
     series.py, continuation.py                           the histories of runs that follow one another, in one
     next_run.py              how the run begins that continues a history, without reading all of it
+    files.py                 the file of a history, which may be compressed
     faults.py                why a history can't be read
 
 tools/report and tools/export take the columns, in which all must be as a queue does it. tools/verify and the tests

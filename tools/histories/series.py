@@ -6,6 +6,7 @@ from contextlib import ExitStack, contextmanager
 from typing import BinaryIO, Callable, Iterator, NamedTuple, Sequence, Tuple
 
 from histories.faults import Damaged
+from histories.files import COMPRESSED, open_history
 from histories.history import History
 from histories.reader import Reader
 from histories.text import Text
@@ -43,11 +44,11 @@ def read_series(paths: Sequence[str], look: Look) -> History:
     with ExitStack() as files:
         sources = []
         for path in paths:
-            opened = files.enter_context(open(path, "rb"))
+            opened = files.enter_context(open_history(path))
             with _named(path):
                 sources.append(Source(path, opened, Text(opened)))
         for path, file, text in sorted(sources, key=lambda it: it.order):
-            size = os.fstat(file.fileno()).st_size
+            size = 0 if path.endswith(COMPRESSED) else os.fstat(file.fileno()).st_size
             with _named(path):
                 reader.read(path, text, lambda: look(path, file, size))
     return reader.history

@@ -10,8 +10,8 @@ on a terminal and on a page.
     svg.py, time_axis.py, span_axis.py            the axes of plots, and what else they are drawn with
     plot.py, *_plot.py, *_plots.py                the plots of the page
     lives.py                                      the lives of jobs, as the page has them
-    page.py, page_parts.py, page.css              the page
-    page.js, lives.js, jobs.js, readings.js       what it does in a browser
+    head.py, page.py, page_parts.py, page.css     the page
+    page.js, lives.js, jobs.js, readings.js, plots.js  what it does in a browser
     progress.py                                   a line that says how far a long report is
 
 The tests are below tests/, with a maker of large histories; tools/check_report runs them.

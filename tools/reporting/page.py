@@ -1,16 +1,14 @@
 """The report as a page: one file that needs nothing else. Every text that comes from a history is escaped, and the
-page forbids the browser to run any script but its own, by that script's hash."""
+page forbids the browser to run any script but its own."""
 from __future__ import annotations
 
-import base64
-import hashlib
 import os
-from html import escape
 from typing import Sequence
 
 from reporting.attempts_plot import attempts_plot
 from reporting.depth_plot import depth_plot
 from reporting.figures import Figures
+from reporting.head import head
 from reporting.lateness_plots import lateness_plot, spread_plot
 from reporting.lives import chosen_jobs, told_json
 from reporting.page_parts import body
@@ -19,7 +17,7 @@ from reporting.rates_plot import rates_plot
 from reporting.seats_plot import seats_plot
 
 HERE = os.path.dirname(os.path.realpath(__file__))
-SCRIPTS = ("page.js", "lives.js", "jobs.js", "readings.js")
+SCRIPTS = ("page.js", "lives.js", "jobs.js", "readings.js", "plots.js")
 
 PLOTS = (depth_plot, rates_plot, lateness_plot, spread_plot, attempts_plot, seats_plot)
 
@@ -29,29 +27,13 @@ def _file(name: str) -> str:
         return file.read()
 
 
-def _hash(text: str) -> str:
-    return "'sha256-" + base64.b64encode(hashlib.sha256(text.encode()).digest()).decode() + "'"
-
-
-def _head(name: str, style: str, script: str) -> str:
-    sources = f"style-src {_hash(style)}; script-src {_hash(script)}"
-    policy = f"default-src 'none'; {sources}; base-uri 'none'; form-action 'none'"
-    return (
-        '<!DOCTYPE html>\n<html lang="en">\n<head>\n<meta charset="utf-8">\n'
-        f'<meta http-equiv="Content-Security-Policy" content="{escape(policy)}">\n'
-        '<meta name="viewport" content="width=device-width, initial-scale=1">\n'
-        '<meta name="color-scheme" content="light dark">\n'
-        f"<title>{escape(os.path.basename(name))}: report</title>\n<style>{style}</style>\n</head>\n"
-    )
-
-
 def page(figures: Figures) -> str:
     """The page."""
     style, script = _file("page.css"), "".join(map(_file, SCRIPTS))
     chosen = chosen_jobs(figures)
     plots: Sequence[Plot] = [draw(figures) for draw in PLOTS]
     return (
-        f"{_head(figures.name, style, script)}<body>\n{body(figures, plots, chosen)}"
+        f"{head(f'{os.path.basename(figures.name)}: report', style, script)}<body>\n{body(figures, plots, chosen)}"
         f'<script type="application/json" id="lives">{told_json(figures, chosen.roots, plots)}</script>\n'
         f"<script>{script}</script>\n</body>\n</html>\n"
     )

@@ -78,6 +78,17 @@ class Readings {
     this.put(share);
   }
 
+  // What is shown from now on, in a plot that is drawn again.
+  renew(readings) {
+    this.readings = readings;
+    this.drawing.setAttribute("aria-valuemax", String(readings.length));
+    if (this.box.hidden) {
+      this.say(readings.length - 1);
+    } else {
+      this.tell(Math.min(this.place, readings.length - 1));
+    }
+  }
+
   // Tells a screen reader the value.
   say(place) {
     this.drawing.setAttribute("aria-valuenow", String(place + 1));
@@ -97,8 +108,4 @@ class Readings {
     this.box.hidden = true;
     this.cursor.setAttribute("visibility", "hidden");
   }
-}
-
-for (const [name, readings] of Object.entries(told.readings)) {
-  new Readings(document.getElementById("plot-" + name), readings);
 }
