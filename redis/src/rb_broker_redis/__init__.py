@@ -1,0 +1,1 @@
+"""rb_broker's line protocol over queues that stand in a Redis."""

@@ -1,0 +1,533 @@
+#!lua name=rb_broker
+-- The broker's calls as functions of a Redis (7.0 or later). docs/PROTOCOL.md has the requests, docs/HISTORY.md the
+-- lines of events.
+--
+-- Keys. A queue NAME is eight keys with one hash tag, so all of it is on one node of a cluster. Every function takes
+-- all eight, in this order, whether it needs them or not:
+--   1 {NAME}:due       sorted set, all of score 0, so ordered by bytes: 'EXPIRY:ID ORIGIN FIRST ATTEMPT PAYLOAD'
+--   2 {NAME}:ids       hash, of the elements in the queue: ID -> EXPIRY, with which REMOVE finds the member of due
+--   3 {NAME}:held      sorted set, all of score 0: 'SEAT:ID FETCH EXPIRY ORIGIN FIRST ATTEMPT PAYLOAD'
+--   4 {NAME}:state     hash, below
+--   5 {NAME}:history   list of the event lines that no archive has taken yet, oldest first, without line feeds
+--   6 {NAME}:dead      sorted set, all of score 0: 'ID DIED EXPIRY ORIGIN FIRST ATTEMPT PAYLOAD'
+--   7 {NAME}:gateways  sorted set: the number of a gateway, with the microsecond since 1970 at which its lease ends
+--   8 {NAME}:opening   list: the lines 'open ..' and 'keep ..' with which event 0 begins; no key for an empty opening
+-- In due, held and dead the words EXPIRY, ID, SEAT, FETCH and DIED have 20 digits, and so has an EXPIRY of ids; all
+-- other numbers are as in the protocol. Wakes are published at the channel '{NAME}:head'.
+--
+-- Fields of state:
+--   next      the id of the next offer            fetched   how many fetches there were; their number orders held jobs
+--   at        the last event's moment, 20 digits  calls     how many events there were
+--   cut       how many of them an archive took    limit     the greatest number of calls; only a script's queue has one
+--   pace      'delay' or 'rate'                   period    its nanoseconds, 20 digits
+--   attempts  those of a job                      gateways  how many gateways have joined; each gets the next number
+--   history   'no' if no events are kept          loading   the token of a load that has not ended
+--   wake      an offer below this expiry is published: a gateway waits, and knows of none below it
+--
+-- A moment is a string of 20 digits, so it is exact up to 2^64 - 1 and ordered as text. Lua's numbers are exact up to
+-- 2^53 only; sums are made of two halves of 10 digits. Moments are nanoseconds since 1970 by the node's TIME.
+--
+-- A session is its seat, a number that is never used again: GATEWAY * 10^12 + N for the session N of a gateway, and 0
+-- for the commands of the package. What it holds is in held, in the order of FETCH. A session has no lease of its own.
+-- Its gateway has one: while a gateway holds jobs, it is in gateways. Once its lease is over, the RENEW of any other
+-- gateway ends its sessions.
+--
+-- Functions. ARGS are those after the keys.
+--   rb_version                                    the version of this library, '1'; it needs no keys
+--   rb_join LEASE PACE PERIOD ATTEMPTS MODE       a gateway joins, and the queue is made if there is none.
+--       LEASE is microseconds; PACE, PERIOD and ATTEMPTS are the policy, or '' for the queue's. MODE is '', 'change' to
+--       change the policy of a queue that has another, 'silent' to keep no events of a queue that is made now, or
+--       'limit N' for a queue that takes N calls. -> [GATEWAY, PACE, PERIOD, ATTEMPTS, NOW], or the error POLICY
+--   rb_calls MOMENT GATEWAY LEASE CALL ..         makes the calls, one after the other, in one step.
+--       MOMENT is '' for the node's TIME, or 20 digits. GATEWAY is '' where none is to be joined. -> a reply for each
+--   rb_spare MOMENT GATEWAY LEASE CALL ..         the same for a Redis that is full: what needs room is 'ERR 7 memory'
+--   rb_renew GATEWAY LEASE                        renews the lease, and ends up to 1,000 jobs of a gateway whose lease
+--       is over. -> how many jobs; call again until it is 0
+--   rb_leave GATEWAY                              the gateway's sessions have ended, and it leaves
+--   rb_cut CUT COUNT                              takes COUNT lines off the front of history, if CUT lines were taken
+--       before, and the opening with them. -> how many were taken in all, which the caller compares
+--   rb_load TOKEN INDEX LINE ..                   gives an unused queue the 'keep' lines that follow INDEX others, in
+--       rising order of id. -> how many it has in all, so that a load that was broken off can go on
+--   rb_loaded TOKEN NEXT LAST                     ends the load: the next id, and the last moment
+--
+-- A CALL is one argument: 'SEAT REQUEST', where REQUEST is a line of the protocol that is known to be well formed
+-- (without AT and QUIT), or one of these:
+--   POLLFOR TIMEOUT START   a later try of a timed poll that began at START
+--   END                     the session ends: what it holds fails, in the order of its fetches. -> 'ENDED n', n lost
+--   REVIVE ID DELAY         offers a dead job again, as a new job. -> 'OFFERED id expiry' or 'NONE'
+--   DROP ID                 forgets a dead job. -> 'DROPPED id' or 'NONE'
+-- A reply is the protocol's, each line with its line feed, or 'LATER HEAD NOW START\n' where TAKE and POLLFOR have to
+-- wait: the earliest expiry ('-' if the queue is empty), the moment now, and when the wait began, three numbers.
+--
+-- A publish is 'HEAD NOW': the expiry of an element that has become the earliest, and the moment now.
+
+local VERSION = '1'
+local LAST = '18446744073709551615'
+local MOST_HELD = 64
+local MOST_ENDED = 1000
+local NEVER = '~' -- above every moment
+
+-- What stands before a number of so many digits. A library that is loaded may not use string.rep.
+local ZEROS = { [20] = '' }
+for digits = 19, 0, -1 do ZEROS[digits] = ZEROS[digits + 1] .. '0' end
+
+local function pad(number) return ZEROS[#number] .. number end
+local function plain(digits) return string.match(digits, '^0*(%d+)$') end
+local function whole(number) return string.format('%.0f', number) end
+
+-- The sum as 20 digits, or nil if it passes 2^64 - 1.
+local function add(a, b)
+    local low = tonumber(string.sub(a, 11)) + tonumber(string.sub(b, 11))
+    local high = tonumber(string.sub(a, 1, 10)) + tonumber(string.sub(b, 1, 10))
+    if low >= 1e10 then low, high = low - 1e10, high + 1 end
+    if high >= 1e10 then return nil end
+    local sum = string.format('%010.0f%010.0f', high, low)
+    return sum <= LAST and sum or nil
+end
+
+-- The product with a number of at most 1,000, as 20 digits, or nil if it passes 2^64 - 1.
+local function multiply(a, times)
+    local low = tonumber(string.sub(a, 11)) * times
+    local carry = math.floor(low / 1e10)
+    local high = tonumber(string.sub(a, 1, 10)) * times + carry
+    if high >= 1e10 then return nil end
+    local product = string.format('%010.0f%010.0f', high, low - carry * 1e10)
+    return product <= LAST and product or nil
+end
+
+local function microseconds()
+    local time = redis.call('TIME')
+    return tonumber(time[1]) * 1e6 + tonumber(time[2])
+end
+
+local function moment_of(microsecond) return pad(whole(microsecond) .. '000') end
+
+-- The queue as a step sees it. Events, counters and the wake are written by `close`, once for all calls of a step.
+local FIELDS = { 'next', 'at', 'calls', 'fetched', 'wake', 'pace', 'period', 'attempts', 'limit', 'history', 'loading' }
+
+local function open(keys, moment)
+    local state = redis.call('HMGET', keys[4], unpack(FIELDS))
+    if state[11] then return nil, redis.error_reply('LOADING_QUEUE a load into this queue has not ended') end
+    if not state[6] then return nil, redis.error_reply('NOQUEUE there is no such queue') end
+    local now = moment == '' and microseconds() or nil
+    local asked = now and moment_of(now) or moment
+    local at = state[2]
+    if asked > at then at = asked end
+    return {
+        keys = keys, now = now, asked = asked, at = at, plain_asked = plain(asked), plain_at = plain(at),
+        next = tonumber(state[1]), calls = tonumber(state[3]), fetched = tonumber(state[4]), wake = state[5],
+        pace = state[6], period = state[7], attempts = tonumber(state[8]), limit = tonumber(state[9] or '1e300'),
+        silent = state[10] == 'no', lines = {}, counts = {},
+        at_before = state[2], calls_before = tonumber(state[3]), wake_before = state[5],
+    }
+end
+
+local function append(queue)
+    if #queue.lines > 0 and not queue.silent then redis.call('RPUSH', queue.keys[5], unpack(queue.lines)) end
+    queue.lines = {}
+end
+
+local function close(queue)
+    append(queue)
+    if queue.calls > queue.calls_before or queue.wake ~= queue.wake_before then
+        local at = queue.calls > queue.calls_before and queue.at or queue.at_before
+        redis.call('HSET', queue.keys[4], 'next', whole(queue.next), 'at', at, 'calls', whole(queue.calls),
+            'fetched', whole(queue.fetched), 'wake', queue.wake)
+    end
+    if queue.earlier then
+        local channel = string.gsub(queue.keys[1], ':due$', ':head')
+        redis.call('PUBLISH', channel, plain(queue.earlier) .. ' ' .. queue.plain_at)
+    end
+end
+
+local function record(queue, seat, act)
+    queue.calls = queue.calls + 1
+    local lines = queue.lines
+    lines[#lines + 1] = seat .. ' ' .. queue.plain_asked .. ' ' .. queue.plain_at .. ' ' .. act
+    if #lines == 1000 then append(queue) end
+end
+
+local function is_full(queue) return queue.calls >= queue.limit end
+
+-- The earliest member of due, or false if the queue is empty.
+local function head_of(queue)
+    if queue.head == nil then queue.head = redis.call('ZRANGE', queue.keys[1], 0, 0)[1] or false end
+    return queue.head
+end
+
+-- Inserts an element, and records its offer. A first attempt has no origin yet.
+local function insert(queue, seat, expiry, origin, first, attempt, payload)
+    local id = whole(queue.next)
+    queue.next = queue.next + 1
+    local shown = plain(expiry)
+    local rest = (origin or id) .. ' ' .. (first or shown) .. ' ' .. attempt .. ' ' .. payload
+    local member = expiry .. ':' .. pad(id) .. ' ' .. rest
+    redis.call('ZADD', queue.keys[1], 0, member)
+    redis.call('HSET', queue.keys[2], id, expiry)
+    if queue.head ~= nil and (not queue.head or member < queue.head) then queue.head = member end
+    if expiry < queue.wake then
+        queue.wake = expiry
+        if not queue.earlier or expiry < queue.earlier then queue.earlier = expiry end
+    end
+    record(queue, seat, 'offer ' .. id .. ' ' .. shown .. ' ' .. rest)
+    return id, shown
+end
+
+-- How many jobs the session holds.
+local function count_of(queue, seat)
+    local count = queue.counts[seat]
+    if not count then
+        local prefix = pad(seat)
+        count = redis.call('ZLEXCOUNT', queue.keys[3], '[' .. prefix .. ':', '(' .. prefix .. ';')
+        queue.counts[seat] = count
+    end
+    return count
+end
+
+-- Sees to it that the gateway has a lease before one of its sessions holds a job.
+local function join(queue)
+    local gateway = queue.gateway
+    if gateway == '' then return end
+    if not redis.call('ZSCORE', queue.keys[7], gateway) then
+        redis.call('ZADD', queue.keys[7], whole(queue.now + tonumber(queue.lease)), gateway)
+    end
+    queue.gateway = ''
+end
+
+-- Takes out the earliest element, if it has expired, and lets the session hold it. -> its id and its ITEM line
+local function fetch(queue, seat)
+    local head = head_of(queue)
+    if not head or string.sub(head, 1, 20) > queue.at then return nil end
+    join(queue)
+    local expiry, id, origin, first, attempt, payload = string.match(head, '^(%d+):(%d+) (%d+) (%d+) (%d+) (.*)$')
+    local shown = plain(id)
+    redis.call('ZPOPMIN', queue.keys[1])
+    redis.call('HDEL', queue.keys[2], shown)
+    queue.head = nil
+    queue.fetched = queue.fetched + 1
+    redis.call('ZADD', queue.keys[3], 0, pad(seat) .. ':' .. id .. ' ' .. pad(whole(queue.fetched)) .. ' ' .. expiry
+        .. ' ' .. string.sub(head, 43))
+    queue.counts[seat] = count_of(queue, seat) + 1
+    return shown, 'ITEM ' .. shown .. ' ' .. plain(expiry) .. ' ' .. attempt .. ' ' .. payload .. '\n'
+end
+
+-- When a wait that finds nothing has to be tried again.
+local function later(queue, start)
+    local head = head_of(queue)
+    local expiry = head and string.sub(head, 1, 20) or NEVER
+    if queue.wake == '' or expiry > queue.wake then queue.wake = expiry end
+    return 'LATER ' .. (head and plain(expiry) or '-') .. ' ' .. queue.plain_at .. ' ' .. start .. '\n'
+end
+
+-- The moment at which the next attempt of a job that fails now expires.
+local function next_expiry(queue, first, attempt)
+    if queue.pace == 'delay' then return add(queue.asked, queue.period) or LAST end
+    local passed = multiply(queue.period, attempt)
+    return passed and add(pad(first), passed) or LAST
+end
+
+-- The job that a member of held describes.
+local function job_of(member)
+    local id, fetch, expiry, origin, first, attempt, payload =
+        string.match(member, '^%d+:(%d+) (%d+) (%d+) (%d+) (%d+) (%d+) (.*)$')
+    return { id = id, fetch = fetch, expiry = expiry, origin = origin, first = first, attempt = tonumber(attempt),
+        payload = payload, member = member }
+end
+
+-- Lets a held job fail. -> its reply, or nil if its next attempt is refused: then it stays held
+local function fail_job(queue, seat, job)
+    local reply
+    if job.attempt >= queue.attempts then
+        redis.call('ZADD', queue.keys[6], 0, job.id .. ' ' .. queue.at .. ' ' .. string.sub(job.member, 64))
+        reply = 'DEAD ' .. plain(job.id) .. '\n'
+    elseif is_full(queue) then
+        return nil
+    else
+        local id, shown = insert(queue, seat, next_expiry(queue, job.first, job.attempt), job.origin, job.first,
+            whole(job.attempt + 1), job.payload)
+        reply = 'AGAIN ' .. id .. ' ' .. shown .. '\n'
+    end
+    redis.call('ZREM', queue.keys[3], job.member)
+    if queue.counts[seat] then queue.counts[seat] = queue.counts[seat] - 1 end
+    return reply
+end
+
+-- Ends a session: what it holds fails in the order of the fetches. -> how many jobs are lost
+local function end_session(queue, seat)
+    local prefix = pad(seat)
+    local members = redis.call('ZRANGEBYLEX', queue.keys[3], '[' .. prefix .. ':', '(' .. prefix .. ';')
+    local jobs, lost = {}, 0
+    for place, member in ipairs(members) do jobs[place] = job_of(member) end
+    table.sort(jobs, function(one, other) return one.fetch < other.fetch end)
+    for _, job in ipairs(jobs) do
+        if not fail_job(queue, seat, job) then
+            redis.call('ZREM', queue.keys[3], job.member)
+            lost = lost + 1
+        end
+    end
+    queue.counts[seat] = 0
+    return lost
+end
+
+-- The requests. Each gets the queue, the seat and the words, and returns the reply.
+local requests = {}
+
+local HELD, FULL, NOT_HELD = 'ERR 9 held\n', 'ERR 6 full\n', 'ERR 5 not-held\n'
+local MEMORY = 'ERR 7 memory\n'
+
+local function offer_at(queue, seat, expiry, payload)
+    if is_full(queue) then return FULL end
+    if queue.spare then return MEMORY end
+    local id, shown = insert(queue, seat, expiry, nil, nil, '1', payload)
+    return 'OFFERED ' .. id .. ' ' .. shown .. '\n'
+end
+
+function requests.OFFER(queue, seat, delay, payload)
+    local expiry = add(queue.asked, pad(delay))
+    if not expiry then return 'ERR 3 range\n' end
+    return offer_at(queue, seat, expiry, payload)
+end
+
+function requests.OFFERAT(queue, seat, expiry, payload) return offer_at(queue, seat, pad(expiry), payload) end
+
+function requests.POLL(queue, seat)
+    if count_of(queue, seat) >= MOST_HELD then return HELD end
+    if is_full(queue) then return FULL end
+    local id, item = fetch(queue, seat)
+    record(queue, seat, id and 'poll ' .. id or 'poll none')
+    return item or 'NONE\n'
+end
+
+function requests.TAKE(queue, seat)
+    if count_of(queue, seat) >= MOST_HELD then return HELD end
+    if is_full(queue) then return FULL end
+    local id, item = fetch(queue, seat)
+    if not id then return later(queue, queue.plain_asked) end
+    record(queue, seat, 'take ' .. id)
+    return item
+end
+
+function requests.POLLFOR(queue, seat, timeout, start)
+    if count_of(queue, seat) >= MOST_HELD then return HELD end
+    if is_full(queue) then return FULL end
+    if start == '' then start = queue.plain_asked end
+    local id, item = fetch(queue, seat)
+    if not id and (add(pad(start), pad(timeout)) or LAST) > queue.at then return later(queue, start) end
+    record(queue, seat, 'pollfor ' .. start .. ' ' .. timeout .. ' ' .. (id or 'none'))
+    return item or 'NONE\n'
+end
+
+function requests.PEEK(queue, seat)
+    if is_full(queue) then return FULL end
+    local head = head_of(queue)
+    if not head then
+        record(queue, seat, 'peek none')
+        return 'NONE\n'
+    end
+    local expiry, id, attempt, payload = string.match(head, '^0*(%d+):0*(%d+) %d+ %d+ (%d+) (.*)$')
+    record(queue, seat, 'peek ' .. id)
+    return 'HEAD ' .. id .. ' ' .. expiry .. ' ' .. attempt .. ' ' .. payload .. '\n'
+end
+
+function requests.REMOVE(queue, seat, id)
+    if is_full(queue) then return FULL end
+    local expiry = redis.call('HGET', queue.keys[2], id)
+    if not expiry then
+        record(queue, seat, 'remove ' .. id .. ' no')
+        return 'REMOVED no\n'
+    end
+    local member = expiry .. ':' .. pad(id)
+    redis.call('ZREMRANGEBYLEX', queue.keys[1], '[' .. member .. ' ', '(' .. member .. '!')
+    redis.call('HDEL', queue.keys[2], id)
+    queue.head = nil
+    record(queue, seat, 'remove ' .. id .. ' yes')
+    return 'REMOVED yes\n'
+end
+
+function requests.DRAIN(queue, seat, most)
+    if is_full(queue) then return FULL end
+    if queue.spare then return MEMORY end
+    local max = math.min(tonumber(most), MOST_HELD - count_of(queue, seat))
+    local act, items = { 'drain ' .. whole(max) }, { '' }
+    while #items <= max do
+        local id, item = fetch(queue, seat)
+        if not id then break end
+        act[#act + 1], items[#items + 1] = id, item
+    end
+    record(queue, seat, table.concat(act, ' '))
+    items[1] = 'DRAINED ' .. whole(#items - 1) .. '\n'
+    return table.concat(items)
+end
+
+function requests.CLEAR(queue, seat)
+    if is_full(queue) then return FULL end
+    redis.call('UNLINK', queue.keys[1], queue.keys[2])
+    queue.head = false
+    record(queue, seat, 'clear')
+    return 'CLEARED\n'
+end
+
+function requests.SIZE(queue, seat)
+    if is_full(queue) then return FULL end
+    local count = whole(redis.call('ZCARD', queue.keys[1]))
+    record(queue, seat, 'size ' .. count)
+    return 'SIZE ' .. count .. '\n'
+end
+
+function requests.DONE(queue, seat, id)
+    local member = pad(seat) .. ':' .. pad(id)
+    local ended = redis.call('ZREMRANGEBYLEX', queue.keys[3], '[' .. member .. ' ', '(' .. member .. '!')
+    if ended == 0 then return NOT_HELD end
+    if queue.counts[seat] then queue.counts[seat] = queue.counts[seat] - 1 end
+    return 'DONE ' .. id .. '\n'
+end
+
+function requests.FAIL(queue, seat, id)
+    local member = pad(seat) .. ':' .. pad(id)
+    member = redis.call('ZRANGEBYLEX', queue.keys[3], '[' .. member .. ' ', '(' .. member .. '!')[1]
+    if not member then return NOT_HELD end
+    local job = job_of(member)
+    if queue.spare and job.attempt < queue.attempts and not is_full(queue) then return MEMORY end
+    return fail_job(queue, seat, job) or FULL
+end
+
+function requests.END(queue, seat) return 'ENDED ' .. end_session(queue, seat) .. '\n' end
+
+local function dead_job(queue, id)
+    return redis.call('ZRANGEBYLEX', queue.keys[6], '[' .. pad(id) .. ' ', '(' .. pad(id) .. '!')[1]
+end
+
+function requests.REVIVE(queue, seat, id, delay)
+    local member = dead_job(queue, id)
+    if not member then return 'NONE\n' end
+    local reply = requests.OFFER(queue, seat, delay, string.match(member, '(%S+)$'))
+    if string.sub(reply, 1, 3) ~= 'ERR' then redis.call('ZREM', queue.keys[6], member) end
+    return reply
+end
+
+function requests.DROP(queue, seat, id)
+    local member = dead_job(queue, id)
+    if not member then return 'NONE\n' end
+    redis.call('ZREM', queue.keys[6], member)
+    return 'DROPPED ' .. id .. '\n'
+end
+
+local function perform(keys, args, spare)
+    local queue, fault = open(keys, args[1])
+    if not queue then return fault end
+    queue.spare, queue.gateway, queue.lease = spare, args[2], args[3]
+    local replies = {}
+    for place = 4, #args do
+        local seat, word, number, rest = string.match(args[place], '^(%d+) (%u+) ?(%S*) ?(%S*)$')
+        replies[place - 3] = requests[word](queue, seat, number, rest)
+    end
+    close(queue)
+    return replies
+end
+
+local function join_gateway(keys, args)
+    local lease, pace, period, attempts, mode = unpack(args)
+    local state = redis.call('HMGET', keys[4], 'pace', 'period', 'attempts', 'loading')
+    if state[4] then return redis.error_reply('LOADING_QUEUE a load into this queue has not ended') end
+    if not state[1] then
+        if pace == '' then pace, period, attempts = 'delay', pad('30000000000'), '20' end
+        redis.call('HSET', keys[4], 'pace', pace, 'period', period, 'attempts', attempts)
+        for field, value in pairs({ next = '0', at = pad('0'), calls = '0', fetched = '0', wake = '', cut = '0' }) do
+            redis.call('HSETNX', keys[4], field, value)
+        end
+        if mode == 'silent' then redis.call('HSET', keys[4], 'history', 'no') end
+        if string.sub(mode, 1, 6) == 'limit ' then redis.call('HSET', keys[4], 'limit', string.sub(mode, 7)) end
+    elseif pace == '' then
+        pace, period, attempts = state[1], state[2], state[3]
+    elseif mode == 'change' then
+        redis.call('HSET', keys[4], 'pace', pace, 'period', period, 'attempts', attempts)
+    elseif pace ~= state[1] or period ~= state[2] or attempts ~= state[3] then
+        return redis.error_reply('POLICY ' .. state[1] .. ' ' .. plain(state[2]) .. ' ' .. state[3])
+    end
+    local now = microseconds()
+    local gateway = whole(redis.call('HINCRBY', keys[4], 'gateways', 1))
+    redis.call('ZADD', keys[7], whole(now + tonumber(lease)), gateway)
+    return { gateway, pace, period, attempts, plain(moment_of(now)) }
+end
+
+-- The first and the last of a gateway's seats, of 20 digits.
+local function seats_of(gateway)
+    local above = whole(tonumber(gateway) + 1)
+    return pad(gateway .. '000000000000'), pad(above .. '000000000000')
+end
+
+local function renew(keys, args)
+    local gateway, lease = unpack(args)
+    local now = microseconds()
+    redis.call('ZADD', keys[7], whole(now + tonumber(lease)), gateway)
+    local late = redis.call('ZRANGEBYSCORE', keys[7], '-inf', whole(now), 'LIMIT', 0, 1)[1]
+    if not late then return 0 end
+    local queue, fault = open(keys, '')
+    if not queue then return fault end
+    local first, above = seats_of(late)
+    local members = redis.call('ZRANGEBYLEX', keys[3], '[' .. first .. ':', '(' .. above .. ':', 'LIMIT', 0, MOST_ENDED)
+    local ended
+    for _, member in ipairs(members) do
+        local seat = plain(string.sub(member, 1, 20))
+        if seat ~= ended then end_session(queue, seat) end
+        ended = seat
+    end
+    if #members == 0 then redis.call('ZREM', keys[7], late) end
+    close(queue)
+    return #members
+end
+
+local function leave(keys, args) return redis.call('ZREM', keys[7], args[1]) end
+
+local function cut(keys, args)
+    local taken = redis.call('HGET', keys[4], 'cut')
+    if taken ~= args[1] or args[2] == '0' then return taken end
+    redis.call('LTRIM', keys[5], args[2], -1)
+    redis.call('UNLINK', keys[8])
+    return whole(redis.call('HINCRBY', keys[4], 'cut', args[2]))
+end
+
+local function load(keys, args)
+    local token, index = args[1], tonumber(args[2])
+    local state = redis.call('HMGET', keys[4], 'loading', 'pace')
+    if state[2] or state[1] and state[1] ~= token then
+        return redis.error_reply('USED this queue is in use, or another load into it has not ended')
+    end
+    redis.call('HSET', keys[4], 'loading', token)
+    local count = redis.call('LLEN', keys[8])
+    for place = count - index + 3, #args do
+        local id, expiry, rest = string.match(args[place], '^keep (%d+) (%d+) (.*)$')
+        redis.call('ZADD', keys[1], 0, pad(expiry) .. ':' .. pad(id) .. ' ' .. rest)
+        redis.call('HSET', keys[2], id, pad(expiry))
+        redis.call('RPUSH', keys[8], args[place])
+    end
+    return redis.call('LLEN', keys[8])
+end
+
+local function loaded(keys, args)
+    local token, next, last = unpack(args)
+    local state = redis.call('HMGET', keys[4], 'loading', 'loaded')
+    if state[1] ~= token then
+        if state[2] == token then return 0 end
+        return redis.error_reply('USED this load has not begun')
+    end
+    local count = redis.call('LLEN', keys[8])
+    redis.call('LPUSH', keys[8], 'open ' .. next .. ' ' .. last .. ' ' .. whole(count))
+    redis.call('HSET', keys[4], 'next', next, 'at', pad(last), 'loaded', token)
+    redis.call('HDEL', keys[4], 'loading')
+    return count
+end
+
+local function version() return VERSION end
+local function calls(keys, args) return perform(keys, args, false) end
+local function spare(keys, args) return perform(keys, args, true) end
+
+redis.register_function { function_name = 'rb_version', callback = version, flags = { 'no-writes' } }
+redis.register_function('rb_join', join_gateway)
+redis.register_function('rb_calls', calls)
+redis.register_function { function_name = 'rb_spare', callback = spare, flags = { 'allow-oom' } }
+redis.register_function { function_name = 'rb_renew', callback = renew, flags = { 'allow-oom' } }
+redis.register_function { function_name = 'rb_leave', callback = leave, flags = { 'allow-oom' } }
+redis.register_function { function_name = 'rb_cut', callback = cut, flags = { 'allow-oom' } }
+redis.register_function('rb_load', load)
+redis.register_function('rb_loaded', loaded)
