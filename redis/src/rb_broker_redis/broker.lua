@@ -20,17 +20,18 @@
 --   at        the last event's moment, 20 digits  calls     how many events there were
 --   cut       how many of them an archive took    limit     the greatest number of calls; only a script's queue has one
 --   pace      'delay' or 'rate'                   period    its nanoseconds, 20 digits
---   attempts  those of a job                      gateways  how many gateways have joined; each gets the next number
+--   attempts  those of a job                      gateway   the number of the gateway that joined last
 --   history   'no' if no events are kept          loading   the token of a load that has not ended
 --   wake      an offer below this expiry is published: a gateway waits, and knows of none below it
 --
 -- A moment is a string of 20 digits, so it is exact up to 2^64 - 1 and ordered as text. Lua's numbers are exact up to
 -- 2^53 only; sums are made of two halves of 10 digits. Moments are nanoseconds since 1970 by the node's TIME.
 --
--- A session is its seat, a number that is never used again: GATEWAY * 10^12 + N for the session N of a gateway, and 0
--- for the commands of the package. What it holds is in held, in the order of FETCH. A session has no lease of its own.
--- Its gateway has one: while a gateway holds jobs, it is in gateways. Once its lease is over, the RENEW of any other
--- gateway ends its sessions.
+-- A session is its seat, a number that is never used again: GATEWAY * 10^9 + N for the session N of a gateway, and 0
+-- for the commands of the package. GATEWAY is the second since 1970 at which the gateway joined, or the next number
+-- that is free; so it is new even where a fail-over has lost what the queue knew. What a session holds is in held, in
+-- the order of FETCH. A session has no lease of its own. Its gateway has one: while sessions of a gateway hold jobs, it
+-- is in gateways. Once its lease is over, the rb_renew of any other gateway ends its sessions.
 --
 -- Functions. ARGS are those after the keys.
 --   rb_version                                    the version of this library, '1'; it needs no keys
@@ -53,6 +54,7 @@
 -- A CALL is one argument: 'SEAT REQUEST', where REQUEST is a line of the protocol that is known to be well formed
 -- (without AT and QUIT), or one of these:
 --   POLLFOR TIMEOUT START   a later try of a timed poll that began at START
+--   WAIT                    a TAKE or a POLLFOR that others wait before: it is refused, or answered LATER
 --   END                     the session ends: what it holds fails, in the order of its fetches. -> 'ENDED n', n lost
 --   REVIVE ID DELAY         offers a dead job again, as a new job. -> 'OFFERED id expiry' or 'NONE'
 --   DROP ID                 forgets a dead job. -> 'DROPPED id' or 'NONE'
@@ -73,7 +75,7 @@ for digits = 19, 0, -1 do ZEROS[digits] = ZEROS[digits + 1] .. '0' end
 
 local function pad(number) return ZEROS[#number] .. number end
 local function plain(digits) return string.match(digits, '^0*(%d+)$') end
-local function whole(number) return string.format('%.0f', number) end
+local function whole(number) return string.format('%d', number) end
 
 -- The sum as 20 digits, or nil if it passes 2^64 - 1.
 local function add(a, b)
@@ -81,7 +83,7 @@ local function add(a, b)
     local high = tonumber(string.sub(a, 1, 10)) + tonumber(string.sub(b, 1, 10))
     if low >= 1e10 then low, high = low - 1e10, high + 1 end
     if high >= 1e10 then return nil end
-    local sum = string.format('%010.0f%010.0f', high, low)
+    local sum = string.format('%010d%010d', high, low)
     return sum <= LAST and sum or nil
 end
 
@@ -91,7 +93,7 @@ local function multiply(a, times)
     local carry = math.floor(low / 1e10)
     local high = tonumber(string.sub(a, 1, 10)) * times + carry
     if high >= 1e10 then return nil end
-    local product = string.format('%010.0f%010.0f', high, low - carry * 1e10)
+    local product = string.format('%010d%010d', high, low - carry * 1e10)
     return product <= LAST and product or nil
 end
 
@@ -115,7 +117,7 @@ local function open(keys, moment)
     if asked > at then at = asked end
     return {
         keys = keys, now = now, asked = asked, at = at, plain_asked = plain(asked), plain_at = plain(at),
-        next = tonumber(state[1]), calls = tonumber(state[3]), fetched = tonumber(state[4]), wake = state[5],
+        stamp = ' ' .. plain(asked) .. ' ' .. plain(at) .. ' ', next = tonumber(state[1]), calls = tonumber(state[3]), fetched = tonumber(state[4]), wake = state[5],
         pace = state[6], period = state[7], attempts = tonumber(state[8]), limit = tonumber(state[9] or '1e300'),
         silent = state[10] == 'no', lines = {}, counts = {},
         at_before = state[2], calls_before = tonumber(state[3]), wake_before = state[5],
@@ -143,7 +145,7 @@ end
 local function record(queue, seat, act)
     queue.calls = queue.calls + 1
     local lines = queue.lines
-    lines[#lines + 1] = seat .. ' ' .. queue.plain_asked .. ' ' .. queue.plain_at .. ' ' .. act
+    lines[#lines + 1] = seat .. queue.stamp .. act
     if #lines == 1000 then append(queue) end
 end
 
@@ -283,7 +285,7 @@ local function offer_at(queue, seat, expiry, payload)
 end
 
 function requests.OFFER(queue, seat, delay, payload)
-    local expiry = add(queue.asked, pad(delay))
+    local expiry = delay == '0' and queue.asked or add(queue.asked, pad(delay))
     if not expiry then return 'ERR 3 range\n' end
     return offer_at(queue, seat, expiry, payload)
 end
@@ -315,6 +317,12 @@ function requests.POLLFOR(queue, seat, timeout, start)
     if not id and (add(pad(start), pad(timeout)) or LAST) > queue.at then return later(queue, start) end
     record(queue, seat, 'pollfor ' .. start .. ' ' .. timeout .. ' ' .. (id or 'none'))
     return item or 'NONE\n'
+end
+
+function requests.WAIT(queue, seat)
+    if count_of(queue, seat) >= MOST_HELD then return HELD end
+    if is_full(queue) then return FULL end
+    return later(queue, queue.plain_asked)
 end
 
 function requests.PEEK(queue, seat)
@@ -445,15 +453,17 @@ local function join_gateway(keys, args)
         return redis.error_reply('POLICY ' .. state[1] .. ' ' .. plain(state[2]) .. ' ' .. state[3])
     end
     local now = microseconds()
-    local gateway = whole(redis.call('HINCRBY', keys[4], 'gateways', 1))
+    local before = tonumber(redis.call('HGET', keys[4], 'gateway') or '0')
+    local gateway = whole(math.max(before + 1, math.floor(now / 1e6)))
+    redis.call('HSET', keys[4], 'gateway', gateway)
     redis.call('ZADD', keys[7], whole(now + tonumber(lease)), gateway)
     return { gateway, pace, period, attempts, plain(moment_of(now)) }
 end
 
--- The first and the last of a gateway's seats, of 20 digits.
+-- The first of a gateway's seats and the first of the next gateway's, of 20 digits.
 local function seats_of(gateway)
     local above = whole(tonumber(gateway) + 1)
-    return pad(gateway .. '000000000000'), pad(above .. '000000000000')
+    return pad(gateway .. '000000000'), pad(above .. '000000000')
 end
 
 local function renew(keys, args)

@@ -1,0 +1,181 @@
+"""The calls of many sessions at one queue, gathered: those that come together are one command of the Redis."""
+from __future__ import annotations
+
+import asyncio
+import logging
+import time
+from typing import Callable, Optional
+
+from .keys import keys_of
+from .link import Link
+from .resp import Answer, ErrorAnswer, bulks, command
+
+LOG = logging.getLogger(__name__)
+
+Answered = Callable[[Optional["list[bytes]"]], None]
+"""Gets the replies of what was submitted, or None where it is in doubt whether the calls were made."""
+
+MOST_IN_FLIGHT = 1
+"""How many commands are under way at once. While they are, further calls are gathered."""
+
+SECONDS_BETWEEN_TRIES = 0.05
+
+# Errors by which a Redis says that it has done nothing, and may do it later.
+LATER = {"LOADING", "BUSY", "TRYAGAIN", "ASK", "CLUSTERDOWN", "NOREPLICAS", "MISCONF", "LOADING_QUEUE"}
+# The same, but another node has to be asked.
+ELSEWHERE = {"MOVED", "READONLY", "MASTERDOWN", "UNBLOCKED"}
+
+
+class Batch:
+    """Calls that go out together, with who is told the replies."""
+
+    __slots__ = ("calls", "parts", "function", "sent", "replies")
+
+    def __init__(self) -> None:
+        self.calls: list[bytes] = []
+        self.parts: list[tuple[Answered, int]] = []
+        self.function = b"rb_calls"
+        self.sent = 0.0
+        self.replies: Optional[list[bytes]] = None
+
+    def answer(self, replies: list[bytes]) -> None:
+        """Tells each its replies."""
+        if len(self.parts) == 1:
+            self.parts[0][0](replies)
+            return
+        start = 0
+        for answered, count in self.parts:
+            answered(replies[start:start + count])
+            start += count
+
+    def doubt(self) -> None:
+        """Nobody knows whether the calls were made."""
+        for answered, _ in self.parts:
+            answered(None)
+
+
+class Calls:
+    """While there is no link, calls are gathered. Whoever submits waits for the replies before it submits again, so a
+    batch that the Redis refused can be sent again later than others."""
+
+    def __init__(self, queue: str, *, replicas: int = 0, patience: float = 5.0) -> None:
+        self._head = bulks(key.encode() for key in keys_of(queue))
+        self._tail = bulks([b"", b"", b"0"])
+        self._replicas, self._patience = replicas, patience
+        self._batch = Batch()
+        self._again: list[Batch] = []
+        self._flying: dict[Batch, None] = {}
+        self._link: Optional[Link] = None
+        self._loop = asyncio.get_event_loop()
+        self._is_scheduled = False
+        self.queue_is_gone: Callable[[], None] = lambda: None
+        self.functions_are_gone: Callable[[], None] = lambda: None
+
+    def join(self, gateway: int, lease: int) -> None:
+        """From now on the calls are those of this gateway, whose lease is so many microseconds."""
+        self._tail = bulks([b"", b"%d" % gateway, b"%d" % lease])
+
+    def use(self, link: Optional[Link]) -> None:
+        """Sends by this link from now on. What was sent by the one before, and not answered, is in doubt."""
+        flying, self._flying = self._flying, {}
+        self._link = link
+        for batch in flying:
+            batch.doubt()
+        self._schedule()
+
+    def submit(self, calls: list[bytes], answered: Answered) -> None:
+        """Makes these calls, one after the other."""
+        batch = self._batch
+        batch.calls += calls
+        batch.parts.append((answered, len(calls)))
+        if not self._is_scheduled:
+            self._schedule()
+
+    def is_late(self) -> bool:
+        """Whether the Redis has not answered in time."""
+        oldest = next(iter(self._flying), None)
+        return oldest is not None and time.monotonic() - oldest.sent > self._patience
+
+    def _schedule(self) -> None:
+        if self._link and len(self._flying) < MOST_IN_FLIGHT and not self._is_scheduled:
+            self._is_scheduled = True
+            self._loop.call_soon(self._flush)
+
+    def _flush(self) -> None:
+        self._is_scheduled = False
+        if not self._link or len(self._flying) >= MOST_IN_FLIGHT:
+            return
+        if self._again:
+            batch = self._again.pop(0)
+        elif self._batch.calls:
+            batch, self._batch = self._batch, Batch()
+        else:
+            return
+        self._send(batch)
+        if self._again or self._batch.calls:
+            self._schedule()
+
+    def _send(self, batch: Batch) -> None:
+        self._flying[batch] = None
+        batch.sent = time.monotonic()
+        link = self._link
+        head = b"*%d\r\n$5\r\nFCALL\r\n$8\r\n%b\r\n$1\r\n8\r\n" % (14 + len(batch.calls), batch.function)
+        data = b"".join([head, self._head, self._tail, bulks(batch.calls)])
+        if not self._replicas:
+            link.send(data, lambda answer: self._answered(link, batch, answer))
+            return
+        data += command("WAIT", self._replicas, int(self._patience * 1000))
+        link.send(data, lambda answer: self._keep(batch, answer), lambda count: self._copied(link, batch, count))
+
+    def _answered(self, link: Link, batch: Batch, answer: Answer) -> None:
+        if link is not self._link:
+            return  # it was in doubt when the link was given up
+        del self._flying[batch]
+        if self._batch.calls or self._again:
+            self._schedule()
+        if isinstance(answer, list):
+            batch.answer(answer)
+        else:
+            self._refused(batch, answer)
+
+    def _keep(self, batch: Batch, answer: Answer) -> None:
+        batch.replies = answer
+
+    def _copied(self, link: Link, batch: Batch, count: Answer) -> None:
+        """So many replicas have what the batch did. If they are too few, a fail-over may lose it: it is in doubt."""
+        if isinstance(batch.replies, list) and count != self._replicas and not (
+            isinstance(count, int) and count > self._replicas
+        ):
+            if link is self._link:
+                del self._flying[batch]
+                batch.doubt()
+                self._schedule()
+            return
+        self._answered(link, batch, batch.replies)
+
+    def _refused(self, batch: Batch, answer: Answer) -> None:
+        code = answer.code if isinstance(answer, ErrorAnswer) else ""
+        if code == "OOM" and batch.function != b"rb_spare":
+            batch.function = b"rb_spare"
+            self._send_again(batch, 0)
+        elif code in LATER:
+            self._send_again(batch, SECONDS_BETWEEN_TRIES)
+        elif code in ELSEWHERE:
+            self._send_again(batch, 0)
+            self._link.close()
+        elif code == "NOQUEUE":
+            self.queue_is_gone()
+            batch.doubt()
+        elif "Function not found" in str(answer):
+            self._send_again(batch, SECONDS_BETWEEN_TRIES)
+            self.functions_are_gone()
+        else:
+            LOG.error("the Redis answered: %s", answer)
+            batch.doubt()
+
+    def _send_again(self, batch: Batch, seconds: float) -> None:
+        self._loop.call_later(seconds, self._put_back, batch)
+
+    def _put_back(self, batch: Batch) -> None:
+        self._again.append(batch)
+        self._schedule()

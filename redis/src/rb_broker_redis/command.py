@@ -1,0 +1,20 @@
+"""rb_broker's line protocol over queues that stand in a Redis: python3 -m rb_broker_redis COMMAND .."""
+from __future__ import annotations
+
+from typing import Optional
+
+from . import serve
+from .words import NAME, Parser
+
+COMMANDS = (serve,)
+"""Each is a module with `add_to`, which adds its words and says what runs them."""
+
+
+def main(words: Optional["list[str]"] = None) -> int:
+    """Runs the command that these words ask for. Returns the exit status."""
+    parser = Parser(f"python3 -m {NAME}", description=__doc__.partition(":")[0], allow_abbrev=False)
+    commands = parser.add_subparsers(metavar="COMMAND", required=True, parser_class=Parser)
+    for command in COMMANDS:
+        command.add_to(commands)
+    asked = parser.parse_args(words)
+    return asked.run(asked)

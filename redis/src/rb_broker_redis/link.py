@@ -1,0 +1,88 @@
+"""One connection to a Redis."""
+from __future__ import annotations
+
+import asyncio
+import ssl
+from collections import deque
+from typing import Callable, Optional
+
+from .address import Address
+from .resp import Answer, ErrorAnswer, command, reader
+
+MOST_SECONDS_TO_CONNECT = 5.0
+
+
+class Link(asyncio.Protocol):
+    """Answers come in the order of what was sent. Once the connection is lost, `lost` is called, and no further answer
+    comes. `heard` gets what the Redis sends unasked, to a connection that subscribes."""
+
+    def __init__(self, lost: Callable[[], None], heard: Optional[Callable[[bytes], None]] = None) -> None:
+        self._lost, self._heard = lost, heard
+        self._answers: deque[Callable[[Answer], None]] = deque()
+        self._reader = reader()
+        self._transport: Optional[asyncio.Transport] = None
+
+    def connection_made(self, transport: asyncio.BaseTransport) -> None:
+        self._transport = transport
+
+    def data_received(self, data: bytes) -> None:
+        gets = self._reader.gets
+        self._reader.feed(data)
+        while (answer := gets()) is not False:
+            if self._heard and isinstance(answer, list) and answer[0] == b"message":
+                self._heard(answer[2])
+            else:
+                self._answers.popleft()(answer)
+
+    def connection_lost(self, fault: Optional[Exception]) -> None:
+        self._lost()
+
+    def send(self, data: bytes, *answers: Callable[[Answer], None]) -> None:
+        """Sends commands; each answer is handed to its function."""
+        self._answers.extend(answers)
+        self._transport.write(data)
+
+    async def ask(self, *words: "bytes | str | int") -> Answer:
+        """Makes one command. Raises its `ErrorAnswer`, or a `ConnectionError` if there is no answer in time."""
+        answered = asyncio.get_running_loop().create_future()
+        self.send(command(*words), lambda answer: answered.done() or answered.set_result(answer))
+        try:
+            answer = await asyncio.wait_for(answered, MOST_SECONDS_TO_CONNECT)
+        except asyncio.TimeoutError:
+            raise ConnectionError("it does not answer") from None
+        if isinstance(answer, ErrorAnswer):
+            raise answer
+        return answer
+
+    def close(self) -> None:
+        """Closes the connection at once. `lost` follows."""
+        self._transport.abort()
+
+
+async def connect(
+    host: str, port: int, address: Address, lost: Callable[[], None], heard: Optional[Callable[[bytes], None]] = None
+) -> Link:
+    """A connection to this node, with the login and the TLS of the address. Raises `OSError` or `ErrorAnswer`."""
+    loop = asyncio.get_running_loop()
+    opening = loop.create_connection(lambda: Link(lost, heard), host, port, ssl=tls_of(address))
+    try:
+        _, link = await asyncio.wait_for(opening, MOST_SECONDS_TO_CONNECT)
+    except asyncio.TimeoutError:
+        raise ConnectionError("it does not answer") from None
+    if address.password:
+        await link.ask("AUTH", *([address.username] if address.username else []), address.password)
+    if address.database:
+        await link.ask("SELECT", address.database)
+    return link
+
+
+def tls_of(address: Address) -> Optional[ssl.SSLContext]:
+    """What a TLS connection to this address needs: the options of its URL are redis-py's."""
+    if not address.is_tls:
+        return None
+    context = ssl.create_default_context(cafile=address.option("ssl_ca_certs"))
+    if address.option("ssl_certfile"):
+        context.load_cert_chain(address.option("ssl_certfile"), address.option("ssl_keyfile"))
+    if address.option("ssl_check_hostname") in ("false", "False", "0", "no"):
+        context.check_hostname = False
+    return context

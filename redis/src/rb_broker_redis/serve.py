@@ -1,0 +1,152 @@
+"""The command serve: a gateway."""
+from __future__ import annotations
+
+import argparse
+import asyncio
+import ipaddress
+import logging
+import resource
+import signal
+import ssl
+import sys
+
+from .durations import read_duration
+from .gateway import Gateway, Settings
+from .library import NewerLibrary
+from .limits import SECOND
+from .resp import ErrorAnswer
+from .words import (
+    DEFAULT_ATTEMPTS, DEFAULT_DELAY, NAME, Parser, add_policy_words, add_queue_words, address_in, duration, policy_in,
+    sentence_of, whole,
+)
+
+LOOPBACK = "127.0.0.1"
+
+
+def add_to(commands: "argparse._SubParsersAction[Parser]") -> None:
+    """Adds the command."""
+    parser = commands.add_parser("serve", help="serves clients from a queue", allow_abbrev=False)
+    parser.set_defaults(run=run)
+    add_queue_words(parser)
+    add = parser.add_argument
+    add("--port", type=whole(0, 65_535), required=True, metavar="P", help="the port; 0 for one that is free")
+    add("--bind", default=LOOPBACK, metavar="A", type=sentence_of(ipaddress.ip_address),
+        help=f"the address; another than a loopback's needs --cert or --plain (default: {LOOPBACK})")
+    add_policy_words(parser, DEFAULT_DELAY, DEFAULT_ATTEMPTS)
+    add("--change-policy", action="store_true", help="gives the queue this policy, if it has another")
+    add("--wait", metavar="TIME", type=duration, default=SECOND,
+        help="a TAKE or POLLFOR waits so long at most (default: 1s)")
+    add("--lease", metavar="TIME", type=duration, default=15 * SECOND,
+        help="the jobs of a gateway that dies come back after this time, 1s or more (default: 15s)")
+    add("--timeout", metavar="TIME", type=duration, default=5 * SECOND,
+        help="a Redis that does not answer for so long is given up (default: 5s)")
+    add("--replicas", metavar="N", type=whole(0, 100), default=0,
+        help="replies are sent once N replicas have what was done (default: 0)")
+    add("--no-history", action="store_true", help="a queue that is made now keeps no events")
+    add("--cert", metavar="FILE", help="the certificate with which clients are served over TLS")
+    add("--key", metavar="FILE", help="its key, if it is not in the same file")
+    add("--client-ca", metavar="FILE", help="serves only clients whose certificate is signed by one of these")
+    add("--plain", action="store_true", help="serves other machines without TLS: whoever reaches the port is let in")
+
+
+def run(asked: argparse.Namespace) -> int:
+    """Serves until SIGTERM or SIGINT. Returns the exit status."""
+    fault = fault_of(asked)
+    if fault:
+        print(f"{NAME}: {fault}", file=sys.stderr)
+        return 2
+    logging.basicConfig(level=logging.WARNING, format="%(asctime)s %(levelname)s %(message)s")
+    raise_limit_of_files()
+    use_uvloop()
+    try:
+        return asyncio.run(serve(asked))
+    except (OSError, ErrorAnswer, NewerLibrary) as caught:
+        print(f"{NAME}: {sentence_about(caught, asked)}", file=sys.stderr)
+        return 3
+
+
+def fault_of(asked: argparse.Namespace) -> str:
+    """What is wrong with the words, together."""
+    if asked.lease < SECOND:
+        return "--lease is at least 1s"
+    if asked.key and not asked.cert or asked.client_ca and not asked.cert:
+        return "--key and --client-ca need --cert"
+    if asked.plain and asked.cert:
+        return "--plain is without TLS, and --cert with it"
+    if not ipaddress.ip_address(asked.bind).is_loopback and not asked.cert and not asked.plain:
+        return f"other machines reach {asked.bind}: serve them over TLS with --cert, or say --plain"
+    if asked.change_policy and policy_in(asked, DEFAULT_DELAY, DEFAULT_ATTEMPTS) is None:
+        return "--change-policy needs --delay, --rate or --attempts"
+    return ""
+
+
+def settings_of(asked: argparse.Namespace) -> Settings:
+    """What the words say. Raises `OSError` if a certificate can't be read."""
+    mode = "change" if asked.change_policy else "silent" if asked.no_history else ""
+    return Settings(
+        address_in(asked), asked.queue, policy_in(asked, DEFAULT_DELAY, DEFAULT_ATTEMPTS), mode, asked.wait,
+        asked.lease, asked.timeout, asked.replicas, tls_of(asked),
+    )
+
+
+def tls_of(asked: argparse.Namespace) -> "ssl.SSLContext | None":
+    """What clients are served with, if that is TLS."""
+    if not asked.cert:
+        return None
+    context = ssl.create_default_context(ssl.Purpose.CLIENT_AUTH, cafile=asked.client_ca)
+    context.load_cert_chain(asked.cert, asked.key)
+    if asked.client_ca:
+        context.verify_mode = ssl.CERT_REQUIRED
+    return context
+
+
+async def serve(asked: argparse.Namespace) -> int:
+    """Serves until a signal comes."""
+    stopped = asyncio.Event()
+    loop = asyncio.get_running_loop()
+    for number in (signal.SIGTERM, signal.SIGINT):
+        loop.add_signal_handler(number, lambda number=number: end_at_next(loop, number, stopped))
+    gateway = Gateway(settings_of(asked))
+    await gateway.join()
+    port = await gateway.listen(str(asked.bind), asked.port)
+    if asked.plain:
+        logging.warning("PLAIN: whoever reaches %s:%d is let in, and reads what others send", asked.bind, port)
+    print(f"listening {asked.bind}:{port}", flush=True)
+    await stopped.wait()
+    count, lost = await gateway.stop()
+    print(f"sessions {count} lost {lost}", flush=True)
+    return 0
+
+
+def end_at_next(loop: asyncio.AbstractEventLoop, number: int, stopped: asyncio.Event) -> None:
+    """Ends in good order; the next signal ends at once."""
+    stopped.set()
+    for each in (signal.SIGTERM, signal.SIGINT):
+        loop.remove_signal_handler(each)
+        signal.signal(each, signal.SIG_DFL)
+
+
+def sentence_about(fault: Exception, asked: argparse.Namespace) -> str:
+    """Why it can't serve, in one line."""
+    if isinstance(fault, ErrorAnswer) and fault.code == "POLICY":
+        _, pace, period, attempts = str(fault).split()
+        return (f"queue {asked.queue} has --{pace} {period}ns --attempts {attempts}: say the same, or nothing, or"
+                " --change-policy")
+    if isinstance(fault, ErrorAnswer) and fault.code == "LOADING_QUEUE":
+        return f"a load into queue {asked.queue} has not ended"
+    return str(fault)
+
+
+def raise_limit_of_files() -> None:
+    """Each client is a file: as many as the system allows."""
+    _, most = resource.getrlimit(resource.RLIMIT_NOFILE)
+    resource.setrlimit(resource.RLIMIT_NOFILE, (most, most))
+
+
+def use_uvloop() -> None:
+    """The loop of uvloop, where it is installed."""
+    try:
+        import uvloop
+    except ImportError:
+        return
+    uvloop.install()

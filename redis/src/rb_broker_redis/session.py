@@ -1,0 +1,211 @@
+"""The session of one client: its lines go to the queue in their order, and their replies come back in it."""
+from __future__ import annotations
+
+import asyncio
+from collections import deque
+from typing import TYPE_CHECKING, Optional
+
+from .errors import ErrorReply
+from .lines import LineCutter
+from .request import Kind, Request, read_request
+from .waits import LATER, STOPPED, Wait
+
+if TYPE_CHECKING:
+    from .gateway import Gateway
+
+MOST_AT_ONCE = 256
+"""How many lines of a session go out together, at most."""
+
+MOST_WAITING_LINES = 1_024
+"""A client that has sent this many lines ahead is not read from until they are carried out."""
+
+BYE = b"BYE\n"
+NO_WAIT = b"POLLFOR 0"
+
+
+class Session(asyncio.Protocol):
+    """A connection of a client. While calls of it are under way it is busy, and further lines wait."""
+
+    def __init__(self, gateway: Gateway) -> None:
+        self._gateway = gateway
+        self._cutter = LineCutter()
+        self._requests: deque[Request] = deque()
+        self._transport: Optional[asyncio.Transport] = None
+        self._seat = b""
+        self._plan: list[Optional[bytes]] = []
+        self._wait_request: Optional[bytes] = None
+        self._wait: Optional[Wait] = None
+        self._is_busy = False
+        self._has_called = False
+        self._is_at_end = False
+        """No further line comes: its client has closed its side, or it is to end."""
+        self._is_gone = False
+        """No reply can be sent any more."""
+        self._is_over = False
+        """Its end was sent to the queue."""
+        self._is_full = False
+        """Its client doesn't read its replies."""
+        self._is_paused = False
+        """Its client is not read from."""
+
+    def connection_made(self, transport: asyncio.BaseTransport) -> None:
+        self._transport = transport
+        self._seat = self._gateway.begin(self)
+
+    def data_received(self, data: bytes) -> None:
+        if self._is_over or self._is_at_end:
+            return
+        requests = self._requests
+        for line in self._cutter.cut(data):
+            requests.append(read_request(line))
+        if not self._is_busy:
+            self._go_on()
+        elif len(requests) > MOST_WAITING_LINES and not self._is_paused:
+            self._is_paused = True
+            self._transport.pause_reading()
+
+    def eof_received(self) -> bool:
+        if self._cutter.rest and not self._is_at_end:
+            self._requests.append(Request(Kind.ERROR, ErrorReply.LINE.value))
+        self._is_at_end = True
+        if self._wait:
+            self._gateway.waits.give_up(self._wait)
+        elif not self._is_busy:
+            self._go_on()
+        return True  # replies are still sent
+
+    def connection_lost(self, fault: Optional[Exception]) -> None:
+        self._is_gone = self._is_at_end = True
+        self._requests.clear()
+        if self._wait:
+            self._gateway.waits.give_up(self._wait)
+        elif not self._is_busy:
+            self._end()
+
+    def pause_writing(self) -> None:
+        self._is_full = self._is_paused = True
+        self._transport.pause_reading()
+
+    def resume_writing(self) -> None:
+        self._is_full = False
+        if not self._is_busy:
+            self._go_on()
+
+    def stop(self) -> None:
+        """Ends it in good order: what is under way is answered, and no further line is carried out."""
+        self._requests.clear()
+        self._is_at_end = True
+        if self._wait:
+            self._gateway.waits.give_up(self._wait)
+        elif not self._is_busy:
+            self._go_on()
+
+    def close(self) -> None:
+        """Closes the connection: it is in doubt what became of a request, and no reply is made up."""
+        self._requests.clear()
+        self._is_at_end = self._is_gone = True
+        self._transport.close()
+        if self._wait:
+            self._gateway.waits.give_up(self._wait)
+        elif not self._is_busy:
+            self._end()
+
+    def _go_on(self) -> None:
+        """Carries out the next lines, up to one that may wait."""
+        requests = self._requests
+        while requests and not self._is_full:
+            calls = self._calls_of_next()
+            if calls:
+                self._is_busy = self._has_called = True
+                self._gateway.calls.submit(calls, self._answered)
+                return
+            self._send([])
+        if self._is_paused and not requests and not self._is_full:
+            self._is_paused = False
+            self._transport.resume_reading()
+        if self._is_at_end and not requests:
+            self._end()
+
+    def _calls_of_next(self) -> list[bytes]:
+        calls, plan, requests, seat = [], [], self._requests, self._seat
+        while requests and len(plan) < MOST_AT_ONCE:
+            kind, text = requests.popleft()
+            if kind is Kind.CALL:
+                calls.append(seat + text)
+                plan.append(None)
+            elif kind is Kind.WAIT:
+                waits_behind = self._gateway.waits and text != NO_WAIT
+                calls.append(seat + (b"WAIT" if waits_behind else text))
+                self._wait_request = text
+                break
+            elif kind is Kind.QUIT:
+                requests.clear()
+                self._is_at_end = True
+                plan.append(BYE)
+                break
+            else:
+                plan.append(ErrorReply.SYNTAX.value if kind is Kind.AT else text)
+        self._plan = plan
+        return calls
+
+    def _answered(self, replies: Optional[list[bytes]]) -> None:
+        """The calls that were under way are answered."""
+        self._is_busy = False
+        if replies is None:
+            self.close()
+            return
+        later = self._send(replies)
+        if later:
+            self._begin_wait(later)
+        elif self._requests or self._is_at_end or self._is_paused:
+            self._go_on()
+
+    def _send(self, replies: list[bytes]) -> Optional[bytes]:
+        """Sends the replies of a plan. Returns that of a call that has to wait."""
+        later = None
+        if self._wait_request is not None and replies[-1].startswith(LATER):
+            later = replies.pop()
+        else:
+            self._wait_request = None
+        plan = self._plan
+        if len(plan) > 1 or plan and plan[0] is not None:
+            given = iter(replies)
+            replies = [next(given) if reply is None else reply for reply in plan] + list(given)
+        if replies and not self._is_gone:
+            self._transport.write(replies[0] if len(replies) == 1 else b"".join(replies))
+        return later
+
+    def _begin_wait(self, later: bytes) -> None:
+        request, self._wait_request = self._wait_request, None
+        if self._is_at_end:
+            self._wait_ended(STOPPED)
+            return
+        self._is_busy = True
+        self._wait = self._gateway.waits.begin(self._seat, request, later, self._wait_ended)
+
+    def _wait_ended(self, reply: Optional[bytes]) -> None:
+        self._wait = None
+        self._is_busy = False
+        if reply is None:
+            self.close()
+            return
+        if not self._is_gone:
+            self._transport.write(reply)
+        self._go_on()
+
+    def _end(self) -> None:
+        """Ends the session at the queue, and then closes the connection."""
+        if self._is_over:
+            return
+        self._is_over = True
+        if self._has_called:
+            self._gateway.calls.submit([self._seat + b"END"], self._ended)
+        else:
+            self._ended([b"ENDED 0\n"])
+
+    def _ended(self, replies: Optional[list[bytes]]) -> None:
+        if replies is None:  # a seat's end may be made twice
+            self._gateway.calls.submit([self._seat + b"END"], self._ended)
+            return
+        self._transport.close()
+        self._gateway.end(self, int(replies[0].split()[1]))

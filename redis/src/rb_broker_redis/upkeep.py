@@ -1,0 +1,165 @@
+"""Keeps a gateway connected to its queue: the links, the functions, the lease."""
+from __future__ import annotations
+
+import asyncio
+import logging
+from typing import Awaitable, Callable, Optional
+
+from . import library
+from .address import Address
+from .calls import Calls
+from .keys import channel_of, keys_of
+from .link import Link, connect
+from .place import place_of
+from .policy import NO_WORDS, Policy
+from .resp import ErrorAnswer
+
+LOG = logging.getLogger(__name__)
+
+SECONDS_BETWEEN_TRIES = 0.2
+
+
+class Upkeep:
+    """`heard` gets what is published about the queue, and `may_have_missed` is called when a publish may be lost."""
+
+    def __init__(
+        self, address: Address, queue: str, calls: Calls, *, lease: int, policy: Optional[Policy], mode: str,
+        heard: Callable[[bytes], None], may_have_missed: Callable[[], None], queue_is_gone: Callable[[], None],
+    ) -> None:
+        self.gateway = 0
+        """Its number at the queue."""
+        self._address, self._queue, self._calls = address, queue, calls
+        self._lease, self._policy, self._mode = lease, policy, mode
+        self._heard, self._may_have_missed, self._queue_is_gone = heard, may_have_missed, queue_is_gone
+        self._keys = keys_of(queue)
+        self._link: Optional[Link] = None
+        self._is_joined = False
+        self._tasks: list[asyncio.Task[None]] = []
+        calls.queue_is_gone = self._join_anew
+        calls.functions_are_gone = self._reload
+
+    async def start(self) -> Policy:
+        """Connects, and joins the queue. Returns the queue's policy. Raises `OSError`, `ErrorAnswer`, `NewerLibrary`."""
+        lost = asyncio.Event()
+        link = await self._connect(lost)
+        policy = await self._join(link)
+        self._tasks = [
+            asyncio.ensure_future(self._keep_link(link, lost)),
+            asyncio.ensure_future(self._keep_subscribed()),
+            asyncio.ensure_future(self._keep_lease()),
+            asyncio.ensure_future(self._watch()),
+        ]
+        return policy
+
+    async def stop(self) -> None:
+        """Leaves the queue."""
+        if self._link:
+            try:
+                await self._call(self._link, "rb_leave", self.gateway)
+            except (OSError, ErrorAnswer):
+                pass  # the lease ends by itself
+        for task in self._tasks:
+            task.cancel()
+        await asyncio.gather(*self._tasks, return_exceptions=True)
+
+    async def _connect(self, lost: asyncio.Event) -> Link:
+        host, port = await place_of(self._address, self._queue)
+        link = await connect(host, port, self._address, lost.set)
+        await self._load_functions(link)
+        return link
+
+    async def _load_functions(self, link: Link) -> None:
+        try:
+            version: Optional[int] = int(await link.ask("FCALL", "rb_version", 0))
+        except ErrorAnswer as fault:
+            if "not found" not in str(fault):
+                raise
+            version = None
+        if library.must_load(version):
+            await link.ask("FUNCTION", "LOAD", "REPLACE", library.SOURCE)
+
+    async def _call(self, link: Link, function: str, *args: "str | int") -> object:
+        return await link.ask("FCALL", function, len(self._keys), *self._keys, *args)
+
+    async def _join(self, link: Link) -> Policy:
+        words = self._policy.words() if self._policy else NO_WORDS
+        joined = await self._call(link, "rb_join", self._lease, *words, self._mode)
+        self.gateway = int(joined[0])
+        self._calls.join(self.gateway, self._lease)
+        self._is_joined = True
+        return Policy(joined[1].decode(), int(joined[2]), int(joined[3]))
+
+    def _join_anew(self) -> None:
+        """The queue is gone, as after FLUSHALL: it is made again, and the sessions of the old one are closed."""
+        if self._is_joined:
+            LOG.error("queue %s is gone from the Redis, and is made anew", self._queue)
+            self._is_joined = False
+            self._queue_is_gone()
+            self._close_link()
+
+    def _reload(self) -> None:
+        """The functions are gone, as after FUNCTION FLUSH. A new link is given them."""
+        self._close_link()
+
+    def _close_link(self) -> None:
+        if self._link:
+            self._link.close()
+
+    async def _keep_link(self, link: Link, lost: asyncio.Event) -> None:
+        while True:
+            self._link = link
+            self._calls.use(link)
+            await lost.wait()
+            self._link = None
+            self._calls.use(None)
+            LOG.warning("the Redis of queue %s is lost", self._queue)
+            lost = asyncio.Event()
+            link = await self._until_done(lambda: self._connect_again(lost))
+            LOG.warning("the Redis of queue %s is back", self._queue)
+
+    async def _connect_again(self, lost: asyncio.Event) -> Link:
+        lost.clear()
+        link = await self._connect(lost)
+        if not self._is_joined:
+            await self._join(link)
+        return link
+
+    async def _keep_subscribed(self) -> None:
+        while True:
+            lost = asyncio.Event()
+            await self._until_done(lambda: self._subscribe(lost))
+            self._may_have_missed()
+            await lost.wait()
+
+    async def _subscribe(self, lost: asyncio.Event) -> None:
+        lost.clear()
+        host, port = await place_of(self._address, self._queue)
+        link = await connect(host, port, self._address, lost.set, self._heard)
+        await link.ask("SUBSCRIBE", channel_of(self._queue))
+
+    async def _keep_lease(self) -> None:
+        while True:
+            await asyncio.sleep(self._lease / 3e6)
+            try:
+                while self._link and await self._call(self._link, "rb_renew", self.gateway, self._lease):
+                    LOG.warning("a gateway's lease is over, and its sessions are ended")
+            except (OSError, ErrorAnswer) as fault:
+                LOG.warning("the lease is not renewed: %s", fault)
+
+    async def _watch(self) -> None:
+        """Gives a Redis up that doesn't answer."""
+        while True:
+            await asyncio.sleep(0.5)
+            if self._calls.is_late():
+                self._close_link()
+
+    async def _until_done(self, make: Callable[[], Awaitable[Link]]) -> Link:
+        told = ""
+        while True:
+            try:
+                return await make()
+            except (OSError, ErrorAnswer, library.NewerLibrary) as fault:
+                if str(fault) != told:
+                    LOG.warning("the Redis of queue %s is not to be had: %s", self._queue, fault)
+                told = str(fault)
+                await asyncio.sleep(SECONDS_BETWEEN_TRIES)

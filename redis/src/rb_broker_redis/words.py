@@ -1,0 +1,81 @@
+"""The words of the command line that several commands take."""
+from __future__ import annotations
+
+import argparse
+from typing import Callable, NoReturn, Optional
+
+from .address import DEFAULT, VARIABLE, Address, address_of
+from .durations import read_duration
+from .keys import checked_name
+from .limits import MOST_ATTEMPTS
+from .policy import Policy
+
+NAME = "rb_broker_redis"
+
+DEFAULT_DELAY = "30s"
+DEFAULT_ATTEMPTS = 20
+
+
+class Parser(argparse.ArgumentParser):
+    """A parser that says in one line what is wrong."""
+
+    def error(self, message: str) -> NoReturn:
+        self.exit(2, f"{NAME}: {message}\n")
+
+
+def sentence_of(read: Callable[[str], object]) -> Callable[[str], object]:
+    """Reads a word, with the `ValueError`'s or `OSError`'s own sentence if it is wrong."""
+
+    def checked(word: str) -> object:
+        try:
+            return read(word)
+        except (ValueError, OSError) as fault:
+            raise argparse.ArgumentTypeError(str(fault)) from None
+
+    return checked
+
+
+duration = sentence_of(read_duration)
+
+
+def whole(least: int, most: int) -> Callable[[str], int]:
+    """Reads a whole number in this range."""
+
+    def read(word: str) -> int:
+        if not (word.isascii() and word.isdigit() and least <= int(word) <= most):
+            raise argparse.ArgumentTypeError(f"{word!r} is no whole number from {least} to {most}")
+        return int(word)
+
+    return read
+
+
+def add_queue_words(parser: argparse.ArgumentParser) -> None:
+    """--redis and --queue."""
+    parser.add_argument("--redis", metavar="URL", default=None, type=sentence_of(address_of),
+                        help=f"the Redis, or @FILE for a file that has its URL (default: ${VARIABLE}, or {DEFAULT})")
+    parser.add_argument("--queue", metavar="NAME", required=True, type=sentence_of(checked_name),
+                        help="the name of the queue")
+
+
+def address_in(asked: argparse.Namespace) -> Address:
+    """The address that --redis names, or the environment."""
+    return asked.redis or address_of(None)
+
+
+def add_policy_words(parser: argparse.ArgumentParser, delay: str, attempts: int) -> None:
+    """--delay, --rate and --attempts, with what the first two are without a word."""
+    pace = parser.add_mutually_exclusive_group()
+    pace.add_argument("--delay", metavar="TIME", type=duration,
+                      help=f"the next attempt expires so long after a failure (default: {delay})")
+    pace.add_argument("--rate", metavar="TIME", type=duration,
+                      help="it expires so long after the first expiry, for each attempt so far")
+    parser.add_argument("--attempts", metavar="N", type=whole(1, MOST_ATTEMPTS),
+                        help=f"a job has N attempts in all, 1 to {MOST_ATTEMPTS} (default: {attempts})")
+
+
+def policy_in(asked: argparse.Namespace, delay: str, attempts: int) -> Optional[Policy]:
+    """The policy that the words name, or None if they name none."""
+    if asked.delay is None and asked.rate is None and asked.attempts is None:
+        return None
+    pace, period = ("rate", asked.rate) if asked.rate is not None else ("delay", asked.delay)
+    return Policy(pace, read_duration(delay) if period is None else period, asked.attempts or attempts)
