@@ -55,8 +55,12 @@ class Browser:
 
     def open(self, path: str) -> None:
         """Opens a file, and waits until it is loaded."""
+        self.go(f"file://{path}")
+
+    def go(self, url: str) -> None:
+        """Opens what is at an address, and waits until it is loaded."""
         self._is_loaded = False
-        self._ask("Page.navigate", url=f"file://{path}")
+        self._ask("Page.navigate", url=url)
         while not self._is_loaded:
             self._take(self._message())
 

@@ -1,0 +1,242 @@
+"""A small server of HTTP on a thread of its own, which survives clients that are slow, wrong or hostile.
+
+Only GET and HEAD are answered, a request for each connection. A request has at most MOST_HEAD bytes and HEAD_SECONDS, a
+connection TALK_SECONDS, and of more than MOST_CONNECTIONS the oldest is cut. Nothing that a client sends is kept.
+"""
+from __future__ import annotations
+
+import asyncio
+import contextlib
+import email.utils
+import functools
+import os
+import socket
+import sys
+import threading
+import traceback
+from dataclasses import dataclass
+from http import HTTPStatus
+from typing import Any, Awaitable, Callable, Dict, List, Optional, Tuple
+
+from servicing.address import Address
+
+MOST_HEAD = 8_192  # bytes of a request
+MOST_CONNECTIONS = 64
+PIECE = 65_536  # bytes that are handed on at a time, so that slow clients do not take much memory
+HEAD_SECONDS, TALK_SECONDS, LINGER_SECONDS = 5.0, 30.0, 1.0
+STOP_SECONDS, BEAT_SECONDS = 1.0, 1.0
+
+Meeting = Callable[[asyncio.StreamReader, asyncio.StreamWriter], Awaitable[None]]
+
+TEXT = "text/plain; charset=utf-8"
+
+# What every answer says: nothing is kept, framed, guessed or sent on.
+HEADERS = (
+    ("Cache-Control", "no-store"), ("X-Content-Type-Options", "nosniff"), ("Referrer-Policy", "no-referrer"),
+    ("Cross-Origin-Resource-Policy", "same-origin"), ("X-Frame-Options", "DENY"), ("Connection", "close"),
+)
+
+
+@dataclass(frozen=True)
+class Answer:
+    """What a request is answered."""
+
+    status: HTTPStatus
+    kind: str  # of the body, as Content-Type
+    body: bytes
+    headers: Tuple[Tuple[str, str], ...] = ()
+
+    @classmethod
+    def line(cls, status: HTTPStatus, says: str, *headers: Tuple[str, str]) -> Answer:
+        """A line of text."""
+        return cls(status, TEXT, f"{says}\n".encode(), headers)
+
+    @property
+    def head(self) -> bytes:
+        """The lines before the body."""
+        named = [("Date", email.utils.formatdate(usegmt=True)), ("Content-Type", self.kind),
+                 ("Content-Length", str(len(self.body))), *HEADERS, *self.headers]
+        lines = [f"HTTP/1.1 {self.status.value} {self.status.phrase}", *(f"{name}: {value}" for name, value in named)]
+        return "\r\n".join([*lines, "", ""]).encode("latin-1")
+
+
+@dataclass(frozen=True)
+class Request:
+    """A request: its method, the path that it names, and the host, or nothing if it names none."""
+
+    method: str
+    path: str
+    host: str
+
+    @classmethod
+    def of(cls, head: bytes) -> Optional[Request]:
+        """Reads the lines of a request. None if they are none."""
+        first, *fields = head.decode("latin-1").split("\r\n")
+        words = first.split(" ")
+        if len(words) != 3 or words[2] not in ("HTTP/1.0", "HTTP/1.1") or not words[1].startswith("/"):
+            return None
+        hosts = [it.partition(":")[2].strip() for it in fields if it.lower().startswith("host:")]
+        return cls(words[0], words[1].partition("?")[0], hosts[0] if hosts else "") if len(hosts) <= 1 else None
+
+
+class HttpServer:
+    """Serves what `answer` says of a path, or None where there is nothing. Its thread calls `beat` every second."""
+
+    def __init__(self, answer: Callable[[str], Optional[Answer]], beat: Callable[[], None] = lambda: None) -> None:
+        self._answer, self._beat = answer, beat
+        self._listening: List[Tuple[socket.socket, Optional[Address]]] = []  # no address for one of the file system
+        self._path: Optional[str] = None
+        self._talks: Dict["asyncio.Task[object]", None] = {}  # the open connections, the oldest first
+        self._thread: Optional[threading.Thread] = None
+        self._end: Optional[Callable[[], object]] = None  # ends the thread, from any other
+        self._has_begun = threading.Event()
+
+    def listen(self, at: Address) -> Address:
+        """Takes an address, and returns it with its port. Clients are answered once `start` was called."""
+        family = socket.AF_INET6 if at.is_six else socket.AF_INET
+        made = socket.create_server((at.host, at.port), family=family, backlog=MOST_CONNECTIONS)
+        address = Address(at.host, made.getsockname()[1])
+        self._listening.append((made, address))
+        return address
+
+    def listen_in(self, path: str) -> None:
+        """Takes a path of the file system."""
+        self._listening.append((unix_socket(path), None))
+        self._path = path
+
+    def start(self) -> None:
+        """Serves from now on."""
+        self._thread = threading.Thread(target=self._run, name="http", daemon=True)
+        self._thread.start()
+        self._has_begun.wait()
+
+    def stop(self) -> None:
+        """Cuts all connections, and listens no more."""
+        thread, self._thread = self._thread, None
+        if thread is not None:
+            if self._end is not None:
+                with contextlib.suppress(RuntimeError):  # it has ended by itself
+                    self._end()
+            thread.join(STOP_SECONDS)
+        for it, _ in self._listening:
+            it.close()
+        if self._path is not None:
+            with contextlib.suppress(FileNotFoundError):
+                os.unlink(self._path)
+        self._listening, self._path = [], None
+
+    def _run(self) -> None:
+        try:
+            asyncio.run(self._serve())
+        finally:
+            self._has_begun.set()
+
+    async def _serve(self) -> None:
+        must_end, servers, loop = asyncio.Event(), [], asyncio.get_running_loop()
+        loop.set_exception_handler(_complain)
+        self._end = functools.partial(loop.call_soon_threadsafe, must_end.set)
+        for it, address in self._listening:
+            servers.append(await asyncio.start_server(self._meeting(address), sock=it, limit=MOST_HEAD))
+        self._has_begun.set()
+        while not must_end.is_set():
+            self._beat()
+            with contextlib.suppress(asyncio.TimeoutError):
+                await asyncio.wait_for(must_end.wait(), BEAT_SECONDS)
+        for server in servers:
+            server.close()
+        for talk in list(self._talks):
+            talk.cancel()
+
+    def _meeting(self, address: Optional[Address]) -> Meeting:
+        """What is done with each connection to an address."""
+
+        async def meet(reader: asyncio.StreamReader, writer: asyncio.StreamWriter) -> None:
+            talk = asyncio.current_task()
+            assert talk is not None
+            if len(self._talks) >= MOST_CONNECTIONS:
+                oldest = next(iter(self._talks))
+                del self._talks[oldest]
+                oldest.cancel()
+            self._talks[talk] = None
+            deadline = asyncio.get_running_loop().call_later(TALK_SECONDS, talk.cancel)
+            try:
+                await self._talk(reader, writer, address)
+            except (asyncio.CancelledError, OSError):
+                pass  # a client that is too slow, gave way to another, or is gone
+            finally:
+                deadline.cancel()
+                self._talks.pop(talk, None)
+                writer.transport.abort()
+
+        return meet
+
+    async def _talk(
+        self, reader: asyncio.StreamReader, writer: asyncio.StreamWriter, address: Optional[Address]
+    ) -> None:
+        """One request and its answer."""
+        answer, with_body = await self._reply(reader, address)
+        body = answer.body if with_body else b""
+        writer.transport.set_write_buffer_limits(0)  # so that what was written is gone once it is drained
+        for piece in (answer.head, *(body[at:at + PIECE] for at in range(0, len(body), PIECE))):
+            writer.write(piece)
+            await writer.drain()
+        writer.write_eof()
+        with contextlib.suppress(asyncio.TimeoutError):
+            await asyncio.wait_for(_read_all(reader), LINGER_SECONDS)  # or the answer would be lost with a reset
+
+    async def _reply(self, reader: asyncio.StreamReader, address: Optional[Address]) -> Tuple[Answer, bool]:
+        """The answer to what comes, and whether its body is sent."""
+        try:
+            head = await asyncio.wait_for(reader.readuntil(b"\r\n\r\n"), HEAD_SECONDS)
+        except asyncio.LimitOverrunError:
+            return Answer.line(HTTPStatus.REQUEST_HEADER_FIELDS_TOO_LARGE, "the request is too long"), True
+        except asyncio.TimeoutError:
+            return Answer.line(HTTPStatus.REQUEST_TIMEOUT, "the request did not come in time"), True
+        except asyncio.IncompleteReadError:
+            return Answer.line(HTTPStatus.BAD_REQUEST, "the request is not whole"), True
+        request = Request.of(head)
+        if request is None:
+            return Answer.line(HTTPStatus.BAD_REQUEST, "this is no request of HTTP/1.1"), True
+        if address is not None and not address.allows(request.host):
+            says = "only requests to 127.0.0.1 or localhost are answered here"
+            return Answer.line(HTTPStatus.MISDIRECTED_REQUEST, says), True
+        if request.method not in ("GET", "HEAD"):
+            allowed = ("Allow", "GET, HEAD")
+            return Answer.line(HTTPStatus.METHOD_NOT_ALLOWED, "only GET and HEAD are answered", allowed), True
+        return self._answer_to(request.path), request.method == "GET"
+
+    def _answer_to(self, path: str) -> Answer:
+        try:
+            answer = self._answer(path)
+        except Exception:  # a fault of one page ends neither the others nor the service
+            traceback.print_exc(file=sys.stderr)
+            return Answer.line(HTTPStatus.INTERNAL_SERVER_ERROR, "a fault of the service, which standard error tells")
+        return answer or Answer.line(HTTPStatus.NOT_FOUND, "there is nothing here")
+
+
+def _complain(loop: asyncio.AbstractEventLoop, context: Dict[str, Any]) -> None:
+    """Says what went wrong, unless a client did it."""
+    if not isinstance(context.get("exception"), OSError):
+        loop.default_exception_handler(context)
+
+
+async def _read_all(reader: asyncio.StreamReader) -> None:
+    while await reader.read(MOST_HEAD):
+        pass
+
+
+def unix_socket(path: str) -> socket.socket:
+    """A socket at a path, which may be longer than a socket's name, in the place of one that was left there."""
+    folder = os.open(os.path.dirname(path) or ".", os.O_PATH | os.O_DIRECTORY)
+    made = socket.socket(socket.AF_UNIX, socket.SOCK_STREAM)
+    try:
+        with contextlib.suppress(FileNotFoundError):
+            os.unlink(path)
+        made.bind(f"/proc/self/fd/{folder}/{os.path.basename(path)}")
+        made.listen(MOST_CONNECTIONS)
+    except BaseException:
+        made.close()
+        raise
+    finally:
+        os.close(folder)
+    return made

@@ -1,0 +1,101 @@
+"""Reports on runs that have ended: `tools/report` makes each when it is asked for, and the last ones are kept."""
+from __future__ import annotations
+
+import os
+import subprocess
+import sys
+import tempfile
+import threading
+from collections import OrderedDict
+from dataclasses import dataclass
+from typing import List, Optional
+
+from servicing.state import PastRun, Settings
+
+TOOL = os.path.join(os.path.dirname(os.path.dirname(os.path.realpath(__file__))), "report")
+
+MOST_KEPT, MOST_BYTES = 8, 16_000_000  # reports that are kept, and what one may take
+MOST_SECONDS = 300.0
+NICENESS = 15  # the server and its clients come first
+
+
+@dataclass(frozen=True)
+class Report:
+    """A page, or why there is none."""
+
+    page: Optional[bytes]
+    fault: str = ""
+
+
+class Reports:
+    """Makes one report at a time, in a process of its own. No method waits for it."""
+
+    def __init__(self) -> None:
+        self._lock = threading.Lock()
+        self._kept: "OrderedDict[str, Report]" = OrderedDict()  # by the run's id, the last one that was asked for last
+        self._is_making, self._is_stopped = False, False
+        self._process: Optional[subprocess.Popen[bytes]] = None
+
+    def of(self, run: PastRun, settings: Settings) -> Optional[Report]:
+        """The report on a run. None as long as it, or another one, is being made; who asks again gets it. One that
+        could not be made is told once, and tried again after that."""
+        with self._lock:
+            report = self._kept.pop(run.id, None)
+            if report is not None and report.page is not None:
+                self._kept[run.id] = report
+            elif report is None and not self._is_making and not self._is_stopped:
+                self._is_making = True
+                threading.Thread(target=self._make, args=(run, settings), name="report", daemon=True).start()
+            return report
+
+    def stop(self) -> None:
+        """Ends what is being made."""
+        with self._lock:
+            self._is_stopped = True
+            if self._process is not None:
+                self._process.kill()
+
+    def _make(self, run: PastRun, settings: Settings) -> None:
+        try:
+            report = self._made(run, settings)
+        except (OSError, subprocess.SubprocessError) as fault:
+            report = Report(None, str(fault))
+        with self._lock:
+            self._is_making, self._process = False, None
+            self._kept[run.id] = report
+            while len(self._kept) > MOST_KEPT:
+                self._kept.popitem(last=False)
+
+    def _made(self, run: PastRun, settings: Settings) -> Report:
+        with tempfile.TemporaryDirectory(prefix="rb-report-") as room:
+            path = os.path.join(room, "page.html")
+            with self._begun(words_of(run, settings, path)) as process:
+                try:
+                    _, said = process.communicate(timeout=MOST_SECONDS)
+                except BaseException:
+                    process.kill()
+                    raise
+            if process.returncode:
+                lines = said.decode(errors="replace").strip().splitlines()
+                return Report(None, lines[-1] if lines else f"tools/report ended with {process.returncode}")
+            if os.path.getsize(path) > MOST_BYTES:
+                return Report(None, f"the report is larger than {MOST_BYTES:,} bytes")
+            with open(path, "rb") as file:
+                return Report(file.read())
+
+    def _begun(self, words: List[str]) -> "subprocess.Popen[bytes]":
+        """A process that gives way to all others, and that Ctrl-C does not end."""
+        with self._lock:
+            if self._is_stopped:
+                raise OSError("the service has ended")
+            process = subprocess.Popen(words, stdin=subprocess.DEVNULL, stdout=subprocess.DEVNULL,
+                                       stderr=subprocess.PIPE, start_new_session=True)
+            os.setpriority(os.PRIO_PROCESS, process.pid, NICENESS)
+            self._process = process
+            return process
+
+
+def words_of(run: PastRun, settings: Settings, path: str) -> List[str]:
+    """The command that writes a run's report to a path."""
+    return [sys.executable, "-B", TOOL, str(run.history), "--html", path, "--began", f"@{run.began:.3f}",
+            "--attempts", str(settings.attempts)]

@@ -1,0 +1,65 @@
+"""States that were written by hand, and what serves them."""
+from __future__ import annotations
+
+import dataclasses
+from typing import Any, Optional, Tuple
+
+from servicing.state import (
+    Alert, Client, Clients, DiskFault, Doing, Head, PastRun, Phase, Queue, Reason, Run, Settings, State, Supply,
+    Traffic,
+)
+
+AT = 1_795_680_000.5  # 2026-11-26 08:00:00 UTC
+LONG = "!" * 31 + "<b>&\"'" + "~" * 28  # a payload of 64 characters
+
+SETTINGS = Settings(7011, "/var/lib/rb_broker/7011", 3600, 60, 20, "--delay 30s")
+
+CLIENTS = (
+    Client(41004, "python3", 12, Doing.NOT_READING, 30.0, 163_298, 7),
+    Client(41003, None, None, Doing.WAITING, 2.0, 0, 7),
+    Client(41001, "python3", 11, Doing.SILENT, 725.0, 0, 0),
+    Client(41002, None, None, Doing.SILENT, 3.0, 0, 0),
+    Client(41005, "java", 77, Doing.IN_CALL, 5.0, 0, 0),
+    Client(41000, "python3", 9, Doing.ACTIVE, 0.1, 0, 0),
+)
+
+PRESENT = Run(12, "1f6c-12", AT - 4000, 10**15, 44_000, 1200, 0, 30170)
+
+ENDED = PastRun(11, "1f6c-11", AT - 7600, AT - 4000.3, Reason.TIME, 900, "/nowhere/run-11.txt.gz", 250_000, 100_000,
+                4_000, 103_700, 1200, 0, 0.31)
+LOST = PastRun(10, "1f6c-10", AT - 9000, AT - 7600, Reason.KILLED, 900, None, None, None, None, None, None, None, 1.25)
+HELD = PastRun(9, "1f6c-9", AT - 90_000, AT - 9000, Reason.CALLS, 0, "/nowhere/run-9.txt.gz", 1_000_000, 400_000,
+               12_345, 411_445, 900, 3, 61.5, ("python3 4711 at port 41007",), 1)
+
+
+def state(**changes: Any) -> State:
+    """A service that serves six clients, with a run behind it that was lost."""
+    usual = State(
+        at=AT, settings=SETTINGS, began=AT - 90_100, phase=Phase.SERVING, since=AT - 3999, why=None, waits_for=(),
+        run=PRESENT, queue=Queue(AT - 1, 1204, Head(17, 10**15, 2, "letter-17", 3.25)),
+        clients=Clients(CLIENTS, 8, 10.0),
+        calls=Supply(400_000, False, 1_000_000, 12.5), sessions=Supply(57, True, 10_000, 0.5),
+        traffic=Traffic(600_000, 590_000, 16_345, 12, 6.25, 6.0, 1.125), runs=(ENDED, LOST, HELD), lost_runs=1,
+        alerts=(), disk=None)
+    return dataclasses.replace(usual, **changes)
+
+
+def first_state(**changes: Any) -> State:
+    """A service that has just begun: nothing has been seen, and no run is behind it."""
+    return state(began=AT - 1, since=AT - 1, phase=Phase.STARTING, run=None, queue=None, clients=None, calls=None,
+                 sessions=None, traffic=Traffic(0, 0, 0, 0, None, None, None), runs=(), lost_runs=0, **changes)
+
+
+def troubled_state(**changes: Any) -> State:
+    """A service with all that may be wrong, at the end of a run that sixteen clients hold up, with long names."""
+    clients = tuple(Client(42_000 + it, "a-program-of-a-long-name", 4_000_000 + it, Doing.SILENT, 7.0 * it, 0, 12 * it)
+                    for it in range(16))
+    return state(
+        phase=Phase.ENDING, why=Reason.CALLS, since=AT - 42, clients=Clients(CLIENTS[:2] + clients, 16, 10.0),
+        waits_for=tuple(f"a-program-of-a-long-name {4_000_000 + it} at port {42_000 + it}" for it in range(3)),
+        queue=Queue(AT - 30, 987_654, Head(2**40 - 1, 10**15, 1000, LONG, 86_400.5)),
+        calls=Supply(999_990, False, 1_000_000, 300.0),
+        alerts=(Alert("many-elements", "The queue has 987,654 elements; a run can begin with 1,000,000.", AT - 3600),
+                Alert("lost-run", "Run 10 was lost after 23 min: its opening had 900 elements.", AT - 7600)),
+        disk=DiskFault("/var/lib/rb_broker/7011/run-11.txt", "No space left on device", AT - 4000, 57_000_000),
+        **changes)

@@ -1,0 +1,238 @@
+"""What is answered to each path, from states that were written by hand and from reports that tools/report makes."""
+from __future__ import annotations
+
+import dataclasses
+import gzip
+import json
+import time
+from typing import Any, List
+from unittest import mock
+
+from common.testing import RoomTest
+from histories.tests.support import RUN
+from servicing import reports as making
+from servicing import site as served
+from servicing.http import Answer
+from servicing.reports import Reports
+from servicing.site import Site
+from servicing.state import Board, DiskFault, Phase, State, Traffic
+from servicing.tests.support import AT, ENDED, LOST, first_state, state, troubled_state
+from servicing.trend import BETWEEN, SPAN, Trend
+
+PATIENCE = 30.0
+
+
+class SiteTest(RoomTest):
+    def setUp(self) -> None:
+        super().setUp()
+        self.board, self.reports = Board(), Reports()
+        self.addCleanup(self.reports.stop)
+        self.site = Site(self.board, 7011, self.reports)
+
+    def answer(self, path: str) -> Answer:
+        answer = self.site.answer(path)
+        assert answer is not None
+        return answer
+
+    def put(self, state: State) -> None:
+        self.board.put(state)
+        self.site.beat()
+
+    def told(self) -> Any:
+        return json.loads(self.answer("/state.json").body)
+
+    def health(self) -> "tuple[int, bytes]":
+        answer = self.answer("/health")
+        return answer.status.value, answer.body
+
+
+class PathsTest(SiteTest):
+    def test_before_the_first_state(self) -> None:
+        self.assertEqual(self.answer("/").kind, "text/html; charset=utf-8")
+        self.assertIsNone(self.told())
+        for path in ("/health", "/metrics", "/runs/1"):
+            self.assertEqual((self.answer(path).status, self.answer(path).body), (503, b"starting\n"), path)
+
+    def test_paths_that_are_not_known(self) -> None:
+        self.put(state())
+        for path in ("", "/page", "/state", "/metrics/", "/runs", "/runs/", "/runs/0", "/runs/-1", "/runs/011",
+                     "/runs/12", "/runs/11/", "/runs/1e1", "/runs/9999999999", "/runs/../11"):
+            self.assertIsNone(self.site.answer(path), path)
+
+    def test_the_metrics(self) -> None:
+        self.put(state())
+        answer = self.answer("/metrics")
+        self.assertEqual(answer.kind, "text/plain; version=0.0.4; charset=utf-8")
+        self.assertIn(b'\nrb_broker_elements{port="7011"} 1204\n', answer.body)
+
+    def test_counters_never_fall(self) -> None:
+        for offered, shown in ((10, 10), (7, 10), (12, 12)):
+            self.put(state(traffic=Traffic(offered, 3, 2, 1, None, None, None)))
+            self.assertIn(b'rb_broker_offered_total{port="7011"} %d\n' % shown, self.answer("/metrics").body)
+
+    def test_health(self) -> None:
+        self.put(state())
+        self.assertEqual(self.health(), (200, b"serving\n"))
+        self.put(state(phase=Phase.ENDING))
+        self.assertEqual(self.health(), (200, b"ending\n"))
+        for phase in (Phase.STARTING, Phase.BETWEEN, Phase.STOPPED):
+            self.put(state(phase=phase))
+            self.assertEqual(self.health(), (503, f"{phase.value}\n".encode()))
+        self.put(state(disk=DiskFault("/var/run.txt", "No space left on device", AT, 1)))
+        self.assertEqual(self.health(), (503, b"serving; /var/run.txt: No space left on device\n"))
+
+    def test_a_service_that_finds_nothing_more(self) -> None:
+        with mock.patch.object(served, "STALE", 0.2):
+            self.put(state())
+            self.assertEqual(self.health()[0], 200)
+            time.sleep(0.3)
+            self.site.beat()
+            self.assertEqual(self.health(), (503, b"the service has found nothing for 0.2 seconds\n"))
+            self.assertFalse(self.told()["is_healthy"])
+            self.assertIn(b'rb_broker_healthy{port="7011"} 0\n', self.answer("/metrics").body)
+            self.put(state())
+            self.assertEqual(self.health()[0], 200)
+
+    def test_the_state(self) -> None:
+        """All that was seen of a server, and nothing that is not known."""
+        self.put(state())
+        told = self.told()
+        self.assertEqual(told["clients"].pop("all")[0], {
+            "port": 41004, "program": "python3", "pid": 12, "doing": "does not read", "seconds": 30,
+            "unread_by_client": 163_298, "unread_by_server": 7})
+        self.assertEqual(told["clients"], {"workers": 8, "served": 5, "waiting": 1, "not_reading": 1, "hung_up": 0,
+                                           "silent": 1, "silent_from": 10, "longest_silence": 725})
+        self.assertEqual(told["queue"], {"at": AT - 1, "elements": 1204, "head": {
+            "id": 17, "expiry": 10**15, "attempt": 2, "payload": "letter-17", "late": 3.25}})
+        self.assertEqual(told["calls"], {"used": 400_000, "is_least": False, "limit": 1_000_000, "a_second": 12.5,
+                                         "lasts": 48_000})
+        self.assertEqual(told["sessions"], {"used": 57, "is_least": True, "limit": 10_000, "a_second": 0.5,
+                                            "lasts": 19_886})
+        plain = (told["phase"], told["why"], told["is_healthy"], told["lost_runs"])
+        self.assertEqual(plain, ("serving", None, True, 1))
+        self.assertEqual([it["number"] for it in told["runs"]], [11, 10, 9])
+        self.assertEqual({name: told["runs"][1][name] for name in ("why", "is_lost", "lasted", "opening", "calls")},
+                         {"why": "killed", "is_lost": True, "lasted": 1400, "opening": 900, "calls": None})
+        self.put(first_state())
+        nothing = ("run", "queue", "clients", "calls", "sessions", "why", "disk")
+        self.assertEqual([self.told()[it] for it in nothing], [None] * len(nothing))
+
+    def test_no_path_of_a_history_is_told(self) -> None:
+        self.put(state())
+        self.assertNotIn(b"nowhere", self.answer("/state.json").body)
+
+    def test_many_runs_and_clients_are_bounded(self) -> None:
+        clients = state().clients
+        assert clients is not None
+        runs = tuple(dataclasses.replace(ENDED, number=it) for it in range(5000, 0, -1))
+        self.put(state(runs=runs, clients=dataclasses.replace(clients, all=clients.all * 100)))
+        self.assertLess(len(self.answer("/state.json").body), 100_000)
+        told = self.told()
+        self.assertEqual((told["runs"][0]["number"], told["runs_kept"]), (5000, 5000))
+        self.assertEqual(told["clients"]["served"], 500)
+
+
+class TrendTest(SiteTest):
+    def moments(self, count: int, step: float) -> List[State]:
+        return [state(at=AT + it * step, traffic=Traffic(100 * it, 50 * it, 0, 0, None, None, None))
+                for it in range(count)]
+
+    def test_the_last_minutes_with_their_rates(self) -> None:
+        for it in self.moments(3, 2.0):
+            self.put(it)
+        self.assertEqual(self.told()["trend"], {
+            "at": [AT, AT + 2, AT + 4], "elements": [1204] * 3, "late": [3.25] * 3, "offers": [None, 50, 50],
+            "gifts": [None, 25, 25]})
+
+    def test_it_is_bounded(self) -> None:
+        trend = Trend()
+        for it in self.moments(5000, 1.0):
+            trend.add(it)
+        told = trend.told()
+        self.assertEqual({len(it) for it in told.values()}, {int(SPAN / BETWEEN) + 1})
+        self.assertEqual(told["at"][-1], AT + 4998)
+
+    def test_what_is_not_known(self) -> None:
+        self.put(first_state())
+        self.assertEqual(self.told()["trend"], {"at": [AT], "elements": [None], "late": [None], "offers": [None],
+                                                "gifts": [None]})
+
+    def test_an_element_that_is_not_due_is_not_late(self) -> None:
+        queue = state().queue
+        assert queue is not None and queue.head is not None
+        self.put(state(queue=dataclasses.replace(queue, head=dataclasses.replace(queue.head, late=-60.0))))
+        self.assertEqual(self.told()["trend"]["late"], [0])
+
+    def test_a_clock_that_is_set_back(self) -> None:
+        for at in (AT, AT + 10, AT - 3600):
+            self.put(state(at=at))
+        self.assertEqual(self.told()["trend"]["at"], [AT - 3600])
+
+    def test_counts_that_are_corrected(self) -> None:
+        for offered, at in ((100, AT), (90, AT + 2)):
+            self.put(state(at=at, traffic=Traffic(offered, 0, 0, 0, None, None, None)))
+        self.assertEqual(self.told()["trend"]["offers"], [None, 0])
+
+
+class ReportsTest(SiteTest):
+    def serve(self, text: bytes, number: int = 11) -> None:
+        """A service behind which this run lies."""
+        path = self.path(f"run-{number}.txt.gz")
+        with open(path, "wb") as file:
+            file.write(gzip.compress(text))
+        self.put(state(runs=(dataclasses.replace(ENDED, number=number, id=f"x-{number}", history=path), LOST)))
+
+    def report(self, path: str = "/runs/11") -> Answer:
+        """The answer once the report is made. Until then each answer comes at once."""
+        end = time.monotonic() + PATIENCE
+        while time.monotonic() < end:
+            began = time.monotonic()
+            answer = self.answer(path)
+            self.assertLess(time.monotonic() - began, 1)
+            if answer.status != 202:
+                return answer
+            self.assertEqual(answer.headers, (("Refresh", "2"),))
+            self.assertIn(b"is being made", answer.body)
+            time.sleep(0.05)
+        raise AssertionError("the report was not made")
+
+    def test_a_report(self) -> None:
+        self.serve(RUN.encode())
+        answer = self.report()
+        self.assertEqual((answer.status, answer.kind), (200, "text/html; charset=utf-8"))
+        self.assertIn(b"<h1>", answer.body)
+        self.assertIn(b"2026-11-26 05:53:20", answer.body, "the run began 7,600 seconds before 08:00:00.5")
+        with mock.patch("subprocess.Popen", side_effect=AssertionError):
+            self.assertIs(self.answer("/runs/11").body, answer.body, "it is kept")
+
+    def test_a_history_that_is_gone_or_damaged(self) -> None:
+        self.put(state())
+        answer = self.report()
+        says = b"there is no report: report: /nowhere/run-11.txt.gz: No such file or directory\n"
+        self.assertEqual((answer.status, answer.body), (500, says))
+        self.serve(b"history 3\n")
+        self.assertEqual(self.report().status, 500)
+        self.serve(RUN.encode())
+        self.assertEqual(self.report().status, 200, "what failed is tried again")
+
+    def test_a_run_without_a_history(self) -> None:
+        self.put(state())
+        self.assertIsNone(self.site.answer("/runs/10"))
+
+    def test_no_more_than_some_are_kept(self) -> None:
+        with mock.patch.object(making, "MOST_KEPT", 2):
+            for number in (1, 2, 3):
+                self.serve(RUN.encode(), number)
+                self.assertEqual(self.report(f"/runs/{number}").status, 200)
+        self.assertEqual([*self.reports._kept], ["x-2", "x-3"])
+
+    def test_a_report_that_takes_too_long(self) -> None:
+        with mock.patch.object(making, "MOST_SECONDS", 0.05):
+            self.serve(RUN.encode())
+            self.assertIn(b"timed out", self.report().body)
+
+    def test_one_that_is_being_made_is_ended(self) -> None:
+        self.serve(RUN.encode())
+        self.assertEqual(self.answer("/runs/11").status, 202)
+        self.reports.stop()
+        self.assertEqual(self.report().status, 500)
