@@ -1,0 +1,149 @@
+"""Takes the events of a queue out of the Redis, into files that `rb_broker replay --chains` can check."""
+from __future__ import annotations
+
+from typing import Iterator, NamedTuple, Protocol
+
+from .archive_folder import ArchivedFile, ArchiveFolder
+from .history import MOST_EVENTS, MOST_KEPT, Damaged, FollowedQueue, read_text
+
+CHUNK = 10_000  # events that are fetched at a time
+
+
+class Conflict(Exception):
+    """The files and the Redis do not go together. What the Redis has stays there."""
+
+
+class Position(NamedTuple):
+    """How far the events of a queue have been taken out of the Redis."""
+
+    first: int
+    """The number of the first event that it still has, counted from 0."""
+    waiting: int
+    """How many events it has."""
+
+
+class Source(Protocol):
+    """The events of a queue, where they are kept until they are archived."""
+
+    name: str
+
+    def position(self) -> Position:
+        """How far the events have been taken out."""
+
+    def opening(self) -> FollowedQueue | None:
+        """The queue in front of the first event that is there, if that is kept."""
+
+    def events(self, start: int, count: int) -> list[bytes]:
+        """`count` events that are there, from the one that has `start` others in front of it."""
+
+    def cut(self, first: int, count: int) -> bool:
+        """Takes out `count` events. Does nothing if `first` is not the number of the first one any more."""
+
+
+class _DoesNotFit(Exception):
+    """Too many elements stand behind the last event. Behind the event of this count they would not, if it is not 0."""
+
+    def __init__(self, count: int) -> None:
+        super().__init__(count)
+        self.count = count
+
+
+class Archive:
+    """Moves the events of one queue to a folder.
+
+    A file is whole and synced before its events are taken out of the Redis. Wherever this is killed, the next process
+    goes on from there: no event is left out, and none is in two files. A file begins with the elements that the one
+    before it left.
+    """
+
+    def __init__(self, source: Source, folder: ArchiveFolder, most: int = MOST_EVENTS) -> None:
+        """`most` is the number of events of a file."""
+        self._source, self._folder, self._most = source, folder, most
+        self._behind: FollowedQueue | None = None  # the queue behind the last file, once that is known
+        self._end = 0  # the number of the event that follows that file
+
+    def take(self) -> Iterator[str]:
+        """Takes the events that are there now, and gives a line for each file. Raises a `Conflict`."""
+        yield from self._settle()
+        left = self._source.position().waiting
+        while left > 0:
+            file = self._take(min(self._most, left))
+            left -= file.count
+            yield f"{self._source.name}: {file.count} events in {file.path}"
+
+    def _settle(self) -> Iterator[str]:
+        """Looks at the files whose events are not yet taken out. Either the process that wrote them was killed then,
+        or the Redis was, and came back without its last events."""
+        name, position = self._source.name, self._source.position()
+        later = [it for it in self._folder.files(name) if it.end > position.first]
+        for place, file in enumerate(later):
+            if not self._has(file, self._source.position()):
+                for lost in reversed(later[place:]):
+                    aside = self._folder.set_aside(lost)
+                    yield f"{name}: the Redis has lost events that were archived, from number {lost.first}: see {aside}"
+                return
+            self._cut(file)
+
+    def _has(self, file: ArchivedFile, position: Position) -> bool:
+        """Whether the Redis begins with the events of this file."""
+        return (file.first == position.first and file.count <= position.waiting
+                and all(here == there for here, there in zip(file.events(), self._waiting(file.count))))
+
+    def _take(self, count: int) -> ArchivedFile:
+        """Writes the next file, of this many events or less, and takes them out."""
+        first = self._source.position().first
+        queue, self._behind = self._opening(first), None
+        try:
+            path = self._folder.write(self._source.name, first, queue.opening(), self._followed(queue, first, count),
+                                      count)
+        except _DoesNotFit as fault:
+            if fault.count:
+                return self._take(fault.count)
+            raise Conflict(f"{self._source.name}: more than {MOST_KEPT:,} elements are in the queue, with which no "
+                           "history can begin; the events stay in the Redis until there are fewer") from None
+        file = ArchivedFile(path, first, count)
+        self._cut(file)
+        self._behind, self._end = queue, file.end
+        return file
+
+    def _opening(self, first: int) -> FollowedQueue:
+        """The queue in front of the event of this number."""
+        if self._behind is not None and self._end == first:
+            return self._behind
+        place = f"{self._source.name}: what is kept of its opening"
+        try:
+            kept = self._source.opening()
+            if kept is not None:
+                return kept
+            before = next((it for it in self._folder.files(self._source.name) if it.end == first), None)
+            if before is not None:
+                place = str(before.path)
+                return read_text(before.path).queue
+        except Damaged as fault:
+            raise Conflict(f"{place}: {fault}") from None
+        raise Conflict(f"{self._source.name}: event {first} is next, and no file in {self._folder.path} ends there: "
+                       "bring that file back, or begin a new series with --anew")
+
+    def _followed(self, queue: FollowedQueue, first: int, count: int) -> Iterator[bytes]:
+        """The lines of the events, which the queue follows. The next file must be able to begin behind the last."""
+        fitting = 0
+        for number, event in enumerate(self._waiting(count), 1):
+            try:
+                queue.follow(event)
+            except Damaged as fault:
+                raise Conflict(f"{self._source.name}: event {first + number - 1} does not follow from those before it: "
+                               f"{event.decode('latin-1')}: {fault}") from None
+            if len(queue.elements) <= MOST_KEPT:
+                fitting = number
+            yield event + b"\n"
+        if fitting < count:
+            raise _DoesNotFit(fitting)
+
+    def _cut(self, file: ArchivedFile) -> None:
+        if not self._source.cut(file.first, file.count):
+            raise Conflict(f"{self._source.name}: another archive has taken events that are in {file.path} too")
+
+    def _waiting(self, count: int) -> Iterator[bytes]:
+        """The first events that the Redis has."""
+        for start in range(0, count, CHUNK):
+            yield from self._source.events(start, min(CHUNK, count - start))

@@ -1,0 +1,90 @@
+"""The command `archive`."""
+from __future__ import annotations
+
+import argparse
+import signal
+import sys
+import time
+from pathlib import Path
+from typing import Sequence
+
+import redis
+
+from .archive import Archive, Conflict
+from .archive_folder import ArchiveFolder, FolderInUse
+from .ending import ends_with_a_line, fail
+from .history import MOST_EVENTS
+from .limits import SECOND
+from .queue_events import QueueEvents
+from .queues import add_queues_words, queues_in
+from .words import Parser, duration, whole
+
+SOON = 10.0  # seconds after which something is tried again that failed
+
+ABOUT = """takes the events of a queue out of the Redis, into files
+
+A file NAME-NUMBER.txt is a history: its NUMBER is that of its first event, and it begins with the elements that the
+file before it left. It is written and synced before its events are taken out of the Redis, so a kill at any moment
+loses none. Leave the last file in the folder: the next one begins where it ends. One process at a time writes to a
+folder.
+
+If the Redis itself comes back without events that are in a file already, that file is renamed to NAME-NUMBER.lost-1,
+and the history goes on with what the Redis has.
+
+Without --every it ends once the events that are there are taken. With --every it goes on until SIGTERM, and what goes
+wrong is said and tried again.
+
+Status: 0; 1 if the files and the Redis do not go together, or another process writes to the folder; 2 if a word is
+wrong or a file can't be written; 3 if the Redis can't be reached.
+"""
+
+
+def add_to(commands: "argparse._SubParsersAction[Parser]") -> None:
+    """Adds the command."""
+    about, _, rest = ABOUT.partition("\n\n")
+    parser = commands.add_parser("archive", help=about, description=f"{about}.", epilog=rest, allow_abbrev=False,
+                                 formatter_class=argparse.RawDescriptionHelpFormatter)
+    parser.set_defaults(run=run)
+    parser.add_argument("folder", metavar="FOLDER", type=Path, help="where the files are; it is made if it is not there")
+    add_queues_words(parser)
+    parser.add_argument("--events", metavar="N", type=whole(1, MOST_EVENTS), default=MOST_EVENTS,
+                        help=f"of a file at most (default: {MOST_EVENTS}, which is the most)")
+    parser.add_argument("--every", metavar="TIME", type=duration, help="goes on, and takes what is there that often: 10m")
+    parser.add_argument("--anew", action="store_true",
+                        help="gives up the events that are there, and begins a new series with the queue as it is")
+
+
+@ends_with_a_line
+def run(asked: argparse.Namespace) -> int:
+    """Takes the events once, or again and again."""
+    try:
+        folder = ArchiveFolder(asked.folder)
+    except FolderInUse as fault:
+        return fail(1, fault)
+    sources = [QueueEvents(it) for it in queues_in(asked)]
+    if asked.anew:
+        for it in sources:
+            print(f"{it.name}: {it.begin_anew()} events are given up", flush=True)
+    archives = [Archive(it, folder, asked.events) for it in sources]
+    if asked.every is None:
+        return _take(archives)
+    signal.signal(signal.SIGTERM, lambda *_: sys.exit(0))
+    seconds = asked.every / SECOND
+    while True:
+        time.sleep(seconds if _take(archives) == 0 else min(seconds, SOON))
+
+
+def _take(archives: Sequence[Archive]) -> int:
+    """Takes what is there. A queue with which something is wrong does not keep the others waiting."""
+    status = 0
+    for it in archives:
+        try:
+            for line in it.take():
+                print(line, flush=True)
+        except Conflict as fault:
+            status = fail(1, fault)
+        except redis.RedisError as fault:
+            status = fail(3, fault)
+        except OSError as fault:
+            status = fail(2, f"{fault.filename}: {fault.strerror}" if fault.filename else fault)
+    return status

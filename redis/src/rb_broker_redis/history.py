@@ -1,0 +1,201 @@
+"""The text of a history, and the queue that its lines describe. docs/HISTORY.md has the form of a text."""
+from __future__ import annotations
+
+import gzip
+import re
+import zlib
+from pathlib import Path
+from typing import BinaryIO, Callable, Iterable, Iterator, Match, NamedTuple, Pattern
+
+GREATEST = 2**64 - 1
+MOST_EVENTS = 1_000_000
+"""A text has no more events."""
+GREATEST_ID = 2**40
+"""No next id of an opening is above it."""
+MOST_KEPT = 1_000_000
+"""A text opens with no more elements."""
+
+HEADER = b"history 3\n"
+LONGEST_LINE = 1 << 20
+
+_NUMBER = rb"(?:0|[1-9][0-9]{0,19})"
+_ELEMENT = rb"(?:%b ){4}(?:[1-9][0-9]{0,2}|1000) [!-~]{1,64}" % _NUMBER
+_EVENT = re.compile(rb"%b (%b) (%b) (?:" % (_NUMBER, _NUMBER, _NUMBER) + b"|".join([
+    rb"offer (?P<offer>%b)" % _ELEMENT,
+    rb"(?:poll|take|pollfor %b %b) (?P<gave>%b|none)" % (_NUMBER, _NUMBER, _NUMBER),
+    rb"drain %b(?P<drain>(?: %b)*)" % (_NUMBER, _NUMBER),
+    rb"remove (?P<remove>%b) (?P<found>yes|no)" % _NUMBER,
+    rb"(?P<clear>clear)",
+    rb"size (?P<size>%b)" % _NUMBER,
+    rb"peek (?P<peek>%b|none)" % _NUMBER,
+]) + rb")")
+_KEEP = re.compile(rb"keep (%b)\n" % _ELEMENT)
+_OPEN = re.compile(rb"open (%b) (%b) (%b)\n" % (_NUMBER, _NUMBER, _NUMBER))
+_END = re.compile(rb"end (%b)\n" % _NUMBER)
+
+
+class Damaged(Exception):
+    """A line is none of a history, or says what no queue does."""
+
+
+class Element(NamedTuple):
+    """The words of a `keep` line. The expiry and the job's first one are moments, in nanoseconds."""
+
+    id: int
+    expiry: int
+    origin: int
+    first: int
+    attempt: int
+    payload: str
+
+    @classmethod
+    def of(cls, words: bytes) -> Element:
+        *numbers, payload = words.decode("ascii").split(" ")
+        return cls(*map(int, numbers), payload)  # type: ignore[arg-type]
+
+
+class FollowedQueue:
+    """The elements in a queue, by their ids in rising order, followed event by event.
+
+    Whether an element of an earlier expiry was passed over is not tested: `rb_broker replay` does that.
+    """
+
+    def __init__(self, next_id: int = 0, last: int = 0) -> None:
+        self.next_id = next_id
+        """The id of the next offer."""
+        self.last = last
+        """The moment of the last event."""
+        self.elements: dict[int, bytes] = {}
+        """The words of each element, as a `keep` line has them."""
+        self._acts: dict[str | None, Callable[[Match[bytes]], None]] = {
+            "offer": self._offer, "gave": self._give, "drain": self._drain, "found": self._remove,
+            "clear": self._clear, "size": self._size, "peek": lambda match: None,
+        }
+
+    @classmethod
+    def of_opening(cls, lines: Iterable[bytes]) -> FollowedQueue:
+        """The queue of an `open` line and its `keep` lines, without their line feeds."""
+        head, *kept = lines
+        queue = cls(*map(int, head.split(b" ")[1:3]))
+        for line in kept:
+            queue.keep(line[len(b"keep "):])
+        return queue
+
+    def keep(self, words: bytes) -> None:
+        """Adds an element of an opening."""
+        id = int(words.split(b" ", 1)[0])
+        if id >= self.next_id or (self.elements and id <= next(reversed(self.elements))):
+            raise Damaged("the id of a `keep` line is above the one before, and below the next")
+        self.elements[id] = words
+
+    def follow(self, line: bytes) -> None:
+        """Takes an event, of which `line` is the text without its line feed."""
+        match = _EVENT.fullmatch(line)
+        if match is None:
+            raise Damaged("it is no event")
+        at = int(match[2])
+        if at != max(int(match[1]), self.last) or at > GREATEST:
+            raise Damaged("its moment is not the later of the one asked and the last")
+        self._acts[match.lastgroup](match)
+        self.last = at
+
+    def opening(self) -> Iterator[bytes]:
+        """The `open` line of a run that continues here, and its `keep` lines."""
+        yield b"open %d %d %d\n" % (self.next_id, self.last, len(self.elements))
+        for words in self.elements.values():
+            yield b"keep %b\n" % words
+
+    def _offer(self, match: Match[bytes]) -> None:
+        words = match["offer"]
+        if int(words.split(b" ", 1)[0]) != self.next_id:
+            raise Damaged(f"its id is not the next one, {self.next_id}")
+        self.elements[self.next_id] = words
+        self.next_id += 1
+
+    def _give(self, match: Match[bytes]) -> None:
+        if match["gave"] != b"none":
+            self._leave(match["gave"])
+
+    def _drain(self, match: Match[bytes]) -> None:
+        for id in match["drain"].split():
+            self._leave(id)
+
+    def _remove(self, match: Match[bytes]) -> None:
+        if match["found"] == b"yes":
+            self._leave(match["remove"])
+
+    def _clear(self, match: Match[bytes]) -> None:
+        self.elements.clear()
+
+    def _size(self, match: Match[bytes]) -> None:
+        if int(match["size"]) != len(self.elements):
+            raise Damaged(f"the queue holds {len(self.elements)}")
+
+    def _leave(self, id: bytes) -> None:
+        if self.elements.pop(int(id), None) is None:
+            raise Damaged(f"element {id.decode()} is not in the queue")
+
+
+class Run(NamedTuple):
+    """What the text of a history tells."""
+
+    opened_at: int
+    """The moment of the last event before it."""
+    queue: FollowedQueue
+    """The queue at its end."""
+
+
+def read_text(path: Path) -> Run:
+    """Reads a text of the third version whole, also one that gzip has compressed. Raises a `Damaged` that names the
+    line."""
+    with gzip.open(path) if path.suffix == ".gz" else open(path, "rb") as file:
+        reader = _Reader(file)
+        try:
+            return reader.read()
+        except (EOFError, zlib.error, gzip.BadGzipFile):
+            raise Damaged("it is damaged as a compressed file") from None
+        except Damaged as fault:
+            raise Damaged(f"line {reader.number}: {fault}") from None
+
+
+class _Reader:
+    """Reads a text line by line."""
+
+    def __init__(self, file: BinaryIO) -> None:
+        self._file, self.number = file, 0
+
+    def read(self) -> Run:
+        if self._line() != HEADER:
+            raise Damaged("no `history 3`; `rb_broker script --from` continues an earlier version as the third")
+        next_id, opened_at, kept = map(int, self._matched(_OPEN, "no `open` line").groups())
+        queue = FollowedQueue(next_id, opened_at)
+        for _ in range(kept):
+            queue.keep(self._matched(_KEEP, "no `keep` line")[1])
+        for count in range(MOST_EVENTS + 1):
+            line = self._line()
+            if line.startswith(b"end "):
+                self._end(line, count)
+                return Run(opened_at, queue)
+            queue.follow(line[:-1])
+        raise Damaged(f"an event behind {MOST_EVENTS:,} others")
+
+    def _end(self, line: bytes, count: int) -> None:
+        match = _END.fullmatch(line)
+        if match is None or int(match[1]) != count:
+            raise Damaged(f"the number of events is {count}")
+        if self._file.readline(LONGEST_LINE):
+            self.number += 1
+            raise Damaged("it stands behind the last line")
+
+    def _line(self) -> bytes:
+        self.number += 1
+        line = self._file.readline(LONGEST_LINE)
+        if not line.endswith(b"\n"):
+            raise Damaged("the text ends before the history does")
+        return line
+
+    def _matched(self, pattern: Pattern[bytes], otherwise: str) -> Match[bytes]:
+        match = pattern.fullmatch(self._line())
+        if match is None:
+            raise Damaged(otherwise)
+        return match

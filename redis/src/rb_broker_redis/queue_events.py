@@ -1,0 +1,58 @@
+"""The events of a queue, as the functions of broker.lua keep them until they are archived."""
+from __future__ import annotations
+
+
+from .archive import Conflict, Position
+from .history import FollowedQueue
+from .queue import Queue
+
+ANEW = """
+local state = redis.call('HMGET', KEYS[4], 'next', 'at', 'calls')
+if not state[1] then return 0 end
+local plain = function(digits) return string.match(digits, '^0*(%d+)$') end
+local keeps = {}
+for place, member in ipairs(redis.call('ZRANGE', KEYS[1], 0, -1)) do
+    local expiry, id, rest = string.match(member, '^(%d+):(%d+) (.*)$')
+    keeps[place] = { id, 'keep ' .. plain(id) .. ' ' .. plain(expiry) .. ' ' .. rest }
+end
+table.sort(keeps, function(one, other) return one[1] < other[1] end)
+local given_up = redis.call('LLEN', KEYS[5])
+redis.call('UNLINK', KEYS[5], KEYS[8])
+redis.call('RPUSH', KEYS[8], 'open ' .. state[1] .. ' ' .. plain(state[2]) .. ' ' .. string.format('%.0f', #keeps))
+for _, it in ipairs(keeps) do redis.call('RPUSH', KEYS[8], it[2]) end
+redis.call('HSET', KEYS[4], 'cut', state[3])
+return given_up
+"""
+
+
+class QueueEvents:
+    """What an `Archive` takes its events from."""
+
+    def __init__(self, queue: Queue) -> None:
+        self._queue, self.name = queue, queue.name
+
+    def position(self) -> Position:
+        """How far the events have been taken out. Raises a `Conflict` if the queue keeps none."""
+        first, keeps = self._queue.command("HMGET", self._queue.state, "cut", "history")
+        if keeps == b"no":
+            raise Conflict(f"{self.name}: this queue keeps no events")
+        return Position(int(first or 0), int(self._queue.command("LLEN", self._queue.history)))
+
+    def opening(self) -> FollowedQueue | None:
+        """The queue in front of the first event. It is known if that is the first of all, or if it is kept."""
+        lines = self._queue.command("LRANGE", self._queue.opening, 0, -1)
+        if lines:
+            return FollowedQueue.of_opening(lines)
+        return None if self.position().first else FollowedQueue()
+
+    def events(self, start: int, count: int) -> list[bytes]:
+        """`count` events, from the one that has `start` others in front of it."""
+        return self._queue.command("LRANGE", self._queue.history, start, start + count - 1)
+
+    def cut(self, first: int, count: int) -> bool:
+        """Takes out `count` events, if `first` is the number of the first one."""
+        return int(self._queue.call("rb_cut", first, count)) == first + count
+
+    def begin_anew(self) -> int:
+        """Gives up the events that are there, and keeps the queue as it is now as the opening. Gives their number."""
+        return int(self._queue.command("EVAL", ANEW, len(self._queue.keys), *self._queue.keys))

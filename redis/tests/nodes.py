@@ -1,0 +1,197 @@
+"""Servers of Redis for tests: a node, a primary with replicas under Sentinel, a Cluster. Each is a process of its own in
+a folder of its own, and may be killed at any moment."""
+from __future__ import annotations
+
+import contextlib
+import os
+import random
+import signal
+import socket
+import subprocess
+import time
+from pathlib import Path
+from typing import Any, Callable, Dict, List, Optional, Sequence
+
+import redis
+
+HOST = "127.0.0.1"
+PORTS = range(26_000, 27_000)  # a node of a Cluster also has the port that is 10,000 above its own
+PATIENCE = 60  # seconds that anything may take
+
+ALWAYS = ("--appendonly", "yes", "--appendfsync", "always")
+EVERYSEC = ("--appendonly", "yes", "--appendfsync", "everysec")
+FORGETFUL = ("--appendonly", "no")
+
+
+class NotReady(Exception):
+    """Something did not come about in time."""
+
+
+def free_port() -> int:
+    """A port at which nobody listens, nor at the one that belongs to it in a Cluster."""
+    while True:
+        port = random.choice(PORTS)
+        with contextlib.suppress(OSError), socket.socket() as one, socket.socket() as other:
+            one.bind((HOST, port))
+            other.bind((HOST, port + 10_000))
+            return port
+
+
+def wait_until(is_so: Callable[[], object], what: str, patience: float = PATIENCE) -> None:
+    """Waits until it is so. A Redis that is away is not."""
+    until = time.monotonic() + patience
+    while time.monotonic() < until:
+        with contextlib.suppress(redis.RedisError):
+            if is_so():
+                return
+        time.sleep(0.02)
+    raise NotReady(what)
+
+
+class Process:
+    """A process that can be killed and started again."""
+
+    def __init__(self, words: Sequence[str], log: Path, environment: Optional[Dict[str, str]] = None) -> None:
+        self._words, self._log, self._environment = list(words), log, environment
+        self._process: Optional[subprocess.Popen[bytes]] = None
+
+    def start(self) -> None:
+        """Starts it. What it says goes to its log."""
+        with open(self._log, "ab") as log:
+            environment = {**os.environ, **(self._environment or {})}
+            self._process = subprocess.Popen(self._words, stdin=subprocess.DEVNULL, stdout=log, stderr=log,
+                                             env=environment)
+
+    def signal(self, number: int) -> int:
+        """Ends it by a signal, and gives its status. One that has ended already stays so."""
+        if self._process is None:
+            return 0
+        self._process.send_signal(number)
+        status, self._process = self._process.wait(PATIENCE), None
+        return status
+
+    def kill(self) -> None:
+        """Ends it at once."""
+        self.signal(signal.SIGKILL)
+
+    @property
+    def is_alive(self) -> bool:
+        return self._process is not None and self._process.poll() is None
+
+    def said(self) -> str:
+        """All that it has said."""
+        return self._log.read_text(errors="replace")
+
+
+class Node(Process):
+    """A redis-server, which answers once it is started."""
+
+    def __init__(self, folder: Path, options: Sequence[object] = ALWAYS, port: int = 0) -> None:
+        folder.mkdir(parents=True)
+        self.port = port or free_port()
+        words = ["redis-server", "--port", self.port, "--bind", HOST, "--dir", folder, "--save", "", *options]
+        super().__init__([*map(str, words)], folder / "log")
+        self.start()
+
+    def start(self) -> None:
+        super().start()
+        wait_until(lambda: self.ask("PING"), f"the node at {self.port} does not answer")
+
+    @property
+    def url(self) -> str:
+        return f"redis://{HOST}:{self.port}"
+
+    def client(self, **options: Any) -> "redis.Redis[bytes]":
+        return redis.Redis(HOST, self.port, **options)
+
+    def ask(self, *words: object) -> Any:
+        """The answer to a command, over a connection of its own."""
+        with self.client() as client:
+            return client.execute_command(*words)
+
+
+class Replicas:
+    """A primary with replicas."""
+
+    def __init__(self, folder: Path, count: int, options: Sequence[object] = ALWAYS) -> None:
+        self.primary = Node(folder / "primary", options)
+        to = ("--replicaof", HOST, self.primary.port)
+        self.replicas = [Node(folder / f"replica-{it}", [*options, *to]) for it in range(count)]
+        self.nodes = [self.primary, *self.replicas]
+        wait_until(lambda: self.primary.client().info("replication")["connected_slaves"] == count
+                   and all(it.client().info("replication")["master_link_status"] == "up" for it in self.replicas),
+                   "the replicas do not follow")
+
+    def kill(self) -> None:
+        for it in self.nodes:
+            it.kill()
+
+
+class Sentinels:
+    """Three Sentinels that watch a primary with its replicas, under a name."""
+
+    def __init__(self, folder: Path, watched: Replicas, name: str = "main") -> None:
+        self.name, self.watched = name, watched
+        self.ports = [free_port() for _ in range(3)]
+        self._processes = []
+        for port in self.ports:
+            place = folder / f"sentinel-{port}"
+            place.mkdir(parents=True)
+            (place / "conf").write_text(
+                f"port {port}\nbind {HOST}\ndir {place}\n"
+                f"sentinel monitor {name} {HOST} {watched.primary.port} 2\n"
+                f"sentinel down-after-milliseconds {name} 1000\nsentinel failover-timeout {name} 5000\n")
+            process = Process(["redis-sentinel", str(place / "conf")], place / "log")
+            process.start()
+            self._processes.append(process)
+        wait_until(lambda: all(self._sees_all(it) for it in self.ports), "the Sentinels do not find each other")
+
+    def _sees_all(self, port: int) -> bool:
+        state = redis.Redis(HOST, port).sentinel_master(self.name)
+        return state["num-other-sentinels"] == 2 and state["num-slaves"] == len(self.watched.replicas)
+
+    def primary(self) -> Node:
+        """The node that is the primary now, as a Sentinel says."""
+        _, port = redis.Redis(HOST, self.ports[0]).execute_command("SENTINEL", "GET-MASTER-ADDR-BY-NAME", self.name)
+        return next(it for it in self.watched.nodes if it.port == int(port))
+
+    def kill(self) -> None:
+        for it in self._processes:
+            it.kill()
+
+
+class Cluster:
+    """A Cluster of three primaries, which share the slots evenly."""
+
+    def __init__(self, folder: Path, options: Sequence[object] = ALWAYS) -> None:
+        words = [*options, "--cluster-enabled", "yes", "--cluster-node-timeout", 3000]
+        self.nodes = [Node(folder / f"node-{it}", words) for it in range(3)]
+        addresses = [f"{HOST}:{it.port}" for it in self.nodes]
+        subprocess.run(["redis-cli", "--cluster", "create", *addresses, "--cluster-yes"], check=True,
+                       stdout=subprocess.DEVNULL, timeout=PATIENCE)
+        wait_until(lambda: all(b"cluster_state:ok" in it.ask("CLUSTER", "INFO") for it in self.nodes),
+                   "the Cluster is not ready")
+
+    def slot_of(self, queue: str) -> int:
+        return int(self.nodes[0].ask("CLUSTER", "KEYSLOT", f"{{{queue}}}"))
+
+    def owner_of(self, slot: int) -> Node:
+        """The node that has a slot, by its own word."""
+        return next(it for it in self.nodes if any(
+            int(first) <= slot <= int(last) and int(place[1]) == it.port
+            for first, last, place, *_ in it.ask("CLUSTER", "SLOTS")))
+
+    def move(self, slot: int, target: Node) -> None:
+        """Moves a slot with its keys, while they are used, as `redis-cli --cluster reshard` does."""
+        source = self.owner_of(slot)
+        ids = {it: it.ask("CLUSTER", "MYID").decode() for it in self.nodes}
+        target.ask("CLUSTER", "SETSLOT", slot, "IMPORTING", ids[source])
+        source.ask("CLUSTER", "SETSLOT", slot, "MIGRATING", ids[target])
+        while keys := source.ask("CLUSTER", "GETKEYSINSLOT", slot, 1):
+            source.ask("MIGRATE", HOST, target.port, "", 0, 5000, "KEYS", *keys)
+        for it in (target, source, *self.nodes):
+            it.ask("CLUSTER", "SETSLOT", slot, "NODE", ids[target])
+
+    def kill(self) -> None:
+        for it in self.nodes:
+            it.kill()

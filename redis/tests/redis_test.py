@@ -1,0 +1,85 @@
+"""Tests with a Redis of their own."""
+from __future__ import annotations
+
+import subprocess
+import sys
+import tempfile
+import unittest
+from pathlib import Path
+
+from nodes import FORGETFUL, PATIENCE, Node
+from rb_broker_redis.address import read_address
+from rb_broker_redis.queue import Queue, connect
+
+SEAT = 1_000_000_000_001
+"""That of a session of the first gateway."""
+
+
+class RedisTest(unittest.TestCase):
+    """A test with a folder, and a Redis that all tests of its class share. Each test has a queue of its own."""
+
+    options = FORGETFUL
+
+    @classmethod
+    def setUpClass(cls) -> None:
+        room = tempfile.TemporaryDirectory(prefix="rb-test-")
+        cls.addClassCleanup(room.cleanup)
+        cls.node = Node(Path(room.name) / "node", cls.options)
+        cls.addClassCleanup(cls.node.kill)
+
+    def setUp(self) -> None:
+        room = tempfile.TemporaryDirectory(prefix="rb-test-")
+        self.addCleanup(room.cleanup)
+        self.room = Path(room.name)
+        self.name = self.id().rpartition(".")[2][:50]
+
+    def queue(self, name: str = "") -> Queue:
+        """A queue that is not used yet, unless it was by this test."""
+        queue = Queue(connect(read_address(self.node.url)), name or self.name)
+        queue.load_functions()
+        return queue
+
+    def joined(self, attempts: int = 3, name: str = "") -> Queue:
+        """A queue that a gateway has joined. Failed jobs come back at once."""
+        queue = self.queue(name)
+        queue.call("rb_join", 60_000_000, "delay", f"{0:020}", attempts, "")
+        return queue
+
+    def started(self, *words: object) -> subprocess.Popen[str]:
+        """A command of the package for this test's queue, as a process."""
+        command = [sys.executable, "-B", "-m", "rb_broker_redis", *map(str, words), "--redis", self.node.url]
+        if "--queue" not in command:
+            command += ["--queue", self.name]
+        process = subprocess.Popen(command, stdout=subprocess.PIPE, stderr=subprocess.PIPE, encoding="utf-8",
+                                   cwd=self.room)
+        self.addCleanup(process.communicate)
+        self.addCleanup(process.kill)
+        return process
+
+    def ran(self, *words: object) -> tuple[int, list[str], str]:
+        """The status of a command, the lines that it prints, and standard error."""
+        process = self.started(*words)
+        said, errors = process.communicate(timeout=PATIENCE)
+        return process.returncode, said.splitlines(), errors
+
+    def assert_prints(self, lines: list[str], *words: object) -> None:
+        """A command ends well, and prints these lines."""
+        self.assertEqual(self.ran(*words), (0, lines, ""))
+
+    def assert_refused(self, status: int, line: str, *words: object) -> None:
+        """A command ends with this status, prints nothing, and says just this."""
+        self.assertEqual(self.ran(*words), (status, [], f"rb_broker_redis: {line}\n"))
+
+    def kill_again_and_again(self, step: float, *words: object) -> int:
+        """Starts a command and kills it, each time after so many seconds more, until it ends well before that. How often
+        it was killed."""
+        for kills in range(1_000):
+            process = self.started(*words)
+            try:
+                _, errors = process.communicate(timeout=0.2 + step * kills)
+                self.assertEqual((process.returncode, errors), (0, ""))
+                return kills
+            except subprocess.TimeoutExpired:
+                process.kill()
+                process.communicate()
+        self.fail("it does not end")

@@ -1,0 +1,141 @@
+"""The command `archive` with a Redis: kills at any moment, a process that goes on, an archive that begins anew."""
+from __future__ import annotations
+
+import random
+import signal
+import unittest
+from pathlib import Path
+
+from nodes import wait_until
+from rb_broker_redis.archive_folder import ArchiveFolder
+from rb_broker_redis.history import read_text
+from rb_broker_redis.queue import Queue
+from redis_test import SEAT, RedisTest
+
+
+class ArchiveCommandTest(RedisTest):
+    def setUp(self) -> None:
+        super().setUp()
+        self.folder = self.room / "archive"
+
+    def make_events(self, queue: Queue, count: int) -> list[bytes]:
+        """Makes so many calls at random, each of which is an event. Their lines."""
+        draw = random.Random(count)
+        calls = [draw.choice([f"{SEAT} OFFER {draw.randrange(10**9)} job-{number}", f"{SEAT + number} POLL",
+                              f"{SEAT + number} DRAIN 3", f"{SEAT} PEEK", f"{SEAT} SIZE"]) for number in range(count)]
+        for place in range(0, count, 500):
+            queue.call("rb_calls", "", "", 0, *calls[place:place + 500])
+        return queue.command("LRANGE", queue.history, 0, -1)
+
+    def files(self) -> list[Path]:
+        return sorted(self.folder.glob("*.txt"))
+
+    def assert_archived(self, events: list[bytes]) -> None:
+        """The files have these events, each begins with what the one before it left, and nothing else is there."""
+        self.assertEqual(sorted(self.folder.iterdir()), self.files())
+        lines, opening = [], [b"open 0 0 0"]
+        for path in self.files():
+            text = path.read_bytes().splitlines()
+            self.assertEqual(text[1:1 + len(opening)], opening, path)
+            self.assertEqual(path.name, f"{self.name}-{len(lines):012}.txt")
+            lines += text[1 + len(opening):-1]
+            opening = [it[:-1] for it in read_text(path).queue.opening()]
+        self.assertEqual(lines, events)
+
+
+class TakeTest(ArchiveCommandTest):
+    def test_files_of_so_many_events(self) -> None:
+        events = self.make_events(self.joined(), 2_500)
+        self.assert_prints([f"{self.name}: {count} events in {self.folder}/{self.name}-{first:012}.txt"
+                            for first, count in ((0, 1_000), (1_000, 1_000), (2_000, 500))],
+                           "archive", self.folder, "--events", 1_000)
+        self.assert_archived(events)
+        self.assert_prints([], "archive", self.folder)
+
+    def test_shards_share_a_folder(self) -> None:
+        for it in range(2):
+            self.make_events(self.joined(name=f"{self.name}.{it}"), 10)
+        self.ran("archive", self.folder, "--shards", 2)
+        self.assertEqual([it.name for it in self.files()], [f"{self.name}.{it}-{0:012}.txt" for it in range(2)])
+
+    def test_kills_at_any_moment(self) -> None:
+        events = self.make_events(self.joined(), 60_000)
+        kills = self.kill_again_and_again(0.03, "archive", self.folder, "--events", 7_000)
+        self.assertGreater(kills, 2)
+        self.assert_archived(events)
+        self.assertEqual(self.joined().command("LLEN", self.joined().history), 0)
+
+    def test_a_process_that_goes_on(self) -> None:
+        queue = self.joined()
+        process = self.started("archive", self.folder, "--every", "50ms")
+        for number in range(1, 4):
+            queue.request("SIZE", SEAT)
+            wait_until(lambda: len(self.files()) == number, "no file is written")
+        process.send_signal(signal.SIGTERM)
+        _, errors = process.communicate(timeout=10)
+        self.assertEqual((process.returncode, errors), (0, ""))
+        events = [line for it in self.files() for line in it.read_bytes().splitlines()[2:-1]]
+        self.assertEqual([it.split(b" ", 3)[3] for it in events], [b"size 0"] * 3)
+
+    def test_a_redis_that_is_away_for_a_while(self) -> None:
+        queue = self.joined()
+        process = self.started("archive", self.folder, "--every", "50ms")
+        queue.request("SIZE", SEAT)
+        wait_until(self.files, "no file is written")
+        self.node.kill()
+        self.node.start()  # empty, since it keeps nothing
+        queue = self.joined()
+        queue.request("OFFER 0 a", SEAT)
+        wait_until(lambda: (self.folder / f"{self.name}-{0:012}.lost-1").exists(), "nothing is set aside")
+        wait_until(self.files, "no file is written")
+        process.send_signal(signal.SIGTERM)
+        said, _ = process.communicate(timeout=10)
+        self.assertEqual(process.returncode, 0)
+        self.assertIn("the Redis has lost events that were archived, from number 0: see ", said)
+
+
+class RefusalTest(ArchiveCommandTest):
+    def test_a_queue_that_keeps_no_events(self) -> None:
+        self.queue().call("rb_join", 60_000_000, "delay", f"{0:020}", 3, "silent")
+        self.assert_refused(1, f"{self.name}: this queue keeps no events", "archive", self.folder)
+
+    def test_a_folder_that_another_process_has(self) -> None:
+        folder = ArchiveFolder(self.folder)
+        self.addCleanup(folder.close)
+        self.assert_refused(1, f"{self.folder}: another archive writes to it", "archive", self.folder)
+
+    def test_a_file_that_can_not_be_written(self) -> None:
+        (self.room / "file").write_text("")
+        self.assert_refused(2, f"{self.room}/file: File exists", "archive", self.room / "file")
+
+    def test_a_redis_that_is_not_there(self) -> None:
+        self.node.kill()
+        try:
+            status, lines, errors = self.ran("archive", self.folder)
+        finally:
+            self.node.start()
+        self.assertEqual((status, lines), (3, []))
+        self.assertRegex(errors, r"^rb_broker_redis: Error 111 connecting to 127\.0\.0\.1:\d+\. Connection refused\.\n$")
+
+    def test_a_series_without_its_last_file_begins_anew(self) -> None:
+        queue = self.joined()
+        for line in ("OFFER 0 a", "OFFER 0 b", "POLL"):
+            queue.request(line, SEAT)
+        self.ran("archive", self.folder)
+        queue.request("SIZE", SEAT)
+        queue.request(f"FAIL {queue.request('POLL', SEAT).split(' ')[1]}", SEAT)
+        other = self.room / "other"
+        self.assert_refused(1, f"{self.name}: event 3 is next, and no file in {other} ends there: bring that file back, or "
+                            "begin a new series with --anew", "archive", other)
+        self.assert_prints([f"{self.name}: 3 events are given up"], "archive", other, "--anew")
+        queue.request("SIZE", SEAT)
+        self.ran("archive", other)
+        text = (other / f"{self.name}-{6:012}.txt").read_bytes().splitlines()
+        self.assertRegex(text[1], rb"^open 3 \d{19} 1$")
+        self.assertRegex(text[2], rb"^keep 2 \d{19} 1 \d{19} 2 b$")
+        self.assertRegex(text[3], rb"^\d+ \d+ \d+ size 1$")
+        self.assertEqual(text[4:], [b"end 1"])
+
+
+if __name__ == "__main__":
+    unittest.main()
