@@ -499,7 +499,7 @@ end
 
 local function load(keys, args)
     local token, index = args[1], tonumber(args[2])
-    local state = redis.call('HMGET', keys[4], 'loading', 'pace')
+    local state = redis.call('HMGET', keys[4], 'loading', 'next')
     if state[2] or state[1] and state[1] ~= token then
         return redis.error_reply('USED this queue is in use, or another load into it has not ended')
     end

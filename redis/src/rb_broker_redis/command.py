@@ -3,10 +3,10 @@ from __future__ import annotations
 
 from typing import Optional
 
-from . import serve
+from . import archive_command, dead_command, load_command, serve
 from .words import NAME, Parser
 
-COMMANDS = (serve,)
+COMMANDS = (serve, archive_command, load_command, dead_command)
 """Each is a module with `add_to`, which adds its words and says what runs them."""
 
 

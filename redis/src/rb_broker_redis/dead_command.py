@@ -1,0 +1,88 @@
+"""The command `dead`."""
+from __future__ import annotations
+
+import argparse
+from typing import Iterator, Sequence
+
+from .dead import DeadJobs
+from .ending import ends_with_a_line, fail
+from .limits import GREATEST_NUMBER
+from .queues import add_queues_words, queues_in
+from .shards import inner_id, outer_id
+from .words import Parser, duration, whole
+
+ABOUT = """lists the jobs whose last attempt failed, offers them again or drops them
+
+Without --offer or --drop a line for each job has the id of its last attempt, when that failed, its number, and the
+payload. A job that is offered again is a new one: it gets a new id, and begins with its first attempt.
+
+Status: 0; 1 if an ID is that of no dead job, or an offer is refused; 2 if a word is wrong; 3 if the Redis can't be
+reached.
+"""
+
+
+def add_to(commands: "argparse._SubParsersAction[Parser]") -> None:
+    """Adds the command."""
+    about, _, rest = ABOUT.partition("\n\n")
+    parser = commands.add_parser("dead", help=about, description=f"{about}.", epilog=rest, allow_abbrev=False,
+                                 formatter_class=argparse.RawDescriptionHelpFormatter)
+    parser.set_defaults(run=run, parser=parser)
+    parser.add_argument("ids", metavar="ID", type=whole(0, GREATEST_NUMBER), nargs="*", help="a job to offer or to drop")
+    add_queues_words(parser)
+    what = parser.add_mutually_exclusive_group()
+    what.add_argument("--offer", action="store_true", help="offers the jobs again")
+    what.add_argument("--drop", action="store_true", help="forgets the jobs")
+    parser.add_argument("--all", action="store_true", help="all dead jobs, in place of ids")
+    parser.add_argument("--delay", metavar="TIME", type=duration, default=0, help="of the new offers: 30s (default: 0s)")
+
+
+@ends_with_a_line
+def run(asked: argparse.Namespace) -> int:
+    """Lists the jobs, or does something with them."""
+    if not asked.offer and not asked.drop:
+        if asked.ids or asked.all:
+            asked.parser.error("jobs are chosen for --offer or --drop")
+        return _list(asked)
+    if bool(asked.ids) == asked.all:
+        asked.parser.error("name the jobs by their ids, or write --all")
+    return _change(asked)
+
+
+def _list(asked: argparse.Namespace) -> int:
+    for shard, jobs in enumerate(_queues(asked)):
+        for job in jobs:
+            print(_shown(asked, shard, job.id), job)
+    return 0
+
+
+def _change(asked: argparse.Namespace) -> int:
+    status, queues = 0, _queues(asked)
+    for shard, id in _chosen(asked, queues):
+        shown = _shown(asked, shard, id)
+        if shard >= len(queues):
+            reply = "NONE"
+        else:
+            reply = queues[shard].offer(id, asked.delay) if asked.offer else queues[shard].drop(id)
+        if reply.startswith("OFFERED "):
+            print(f"{shown}: offered as {_shown(asked, shard, int(reply.split(' ')[1]))}")
+        elif reply.startswith("DROPPED "):
+            print(f"{shown}: dropped")
+        elif reply != "NONE" or not asked.all:
+            status = fail(1, f"{shown}: {'no such dead job' if reply == 'NONE' else reply}")
+    return status
+
+
+def _queues(asked: argparse.Namespace) -> list[DeadJobs]:
+    return [DeadJobs(it) for it in queues_in(asked)]
+
+
+def _chosen(asked: argparse.Namespace, queues: Sequence[DeadJobs]) -> Iterator[tuple[int, int]]:
+    """The shard and the id of each job that the command line names."""
+    if asked.all:
+        return ((shard, job.id) for shard, jobs in enumerate(queues) for job in jobs)
+    return (inner_id(it) if asked.shards > 1 else (0, it) for it in asked.ids)
+
+
+def _shown(asked: argparse.Namespace, shard: int, id: int) -> int:
+    """The id that clients see."""
+    return outer_id(shard, id) if asked.shards > 1 else id

@@ -1,0 +1,87 @@
+"""Dead jobs: they are listed, offered again and dropped."""
+from __future__ import annotations
+
+import re
+import unittest
+
+from rb_broker_redis.queue import Queue
+from redis_test import SEAT, RedisTest
+
+
+class DeadTest(RedisTest):
+    def with_dead(self, count: int, name: str = "") -> Queue:
+        """A queue of jobs with one attempt each, of which so many have died."""
+        queue = self.joined(attempts=1, name=name)
+        for number in range(count):
+            queue.request(f"OFFER 0 job-{number}", SEAT)
+            self.assertEqual(queue.request("POLL", SEAT).split(" ")[0], "ITEM")
+            self.assertEqual(queue.request(f"FAIL {number}", SEAT), f"DEAD {number}")
+        return queue
+
+    def test_a_list(self) -> None:
+        self.with_dead(2)
+        status, lines, errors = self.ran("dead")
+        self.assertEqual((status, errors, len(lines)), (0, "", 2))
+        for number, line in enumerate(lines):
+            self.assertRegex(line, rf"^{number} 20\d\d-\d\d-\d\dT\d\d:\d\d:\d\d\.\d{{9}}Z attempt 1 job-{number}$")
+
+    def test_a_queue_without_dead_jobs_and_one_that_is_not_there(self) -> None:
+        self.assert_prints([], "dead")
+        self.joined()
+        self.assert_prints([], "dead")
+        self.assert_prints([], "dead", "--offer", "--all")
+
+    def test_an_offer_is_a_new_job(self) -> None:
+        queue = self.with_dead(3)
+        self.assert_prints(["1: offered as 3"], "dead", "--offer", 1)
+        self.assertTrue(re.fullmatch(r"ITEM 3 \d+ 1 job-1", queue.request("POLL", SEAT)))
+        self.assertEqual([line.split(" ")[0] for line in self.ran("dead")[1]], ["0", "2"])
+
+    def test_an_offer_with_a_delay(self) -> None:
+        queue = self.with_dead(1)
+        before = int(queue.request("OFFER 0 now", SEAT).split(" ")[2])
+        self.assert_prints(["0: offered as 2"], "dead", "--offer", "--all", "--delay", "1h")
+        queue.request("POLL", SEAT)
+        expiry = int(queue.request("PEEK", SEAT).split(" ")[2])
+        self.assertTrue(3_600 <= (expiry - before) / 1e9 < 3_660, expiry - before)
+
+    def test_a_drop(self) -> None:
+        queue = self.with_dead(3)
+        self.assert_prints(["0: dropped", "2: dropped"], "dead", "--drop", 0, 2)
+        self.assertEqual([line.split(" ")[0] for line in self.ran("dead")[1]], ["1"])
+        self.assert_prints(["1: dropped"], "dead", "--drop", "--all")
+        self.assertEqual(queue.request("SIZE", SEAT), "SIZE 0")
+
+    def test_more_than_are_read_at_a_time(self) -> None:
+        self.with_dead(2_500)
+        self.assertEqual(len(self.ran("dead")[1]), 2_500)
+        self.assertEqual(len(self.ran("dead", "--offer", "--all")[1]), 2_500)
+        self.assertEqual(self.joined(attempts=1).request("SIZE", SEAT), "SIZE 2500")
+
+    def test_a_job_that_is_not_dead(self) -> None:
+        self.with_dead(1)
+        status, lines, errors = self.ran("dead", "--drop", 7, 0)
+        self.assertEqual((status, lines, errors), (1, ["0: dropped"], "rb_broker_redis: 7: no such dead job\n"))
+
+    def test_shards_show_the_ids_of_clients(self) -> None:
+        self.with_dead(2, f"{self.name}.0")
+        self.with_dead(1, f"{self.name}.1")
+        shards = ("--shards", 2)
+        self.assertEqual([line.split(" ")[0] for line in self.ran("dead", *shards)[1]], ["0", "64", "1"])
+        self.assert_prints(["64: offered as 128"], "dead", *shards, "--offer", 64)
+        self.assert_prints(["1: dropped"], "dead", *shards, "--drop", 1)
+        self.assert_refused(1, "2: no such dead job", "dead", *shards, "--drop", 2)
+
+    def test_words_that_are_refused(self) -> None:
+        for words, why in ((["--offer"], "name the jobs by their ids, or write --all"),
+                           (["--drop", "1", "--all"], "name the jobs by their ids, or write --all"),
+                           (["1"], "jobs are chosen for --offer or --drop"),
+                           (["--offer", "--drop", "1"], "not allowed with"), (["--drop", "-1"], ""),
+                           (["--offer", "1", "--delay", "5x"], "5x is no duration")):
+            status, lines, errors = self.ran("dead", *words)
+            self.assertEqual((status, lines), (2, []), words)
+            self.assertIn(why, errors)
+
+
+if __name__ == "__main__":
+    unittest.main()

@@ -1,0 +1,209 @@
+"""What runs left is loaded into a queue: by real time, with ids, jobs and attempts, once."""
+from __future__ import annotations
+
+import gzip
+import json
+import unittest
+from unittest import mock
+
+from rb_broker_redis.history import read_text
+from rb_broker_redis.load import Left, NotLoaded, load
+from rb_broker_redis.shards import Rendezvous
+from redis_test import SEAT, RedisTest
+from test_history import RUN
+
+NINE = "2026-11-26T09:00:00Z"  # 1,795,683,600 seconds since 1970; the run opens at moment 100
+LINES = [  # of --show
+    '{"id": 2, "expiry": 1795683600000000050, "origin": 1, "first": 1795683600000000020, "attempt": 2, "payload": "b", '
+    '"due": "2026-11-26T09:00:00.000000050Z"}',
+    '{"id": 5, "expiry": 1795683600000999900, "origin": 3, "first": 1795683600000000000, "attempt": 2, '
+    r'"payload": "\"e\\", "due": "2026-11-26T09:00:00.000999900Z"}',
+    '{"id": 4, "expiry": 1795683600000999901, "origin": 4, "first": 1795683600000999901, "attempt": 1, "payload": "d", '
+    '"due": "2026-11-26T09:00:00.000999901Z"}',
+    '{"id": 6, "expiry": 18446744073709551615, "origin": 6, "first": 18446744073709551615, "attempt": 1, "payload": "f", '
+    '"due": "2554-07-21T23:34:33.709551615Z"}',
+]
+
+
+class LoadTest(RedisTest):
+    def setUp(self) -> None:
+        super().setUp()
+        self.history = self.room / "run.txt"
+        self.history.write_bytes(RUN)
+
+
+class ShowTest(LoadTest):
+    def test_the_elements_by_expiry(self) -> None:
+        self.assert_prints(LINES, "load", self.history, "--began", NINE, "--show")
+
+    def test_dates(self) -> None:
+        for began in ("2026-11-26 10:00:00+01:00", "2026-11-26 09:00", "@1795683600"):
+            self.assert_prints(LINES, "load", self.history, "--began", began, "--show")
+        for began in ("2026-11-26T09:00:00,25Z", "@1795683600.250"):
+            line = json.loads(self.ran("load", self.history, "--began", began, "--show")[1][0])
+            self.assertEqual(line["due"], "2026-11-26T09:00:00.250000050Z")
+
+    def test_moments_that_are_dates(self) -> None:
+        _, lines, _ = self.ran("load", self.history, "--began", "dates", "--show")
+        self.assertEqual([json.loads(it)["expiry"] for it in lines], [150, 1000000, 1000001, 2**64 - 1])
+
+    def test_a_history_that_is_compressed(self) -> None:
+        compressed = self.room / "run.txt.gz"
+        compressed.write_bytes(gzip.compress(RUN))
+        self.assert_prints(LINES, "load", compressed, "--began", NINE, "--show")
+        compressed.write_bytes(gzip.compress(RUN)[:-9])
+        self.assert_refused(1, f"{compressed}: it is damaged as a compressed file", "load", compressed, "--began", NINE)
+
+    def test_a_queue_that_is_empty_at_the_end(self) -> None:
+        self.history.write_bytes(b"history 3\nopen 0 0 0\nend 0\n")
+        self.assert_prints([], "load", self.history, "--began", NINE, "--show")
+
+
+class QueueTest(LoadTest):
+    def test_each_element_keeps_its_id_its_job_and_its_attempt(self) -> None:
+        self.assert_prints([f"{self.name}: 4 elements loaded"], "load", self.history, "--began", NINE)
+        queue = self.joined(attempts=3)
+        self.assertEqual([queue.request("POLL", SEAT) for _ in range(4)], [
+            "ITEM 2 1795683600000000050 2 b", r'ITEM 5 1795683600000999900 2 "e' + "\\", "ITEM 4 1795683600000999901 1 d",
+            "NONE"])
+        self.assertEqual(queue.request("FAIL 5", SEAT).split(" ")[:2], ["AGAIN", "7"])
+        self.assertEqual(queue.request("POLL", SEAT).split(" ")[3:], ["3", r'"e' + "\\"])
+        self.assertEqual(queue.request("REMOVE 6", SEAT), "REMOVED yes")
+        self.assertEqual(queue.request("SIZE", SEAT), "SIZE 0")
+        # The history begins with what was loaded, so that it can be checked with its retries.
+        self.ran("archive", self.room / "archive")
+        text = (self.room / "archive" / f"{self.name}-000000000000.txt").read_bytes().splitlines()
+        self.assertEqual(text[1:6], [
+            b"open 7 1795683600000000080 4", b"keep 2 1795683600000000050 1 1795683600000000020 2 b",
+            b"keep 4 1795683600000999901 4 1795683600000999901 1 d",
+            b'keep 5 1795683600000999900 3 1795683600000000000 2 "e\\',
+            b"keep 6 18446744073709551615 6 18446744073709551615 1 f"])
+
+    def test_it_is_loaded_once(self) -> None:
+        words = ("load", self.history, "--began", NINE)
+        self.assert_prints([f"{self.name}: 4 elements loaded"], *words)
+        self.assert_prints([f"{self.name}: 4 elements were loaded before"], *words)
+        self.joined().request("POLL", SEAT)
+        self.assert_prints([f"{self.name}: 4 elements were loaded before"], *words)
+
+    def test_a_queue_that_is_in_use(self) -> None:
+        used = f"{self.name}: this queue is in use, or another load into it has not ended"
+        self.joined()
+        self.assert_refused(1, used, "load", self.history, "--began", NINE)
+
+    def test_another_load_behind_the_first(self) -> None:
+        used = f"{self.name}: this queue is in use, or another load into it has not ended"
+        self.ran("load", self.history, "--began", NINE)
+        self.assert_refused(1, used, "load", self.history, "--began", "@0")
+        self.assertEqual(self.joined().request("SIZE", SEAT), "SIZE 4")
+
+    def test_nobody_is_served_before_all_is_there(self) -> None:
+        queue = self.queue()
+        left = Left.of([read_text(self.history)], [0])
+        with mock.patch("rb_broker_redis.load.CHUNK", 2), self.broken_off(queue, calls=2), self.assertRaises(OSError):
+            load(queue, left)
+        with self.assertRaisesRegex(Exception, "^LOADING_QUEUE "):
+            self.joined()
+        self.assert_refused(1, f"{self.name}: this queue is in use, or another load into it has not ended",
+                            "load", self.history, "--began", "@1")
+        self.assertTrue(load(queue, left))
+        self.assertEqual(self.joined().request("SIZE", SEAT), "SIZE 4")
+
+    def test_a_load_that_is_abandoned(self) -> None:
+        queue = self.queue()
+        with self.broken_off(queue, calls=2), self.assertRaises(OSError):
+            load(queue, Left.of([read_text(self.history)], [0]))
+        self.assert_prints([f"{self.name}: emptied"], "load", "--abandon")
+        self.assert_prints([f"{self.name}: no load has begun that has not ended"], "load", "--abandon")
+        self.assert_prints([f"{self.name}: 4 elements loaded"], "load", self.history, "--began", NINE)
+        self.assert_prints([f"{self.name}: no load has begun that has not ended"], "load", "--abandon")
+        self.assertEqual(self.joined().request("SIZE", SEAT), "SIZE 4")
+
+    def broken_off(self, queue, calls):
+        """Lets a queue answer so many calls, and no more."""
+        answers = iter([queue.call] * calls)
+
+        def call(*words):
+            for answer in answers:
+                return answer(*words)
+            raise OSError("broken off")
+
+        return mock.patch.object(queue, "call", call)
+
+    def test_kills_at_any_moment(self) -> None:
+        count = 20_000
+        lines = b"".join(b"keep %d %d %d %d 1 job-%d\n" % (it, it, it, it, it) for it in range(count))
+        self.history.write_bytes(b"history 3\nopen %d 0 %d\n%bend 0\n" % (count, count, lines))
+        kills = self.kill_again_and_again(0.03, "load", self.history, "--began", NINE)
+        self.assertGreater(kills, 2)
+        queue = self.joined()
+        self.assertEqual(queue.request("SIZE", SEAT), f"SIZE {count}")
+        self.assertEqual(queue.command("HLEN", queue.ids), count)
+        self.assertEqual(queue.command("LLEN", queue.opening), count + 1)
+        self.ran("archive", self.room / "archive")
+        read = read_text(self.room / "archive" / f"{self.name}-000000000000.txt").queue
+        self.assertEqual(list(read.elements), list(range(count)))
+
+
+class SeveralTest(LoadTest):
+    def test_several_runs_become_one_queue(self) -> None:
+        other = self.room / "other.txt"
+        other.write_bytes(b"history 3\nopen 5 0 1\nkeep 4 7 2 6 3 z\nend 0\n")
+        self.assert_prints([f"{self.name}: 5 elements loaded"],
+                           "load", self.history, other, "--began", NINE, "--began", "@1795683600")
+        queue = self.joined()
+        self.assertEqual(queue.request("POLL", SEAT), "ITEM 11 1795683600000000007 3 z")  # 4, behind the 7 of the other
+        self.assertEqual(queue.request("OFFER 0 next", SEAT).split(" ")[1], "12")
+        lines = self.ran("load", self.history, other, "--began", NINE, "--began", "@1795683600", "--show")[1]
+        self.assertEqual(json.loads(lines[0]), {
+            "id": 11, "expiry": 1795683600000000007, "origin": 9, "first": 1795683600000000006, "attempt": 3,
+            "payload": "z", "due": "2026-11-26T09:00:00.000000007Z"})
+
+    def test_shards_get_what_gateways_would_give_them(self) -> None:
+        status, lines, errors = self.ran("load", self.history, "--began", NINE, "--shards", 2)
+        names = [f"{self.name}.{it}" for it in range(2)]
+        shards = Rendezvous(names)
+        expected = [[it for it in ("b", "d", '"e\\', "f") if shards.shard_of(it.encode()) == shard] for shard in (0, 1)]
+        self.assertEqual((status, errors), (0, ""))
+        self.assertEqual(lines, [f"{name}: {len(it)} elements loaded" for name, it in zip(names, expected)])
+        for name, payloads in zip(names, expected):
+            queue = self.joined(name=name)
+            self.assertEqual(queue.request("OFFER 0 next", SEAT).split(" ")[1], "7")
+            found = queue.command("ZRANGE", queue.due, 0, -1)
+            self.assertEqual({it.decode().split(" ")[4] for it in found}, {*payloads, "next"})
+
+
+class RefusalTest(LoadTest):
+    def test_a_damaged_history(self) -> None:
+        self.history.write_bytes(RUN.replace(b"poll 0", b"poll 1"))
+        self.assert_refused(1, f"{self.history}: line 6: element 1 is not in the queue", "load", self.history, "--began", NINE)
+
+    def test_a_file_that_can_not_be_read(self) -> None:
+        for path, why in ((self.room / "none", "No such file or directory"), (self.room, "Is a directory")):
+            self.assert_refused(2, f"{path}: {why}", "load", path, "--began", NINE)
+
+    def test_a_run_that_ends_in_the_future(self) -> None:
+        self.assert_refused(1, "the run would have ended at 2200-01-01T00:00:00.000000080Z, which is still to come: look at"
+                            " --began", "load", self.history, "--began", "2200-01-01T00:00:00Z")
+
+    def test_more_than_an_opening_may_have(self) -> None:
+        run = read_text(self.history)
+        with mock.patch("rb_broker_redis.load.MOST_KEPT", 3), self.assertRaises(NotLoaded):
+            Left.of([run], [0])
+        with mock.patch("rb_broker_redis.load.GREATEST_ID", 13), self.assertRaises(NotLoaded):
+            Left.of([run, run], [0, 0])
+
+    def test_words(self) -> None:
+        for words, why in (([], "there is a HISTORY, and a --began for each"),
+                           ([self.history], "there is a HISTORY, and a --began for each"),
+                           ([self.history, "--began", "today"], "'today' is no TIME: no date and time"),
+                           ([self.history, "--began", "1795683600"], "is no TIME: no date and time"),
+                           ([self.history, "--began", "1969-12-31T23:59:59Z"], "is no TIME: it is before 1970"),
+                           ([self.history, "--began", "2026-13-01T00:00:00Z"], "is no TIME: month must be in 1..12")):
+            status, lines, errors = self.ran("load", *words)
+            self.assertEqual((status, lines), (2, []), words)
+            self.assertIn(why, errors)
+
+
+if __name__ == "__main__":
+    unittest.main()
