@@ -35,7 +35,7 @@ def told(state: State) -> Told:
 
 
 def _rounded(value: Optional[float]) -> Optional[float]:
-    return None if value is None else round(value, 3)
+    return None if value is None else round(value, 6)
 
 
 def _queue(queue: Optional[Queue]) -> Optional[Told]:
