@@ -8,6 +8,6 @@
     metrics.py, told.py, trend.py            a state as Prometheus reads it and as JSON, and the last minutes
     page.py, page.html, page.css             the page
     told.js, plots.js, page.js               what it does in a browser
-    status_view.py, status_lines.py          `show(folder, as_json)` shows the service of a folder in the terminal, which
+    status_view.py, status_lines.py          `show(folder, as_json)` shows the service of a folder in a terminal, which
                                              it asks at that socket, and returns the exit status
 """

@@ -17,7 +17,7 @@ from servicing.http import HttpServer
 from servicing.reports import Reports
 from servicing.site import Site
 from servicing.state import Alert, Board, Client, Clients, Doing, Head, Phase, Queue, Reason, State, Traffic
-from servicing.tests.support import AT, ENDED, LONG, first_state, state, troubled_state
+from servicing.tests.states import AT, ENDED, LONG, first_state, state, troubled_state
 
 PATIENCE, BEAT = 15.0, 0.02  # seconds
 WIDTHS, SCHEMES = (420, 1200), ("light", "dark")

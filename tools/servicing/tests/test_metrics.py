@@ -9,8 +9,8 @@ import unittest
 from typing import Any, Dict
 
 from servicing.metrics import metrics
-from servicing.state import Alert, DiskFault, Phase, Queue, State, Traffic
-from servicing.tests.support import AT, first_state, state, troubled_state
+from servicing.state import Alert, Queue, State
+from servicing.tests.states import AT, first_state, state, troubled_state
 
 PROMTOOL = shutil.which("promtool")
 

@@ -16,7 +16,7 @@ from servicing.http import Answer
 from servicing.reports import Reports
 from servicing.site import Site
 from servicing.state import Board, DiskFault, Phase, State, Traffic
-from servicing.tests.support import AT, ENDED, LOST, first_state, state, troubled_state
+from servicing.tests.states import AT, ENDED, LOST, first_state, state
 from servicing.trend import BETWEEN, SPAN, Trend
 
 PATIENCE = 30.0

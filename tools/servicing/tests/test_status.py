@@ -19,7 +19,7 @@ from common.testing import RoomTest
 from servicing.pages import Pages
 from servicing.state import Board, Client, Clients, Doing, Head, Queue, State
 from servicing.status_view import frame, show
-from servicing.tests.support import AT, LONG, SETTINGS, first_state, state, troubled_state
+from servicing.tests.states import AT, LONG, SETTINGS, first_state, state, troubled_state
 from servicing.tests.terminal import Terminal
 from servicing.told import told
 

@@ -1,8 +1,8 @@
-"""States that were written by hand, and what serves them."""
+"""States that were written by hand: a service with a run behind it, one that begins, and one in trouble."""
 from __future__ import annotations
 
 import dataclasses
-from typing import Any, Optional, Tuple
+from typing import Any
 
 from servicing.state import (
     Alert, Client, Clients, DiskFault, Doing, Head, PastRun, Phase, Queue, Reason, Run, Settings, State, Supply,
