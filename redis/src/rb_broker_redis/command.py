@@ -3,10 +3,10 @@ from __future__ import annotations
 
 from typing import Optional
 
-from . import archive_command, dead_command, load_command, serve
+from . import archive_command, dead_command, load_command, script, serve
 from .words import NAME, Parser
 
-COMMANDS = (serve, archive_command, load_command, dead_command)
+COMMANDS = (serve, script, archive_command, load_command, dead_command)
 """Each is a module with `add_to`, which adds its words and says what runs them."""
 
 

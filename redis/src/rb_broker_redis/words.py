@@ -49,10 +49,15 @@ def whole(least: int, most: int) -> Callable[[str], int]:
     return read
 
 
-def add_queue_words(parser: argparse.ArgumentParser) -> None:
-    """--redis and --queue."""
+def add_redis_word(parser: argparse.ArgumentParser) -> None:
+    """--redis."""
     parser.add_argument("--redis", metavar="URL", default=None, type=sentence_of(address_of),
                         help=f"the Redis, or @FILE for a file that has its URL (default: ${VARIABLE}, or {DEFAULT})")
+
+
+def add_queue_words(parser: argparse.ArgumentParser) -> None:
+    """--redis and --queue."""
+    add_redis_word(parser)
     parser.add_argument("--queue", metavar="NAME", required=True, type=sentence_of(checked_name),
                         help="the name of the queue")
 
@@ -73,9 +78,9 @@ def add_policy_words(parser: argparse.ArgumentParser, delay: str, attempts: int)
                         help=f"a job has N attempts in all, 1 to {MOST_ATTEMPTS} (default: {attempts})")
 
 
-def policy_in(asked: argparse.Namespace, delay: str, attempts: int) -> Optional[Policy]:
-    """The policy that the words name, or None if they name none."""
-    if asked.delay is None and asked.rate is None and asked.attempts is None:
+def policy_in(asked: argparse.Namespace, delay: str, attempts: int, always: bool = False) -> Optional[Policy]:
+    """The policy that the words name. If they name none, that is None, or the default if there is always to be one."""
+    if not always and (asked.delay, asked.rate, asked.attempts) == (None, None, None):
         return None
     pace, period = ("rate", asked.rate) if asked.rate is not None else ("delay", asked.delay)
     return Policy(pace, read_duration(delay) if period is None else period, asked.attempts or attempts)
