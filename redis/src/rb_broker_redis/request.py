@@ -47,6 +47,7 @@ _USUAL = re.compile(
     rb"|(?P<WAIT>TAKE|POLLFOR (?:0|[1-9][0-9]{0,18})))\r?"
 )
 _KINDS = {kind.name: kind for kind in Kind}
+_REFUSED = {reply: Request(Kind.ERROR, reply.value) for reply in ErrorReply}
 
 
 def read_request(line: bytes) -> Request:
@@ -80,7 +81,7 @@ def _read_unusual(line: bytes) -> Request:
 
 def refused(reply: ErrorReply) -> Request:
     """A line with this fault."""
-    return Request(Kind.ERROR, reply.value)
+    return _REFUSED[reply]
 
 
 def is_number(word: bytes) -> bool:

@@ -38,7 +38,7 @@ class ScriptSession:
     def end(self) -> bytes:
         """The input is over, or broke off: what is held fails. Gives the reply to a truncated line."""
         if self._cutter.rest and not self.is_over:
-            self._replies.append(ErrorReply.LINE.value)
+            self._replies.append(ErrorReply.LINE)
         self.fail_held()
         return self._take_replies()
 

@@ -7,7 +7,7 @@ from typing import TYPE_CHECKING, Optional
 
 from .errors import ErrorReply
 from .lines import LineCutter
-from .request import Kind, Request, read_request
+from .request import Kind, read_request, refused
 from .waits import LATER, STOPPED, Wait
 
 if TYPE_CHECKING:
@@ -21,6 +21,7 @@ MOST_WAITING_LINES = 1_024
 
 BYE = b"BYE\n"
 NO_WAIT = b"POLLFOR 0"
+TRUNCATED = refused(ErrorReply.LINE)
 
 
 class Session(asyncio.Protocol):
@@ -29,7 +30,8 @@ class Session(asyncio.Protocol):
     def __init__(self, gateway: Gateway) -> None:
         self._gateway = gateway
         self._cutter = LineCutter()
-        self._requests: deque[Request] = deque()
+        self._lines: deque[Optional[bytes]] = deque()
+        """None is a line that the end of input has cut off."""
         self._transport: Optional[asyncio.Transport] = None
         self._seat = b""
         self._plan: list[Optional[bytes]] = []
@@ -55,18 +57,16 @@ class Session(asyncio.Protocol):
     def data_received(self, data: bytes) -> None:
         if self._is_over or self._is_at_end:
             return
-        requests = self._requests
-        for line in self._cutter.cut(data):
-            requests.append(read_request(line))
+        self._lines += self._cutter.cut(data)
         if not self._is_busy:
             self._go_on()
-        elif len(requests) > MOST_WAITING_LINES and not self._is_paused:
+        elif len(self._lines) > MOST_WAITING_LINES and not self._is_paused:
             self._is_paused = True
             self._transport.pause_reading()
 
     def eof_received(self) -> bool:
         if self._cutter.rest and not self._is_at_end:
-            self._requests.append(Request(Kind.ERROR, ErrorReply.LINE.value))
+            self._lines.append(None)
         self._is_at_end = True
         if self._wait:
             self._gateway.waits.give_up(self._wait)
@@ -76,7 +76,7 @@ class Session(asyncio.Protocol):
 
     def connection_lost(self, fault: Optional[Exception]) -> None:
         self._is_gone = self._is_at_end = True
-        self._requests.clear()
+        self._lines.clear()
         if self._wait:
             self._gateway.waits.give_up(self._wait)
         elif not self._is_busy:
@@ -93,7 +93,7 @@ class Session(asyncio.Protocol):
 
     def stop(self) -> None:
         """Ends it in good order: what is under way is answered, and no further line is carried out."""
-        self._requests.clear()
+        self._lines.clear()
         self._is_at_end = True
         if self._wait:
             self._gateway.waits.give_up(self._wait)
@@ -102,7 +102,7 @@ class Session(asyncio.Protocol):
 
     def close(self) -> None:
         """Closes the connection: it is in doubt what became of a request, and no reply is made up."""
-        self._requests.clear()
+        self._lines.clear()
         self._is_at_end = self._is_gone = True
         self._transport.close()
         if self._wait:
@@ -112,24 +112,28 @@ class Session(asyncio.Protocol):
 
     def _go_on(self) -> None:
         """Carries out the next lines, up to one that may wait."""
-        requests = self._requests
-        while requests and not self._is_full:
+        if self._lines and not self._is_full:
+            self._is_busy = True
             calls = self._calls_of_next()
             if calls:
-                self._is_busy = self._has_called = True
+                self._has_called = True
                 self._gateway.calls.submit(calls, self._answered)
-                return
-            self._send([])
-        if self._is_paused and not requests and not self._is_full:
+            elif self._lines:  # other sessions come before more refusals of this one
+                asyncio.get_running_loop().call_soon(self._answered, [])
+            else:
+                self._answered([])
+            return
+        if self._is_paused and not self._lines and not self._is_full:
             self._is_paused = False
             self._transport.resume_reading()
-        if self._is_at_end and not requests:
+        if self._is_at_end and not self._lines:
             self._end()
 
     def _calls_of_next(self) -> list[bytes]:
-        calls, plan, requests, seat = [], [], self._requests, self._seat
-        while requests and len(plan) < MOST_AT_ONCE:
-            kind, text = requests.popleft()
+        calls, plan, lines, seat = [], [], self._lines, self._seat
+        while lines and len(plan) < MOST_AT_ONCE:
+            line = lines.popleft()
+            kind, text = TRUNCATED if line is None else read_request(line)
             if kind is Kind.CALL:
                 calls.append(seat + text)
                 plan.append(None)
@@ -139,12 +143,12 @@ class Session(asyncio.Protocol):
                 self._wait_request = text
                 break
             elif kind is Kind.QUIT:
-                requests.clear()
+                lines.clear()
                 self._is_at_end = True
                 plan.append(BYE)
                 break
             else:
-                plan.append(ErrorReply.SYNTAX.value if kind is Kind.AT else text)
+                plan.append(ErrorReply.SYNTAX if kind is Kind.AT else text)
         self._plan = plan
         return calls
 
@@ -157,7 +161,7 @@ class Session(asyncio.Protocol):
         later = self._send(replies)
         if later:
             self._begin_wait(later)
-        elif self._requests or self._is_at_end or self._is_paused:
+        elif self._lines or self._is_at_end or self._is_paused:
             self._go_on()
 
     def _send(self, replies: list[bytes]) -> Optional[bytes]:

@@ -1,0 +1,124 @@
+"""The functions of broker.lua, by the tables of the queue."""
+from __future__ import annotations
+
+from typing import NamedTuple, Optional
+
+from case_tables import Table, bytes_of, tables_of
+from rb_broker_redis.queue import Queue
+from redis_test import RedisTest
+
+FILES = ("queues.rows", "waits.rows", "runs.rows")
+
+ALONE = ("poll", "take", "peek", "clear", "size")
+WITH_NUMBER = ("remove", "drain")
+ANSWERS = {"nothing": "NONE", "removed yes": "REMOVED yes", "removed no": "REMOVED no", "cleared": "CLEARED"}
+
+
+NO_DRAIN, DRAIN = "drain 18446744073709551615", "drain 64"
+"""A session that holds nothing drains at most 64, and its event says so."""
+
+COUNTS = ("given", "audit", "share")
+"""Rows of totals, which no request asks for."""
+
+
+class Step(NamedTuple):
+    """A row: what is asked at which moment, and the answers that are right."""
+
+    line: int
+    asked: str
+    moment: int
+    answers: "list[str]"
+
+
+class NotAsked(Exception):
+    """A row asks for what no request does."""
+
+
+def call_of(words: "list[str]") -> str:
+    """The call of a row: `SEAT MOMENT ASK`."""
+    _, _, ask, *rest = words
+    if ask in ALONE and not rest or ask in WITH_NUMBER and len(rest) == 1:
+        return " ".join([ask.upper(), *rest])
+    if ask == "offer" and len(rest) == 2:
+        return f"OFFERAT {rest[0]} {rest[1]}"
+    if ask == "pollfor" and len(rest) == 2:
+        return f"POLLFOR {rest[1]} {rest[0]}"
+    raise NotAsked
+
+
+def reply_of(answer: str) -> str:
+    """The reply line of a row's answer. `later` is without the moments that follow it."""
+    word, *rest = answer.split(" ")
+    if answer in ANSWERS:
+        return ANSWERS[answer]
+    if word == "offered":
+        return f"OFFERED {rest[0]} {rest[1]}"
+    if word in ("item", "head"):
+        id, expiry, _, _, attempt, payload = rest
+        return f"{word.upper()} {id} {expiry} {attempt} {payload}"
+    if word in ("size", "drained"):
+        return f"{word.upper()} {rest[0]}"
+    if word == "later":
+        return f"LATER {'-' if rest == ['none'] else rest[0]}"
+    raise NotAsked
+
+
+def steps_of(table: Table) -> "Optional[list[Step]]":
+    """The rows of a table that can be tried here, or None if the table asks for what no request does."""
+    steps = []
+    for row in table.rows:
+        words = bytes_of(row.asked).decode("latin-1").split(" ")
+        answers = [bytes_of(it).decode() for it in row.answer.split(" or ")]
+        if words[0] in COUNTS:
+            continue
+        try:
+            if words[0] in ("last", "events") and len(words) == 1:
+                steps.append(Step(row.line, words[0], 0, [it.replace(NO_DRAIN, DRAIN) for it in answers]))
+            elif words[0] == "begin" and len(words) == 2 and answers == ["begun"]:
+                steps.append(Step(row.line, f"limit {int(words[1])}", 0, []))
+            elif words[0].isdigit() and words[1].isdigit():
+                replies = [reply_of(it) for it in answers]
+                steps.append(Step(row.line, f"{words[0]} {call_of(words)}", int(words[1]), replies))
+            else:
+                return None
+        except (NotAsked, ValueError):
+            return None
+    return steps
+
+
+class TablesTest(RedisTest):
+    def answer(self, queue: Queue, step: Step) -> str:
+        """What the queue answers."""
+        if step.asked == "events":
+            return str(queue.command("LLEN", queue.history))
+        if step.asked == "last":
+            return queue.command("LINDEX", queue.history, -1).decode()
+        (reply,) = queue.call("rb_calls", f"{step.moment:020}", "", 0, step.asked)
+        lines = reply.decode().splitlines()
+        self.finish(queue, step, [line.split(" ")[1] for line in lines if line.startswith("ITEM ")])
+        return " ".join(lines[0].split(" ")[:2]) if lines[0].startswith("LATER") else lines[0]
+
+    def finish(self, queue: Queue, step: Step, ids: "list[str]") -> None:
+        """What was fetched is done, since a queue of the tables holds nothing."""
+        if ids:
+            seat = step.asked.split(" ")[0]
+            queue.call("rb_calls", f"{step.moment:020}", "", 0, *(f"{seat} DONE {id}" for id in ids))
+
+    def play(self, queue: Queue, file: str, steps: "list[Step]") -> None:
+        """Tries each row."""
+        for step in steps:
+            if step.asked.startswith("limit"):
+                queue.call("rb_join", 60_000_000, "delay", f"{0:020}", 3, step.asked)
+                continue
+            with self.subTest(file=file, line=step.line):
+                self.assertIn(self.answer(queue, step), step.answers)
+
+    def test_each_table_of_requests_is_answered(self) -> None:
+        played = 0
+        for file in FILES:
+            for table in tables_of(file, "queue"):
+                steps = steps_of(table)
+                if steps:
+                    played += 1
+                    self.play(self.queue(f"t{played}"), file, steps)
+        self.assertGreater(played, 20)
