@@ -1,4 +1,5 @@
-"""Whether a run begins with what the run before it left: the next id, the last moment, and the same elements."""
+"""Whether a run begins with what the run before it left: the next id, the same elements, and the last moment or, where
+the time between the two counts, a later one."""
 from __future__ import annotations
 
 from histories.faults import Wrong
@@ -20,11 +21,13 @@ class Continuation:
     def open(self, head: Head) -> None:
         for what, here, there in (
             ("opens with the next id", head.next_id, self._queue.next_id),
-            ("opens at moment", head.opened_at, self._history.end),
             ("opens with a count of", head.kept, len(self._queue)),
         ):
             if here != there:
                 raise Wrong(f"it does not continue {self._before}: it {what} {here}, and {there} would follow")
+        if head.opened_at < self._history.end:
+            raise Wrong(f"it does not continue {self._before}: it opens at moment {head.opened_at}, and"
+                        f" {self._history.end} or a later one would follow")
 
     def keep(self, words: ElementWords) -> None:
         """Follows a `keep` line. There are as many as elements in the queue, by the `open` line."""

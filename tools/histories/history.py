@@ -80,7 +80,7 @@ class Run:
 
     name: str
     version: int
-    opened_at: int  # the moment of the last event before
+    opened_at: int  # the moment of the last event before, or a later one
     kept: int  # how many elements its opening has
     first_event: int
     first_row: int  # of the elements that it offers
@@ -95,7 +95,7 @@ class History:
 
     version: int = 3
     next_id: int = 0  # the opening's
-    opened_at: int = 0  # the moment of the last event before
+    opened_at: int = 0  # the moment of the last event before, or a later one
     kept: int = 0  # how many elements the opening has
     elements: Elements = field(default_factory=Elements)
     events: Events = field(default_factory=Events)
@@ -109,10 +109,13 @@ class History:
 
     @property
     def end(self) -> int:
-        """The moment of the last event, or the last opening's if there is none."""
-        if self.events.moments:
-            return self.events.moments[-1]
-        return self.runs[-1].opened_at if self.runs else self.opened_at
+        """The moment of the last event, or the last opening's if there is none behind it."""
+        opened_at = self.runs[-1].opened_at if self.runs else self.opened_at
+        return max(self.events.moments[-1], opened_at) if self.events.moments else opened_at
+
+    def end_of(self, run: Run) -> int:
+        """The moment of a run's last event, or its opening's if it has none."""
+        return self.events.moments[run.first_event + run.events - 1] if run.events else run.opened_at
 
     def row_of(self, id: int) -> Optional[int]:
         """The row of the element of this id, whether it is in the queue or has left."""

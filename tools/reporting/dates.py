@@ -1,8 +1,9 @@
 """Dates in UTC for moments, from the dates at which runs began.
 
-A moment counts the time that runs served, so the time between two runs is missing from it. If each run's date is
-known, it is made up for at each opening; from the first run's date alone, later dates are too early by that time. A run
-opens at the moment of the last event before, which then has two dates.
+The runs of tools/service open at later moments than those before ended, by the time that passed. A run that goes on
+with --from opens at the moment of the last event before, which then has two dates, and the time between the two is
+missing. If each run's date is known, it is made up for at each opening; from the first run's date alone, later dates
+are too early by that time.
 """
 from __future__ import annotations
 
@@ -63,8 +64,9 @@ class Dates(NamedTuple):
     @classmethod
     def of(cls, history: History, began: Sequence[int]) -> Dates:
         """The dates of a history whose runs began then: the first one, or each of them."""
+        leaves_out = any(after.opened_at == history.end_of(run) for run, after in zip(history.runs, history.runs[1:]))
         return cls([Part(run.opened_at, date - run.opened_at) for run, date in zip(history.runs, began)],
-                   len(began) < len(history.runs))
+                   leaves_out and len(began) < len(history.runs))
 
     def date(self, moment: int, run: int = 0) -> int:
         """The nanoseconds since 1970 of a moment of this run, from 1. Without a run, a moment at which one run ended

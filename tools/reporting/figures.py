@@ -66,7 +66,7 @@ def _run(history: History, run: Run) -> RunFigures:
     events, stop = history.events, run.first_event + run.events
     given = sum(events.acts.count(act, run.first_event, stop) for act in acts.GIVES_ONE)
     given += sum(events.subjects[event] for event in events.all_of(acts.DRAIN) if run.first_event <= event < stop)
-    return RunFigures(run, events.moments[stop - 1] if run.events else run.opened_at, given)
+    return RunFigures(run, history.end_of(run), given)
 
 
 def _calls(history: History, keyword: str) -> Calls:

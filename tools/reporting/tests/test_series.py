@@ -36,7 +36,7 @@ end 1
 # A text behind the first run, its line that does not continue, and what is said of it.
 NOT_CONTINUED = [
     (RUNS[1].replace("open 3", "open 4"), 2, "it opens with the next id 4, and 3 would follow"),
-    (RUNS[1].replace("3 20 2", "3 21 2"), 2, "it opens at moment 21, and 20 would follow"),
+    (RUNS[1].replace("3 20 2", "3 19 2"), 2, "it opens at moment 19, and 20 or a later one would follow"),
     ("history 3\nopen 3 20 1\nkeep 1 1009 0 0 2 a\nend 0\n", 2, "it opens with a count of 1, and 2 would follow"),
     (RUNS[1].replace("keep 1 1009", "keep 0 1009"), 3, "it keeps 0 1009 0 0 2 a, and 1 1009 0 0 2 a would follow"),
     (RUNS[1].replace("keep 2 500", "keep 2 501"), 4, "it keeps 2 501 2 500 1 b, and 2 500 2 500 1 b would follow"),
@@ -95,6 +95,17 @@ class SeriesTest(RunsTest):
                 start = f"{other}: line {line}: it does not continue {self.paths[0]}: "
                 self.assertEqual(str(caught.exception)[:len(start)], start)
                 self.assertIn(says, str(caught.exception))
+
+    def test_runs_between_which_time_passed(self) -> None:
+        """As tools/service begins them: a run without a call opens at 5000, the next one at 7000."""
+        second = self.file("run-2.txt", "history 3\nopen 3 5000 2\nkeep 1 1009 0 0 2 a\nkeep 2 500 2 500 1 b\nend 0\n")
+        third = self.file("run-3.txt", "history 3\nopen 3 7000 2\nkeep 1 1009 0 0 2 a\nkeep 2 500 2 500 1 b\n"
+                          "1 7001 7001 take 2\n1 7009 7009 take 1\nend 2\n")
+        lines = self.lines(self.paths[0], second, third, "--began", "@100")
+        self.assertIn("from 0 to 7009 ns", lines[0])
+        self.assertIn("0 elements at the start, 3 offered, 3 given, 0 left at the end", lines)
+        self.assertIn("  greatest         6.50 µs  6501 ns", lines)
+        self.assertNotIn("The time between two runs is left out, so later dates are too early by it.", lines)
 
     def test_a_run_that_is_missing(self) -> None:
         one, _, three = self.paths
