@@ -31,7 +31,7 @@ class Command(DocumentsTest):
     def test_no_such_part(self) -> None:
         ran = self.run_tool("check_docs", "lines")
         self.assertEqual((2, ""), (ran.returncode, ran.stdout))
-        self.assertIn("no part is named lines; they are links, clauses, uncited, picture\n", ran.stderr)
+        self.assertIn("no part is named lines; they are links, clauses, quotes, uncited, picture\n", ran.stderr)
 
     def test_no_such_folder(self) -> None:
         ran = self.run_tool("check_docs", "--folder", f"{self.top}/page.md", "links")
