@@ -42,13 +42,17 @@ class Site:
         self._board, self._reports, self._trend, self._page = board, reports, Trend(), page(port)
         self._version, self._changed = 0, time.monotonic()
         self._counted = Traffic(0, 0, 0, 0, None, None, None)
+        self._told: Optional[Answer] = None  # which is made once, however many ask
+        self._told_of: Optional[State] = None
 
     def beat(self) -> None:
         """Takes note of the present state. To be called about once a second."""
         version, state = self._board.wait(self._version, 0)
         if version > self._version and state is not None:
-            self._version, self._changed = version, time.monotonic()
+            self._version, self._changed, self._told = version, time.monotonic(), None
             self._trend.add(state)
+        elif self._is_stale:
+            self._told = None
 
     def answer(self, path: str) -> Optional[Answer]:
         """The answer to a path. None if there is nothing."""
@@ -68,8 +72,10 @@ class Site:
         return self._state(state) if path == "/state.json" else self._health(state)
 
     def _state(self, state: State) -> Answer:
-        whole = {**told(state), "is_healthy": self._is_healthy(state), "trend": self._trend.told()}
-        return Answer(HTTPStatus.OK, JSON, json.dumps(whole).encode())
+        if self._told is None or self._told_of is not state:
+            whole = {**told(state), "is_healthy": self._is_healthy(state), "trend": self._trend.told()}
+            self._told, self._told_of = Answer(HTTPStatus.OK, JSON, json.dumps(whole).encode()), state
+        return self._told
 
     def _health(self, state: State) -> Answer:
         """In one line, which says what is wrong."""

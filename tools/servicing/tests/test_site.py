@@ -17,6 +17,7 @@ from servicing.reports import Reports
 from servicing.site import Site
 from servicing.state import Board, DiskFault, Phase, State, Traffic
 from servicing.tests.states import AT, ENDED, LOST, first_state, state
+from servicing.told import told
 from servicing.trend import BETWEEN, SPAN, Trend
 
 PATIENCE = 30.0
@@ -96,26 +97,34 @@ class PathsTest(SiteTest):
     def test_the_state(self) -> None:
         """All that was seen of a server, and nothing that is not known."""
         self.put(state())
-        told = self.told()
-        self.assertEqual(told["clients"].pop("all")[0], {
+        shown = self.told()
+        self.assertEqual(shown["clients"].pop("all")[0], {
             "port": 41004, "program": "python3", "pid": 12, "doing": "does not read", "seconds": 30,
             "unread_by_client": 163_298, "unread_by_server": 7})
-        self.assertEqual(told["clients"], {"workers": 8, "served": 5, "waiting": 1, "not_reading": 1, "hung_up": 0,
+        self.assertEqual(shown["clients"], {"workers": 8, "served": 5, "waiting": 1, "not_reading": 1, "hung_up": 0,
                                            "silent": 1, "silent_from": 10, "longest_silence": 725})
-        self.assertEqual(told["queue"], {"at": AT - 1, "elements": 1204, "head": {
+        self.assertEqual(shown["queue"], {"at": AT - 1, "elements": 1204, "head": {
             "id": 17, "expiry": 10**15, "attempt": 2, "payload": "letter-17", "late": 3.25}})
-        self.assertEqual(told["calls"], {"used": 400_000, "is_least": False, "limit": 1_000_000, "a_second": 12.5,
+        self.assertEqual(shown["calls"], {"used": 400_000, "is_least": False, "limit": 1_000_000, "a_second": 12.5,
                                          "lasts": 48_000})
-        self.assertEqual(told["sessions"], {"used": 57, "is_least": True, "limit": 10_000, "a_second": 0.5,
+        self.assertEqual(shown["sessions"], {"used": 57, "is_least": True, "limit": 10_000, "a_second": 0.5,
                                             "lasts": 19_886})
-        plain = (told["phase"], told["why"], told["is_healthy"], told["lost_runs"])
+        plain = (shown["phase"], shown["why"], shown["is_healthy"], shown["lost_runs"])
         self.assertEqual(plain, ("serving", None, True, 1))
-        self.assertEqual([it["number"] for it in told["runs"]], [11, 10, 9])
-        self.assertEqual({name: told["runs"][1][name] for name in ("why", "is_lost", "lasted", "opening", "calls")},
+        self.assertEqual([it["number"] for it in shown["runs"]], [11, 10, 9])
+        self.assertEqual({name: shown["runs"][1][name] for name in ("why", "is_lost", "lasted", "opening", "calls")},
                          {"why": "killed", "is_lost": True, "lasted": 1400, "opening": 900, "calls": None})
         self.put(first_state())
         nothing = ("run", "queue", "clients", "calls", "sessions", "why", "disk")
         self.assertEqual([self.told()[it] for it in nothing], [None] * len(nothing))
+
+    def test_a_state_is_told_once_however_many_ask(self) -> None:
+        self.put(state())
+        with mock.patch.object(served, "told", side_effect=told) as made:
+            self.assertIs(self.answer("/state.json"), self.answer("/state.json"))
+            self.board.put(state(phase=Phase.ENDING))
+            self.assertEqual(self.told()["phase"], "ending", "also before it was taken note of")
+        self.assertEqual(made.call_count, 2)
 
     def test_no_path_of_a_history_is_told(self) -> None:
         self.put(state())
@@ -127,9 +136,9 @@ class PathsTest(SiteTest):
         runs = tuple(dataclasses.replace(ENDED, number=it) for it in range(5000, 0, -1))
         self.put(state(runs=runs, clients=dataclasses.replace(clients, all=clients.all * 100)))
         self.assertLess(len(self.answer("/state.json").body), 100_000)
-        told = self.told()
-        self.assertEqual((told["runs"][0]["number"], told["runs_kept"]), (5000, 5000))
-        self.assertEqual(told["clients"]["served"], 500)
+        shown = self.told()
+        self.assertEqual((shown["runs"][0]["number"], shown["runs_kept"]), (5000, 5000))
+        self.assertEqual(shown["clients"]["served"], 500)
 
 
 class TrendTest(SiteTest):
