@@ -10,11 +10,16 @@ COMMANDS = (serve, script, archive_command, load_command, dead_command)
 """Each is a module with `add_to`, which adds its words and says what runs them."""
 
 
-def main(words: Optional["list[str]"] = None) -> int:
-    """Runs the command that these words ask for. Returns the exit status."""
-    parser = Parser(f"python3 -m {NAME}", description=__doc__.partition(":")[0], allow_abbrev=False)
-    commands = parser.add_subparsers(metavar="COMMAND", required=True, parser_class=Parser)
+def parser() -> Parser:
+    """The parser of all words."""
+    made = Parser(f"python3 -m {NAME}", description=__doc__.partition(":")[0], allow_abbrev=False)
+    commands = made.add_subparsers(metavar="COMMAND", required=True, parser_class=Parser)
     for command in COMMANDS:
         command.add_to(commands)
-    asked = parser.parse_args(words)
+    return made
+
+
+def main(words: Optional["list[str]"] = None) -> int:
+    """Runs the command that these words ask for. Returns the exit status."""
+    asked = parser().parse_args(words)
     return asked.run(asked)

@@ -1,0 +1,80 @@
+"""The command script: the cases, and random scripts beside the program."""
+from __future__ import annotations
+
+import os
+import random
+import stat
+import subprocess
+import sys
+import unittest
+from pathlib import Path
+
+from random_script import RandomScript
+from rb_broker_redis import script
+from rb_broker_redis.command import parser
+from rb_broker_redis.history import FollowedQueue
+from rb_broker_redis.script_session import ScriptSession
+from redis_test import RedisTest
+
+TOP = Path(__file__).resolve().parents[2]
+PROGRAM = os.environ.get("RB_BROKER_PROGRAM", "")
+
+SCRIPTS = int(os.environ.get("RB_BROKER_SCRIPTS", "200"))
+"""How many random scripts are compared."""
+
+PASSED_OVER = {
+    "a run goes on behind another of the first version": "it continues histories of the third version only",
+    "a run begins at the moment of the last event of two seats": "it continues histories of the third version only",
+}
+"""Cases that the command does not pass, with the reason."""
+
+
+class CasesTest(RedisTest):
+    def test_each_case_passes_or_is_passed_over_by_name(self) -> None:
+        command = self.room / "command"
+        command.write_text(
+            "#!/bin/sh\n"
+            f'[ "$1" = script ] || exec {PROGRAM} "$@"\n'
+            f'exec {sys.executable} -B -m rb_broker_redis "$@" --redis {self.node.url}\n')
+        command.chmod(command.stat().st_mode | stat.S_IXUSR)
+        ran = subprocess.run([TOP / "tools" / "conform", "--jobs", "4", command], stdout=subprocess.PIPE,
+                             stderr=subprocess.PIPE, encoding="utf-8", check=False, env=self.environment())
+        *told, total = ran.stdout.splitlines()
+        failed = [line.split(": ")[1] for line in told if ": passed over: " not in line]
+        self.assertEqual(sorted(failed), sorted(PASSED_OVER), ran.stdout + ran.stderr)
+        self.assertGreater(int(total.split()[0]), 200)
+
+    def environment(self) -> "dict[str, str]":
+        """For a tool whose Python may be another than the one that has the package redis."""
+        return {**os.environ, "PYTHONPATH": str(TOP / "redis" / "src")}
+
+
+class RandomScriptsTest(RedisTest):
+    def test_random_scripts_give_what_the_program_gives(self) -> None:
+        for seed in range(SCRIPTS):
+            made = RandomScript(random.Random(seed))
+            replies, history = self.program(made)
+            with self.subTest(seed=seed, words=made.words):
+                self.assertEqual(self.here(made), (replies, history))
+
+    def program(self, made: RandomScript) -> "tuple[bytes, bytes]":
+        """The program's replies and history."""
+        path = self.room / "history"
+        replies = subprocess.run([PROGRAM, "script", *made.words, "--history", path], input=made.text,
+                                 stdout=subprocess.PIPE, check=True).stdout
+        return replies, path.read_bytes()
+
+    def here(self, made: RandomScript) -> "tuple[bytes, bytes]":
+        """Those of the functions, within this process."""
+        asked = parser().parse_args(["script", "--redis", self.node.url, *made.words])
+        queue = self.queue("random")
+        script.begin(queue, FollowedQueue(), asked)
+        session = ScriptSession(script.performer(queue), 0)
+        replies = b"".join(session.carry_out(piece) for piece in made.pieces) + session.end()
+        history = b"history 3\nopen 0 0 0\n" + b"".join(script.events_of(queue))
+        queue.command("UNLINK", *queue.keys)
+        return replies, history
+
+
+if __name__ == "__main__":
+    unittest.main()

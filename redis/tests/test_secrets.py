@@ -1,0 +1,149 @@
+"""Passwords, and TLS between clients, gateways and the Redis."""
+from __future__ import annotations
+
+import os
+import ssl
+import subprocess
+import sys
+import tempfile
+from pathlib import Path
+from typing import Dict, Optional
+
+from gateway_test import GatewayTest, Served
+from nodes import HOST, Node, free_port
+from rb_broker_redis.address import read_address
+from redis_test import RedisTest
+
+PASSWORD = "open-sesame"
+
+
+def make_certificate(folder: Path, name: str, signer: Optional[str] = None) -> None:
+    """NAME.pem and NAME.key of a party at 127.0.0.1, signed by another of the folder, or by itself."""
+    by = ["-CA", folder / f"{signer}.pem", "-CAkey", folder / f"{signer}.key"] if signer else []
+    subprocess.run(
+        ["openssl", "req", "-x509", "-newkey", "ec", "-pkeyopt", "ec_paramgen_curve:prime256v1", "-nodes", "-days", "2",
+         "-subj", f"/CN={name}", "-addext", "subjectAltName=IP:127.0.0.1", *by,
+         "-keyout", folder / f"{name}.key", "-out", folder / f"{name}.pem"],
+        check=True, stderr=subprocess.DEVNULL)
+
+
+class PasswordTest(RedisTest):
+    @classmethod
+    def setUpClass(cls) -> None:
+        super().setUpClass()
+        cls.node.ask("CONFIG", "SET", "requirepass", PASSWORD)
+
+    def serve(self, *words: object, environment: Optional[Dict[str, str]] = None) -> "subprocess.Popen[str]":
+        command = [sys.executable, "-B", "-m", "rb_broker_redis", "serve", "--port", "0", "--queue", self.name]
+        process = subprocess.Popen([*command, *map(str, words)], stdout=subprocess.PIPE, stderr=subprocess.PIPE,
+                                   encoding="utf-8", env={**os.environ, **(environment or {})})
+        self.addCleanup(process.communicate)
+        self.addCleanup(process.kill)
+        return process
+
+    @property
+    def url(self) -> str:
+        return f"redis://:{PASSWORD}@{HOST}:{self.node.port}"
+
+    def assert_serves_in_secret(self, process: "subprocess.Popen[str]") -> None:
+        served = Served(process)
+        with served.talker() as talker:
+            self.assertEqual(talker.ask("SIZE"), "SIZE 0")
+        words = Path(f"/proc/{process.pid}/cmdline").read_text()
+        self.assertNotIn(PASSWORD, words + "".join(served.end()[1:]))
+
+    def test_a_file_has_the_password(self) -> None:
+        file = self.room / "redis.url"
+        file.write_text(f"{self.url}\n")
+        self.assert_serves_in_secret(self.serve("--redis", f"@{file}"))
+
+    def test_the_environment_has_the_password(self) -> None:
+        self.assert_serves_in_secret(self.serve(environment={"RB_BROKER_REDIS": self.url}))
+
+    def test_a_wrong_password_is_not_told(self) -> None:
+        process = self.serve(environment={"RB_BROKER_REDIS": self.url.replace(PASSWORD, "open-barley")})
+        said, errors = process.communicate(timeout=30)
+        self.assertEqual((process.returncode, said), (3, ""))
+        self.assertIn("WRONGPASS", errors)
+        self.assertNotIn("barley", errors)
+
+    def test_an_address_that_is_printed_has_no_password(self) -> None:
+        address = read_address(self.url)
+        self.assertEqual(address.password, PASSWORD)
+        self.assertNotIn(PASSWORD, f"{address} {address!r}")
+        for url in ("redis://:secret@127.0.0.1:x", "http://:secret@h", "redis+sentinel://:secret@h:1"):
+            with self.subTest(url=url), self.assertRaises(ValueError) as caught:
+                read_address(url)
+            self.assertNotIn("secret", str(caught.exception))
+
+
+class TlsTest(GatewayTest):
+    @classmethod
+    def setUpClass(cls) -> None:
+        super().setUpClass()
+        room = tempfile.TemporaryDirectory(prefix="rb-test-")
+        cls.addClassCleanup(room.cleanup)
+        cls.keys = Path(room.name)
+        make_certificate(cls.keys, "authority")
+        for name in ("gateway", "client", "redis"):
+            make_certificate(cls.keys, name, "authority")
+        make_certificate(cls.keys, "stranger")
+
+    def context(self, name: str = "") -> ssl.SSLContext:
+        """What a client knows, with a certificate of its own if it has a name."""
+        context = ssl.create_default_context(cafile=str(self.keys / "authority.pem"))
+        if name:
+            context.load_cert_chain(self.keys / f"{name}.pem", self.keys / f"{name}.key")
+        return context
+
+    def served_by_tls(self, *words: object) -> Served:
+        return self.serve("--cert", self.keys / "gateway.pem", "--key", self.keys / "gateway.key", *words)
+
+    def test_clients_are_served_over_tls(self) -> None:
+        served = self.served_by_tls()
+        with served.talker(self.context()) as talker:
+            self.assertEqual(talker.ask("OFFER 0 a").split()[0], "OFFERED")
+            talker.send("TAKE\nDONE 0\nQUIT\n")
+            self.assertEqual([it.split()[0] for it in talker.rest()], ["ITEM", "DONE", "BYE"])
+        self.assertEqual(served.end()[0], 0)
+
+    def test_only_clients_of_the_authority_are_let_in(self) -> None:
+        served = self.served_by_tls("--client-ca", self.keys / "authority.pem")
+        with served.talker(self.context("client")) as talker:
+            self.assertEqual(talker.ask("SIZE"), "SIZE 0")
+        for name in ("", "stranger"):
+            with self.subTest(name=name), self.assertRaises(OSError), served.talker(self.context(name)) as talker:
+                if talker.ask("SIZE") == "":
+                    raise ConnectionError
+
+    def test_a_client_without_tls_gets_no_reply(self) -> None:
+        served = self.served_by_tls()
+        with served.talker() as talker:
+            talker.send("SIZE\n")
+            try:
+                self.assertNotIn(b"SIZE 0", talker.socket.recv(100))
+            except ConnectionError:
+                pass
+        with served.talker(self.context()) as talker:
+            self.assertEqual(talker.ask("SIZE"), "SIZE 0")
+
+    def test_the_redis_is_reached_over_tls(self) -> None:
+        port, keys = free_port(), self.keys
+        node = Node(self.room / "node", [
+            "--appendonly", "no", "--tls-port", port, "--tls-cert-file", keys / "redis.pem",
+            "--tls-key-file", keys / "redis.key", "--tls-ca-cert-file", keys / "authority.pem"])
+        self.addCleanup(node.kill)
+        client = f"ssl_certfile={keys}/client.pem&ssl_keyfile={keys}/client.key"
+        url = f"rediss://{HOST}:{port}?ssl_ca_certs={keys}/authority.pem&{client}"
+        command = [sys.executable, "-B", "-m", "rb_broker_redis", "serve", "--port", "0", "--queue", "q", "--redis", url]
+        process = subprocess.Popen(command, stdout=subprocess.PIPE, stderr=subprocess.PIPE, encoding="utf-8")
+        self.addCleanup(process.communicate)
+        self.addCleanup(process.kill)
+        with Served(process).talker() as talker:
+            self.assertEqual(talker.ask("SIZE"), "SIZE 0")
+
+    def test_plain_is_said_loudly(self) -> None:
+        process = self.started("serve", "--port", 0, "--plain")
+        self.assertIn("listening 127.0.0.1:", process.stdout.readline())
+        process.terminate()
+        self.assertIn("PLAIN: whoever reaches 127.0.0.1:", process.communicate(timeout=30)[1])
