@@ -31,7 +31,7 @@ class RandomScript:
 
     def _some_words(self) -> "list[str]":
         chance = self._chance
-        words = ["--calls", str(chance.choice((1, 7, 40, 10_000)))]
+        words = ["--calls", str(chance.choice((1, 20, 10_000, 10_000, 10_000, 10_000)))]
         pace = chance.choice(("", "--delay", "--rate"))
         if pace:
             words += [pace, str(RESIDUES * chance.choice((1, 3, 10**6)))]
@@ -52,11 +52,11 @@ class RandomScript:
         chance = self._chance
         make = chance.choices(
             (self._at, self._offer, self._offer_at, self._fetch, self._finish, self._other, self._refused),
-            (20, 20, 10, 30, 25, 10, 5))[0]
+            (20, 20, 10, 35, 35, 10, 4))[0]
         return make()
 
     def _at(self) -> str:
-        steps = self._chance.choice((0, 1, 1, 2, 10, 10**7))
+        steps = self._chance.choice((0, 1, 1, 2, 3, 10, 10**7))
         moment = (self._moment // RESIDUES + steps) * RESIDUES + self._fresh()
         if self._chance.random() < 0.1:
             moment = self._chance.randrange(self._moment + 1)
@@ -81,20 +81,22 @@ class RandomScript:
 
     def _fetch(self) -> str:
         number = self._chance.choice((0, 1, RESIDUES, 10**9, GREATEST))
-        return self._chance.choice(("POLL", "POLL", "TAKE", f"POLLFOR {number}", f"DRAIN {number}", "DRAIN 3"))
+        return self._chance.choice(("POLL", "POLL", "TAKE", "TAKE", f"POLLFOR {number}", f"DRAIN {number}", "DRAIN 2"))
 
     def _finish(self) -> str:
-        id = self._chance.randrange(self._ids + 2)
         if self._chance.random() < 0.5:
-            return f"DONE {id}"
+            return f"DONE {self._recent_id()}"
         if self._failed_now:  # two jobs that fail at one moment may expire at one moment
             return self._at()
         self._failed_now = True
-        self._ids += 1
-        return f"FAIL {id}"
+        return f"FAIL {self._recent_id()}"
+
+    def _recent_id(self) -> int:
+        """An id that may be held."""
+        return max(self._ids + self._chance.randrange(-6, 2), 0)
 
     def _other(self) -> str:
-        id = self._chance.choice((self._chance.randrange(self._ids + 2), GREATEST))
+        id = self._chance.choice((self._recent_id(), self._chance.randrange(self._ids + 2), GREATEST))
         return self._chance.choice(("PEEK", "SIZE", "SIZE", f"REMOVE {id}", f"REMOVE {id}", "CLEAR"))
 
     def _refused(self) -> str:

@@ -214,6 +214,10 @@ class EndsTest(GatewayTest):
             talker.ask("TAKE")
             self.assertEqual(talker.ask("FAIL 1"), "DEAD 1")
 
+    def test_a_port_that_is_in_use_is_named(self) -> None:
+        port = self.serve().port
+        self.assert_refused(3, f"127.0.0.1:{port}: Address already in use", "serve", "--port", port)
+
     def test_words_are_refused_in_a_line(self) -> None:
         for words, line in (
             (["--lease", "5ms"], "--lease is at least 1s"),

@@ -5,6 +5,7 @@ import argparse
 import asyncio
 import ipaddress
 import logging
+import os
 import resource
 import signal
 import ssl
@@ -21,6 +22,10 @@ from .words import (
 )
 
 LOOPBACK = "127.0.0.1"
+
+
+class CannotListen(Exception):
+    """The port is in use, or may not be used."""
 
 
 def add_to(commands: "argparse._SubParsersAction[Parser]") -> None:
@@ -60,7 +65,7 @@ def run(asked: argparse.Namespace) -> int:
     use_uvloop()
     try:
         return asyncio.run(serve(asked))
-    except (OSError, ErrorAnswer, NewerLibrary) as caught:
+    except (OSError, ErrorAnswer, NewerLibrary, CannotListen) as caught:
         print(f"{NAME}: {sentence_about(caught, asked)}", file=sys.stderr)
         return 3
 
@@ -105,10 +110,10 @@ async def serve(asked: argparse.Namespace) -> int:
     stopped = asyncio.Event()
     loop = asyncio.get_running_loop()
     for number in (signal.SIGTERM, signal.SIGINT):
-        loop.add_signal_handler(number, lambda number=number: end_at_next(loop, number, stopped))
+        loop.add_signal_handler(number, end_at_next, loop, stopped)
     gateway = Gateway(settings_of(asked))
     await gateway.join()
-    port = await gateway.listen(str(asked.bind), asked.port)
+    port = await listen(gateway, asked)
     if asked.plain:
         logging.warning("PLAIN: whoever reaches %s:%d is let in, and reads what others send", asked.bind, port)
     print(f"listening {asked.bind}:{port}", flush=True)
@@ -118,7 +123,15 @@ async def serve(asked: argparse.Namespace) -> int:
     return 0
 
 
-def end_at_next(loop: asyncio.AbstractEventLoop, number: int, stopped: asyncio.Event) -> None:
+async def listen(gateway: Gateway, asked: argparse.Namespace) -> int:
+    """Serves clients. Raises `CannotListen`."""
+    try:
+        return await gateway.listen(str(asked.bind), asked.port)
+    except OSError as fault:
+        raise CannotListen(f"{asked.bind}:{asked.port}: {reason_of(fault)}") from None
+
+
+def end_at_next(loop: asyncio.AbstractEventLoop, stopped: asyncio.Event) -> None:
     """Ends in good order; the next signal ends at once."""
     stopped.set()
     for each in (signal.SIGTERM, signal.SIGINT):
@@ -134,7 +147,17 @@ def sentence_about(fault: Exception, asked: argparse.Namespace) -> str:
                 " --change-policy")
     if isinstance(fault, ErrorAnswer) and fault.code == "LOADING_QUEUE":
         return f"a load into queue {asked.queue} has not ended"
-    return str(fault)
+    if isinstance(fault, (NewerLibrary, CannotListen)):
+        return str(fault)
+    if isinstance(fault, OSError) and fault.filename:
+        return f"{fault.filename}: {fault.strerror}"
+    return f"{address_in(asked)}: {reason_of(fault)}"
+
+
+def reason_of(fault: Exception) -> str:
+    """The system's word for it, if there is one: a loop wraps it."""
+    number = getattr(fault, "errno", None)
+    return os.strerror(number) if number else str(fault)
 
 
 def raise_limit_of_files() -> None:
