@@ -2,8 +2,9 @@
 //! are no part of the product, and prove nothing.
 //!
 //!     rustc --edition 2021 -O -o clients bench/clients.rs
-//!     ./clients measure broker|echo|lines|beanstalkd PORT CLIENTS BATCHES BATCH
+//!     ./clients measure broker|echo|lines|beanstalkd|redis PORT[,PORT ..] CLIENTS BATCHES BATCH
 //!     ./clients waiting PORT TAKERS OFFERS BATCH
+//!     ./clients wake PORT TAKERS OFFERS
 //!     ./clients echo-server PORT THREADS CONNECTIONS
 //!     ./clients lines-server PORT THREADS CONNECTIONS
 //!
@@ -16,6 +17,13 @@
 //! broker that wait in a take and finish what they get. These are served by one thread, which looks at them every
 //! half of a millisecond, so that the time is the broker's and not theirs. Printed are the offers in a second.
 //!
+//! Several ports get the clients in turn. A client of `redis` calls the functions of redis/ by itself, one call for each
+//! request: the queue of the node at the port is named `bench`, and a gateway has made it.
+//!
+//! With `wake`, so many clients wait in a take of a broker whose moments are nanoseconds since 1970, and another offers
+//! so many jobs one by one, each due a hundredth of a second later. Printed are the median and the 99th percentile of
+//! the time from a job's expiry until its client has it, in microseconds.
+//!
 //! Of an echo server the clients want the lines back that the broker is sent. It has so many threads, each of
 //! which serves one connection after the other, and it ends after so many connections. What a read gave is sent
 //! by one write, or by the second server by a write for each line, as the broker sends its replies.
@@ -23,8 +31,9 @@ use std::io::{self, BufRead, BufReader, Read, Write};
 use std::net::{Ipv4Addr, TcpListener, TcpStream};
 use std::process::ExitCode;
 use std::sync::Barrier;
+use std::sync::mpsc::{Sender, channel};
 use std::sync::atomic::{AtomicBool, AtomicU64, Ordering};
-use std::time::{Duration, Instant};
+use std::time::{Duration, Instant, SystemTime, UNIX_EPOCH};
 use std::{env, thread};
 
 /// How many batches each client makes before its time is taken.
@@ -33,11 +42,17 @@ const WARM_UP: u64 = 20;
 /// How many takes a client that waits has sent, so that there is always one that waits.
 const TAKES_SENT: usize = 30;
 
+/// The front of a call of the functions of redis/.
+const FCALL: &str = "*15\r\n$5\r\nFCALL\r\n$8\r\nrb_calls\r\n$1\r\n8\r\n$11\r\n{bench}:due\r\n$11\r\n{bench}:ids\r\n\
+    $12\r\n{bench}:held\r\n$13\r\n{bench}:state\r\n$15\r\n{bench}:history\r\n$12\r\n{bench}:dead\r\n\
+    $16\r\n{bench}:gateways\r\n$15\r\n{bench}:opening\r\n$0\r\n\r\n$0\r\n\r\n$1\r\n0\r\n";
+
 #[derive(Clone, Copy, PartialEq, Eq)]
 enum Peer {
     Broker,
     Echo,
     Beanstalkd,
+    Redis,
 }
 
 #[derive(Clone, Copy, PartialEq, Eq)]
@@ -53,13 +68,22 @@ impl Peer {
             "broker" => Some(Peer::Broker),
             "echo" | "lines" => Some(Peer::Echo),
             "beanstalkd" => Some(Peer::Beanstalkd),
+            "redis" => Some(Peer::Redis),
             _ => None,
         }
     }
 
-    /// Writes one request, where that is `Done` for the job of this id.
-    fn write_request(self, step: Step, id: u64, text: &mut Vec<u8>) {
+    /// Writes one request of the client with this seat, where that is `Done` for the job of this id.
+    fn write_request(self, step: Step, seat: usize, id: u64, text: &mut Vec<u8>) {
         let written = match (self, step) {
+            (Peer::Redis, step) => {
+                let call = match step {
+                    Step::Offer => format!("{seat} OFFER 0 a-letter"),
+                    Step::Take => format!("{seat} TAKE"),
+                    Step::Done => format!("{seat} DONE {id}"),
+                };
+                write!(text, "{FCALL}${}\r\n{call}\r\n", call.len())
+            }
             (Peer::Beanstalkd, Step::Offer) => text.write_all(b"put 0 0 60 8\r\na-letter\r\n"),
             (Peer::Beanstalkd, Step::Take) => text.write_all(b"reserve\r\n"),
             (Peer::Beanstalkd, Step::Done) => write!(text, "delete {id}\r\n"),
@@ -73,8 +97,8 @@ impl Peer {
     /// The first word of the reply.
     fn keyword(self, step: Step) -> &'static str {
         match (self, step) {
-            (Peer::Broker, Step::Offer) => "OFFERED",
-            (Peer::Broker, Step::Take) => "ITEM",
+            (Peer::Broker | Peer::Redis, Step::Offer) => "OFFERED",
+            (Peer::Broker | Peer::Redis, Step::Take) => "ITEM",
             (Peer::Echo, Step::Offer) => "OFFER",
             (Peer::Echo, Step::Take) => "TAKE",
             (Peer::Beanstalkd, Step::Offer) => "INSERTED",
@@ -92,6 +116,8 @@ impl Peer {
 
 struct Client {
     peer: Peer,
+    /// A number of its own.
+    seat: usize,
     requests: TcpStream,
     replies: BufReader<TcpStream>,
     /// The jobs of the batch.
@@ -102,18 +128,18 @@ struct Client {
 }
 
 impl Client {
-    fn connect(peer: Peer, port: u16, batch: usize) -> io::Result<Client> {
+    fn connect(peer: Peer, port: u16, seat: usize, batch: usize) -> io::Result<Client> {
         let requests = TcpStream::connect((Ipv4Addr::LOCALHOST, port))?;
         requests.set_nodelay(true)?;
         let replies = BufReader::with_capacity(64 * 1024, requests.try_clone()?);
-        Ok(Client { peer, requests, replies, ids: vec![1_000_000; batch], text: Vec::new(), line: String::new() })
+        Ok(Client { peer, seat, requests, replies, ids: vec![1_000_000; batch], text: Vec::new(), line: String::new() })
     }
 
     /// Makes one exchange, and tells how long it took.
     fn exchange(&mut self, step: Step) -> io::Result<Duration> {
         self.text.clear();
         for id in &self.ids {
-            self.peer.write_request(step, *id, &mut self.text);
+            self.peer.write_request(step, self.seat, *id, &mut self.text);
         }
         let begun = Instant::now();
         self.requests.write_all(&self.text)?;
@@ -124,6 +150,10 @@ impl Client {
     }
 
     fn read_reply(&mut self, step: Step, place: usize) -> io::Result<()> {
+        if self.peer == Peer::Redis {
+            self.read_line()?; // that one reply follows
+            self.read_line()?; // its length
+        }
         self.read_line()?;
         let mut words = self.line.trim_end().split(' ');
         let id = match (words.next(), words.next()) {
@@ -133,7 +163,7 @@ impl Client {
         if step == Step::Take && self.peer != Peer::Echo {
             self.ids[place] = id.and_then(|id| id.parse().ok()).ok_or(io::ErrorKind::InvalidData)?;
         }
-        if self.peer.sends_payload(step) { self.read_line() } else { Ok(()) }
+        if self.peer.sends_payload(step) || self.peer == Peer::Redis { self.read_line() } else { Ok(()) }
     }
 
     fn read_line(&mut self) -> io::Result<()> {
@@ -177,10 +207,10 @@ fn run_together(clients: &mut [Client], batches: u64) -> io::Result<(Vec<Duratio
     })
 }
 
-fn measure(peer: Peer, port: u16, clients: usize, batches: u64, batch: usize) -> io::Result<()> {
+fn measure(peer: Peer, ports: &[u16], clients: usize, batches: u64, batch: usize) -> io::Result<()> {
     let mut ready = Vec::new();
-    for _ in 0..clients {
-        ready.push(Client::connect(peer, port, batch)?);
+    for (client, port) in ports.iter().cycle().take(clients).enumerate() {
+        ready.push(Client::connect(peer, *port, client, batch)?);
     }
     let (mut times, elapsed) = run_together(&mut ready, batches)?;
     times.sort_unstable();
@@ -255,7 +285,7 @@ fn offer_beside(port: u16, takers: u64, offers: u64, batch: usize) -> io::Result
     for _ in 0..takers {
         waiting.push(Taker::connect(port)?);
     }
-    let mut client = Client::connect(Peer::Broker, port, batch)?;
+    let mut client = Client::connect(Peer::Broker, port, 0, batch)?;
     thread::sleep(Duration::from_millis(200)); // until all wait
     let ended = AtomicBool::new(false);
     let (offered, finished) = thread::scope(|scope| {
@@ -268,6 +298,49 @@ fn offer_beside(port: u16, takers: u64, offers: u64, batch: usize) -> io::Result
     });
     finished?;
     println!("{:.0}", offers as f64 / offered?.as_secs_f64());
+    Ok(())
+}
+
+/// Takes what comes, and sends how late each job was.
+fn lateness_of_takes(port: u16, sender: &Sender<Duration>) -> io::Result<()> {
+    let mut client = Client::connect(Peer::Broker, port, 0, 1)?;
+    loop {
+        client.requests.write_all(b"TAKE\n")?;
+        client.read_line()?;
+        let now = SystemTime::now().duration_since(UNIX_EPOCH).expect("it is after 1970");
+        let words: Vec<&str> = client.line.trim_end().split(' ').collect();
+        match words[..] {
+            ["ITEM", id, expiry, ..] => {
+                let expiry = Duration::from_nanos(expiry.parse().map_err(io::Error::other)?);
+                if sender.send(now.saturating_sub(expiry)).is_err() {
+                    return Ok(());
+                }
+                writeln!(client.requests, "DONE {id}")?;
+                client.read_line()?;
+            }
+            ["STOPPED"] => {}
+            _ => return Err(io::Error::other(format!("not a reply to a take: {:?}", client.line))),
+        }
+    }
+}
+
+fn wake(port: u16, takers: usize, offers: usize) -> io::Result<()> {
+    let (sender, lateness) = channel();
+    for _ in 0..takers {
+        let sender = sender.clone();
+        thread::spawn(move || lateness_of_takes(port, &sender));
+    }
+    thread::sleep(Duration::from_millis(200)); // until all wait
+    let mut client = Client::connect(Peer::Broker, port, 0, 1)?;
+    for _ in 0..offers {
+        client.requests.write_all(b"OFFER 10000000 a-letter\n")?;
+        client.read_line()?;
+        thread::sleep(Duration::from_millis(15));
+    }
+    let mut times: Vec<Duration> = lateness.iter().take(offers).collect();
+    times.sort_unstable();
+    let microseconds = |place: usize| times[place].as_secs_f64() * 1e6;
+    println!("{:.1} {:.1}", microseconds(times.len() / 2), microseconds(times.len() * 99 / 100));
     Ok(())
 }
 
@@ -308,12 +381,14 @@ fn serve_echo(port: u16, threads: u64, connections: u64, by_line: bool) -> io::R
 fn run(words: &[String]) -> Option<io::Result<()>> {
     let number = |place: usize| words.get(place)?.parse::<u64>().ok();
     let port = |place: usize| u16::try_from(number(place)?).ok();
+    let ports = |place: usize| words.get(place)?.split(',').map(|port| port.parse().ok()).collect::<Option<Vec<u16>>>();
     match words.first()?.as_str() {
         "measure" => {
             let (clients, batch) = (number(3)? as usize, number(5)? as usize);
-            Some(measure(Peer::named(words.get(1)?)?, port(2)?, clients, number(4)?, batch))
+            Some(measure(Peer::named(words.get(1)?)?, &ports(2)?, clients, number(4)?, batch))
         }
-"waiting" => Some(offer_beside(port(1)?, number(2)?, number(3)?, number(4)? as usize)),
+        "wake" => Some(wake(port(1)?, number(2)? as usize, number(3)? as usize)),
+        "waiting" => Some(offer_beside(port(1)?, number(2)?, number(3)?, number(4)? as usize)),
         server @ ("echo-server" | "lines-server") => {
             Some(serve_echo(port(1)?, number(2)?, number(3)?, server == "lines-server"))
         }
