@@ -8,6 +8,7 @@ from typing import Optional
 from defining.items import Item, rust_items, spec_items
 from defining.words import words_of
 from documents.cited_file import CitedFile
+from documents.found import Missing
 
 USE = re.compile(r"^ *(?:pub )?use (\w+)::([^;]+);", re.M)
 USED = re.compile(r"(\w+)(?: as (\w+))?(?=\s*(?:[,}]|$))")
@@ -15,7 +16,7 @@ SMALL_CONSTRUCTORS = {"true", "false", "zero", "suc", "pos"}
 TYPES = ("struct", "enum", "trait", "const", "type")
 
 
-class Unknown(Exception):
+class Unknown(Missing):
     """A name leads nowhere, or to several things: in lines for the user."""
 
 

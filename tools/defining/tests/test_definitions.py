@@ -82,8 +82,7 @@ class Command(DocumentsTest):
         self.expect_listing("climb", 2, "", said)
 
     def test_the_crates_of_this_repository(self) -> None:
-        self.top = Path(TOP)
-        tree = Tree(self.top)
+        self.top, tree = Path(TOP), Tree(Path(TOP))
         items = [it for file in tree.files.values() for it in file.items]
         self.assertLess(1_000, len([tree.cited_by(it, it.section + it.code) for it in items]))
         for word, there, absent in (

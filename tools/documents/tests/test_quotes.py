@@ -69,8 +69,11 @@ class Quotes(DocumentsTest):
         line = "docs/HEADLINE.md: crates/rb_low/specs/Heights.antt has no width"
         self.expect_of("# Heights", "# [`width`](../crates/rb_low/specs/Heights.antt)", "8", line)
 
-    def test_too_many_words_and_no_page(self) -> None:
+    def test_too_many_words_no_page_and_an_import_that_leads_nowhere(self) -> None:
         line = "docs/HEADLINE.md has 5,048 words, of at most 5,000"
         self.expect_of("# Heights", "# Heights" + " high" * 5_000, "7", line)
         (self.top / "docs" / "HEADLINE.md").unlink()
         self.expect_missing(f"{self.top} has no docs/HEADLINE.md")
+        self.write("docs/HEADLINE.md", PAGE)
+        self.write("crates/rb_low/specs/Heights.antt", SPECS.replace("IsHigh", "IsLow"))
+        self.expect_missing("Rattle.rb_low.specs.Heights.IsHigh is nowhere in src/ and specs/")
