@@ -35,6 +35,9 @@ class Account:
     def __init__(self, history: History) -> None:
         self._history = history
         self.held: Dict[int, Optional[Element]] = {}  # by id, in the order in which they were fetched
+        self.has_left = False  # by QUIT
+        self.last_attempt = ""  # of a job, as a DEAD says
+        self.was_full = False  # so was the run, as a refusal says
 
     def expected(self, request: str, reply: List[str]) -> Optional[Expected]:
         """The event that a reply speaks of, if it speaks of one. Raises `Strange` for no right reply."""
@@ -134,14 +137,16 @@ class Account:
         _answered(asked == words)
 
     def _dead(self, asked: Words, words: Words, reply: List[str]) -> None:
-        self._settled(asked, "FAIL")
+        job = self._settled(asked, "FAIL")
         _answered(asked[1:] == words[1:])
+        self.last_attempt = job.attempt if job else ""
 
     def _stopped(self, asked: Words, words: Words, reply: List[str]) -> None:
         _answered(words == ["STOPPED"] and asked[0] in ("TAKE", "POLLFOR"))
 
     def _bye(self, asked: Words, words: Words, reply: List[str]) -> None:
         _answered(words == ["BYE"] and asked == ["QUIT"])
+        self.has_left = True
 
     def _now(self, asked: Words, words: Words, reply: List[str]) -> None:
         _answered(asked[0] == "AT" and int(words[1]) >= int(asked[1]))
@@ -152,6 +157,7 @@ class Account:
         if words[1] == "9":
             _answered(asked[0] in ("POLL", "POLLFOR", "TAKE") and len(self.held) == MOST_HELD)
         _answered(reply[0] in REFUSALS)
+        self.was_full |= words[1] == "6"
 
 
 def _answered(is_right: bool, expected: Expected = Expected("")) -> Expected:

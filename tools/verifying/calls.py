@@ -31,6 +31,11 @@ class Session:
         self.seat: Optional[int] = None  # the index of the seat at which its calls stand, once that is known
         self.end = 0  # the place in the seat's row behind its last call
 
+    @property
+    def is_cut(self) -> bool:
+        """Whether its record ends with a reply, and not with that to a QUIT: its client was killed, or hung up."""
+        return not self.unanswered and not self.account.has_left
+
 
 class Calls:
     """Every request that made an event by its reply. A call has a number, from 0."""

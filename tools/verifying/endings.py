@@ -1,10 +1,15 @@
-"""What stands behind a session's last reply: requests that got none, and the return of the jobs that it still held."""
+"""What stands behind a session's last reply: requests that got none, and the return of the jobs that it still held.
+
+A client notes a request once it has the reply, or never gets one. One that is killed notes neither, so the request that
+is under way then is in no record.
+"""
 from __future__ import annotations
 
 from collections import deque
 from typing import Deque, List
 
 from histories.given import given_ids
+from verifying.account import MOST_HELD
 from verifying.calls import Session, Unanswered
 from verifying.history import NONE
 from verifying.placing import Placing
@@ -19,6 +24,9 @@ class Endings:
         self.unheard = 0  # events of requests that got no reply
         self.returned = 0  # events of jobs that came back at a session's end
         self.gone = 0  # jobs that a session held at its end, and that did not come back
+        accounts = [it.account for it in placing.sessions]
+        self._last_attempts = {it.last_attempt for it in accounts if it.last_attempt}
+        self._is_full = any(it.was_full for it in accounts)
 
     def follow(self, session: Session) -> None:
         """Takes the events of a session's end."""
@@ -40,7 +48,8 @@ class Endings:
             elif not self._is_of_request(session, event, requests, returns):
                 if not (returns and history.seats[returns[0]] == session.seat and event < returns[0]):
                     break
-                self._tell("gap", session, event, "stands before the return of a job that it held at its end")
+                if not self._is_unrecorded(session, event, returns):
+                    self._tell("gap", session, event, "stands before the return of a job that it held at its end")
         for event in returns:
             self._tell("return", session, event, "returns a job of its end, and is not right behind its last call")
 
@@ -64,11 +73,13 @@ class Endings:
         rest = deque(requests)
         while rest:
             request = rest.popleft()
-            if may_answer(request.request.rstrip("\r").split(" "), act):
+            if self._may_answer(request.request.rstrip("\r").split(" "), event, act):
                 requests.clear()
                 requests.extend(rest)
                 self._take(session, event, request)
                 self.unheard += 1
+                if event in returns:
+                    returns.remove(event)
                 for id in given_ids(act):
                     back = self._return_of(id)
                     if back == NONE:
@@ -78,6 +89,40 @@ class Endings:
                 return True
         return False
 
+    def _may_answer(self, asked: List[str], event: int, act: List[str]) -> bool:
+        """Whether an event may be that of a request."""
+        if asked[0] == "FAIL":
+            return len(asked) == 2 and asked[1].isdecimal() and self._return_of(int(asked[1])) == event
+        return may_answer(asked, act)
+
+    def _is_unrecorded(self, session: Session, event: int, returns: Deque[int]) -> bool:
+        """Whether an event before these returns may be that of a request which a client that was killed did not come
+        to note. The jobs that it gave were then held too, and must come back."""
+        history = self._placing.history
+        act = history.act(event).split(" ")
+        given = given_ids(act)
+        is_return = act[0] == "offer" and act[-2] != "1"
+        if not session.is_cut or is_return or len(returns) + len(given) > MOST_HELD:
+            return False
+        if any(history.exits[id] != event for id in given):
+            return False
+        for id in given:
+            if self._return_of(id) != NONE:
+                returns.append(self._return_of(id))
+            elif self._is_gone(id, event, returns):
+                self.gone += 1
+            else:
+                self._tell("return", session, event, f"gave job {id}, which did not come back")
+        return True
+
+    def _is_gone(self, id: int, event: int, returns: Deque[int]) -> bool:
+        """Whether replies say that a job which this event gave could not come back: its attempt was the last, or the
+        run was full."""
+        history = self._placing.history
+        element = history.element(id)
+        is_last = element is not None and element.attempt in self._last_attempts
+        return is_last or (self._is_full and history.rows[history.seats[event]][-1] in (event, *returns))
+
     def _take(self, session: Session, event: int, request: Unanswered) -> None:
         index = self._placing.calls.sessions[session.calls[0]]
         exchange = Exchange(request.line, session.name, request.sent, None, request.request, [])
@@ -85,12 +130,10 @@ class Endings:
 
 
 def may_answer(asked: List[str], act: List[str]) -> bool:
-    """Whether the event of this act may be that of a request."""
+    """Whether the event of this act may be that of a request other than a FAIL."""
     keyword = asked[0]
     if keyword in ("OFFER", "OFFERAT"):
         return act[0] == "offer" and len(asked) == 3 and act[-2:] == ["1", asked[2]]
-    if keyword == "FAIL":
-        return act[0] == "offer" and act[-2] != "1"
     if keyword == "REMOVE":
         return act[:2] == ["remove", *asked[1:2]]
     if keyword == "POLLFOR":

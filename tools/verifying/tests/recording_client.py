@@ -31,14 +31,20 @@ class RecordingClient:
             self._note(sent, None, "TAKE", [])
         self._session.hang_up()
 
-    def ask(self, *requests: str) -> None:
-        """Sends requests in one piece, and reads their replies."""
+    def vanish(self, request: str) -> None:
+        """Ends as if it were killed while a request is under way, which is then in no record."""
+        self._session.send(request)
+        self._session.hang_up()
+
+    def ask(self, *requests: str) -> List[str]:
+        """Sends requests in one piece, and reads their replies. Returns the lines of the last one."""
         sent = time.monotonic_ns()
         self._session.send(*(it.encode("latin-1") for it in requests))
         for request in requests:
             reply = self._session.reply()
             self._note(sent, time.monotonic_ns(), request, reply)
             self._learn(request, reply)
+        return reply
 
     def _request(self) -> str:
         choose = self._random.choice

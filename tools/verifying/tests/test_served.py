@@ -5,6 +5,7 @@ import io
 import os
 import subprocess
 import threading
+import time
 from typing import List
 
 import verifying.tests  # noqa: F401  # which says where the client package is
@@ -91,6 +92,28 @@ class ServedTest(RunTest, ServingTest):
         server.use_up()
         lines = self.expect_no_fault(server, path)
         self.assertRegex(lines[0], r"^[\d,]+ events at \d seats; [\d,]+ requests of [\d,]+ sessions$")
+
+    def test_a_client_that_is_killed_while_its_poll_waits(self) -> None:
+        """It holds a job. Its poll is then given another one, and both come back."""
+        record = io.StringIO()
+        server = self.serve_over("heap", "--workers", 2, "--sessions", 2, "--turns", 500)
+        killed, other = (RecordingClient(it, server.port, record, "") for it in ("killed", "other"))
+        other.ask("OFFER 0 x")
+        killed.ask("TAKE")
+        killed.vanish("POLLFOR 9000000000")
+        other.ask("OFFER 0 y")
+        for _ in range(1_000):
+            if other.ask("SIZE") == ["SIZE 2"]:
+                break
+            time.sleep(0.01)
+        other.ask("POLL", "POLL", "QUIT")
+        self.assertEqual(server.end()[0], 0)
+        path = self.file("record.jsonl", record.getvalue())
+        ran = self.verify(f"{self.room}/run.txt", path)
+        self.assertEqual((ran.returncode, ran.stdout.splitlines()[-1]), (0, "0 faults"), ran.stdout)
+        self.assertIn("4 jobs came back at the end of a session; 0 did not", ran.stdout)
+        self.assertIn("1 event of no record", ran.stdout)
+        self.assertEqual(self.verify(f"{self.room}/run.txt", path, "--all").stdout.splitlines()[-1], "1 fault")
 
     def test_a_server_that_is_not_the_records(self) -> None:
         """Two runs alike, each with the other's record."""
