@@ -145,7 +145,7 @@ function showRoom(told) {
   put("room-told", rows.every(([, it]) => it === null) ? "Not known." : "");
   fill("room", rows.filter(([, it]) => it !== null).map(([name, it]) => [
     { text: name, kind: "words" }, (it.is_least ? "≥ " : "") + number(it.used), number(it.limit),
-    { text: fixed(100 * it.used / it.limit, 1) + " %", meter: it.used, most: it.limit, kind: "from-720" },
+    { text: percent(it.used, it.limit), meter: it.used, most: it.limit, kind: "from-720" },
     { text: rate(it.a_second), kind: "from-720" }, span(it.lasts)]));
 }
 
@@ -174,8 +174,8 @@ function showRuns(told) {
 function endOf(run) {
   const parts = [WHY[run.why]];
   if (run.closed !== null) {
-    const by = run.held_by.length === 0 ? "" : " for " + run.held_by.join(", ");
-    parts.push("new clients waited " + span(run.closed) + by);
+    const most = run.held_by.slice(0, 2), more = run.held_by.length - most.length;
+    parts.push("new clients waited " + span(run.closed), ...most, ...(more > 0 ? [more + " more"] : []));
   }
   if (run.cut > 0) {
     parts.push(counted(run.cut, "session") + " cut");

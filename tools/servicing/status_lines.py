@@ -14,6 +14,7 @@ PLAIN, BOLD, RED, YELLOW, DIM = "\x1b[0m", "\x1b[1m", "\x1b[31m", "\x1b[33m", "\
 STYLES = {Doing.NOT_READING.value: RED, Doing.HUNG_UP.value: RED, Doing.WAITING.value: YELLOW}
 
 LATE = 1.0  # seconds from which on lateness is marked
+MOST_HELD_BY = 2  # clients that held up a run
 
 Line = Tuple[str, str]  # a style and a text
 
@@ -145,8 +146,8 @@ def _before(told: Told) -> str:
     last = told["runs"][0]
     parts = [f"run {last['number']} {ENDS[last['why']]}"]
     if last["closed"] is not None:
-        held = f" for {', '.join(last['held_by'])}" if last["held_by"] else ""
-        parts.append(f"new clients waited {_span(last['closed'])}{held}")
+        most, more = last["held_by"][:MOST_HELD_BY], len(last["held_by"]) - MOST_HELD_BY
+        parts += [f"new clients waited {_span(last['closed'])}", *most, *([f"{more} more"] if more > 0 else [])]
     if last["cut"]:
         parts.append(counted(last["cut"], "session") + " cut")
     return ", ".join(parts)

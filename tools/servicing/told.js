@@ -34,6 +34,12 @@ function rate(value) {
   return value === null ? UNKNOWN : fixed(value, value >= 100 || value === 0 ? 0 : value >= 10 ? 1 : 2);
 }
 
+// A share. A small one is never shown as nothing.
+function percent(part, whole) {
+  const share = 100 * part / whole;
+  return share > 0 && share < 0.1 ? "< 0.1 %" : fixed(share, 1) + " %";
+}
+
 function counted(value, one, many) {
   return number(value) + " " + (value === 1 ? one : many ?? one + "s");
 }

@@ -17,6 +17,7 @@ class Sample:
     at: float
     elements: Optional[int]
     late: Optional[float]  # seconds for which the first element has been due; 0 if none is
+    counted_at: float  # when the server last answered, which it is asked more rarely than the system is
     offered: int  # since the service began
     left: int
 
@@ -24,8 +25,8 @@ class Sample:
 def sample_of(state: State) -> Sample:
     queue = state.queue
     late = max(queue.head.late, 0.0) if queue and queue.head else 0.0
-    return Sample(state.at, queue.elements if queue else None, late if queue else None, state.traffic.offered,
-                  state.traffic.left)
+    return Sample(state.at, queue.elements if queue else None, late if queue else None, queue.at if queue else state.at,
+                  state.traffic.offered, state.traffic.left)
 
 
 class Trend:
@@ -46,7 +47,7 @@ class Trend:
             samples.popleft()
 
     def told(self) -> Dict[str, List[Optional[float]]]:
-        """A list for each value, with a place for each sample. Rates are those since the sample before."""
+        """A list for each value, with a place for each sample. Rates are those between the last two counts."""
         samples = list(self._samples)
         return {
             "at": [round(it.at, 1) for it in samples],
@@ -57,10 +58,18 @@ class Trend:
         }
 
     def _rates(self, counts: List[int]) -> List[Optional[float]]:
-        at = [it.at for it in self._samples]
-        rates = [(there - here) / (until - since) for here, there, since, until in
-                 zip(counts, counts[1:], at, at[1:])]
-        return [None, *(_rounded(max(it, 0.0)) for it in rates)][:len(counts)]
+        rates: List[Optional[float]] = []
+        since = before = 0.0
+        for sample, count in zip(self._samples, counts):
+            if not rates:
+                rates.append(None)
+            elif sample.counted_at <= since:
+                rates.append(rates[-1])
+                continue
+            else:
+                rates.append(_rounded(max(count - before, 0) / (sample.counted_at - since)))
+            since, before = sample.counted_at, count
+        return rates
 
 
 def _rounded(value: Optional[float]) -> Optional[float]:

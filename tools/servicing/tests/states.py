@@ -29,7 +29,8 @@ ENDED = PastRun(11, "1f6c-11", AT - 7600, AT - 4000.3, Reason.TIME, 900, "/nowhe
                 4_000, 103_700, 1200, 0, 0.31)
 LOST = PastRun(10, "1f6c-10", AT - 9000, AT - 7600, Reason.KILLED, 900, None, None, None, None, None, None, None, 1.25)
 HELD = PastRun(9, "1f6c-9", AT - 90_000, AT - 9000, Reason.CALLS, 0, "/nowhere/run-9.txt.gz", 1_000_000, 400_000,
-               12_345, 411_445, 900, 3, 61.5, ("python3 4711 at port 41007",), 1)
+               12_345, 411_445, 900, 3, 61.5,
+               ("client 41007 (python3 4711): 60s", "client 41008 (python3 4712): 2s", "client 41009: 1s"), 1)
 
 
 def state(**changes: Any) -> State:

@@ -117,8 +117,8 @@ class ShownTest(ServedTest):
              "1,200", "report"],
             ["10", date(AT - 9000), "23.3 min", "lost: its server was killed; new clients waited 1.25 s", "900", "–",
              "–", ""],
-            ["9", date(AT - 90_000), "22.5 h", "few calls were left; new clients waited 61.5 s for python3 4711 at port"
-             " 41007; 1 session cut", "0", "1,000,000", "900", "report"]])
+            ["9", date(AT - 90_000), "22.5 h", "few calls were left; new clients waited 61.5 s; client 41007 (python3"
+             " 4711): 60s; client 41008 (python3 4712): 2s; 1 more; 1 session cut", "0", "1,000,000", "900", "report"]])
         self.assertEqual(self.browser.value(rows("losses")), [
             ["10", date(AT - 9000), "23.3 min",
              "all that happened in it; the next run began again with the 900 elements of its opening"],
@@ -222,7 +222,7 @@ class PlotsTest(ServedTest):
     @staticmethod
     def moment(place: int) -> State:
         """Ten seconds after the one before: ten elements more, 50 offers, 40 gifts, and a second later."""
-        queue = Queue(AT, 100 + 10 * place, Head(1, 1, 1, "a", float(place)))
+        queue = Queue(AT + 10 * place, 100 + 10 * place, Head(1, 1, 1, "a", float(place)))
         traffic = Traffic(50 * place, 40 * place, 0, 0, None, None, None)
         run = dataclasses.replace(ENDED, began=AT - 100, ended=AT + 15, failed=230)
         return state(at=AT + 10 * place, queue=queue, traffic=traffic, runs=(run,))

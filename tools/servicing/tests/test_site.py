@@ -15,7 +15,7 @@ from servicing import site as served
 from servicing.http import Answer
 from servicing.reports import Reports
 from servicing.site import Site
-from servicing.state import Board, DiskFault, Phase, State, Traffic
+from servicing.state import Board, DiskFault, Head, Phase, Queue, State, Traffic
 from servicing.tests.states import AT, ENDED, LOST, first_state, state
 from servicing.told import told
 from servicing.trend import BETWEEN, SPAN, Trend
@@ -143,8 +143,16 @@ class PathsTest(SiteTest):
 
 class TrendTest(SiteTest):
     def moments(self, count: int, step: float) -> List[State]:
-        return [state(at=AT + it * step, traffic=Traffic(100 * it, 50 * it, 0, 0, None, None, None))
-                for it in range(count)]
+        return [state(at=AT + it * step, queue=Queue(AT + it * step, 1204, Head(1, 1, 1, "a", 3.25)),
+                      traffic=Traffic(100 * it, 50 * it, 0, 0, None, None, None)) for it in range(count)]
+
+    def test_a_server_that_is_asked_more_rarely_than_states_are_put(self) -> None:
+        """It answers every six seconds, of which each had 10 offers a second."""
+        for place in range(7):
+            at = AT + place // 3 * 6
+            self.put(state(at=AT + 2 * place, queue=Queue(at, 0, None),
+                           traffic=Traffic(60 * (place // 3), 0, 0, 0, None, None, None)))
+        self.assertEqual(self.told()["trend"]["offers"], [None, None, None, 10, 10, 10, 10])
 
     def test_the_last_minutes_with_their_rates(self) -> None:
         for it in self.moments(3, 2.0):
@@ -179,7 +187,7 @@ class TrendTest(SiteTest):
 
     def test_counts_that_are_corrected(self) -> None:
         for offered, at in ((100, AT), (90, AT + 2)):
-            self.put(state(at=at, traffic=Traffic(offered, 0, 0, 0, None, None, None)))
+            self.put(state(at=at, queue=None, traffic=Traffic(offered, 0, 0, 0, None, None, None)))
         self.assertEqual(self.told()["trend"]["offers"], [None, 0])
 
 
