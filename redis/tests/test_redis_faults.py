@@ -26,6 +26,7 @@ class FaultyRedisTest(GatewayTest):
             idle.ask("OFFER 0 b")
             self.assertEqual(idle.ask("TAKE").split()[-1], "a")
             self.node.kill()
+            self.assertTrue(other.is_silent(0.5))  # until the gateway has seen it
             other.send("TAKE\n")  # waits for the Redis
             self.assertTrue(other.is_silent(0.3))
             self.node.start()
@@ -120,7 +121,7 @@ class FaultyRedisTest(GatewayTest):
             self.assertEqual(talker.read().split()[0], "ITEM")
 
     def test_too_few_replicas_leave_a_call_in_doubt(self) -> None:
-        served = self.serve("--replicas", 1, "--timeout", "500ms")
+        served = self.serve("--replicas", 1, "--timeout", "3s")
         with served.talker() as talker:
             talker.send("OFFER 0 a\n")
             self.assertEqual(talker.rest(), [])

@@ -29,14 +29,14 @@ ELSEWHERE = {"MOVED", "READONLY", "MASTERDOWN", "UNBLOCKED"}
 class Batch:
     """Calls that go out together, with who is told the replies."""
 
-    __slots__ = ("calls", "parts", "function", "sent", "replies")
+    __slots__ = ("calls", "parts", "function", "sent", "answer_before_copies")
 
     def __init__(self) -> None:
         self.calls: list[bytes] = []
         self.parts: list[tuple[Answered, int]] = []
         self.function = b"rb_calls"
         self.sent = 0.0
-        self.replies: Optional[list[bytes]] = None
+        self.answer_before_copies: Answer = None
 
     def answer(self, replies: list[bytes]) -> None:
         """Tells each its replies."""
@@ -103,7 +103,8 @@ class Calls:
 
     def _flush(self) -> None:
         self._is_scheduled = False
-        if not self._link or len(self._flying) >= MOST_IN_FLIGHT:
+        link = self._link
+        if not link or len(self._flying) >= MOST_IN_FLIGHT:
             return
         if self._again:
             batch = self._again.pop(0)
@@ -111,14 +112,13 @@ class Calls:
             batch, self._batch = self._batch, Batch()
         else:
             return
-        self._send(batch)
+        self._send(link, batch)
         if self._again or self._batch.calls:
             self._schedule()
 
-    def _send(self, batch: Batch) -> None:
+    def _send(self, link: Link, batch: Batch) -> None:
         self._flying[batch] = None
         batch.sent = time.monotonic()
-        link = self._link
         head = b"*%d\r\n$5\r\nFCALL\r\n$8\r\n%b\r\n$1\r\n8\r\n" % (14 + len(batch.calls), batch.function)
         data = b"".join([head, self._head, self._tail, bulks(batch.calls)])
         if not self._replicas:
@@ -136,24 +136,22 @@ class Calls:
         if isinstance(answer, list):
             batch.answer(answer)
         else:
-            self._refused(batch, answer)
+            self._refused(link, batch, answer)
 
     def _keep(self, batch: Batch, answer: Answer) -> None:
-        batch.replies = answer
+        batch.answer_before_copies = answer
 
     def _copied(self, link: Link, batch: Batch, count: Answer) -> None:
         """So many replicas have what the batch did. If they are too few, a fail-over may lose it: it is in doubt."""
-        if isinstance(batch.replies, list) and count != self._replicas and not (
-            isinstance(count, int) and count > self._replicas
-        ):
-            if link is self._link:
-                del self._flying[batch]
-                batch.doubt()
-                self._schedule()
-            return
-        self._answered(link, batch, batch.replies)
+        are_enough = isinstance(count, int) and count >= self._replicas
+        if are_enough or not isinstance(batch.answer_before_copies, list):
+            self._answered(link, batch, batch.answer_before_copies)
+        elif link is self._link:
+            del self._flying[batch]
+            batch.doubt()
+            self._schedule()
 
-    def _refused(self, batch: Batch, answer: Answer) -> None:
+    def _refused(self, link: Link, batch: Batch, answer: Answer) -> None:
         code = answer.code if isinstance(answer, ErrorAnswer) else ""
         if code == "OOM" and batch.function != b"rb_spare":
             batch.function = b"rb_spare"
@@ -162,7 +160,7 @@ class Calls:
             self._send_again(batch, SECONDS_BETWEEN_TRIES)
         elif code in ELSEWHERE:
             self._send_again(batch, 0)
-            self._link.close()
+            link.close()
         elif code == "NOQUEUE":
             self.queue_is_gone()
             batch.doubt()

@@ -22,4 +22,4 @@ def parser() -> Parser:
 def main(words: Optional["list[str]"] = None) -> int:
     """Runs the command that these words ask for. Returns the exit status."""
     asked = parser().parse_args(words)
-    return asked.run(asked)
+    return int(asked.run(asked))

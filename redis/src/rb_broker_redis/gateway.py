@@ -51,7 +51,7 @@ class Gateway:
             queue_is_gone=self._close_all,
         )
         self._sessions: set[Session] = set()
-        self._server: Optional[asyncio.AbstractServer] = None
+        self._server: asyncio.base_events.Server
         self._count = self._lost = 0
         self._all_ended = asyncio.Event()
 
@@ -64,7 +64,7 @@ class Gateway:
         loop = asyncio.get_running_loop()
         self._server = await loop.create_server(
             lambda: Session(self), host, port, ssl=self._settings.tls, backlog=1_024, reuse_address=True)
-        return self._server.sockets[0].getsockname()[1]
+        return int(self._server.sockets[0].getsockname()[1])
 
     async def stop(self) -> "tuple[int, int]":
         """Ends in good order: no further client is served, waits are answered STOPPED, and sessions end. Returns how many

@@ -6,7 +6,7 @@ from pathlib import Path
 
 NAME = "rb_broker"
 SOURCE = Path(__file__).with_name("broker.lua").read_text()
-VERSION = int(re.search(r"^local VERSION = '(\d+)'$", SOURCE, re.MULTILINE)[1])
+(VERSION,) = map(int, re.findall(r"^local VERSION = '(\d+)'$", SOURCE, re.MULTILINE))
 
 
 class NewerLibrary(Exception):

@@ -4,7 +4,7 @@ from __future__ import annotations
 import asyncio
 import ssl
 from collections import deque
-from typing import Callable, Optional
+from typing import Callable, Optional, cast
 
 from .address import Address
 from .resp import Answer, ErrorAnswer, command, reader
@@ -20,10 +20,10 @@ class Link(asyncio.Protocol):
         self._lost, self._heard = lost, heard
         self._answers: deque[Callable[[Answer], None]] = deque()
         self._reader = reader()
-        self._transport: Optional[asyncio.Transport] = None
+        self._transport: asyncio.Transport
 
     def connection_made(self, transport: asyncio.BaseTransport) -> None:
-        self._transport = transport
+        self._transport = cast(asyncio.Transport, transport)
 
     def data_received(self, data: bytes) -> None:
         gets = self._reader.gets
@@ -44,8 +44,8 @@ class Link(asyncio.Protocol):
 
     async def ask(self, *words: "bytes | str | int") -> Answer:
         """Makes one command. Raises its `ErrorAnswer`, or a `ConnectionError` if there is no answer in time."""
-        answered = asyncio.get_running_loop().create_future()
-        self.send(command(*words), lambda answer: answered.done() or answered.set_result(answer))
+        answered: asyncio.Future[Answer] = asyncio.get_running_loop().create_future()
+        self.send(command(*words), lambda answer: None if answered.done() else answered.set_result(answer))
         try:
             answer = await asyncio.wait_for(answered, MOST_SECONDS_TO_CONNECT)
         except asyncio.TimeoutError:
@@ -81,8 +81,9 @@ def tls_of(address: Address) -> Optional[ssl.SSLContext]:
     if not address.is_tls:
         return None
     context = ssl.create_default_context(cafile=address.option("ssl_ca_certs"))
-    if address.option("ssl_certfile"):
-        context.load_cert_chain(address.option("ssl_certfile"), address.option("ssl_keyfile"))
+    certificate = address.option("ssl_certfile")
+    if certificate:
+        context.load_cert_chain(certificate, address.option("ssl_keyfile"))
     if address.option("ssl_check_hostname") in ("false", "False", "0", "no"):
         context.check_hostname = False
     return context

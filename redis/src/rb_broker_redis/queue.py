@@ -1,6 +1,8 @@
 """One queue of a Redis, for the commands: each call waits for its reply. The gateway has a way of its own (`link`)."""
 from __future__ import annotations
 
+from typing import Any, Union
+
 import redis
 from redis.cluster import ClusterNode, RedisCluster
 from redis.sentinel import Sentinel
@@ -13,16 +15,21 @@ COMMANDS_SEAT = 0
 """The seat of the commands: no session of a gateway has it."""
 
 
-def connect(address: Address, timeout: float = 5.0) -> redis.Redis | RedisCluster:
+Client = Union["redis.Redis[bytes]", RedisCluster]
+
+
+def connect(address: Address, timeout: float = 5.0) -> Client:
     """A client for the Redis at this address. It connects when it is used."""
-    login = {"username": address.username, "password": address.password, "socket_timeout": timeout}
+    login: dict[str, Any] = {"username": address.username, "password": address.password, "socket_timeout": timeout}
     if address.is_tls:
-        login |= {"ssl": True, **{name: value for name, value in address.options if name.startswith("ssl_")}}
+        login["ssl"] = True
+        login.update((name, value) for name, value in address.options if name.startswith("ssl_"))
     if address.kind is Kind.CLUSTER:
         return RedisCluster(startup_nodes=[ClusterNode(*host) for host in address.hosts], **login)
     if address.kind is Kind.SENTINEL:
         sentinels = Sentinel(list(address.hosts), socket_timeout=timeout)
-        return sentinels.master_for(address.master, db=address.database, **login)
+        client: redis.Redis[bytes] = sentinels.master_for(address.master, db=address.database, **login)
+        return client
     host, port = address.hosts[0]
     return redis.Redis(host, port, address.database, **login)
 
@@ -30,21 +37,22 @@ def connect(address: Address, timeout: float = 5.0) -> redis.Redis | RedisCluste
 class Queue:
     """The functions of broker.lua for one queue."""
 
-    def __init__(self, client: redis.Redis | RedisCluster, name: str) -> None:
+    def __init__(self, client: Client, name: str) -> None:
         self.client, self.name = client, name
         self.keys, self.channel = keys_of(name), channel_of(name)
         self.due, self.ids, self.held, self.state, self.history, self.dead, self.gateways, self.opening = self.keys
 
-    def command(self, *words: str | int) -> object:
+    def command(self, *words: bytes | str | int) -> Any:
         """Makes one command at the queue's node."""
         if isinstance(self.client, RedisCluster):
-            return self.client.execute_command(*words, target_nodes=self.client.get_node_from_key(self.due))
+            node = self.client.get_node_from_key(self.due)
+            return self.client.execute_command(*words, target_nodes=node)  # type: ignore[no-untyped-call]
         return self.client.execute_command(*words)
 
     def load_functions(self) -> None:
         """Gives the node the functions, unless it has them."""
         try:
-            version = int(self.command("FCALL", "rb_version", 0))
+            version: int | None = int(self.command("FCALL", "rb_version", 0))
         except redis.ResponseError as fault:
             if "not found" not in str(fault):
                 raise
@@ -52,11 +60,11 @@ class Queue:
         if library.must_load(version):
             self.command("FUNCTION", "LOAD", "REPLACE", library.SOURCE)
 
-    def call(self, function: str, *args: str | int) -> object:
+    def call(self, function: str, *args: bytes | str | int) -> Any:
         """Calls one function with the queue's keys and these arguments."""
         return self.command("FCALL", function, len(self.keys), *self.keys, *args)
 
     def request(self, line: str, seat: int = COMMANDS_SEAT) -> str:
         """Makes one call of `rb_calls` by the node's time. The reply is without its last line feed."""
         (reply,) = self.call("rb_calls", "", "", 0, f"{seat} {line}")
-        return reply.decode()[:-1]
+        return str(reply.decode()[:-1])

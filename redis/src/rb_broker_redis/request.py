@@ -53,9 +53,8 @@ _REFUSED = {reply: Request(Kind.ERROR, reply.value) for reply in ErrorReply}
 def read_request(line: bytes) -> Request:
     """Reads a line, which is given without its line feed. One CR at its end belongs to the end."""
     usual = _USUAL.fullmatch(line)
-    if usual:
-        name = usual.lastgroup
-        return Request(_KINDS[name], usual[name])
+    if usual and usual.lastgroup:
+        return Request(_KINDS[usual.lastgroup], usual[usual.lastgroup])
     return _read_unusual(line[:-1] if line.endswith(b"\r") else line)
 
 

@@ -1,7 +1,7 @@
 """What a Redis is sent and what it answers (RESP 2): hiredis reads the answers where it is installed."""
 from __future__ import annotations
 
-from typing import Iterable, Optional, Union
+from typing import Any, Iterable, Union
 
 
 class ErrorAnswer(Exception):
@@ -13,7 +13,8 @@ class ErrorAnswer(Exception):
         return str(self).partition(" ")[0]
 
 
-Answer = Union[bytes, int, None, ErrorAnswer, "list[Answer]"]
+Answer = Any
+"""bytes, int, None, an `ErrorAnswer`, or a list of answers."""
 
 
 def command(*words: Union[bytes, str, int]) -> bytes:
@@ -39,7 +40,7 @@ class PlainReader:
         self._data = self._data[self._at:] + data
         self._at = 0
 
-    def gets(self) -> Union[Answer, bool]:
+    def gets(self) -> Answer:
         """The next answer."""
         start = self._at
         try:
@@ -80,10 +81,10 @@ class _Incomplete(Exception):
     """Not all of an answer was fed."""
 
 
-def reader() -> Optional[PlainReader]:
-    """A reader of answers."""
+def reader() -> Any:
+    """A reader of answers: a `PlainReader`, or that of hiredis."""
     try:
-        import hiredis
+        import hiredis  # type: ignore[import]
     except ImportError:
         return PlainReader()
     return hiredis.Reader(protocolError=ConnectionError, replyError=ErrorAnswer)

@@ -97,13 +97,18 @@ def begin(queue: Queue, opening: FollowedQueue, asked: argparse.Namespace) -> No
             queue.call("rb_load", queue.name, start, *(line.decode()[:-1] for line in kept[start:start + CHUNK]))
         queue.call("rb_load", queue.name, len(kept))
         queue.call("rb_loaded", queue.name, opening.next_id, opening.last)
-    policy = policy_in(asked, DELAY, ATTEMPTS, always=True)
+    policy = policy_in(asked, DELAY, ATTEMPTS)
     queue.call("rb_join", LEASE, *policy.words(), f"limit {asked.calls}")
 
 
 def performer(queue: Queue) -> Perform:
     """Makes calls of the queue."""
-    return lambda moment, calls: queue.call("rb_calls", f"{moment:020}", "", 0, *calls)
+
+    def perform(moment: int, calls: list[bytes]) -> list[bytes]:
+        replies: list[bytes] = queue.call("rb_calls", f"{moment:020}", "", 0, *calls)
+        return replies
+
+    return perform
 
 
 def converse(session: ScriptSession) -> None:

@@ -17,8 +17,8 @@ from .library import NewerLibrary
 from .limits import SECOND
 from .resp import ErrorAnswer
 from .words import (
-    DEFAULT_ATTEMPTS, DEFAULT_DELAY, NAME, Parser, add_policy_words, add_queue_words, address_in, duration, policy_in,
-    sentence_of, whole,
+    DEFAULT_ATTEMPTS, DEFAULT_DELAY, NAME, Parser, add_policy_words, add_queue_words, address_in, duration,
+    named_policy, sentence_of, whole,
 )
 
 LOOPBACK = "127.0.0.1"
@@ -80,7 +80,7 @@ def fault_of(asked: argparse.Namespace) -> str:
         return "--plain is without TLS, and --cert with it"
     if not ipaddress.ip_address(asked.bind).is_loopback and not asked.cert and not asked.plain:
         return f"other machines reach {asked.bind}: serve them over TLS with --cert, or say --plain"
-    if asked.change_policy and policy_in(asked, DEFAULT_DELAY, DEFAULT_ATTEMPTS) is None:
+    if asked.change_policy and named_policy(asked, DEFAULT_DELAY, DEFAULT_ATTEMPTS) is None:
         return "--change-policy needs --delay, --rate or --attempts"
     return ""
 
@@ -89,7 +89,7 @@ def settings_of(asked: argparse.Namespace) -> Settings:
     """What the words say. Raises `OSError` if a certificate can't be read."""
     mode = "change" if asked.change_policy else "silent" if asked.no_history else ""
     return Settings(
-        address_in(asked), asked.queue, policy_in(asked, DEFAULT_DELAY, DEFAULT_ATTEMPTS), mode, asked.wait,
+        address_in(asked), asked.queue, named_policy(asked, DEFAULT_DELAY, DEFAULT_ATTEMPTS), mode, asked.wait,
         asked.lease, asked.timeout, asked.replicas, tls_of(asked),
     )
 

@@ -3,7 +3,7 @@ from __future__ import annotations
 
 import asyncio
 from collections import deque
-from typing import TYPE_CHECKING, Optional
+from typing import TYPE_CHECKING, Optional, cast
 
 from .errors import ErrorReply
 from .lines import LineCutter
@@ -32,10 +32,11 @@ class Session(asyncio.Protocol):
         self._cutter = LineCutter()
         self._lines: deque[Optional[bytes]] = deque()
         """None is a line that the end of input has cut off."""
-        self._transport: Optional[asyncio.Transport] = None
+        self._transport: asyncio.Transport
         self._seat = b""
         self._plan: list[Optional[bytes]] = []
-        self._wait_request: Optional[bytes] = None
+        self._wait_request = b""
+        """The request of a plan that may have to wait."""
         self._wait: Optional[Wait] = None
         self._is_busy = False
         self._has_called = False
@@ -51,7 +52,7 @@ class Session(asyncio.Protocol):
         """Its client is not read from."""
 
     def connection_made(self, transport: asyncio.BaseTransport) -> None:
-        self._transport = transport
+        self._transport = cast(asyncio.Transport, transport)
         self._seat = self._gateway.begin(self)
 
     def data_received(self, data: bytes) -> None:
@@ -130,7 +131,9 @@ class Session(asyncio.Protocol):
             self._end()
 
     def _calls_of_next(self) -> list[bytes]:
-        calls, plan, lines, seat = [], [], self._lines, self._seat
+        calls: list[bytes] = []
+        plan: list[Optional[bytes]] = []
+        lines, seat = self._lines, self._seat
         while lines and len(plan) < MOST_AT_ONCE:
             line = lines.popleft()
             kind, text = TRUNCATED if line is None else read_request(line)
@@ -167,10 +170,10 @@ class Session(asyncio.Protocol):
     def _send(self, replies: list[bytes]) -> Optional[bytes]:
         """Sends the replies of a plan. Returns that of a call that has to wait."""
         later = None
-        if self._wait_request is not None and replies[-1].startswith(LATER):
+        if self._wait_request and replies[-1].startswith(LATER):
             later = replies.pop()
         else:
-            self._wait_request = None
+            self._wait_request = b""
         plan = self._plan
         if len(plan) > 1 or plan and plan[0] is not None:
             given = iter(replies)
@@ -180,7 +183,7 @@ class Session(asyncio.Protocol):
         return later
 
     def _begin_wait(self, later: bytes) -> None:
-        request, self._wait_request = self._wait_request, None
+        request, self._wait_request = self._wait_request, b""
         if self._is_at_end:
             self._wait_ended(STOPPED)
             return

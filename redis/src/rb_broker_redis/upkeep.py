@@ -3,7 +3,7 @@ from __future__ import annotations
 
 import asyncio
 import logging
-from typing import Awaitable, Callable, Optional
+from typing import Any, Awaitable, Callable, Optional, TypeVar
 
 from . import library
 from .address import Address
@@ -17,6 +17,9 @@ from .resp import ErrorAnswer
 LOG = logging.getLogger(__name__)
 
 SECONDS_BETWEEN_TRIES = 0.2
+SECONDS_BETWEEN_PINGS = 5.0
+
+Made = TypeVar("Made")
 
 
 class Upkeep:
@@ -78,7 +81,7 @@ class Upkeep:
         if library.must_load(version):
             await link.ask("FUNCTION", "LOAD", "REPLACE", library.SOURCE)
 
-    async def _call(self, link: Link, function: str, *args: "str | int") -> object:
+    async def _call(self, link: Link, function: str, *args: "str | int") -> Any:
         return await link.ask("FCALL", function, len(self._keys), *self._keys, *args)
 
     async def _join(self, link: Link) -> Policy:
@@ -109,6 +112,7 @@ class Upkeep:
         while True:
             self._link = link
             self._calls.use(link)
+            self._may_have_missed()
             await lost.wait()
             self._link = None
             self._calls.use(None)
@@ -127,23 +131,37 @@ class Upkeep:
     async def _keep_subscribed(self) -> None:
         while True:
             lost = asyncio.Event()
-            await self._until_done(lambda: self._subscribe(lost))
+            link = await self._until_done(lambda: self._subscribe(lost))
             self._may_have_missed()
-            await lost.wait()
+            while not lost.is_set():
+                await self._look_after(link, lost)
 
-    async def _subscribe(self, lost: asyncio.Event) -> None:
+    async def _subscribe(self, lost: asyncio.Event) -> Link:
         lost.clear()
         host, port = await place_of(self._address, self._queue)
         link = await connect(host, port, self._address, lost.set, self._heard)
         await link.ask("SUBSCRIBE", channel_of(self._queue))
+        return link
+
+    async def _look_after(self, link: Link, lost: asyncio.Event) -> None:
+        """Closes a link on which nothing is heard for another reason than that nothing is published."""
+        try:
+            await asyncio.wait_for(lost.wait(), SECONDS_BETWEEN_PINGS)
+        except asyncio.TimeoutError:
+            try:
+                await link.ask("PING")
+            except (OSError, ErrorAnswer):
+                link.close()
 
     async def _keep_lease(self) -> None:
         while True:
             await asyncio.sleep(self._lease / 3e6)
             try:
                 while self._link and await self._call(self._link, "rb_renew", self.gateway, self._lease):
-                    LOG.warning("a gateway's lease is over, and its sessions are ended")
-            except (OSError, ErrorAnswer) as fault:
+                    LOG.warning("a gateway's lease is over: its sessions have ended, and their jobs come back")
+            except OSError:
+                self._close_link()
+            except ErrorAnswer as fault:
                 LOG.warning("the lease is not renewed: %s", fault)
 
     async def _watch(self) -> None:
@@ -153,7 +171,7 @@ class Upkeep:
             if self._calls.is_late():
                 self._close_link()
 
-    async def _until_done(self, make: Callable[[], Awaitable[Link]]) -> Link:
+    async def _until_done(self, make: Callable[[], Awaitable[Made]]) -> Made:
         told = ""
         while True:
             try:

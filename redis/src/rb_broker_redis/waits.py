@@ -3,6 +3,7 @@ from __future__ import annotations
 
 import asyncio
 import time
+from itertools import zip_longest
 from typing import Callable, Optional
 
 from .calls import Calls
@@ -25,7 +26,7 @@ class Wait:
         self.call, self.answered = call, answered
         self.asks_at_end = asks_at_end
         """A timed poll whose deadline comes before the longest wait is answered by the queue."""
-        self.timer: Optional[asyncio.TimerHandle] = None
+        self.timer: asyncio.TimerHandle
         self.is_tried = False
         self.is_over = False
         """Its time is over. A try that is under way still gives what it finds."""
@@ -111,10 +112,12 @@ class Waits:
             for wait in tried:
                 wait.is_tried = True
             self._calls.submit([wait.call for wait in tried], lambda replies: self._tried(tried, replies))
-        elif self._waiting.next_try not in (None, self._timed_for):
+        else:
             self._set_timer(self._waiting.next_try)
 
-    def _set_timer(self, moment: int) -> None:
+    def _set_timer(self, moment: Optional[int]) -> None:
+        if moment is None or moment == self._timed_for:
+            return
         if self._timer:
             self._timer.cancel()
         self._timed_for = moment
@@ -126,17 +129,24 @@ class Waits:
 
     def _tried(self, tried: list[Wait], replies: Optional[list[bytes]]) -> None:
         now = time.monotonic_ns()
-        found_all = bool(replies) and not replies[-1].startswith(LATER)
-        if replies and not found_all:
-            self._note(Later(replies[-1]), now)
-        self._waiting.end_tries(now, found_all)
-        for wait, reply in zip(tried, replies or [None] * len(tried)):
+        if replies is None:  # whether an element is left for the others is not known either
+            self._waiting.hear(now)
+            self._waiting.end_tries(now, False)
+        else:
+            self._end_tries(replies[-1], now)
+        for wait, reply in zip_longest(tried, replies or []):
             wait.is_tried = False
             if reply is None or not reply.startswith(LATER):
                 self._answer(wait, reply)
             elif wait.is_over:
                 self._end(wait)
         self._look()
+
+    def _end_tries(self, last: bytes, now: int) -> None:
+        """The last of the replies to tries tells whether there may be more."""
+        if last.startswith(LATER):
+            self._note(Later(last), now)
+        self._waiting.end_tries(now, not last.startswith(LATER))
 
     def _end(self, wait: Wait) -> None:
         """Its time is over: a timed poll whose deadline has come asks once more, and is answered NONE."""
@@ -152,10 +162,12 @@ class Waits:
 
     def _polled(self, wait: Wait, replies: Optional[list[bytes]]) -> None:
         wait.is_tried = False
-        if not replies or not replies[0].startswith(LATER):
-            self._answer(wait, replies and replies[0])
+        reply = replies[0] if replies else None
+        if reply is None or not reply.startswith(LATER):
+            self._answer(wait, reply)
         elif wait.asks_at_end:  # the node's clock is behind
-            later = Later(replies[0])
+            later = Later(reply)
+            wait.is_over = False
             self._wait(wait, later.left(int(wait.call.split()[2])))
             self._note(later, time.monotonic_ns())
         else:

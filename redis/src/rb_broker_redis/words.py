@@ -78,9 +78,13 @@ def add_policy_words(parser: argparse.ArgumentParser, delay: str, attempts: int)
                         help=f"a job has N attempts in all, 1 to {MOST_ATTEMPTS} (default: {attempts})")
 
 
-def policy_in(asked: argparse.Namespace, delay: str, attempts: int, always: bool = False) -> Optional[Policy]:
-    """The policy that the words name. If they name none, that is None, or the default if there is always to be one."""
-    if not always and (asked.delay, asked.rate, asked.attempts) == (None, None, None):
-        return None
+def named_policy(asked: argparse.Namespace, delay: str, attempts: int) -> Optional[Policy]:
+    """The policy that the words name, or None if they name nothing of one."""
+    named = (asked.delay, asked.rate, asked.attempts) != (None, None, None)
+    return policy_in(asked, delay, attempts) if named else None
+
+
+def policy_in(asked: argparse.Namespace, delay: str, attempts: int) -> Policy:
+    """The policy that the words name. What they leave out is as it was said to `add_policy_words`."""
     pace, period = ("rate", asked.rate) if asked.rate is not None else ("delay", asked.delay)
     return Policy(pace, read_duration(delay) if period is None else period, asked.attempts or attempts)
