@@ -108,11 +108,13 @@ function showClients(clients) {
     fill("clients", []);
     return;
   }
+  const more = clients.served + clients.waiting - clients.all.length;
   const longest = clients.longest_silence === null ? "" : ", the longest for " + span(clients.longest_silence);
   put("clients-told", clients.served + " served by " + counted(clients.workers, "worker") + ", " + clients.waiting
     + " waiting for one, " + clients.not_reading + " not reading, " + clients.hung_up
     + " hung up while their request waits, " + clients.silent + " silent for " + span(clients.silent_from)
-    + " or longer" + longest + ".");
+    + " or longer" + longest + "." + (more > 0 ? " " + counted(more, "client more is", "clients more are")
+    + " not listed." : ""));
   fill("clients", clients.all.map((it) => [String(it.port), { text: programOf(it), kind: "words" },
     { text: doingOf(it), kind: "words " + kindOf(it) },
     it.seconds === null ? "" : span(it.seconds) + " ago"]));

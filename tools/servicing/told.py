@@ -10,7 +10,7 @@ from servicing.state import Client, Clients, Doing, PastRun, Queue, State, Suppl
 
 Told = Dict[str, Any]
 
-MOST_CLIENTS, MOST_RUNS = 64, 100  # that are told one by one
+MOST_CLIENTS, MOST_RUNS = 32, 100  # that are told one by one
 
 
 def told(state: State) -> Told:

@@ -125,6 +125,14 @@ class ShownTest(ServedTest):
             ["9", date(AT - 90_000), "22.5 h", "3 jobs that failed and could not come back, since the run was full"]])
         self.assertEqual(self.browser.complaints, [])
 
+    def test_more_clients_than_are_listed(self) -> None:
+        waiting = tuple(Client(40_000 + it, None, None, Doing.WAITING, 1.0, 0, 1) for it in range(130))
+        self.show(state(clients=Clients(waiting, 4, 10.0)))
+        self.assertEqual(len(self.browser.value(rows("clients"))), 32)
+        told = self.browser.value("document.getElementById('clients-told').textContent")
+        self.assertTrue(told.startswith("0 served by 4 workers, 130 waiting for one, "), told)
+        self.assertTrue(told.endswith(" 98 clients more are not listed."), told)
+
     def test_a_service_that_begins(self) -> None:
         self.show(first_state())
         self.assertEqual(self.browser.value(TITLE), "starting: rb_broker 7011")
