@@ -17,6 +17,7 @@ class FakeCalls:
     """Calls that the test answers."""
 
     def __init__(self) -> None:
+        self.is_connected = True
         self.submitted: "list[tuple[list[bytes], Answered]]" = []
 
     def submit(self, calls: "list[bytes]", answered: Answered) -> None:
@@ -52,7 +53,7 @@ class FakeGateway:
 
     def __init__(self) -> None:
         self.calls = FakeCalls()
-        self.waits = Waits(self.calls, 3600 * SECOND)
+        self.waits = Waits([self.calls], 3600 * SECOND)
         self.lost: Optional[int] = None
 
     def begin(self, session: Session) -> bytes:

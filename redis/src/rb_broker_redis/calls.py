@@ -15,6 +15,9 @@ LOG = logging.getLogger(__name__)
 Answered = Callable[[Optional["list[bytes]"]], None]
 """Gets the replies of what was submitted, or None where it is in doubt whether the calls were made."""
 
+SEATS_OF_A_GATEWAY = 10**9
+"""broker.lua has the same number."""
+
 MOST_IN_FLIGHT = 1
 """How many commands are under way at once. While they are, further calls are gathered."""
 
@@ -66,13 +69,24 @@ class Calls:
         self._again: list[Batch] = []
         self._flying: dict[Batch, None] = {}
         self._link: Optional[Link] = None
+        self._gateway = 0
         self._loop = asyncio.get_event_loop()
         self._is_scheduled = False
         self.queue_is_gone: Callable[[], None] = lambda: None
         self.functions_are_gone: Callable[[], None] = lambda: None
 
+    @property
+    def is_connected(self) -> bool:
+        """Whether there is a link."""
+        return self._link is not None
+
+    def seat_of(self, session: int) -> bytes:
+        """The seat of a session of this gateway."""
+        return b"%d" % (self._gateway * SEATS_OF_A_GATEWAY + session % SEATS_OF_A_GATEWAY)
+
     def join(self, gateway: int, lease: int) -> None:
         """From now on the calls are those of this gateway, whose lease is so many microseconds."""
+        self._gateway = gateway
         self._tail = bulks([b"", b"%d" % gateway, b"%d" % lease])
 
     def use(self, link: Optional[Link]) -> None:

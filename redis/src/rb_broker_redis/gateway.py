@@ -4,18 +4,17 @@ from __future__ import annotations
 import asyncio
 import ssl
 from dataclasses import dataclass, field
-from typing import Optional
+from typing import Optional, Union
 
 from .address import Address
 from .calls import Calls
 from .limits import SECOND
 from .policy import Policy
 from .session import Session
+from .sharded_calls import ShardedCalls
+from .shards import shard_names
 from .upkeep import Upkeep
 from .waits import Waits
-
-SEATS_OF_A_GATEWAY = 10**9
-"""broker.lua has the same number."""
 
 SECONDS_TO_END = 10.0
 """How long sessions may take to end in good order. What is left then is closed, and ends with the gateway's lease."""
@@ -35,29 +34,42 @@ class Settings:
     lease: int = 15 * SECOND
     patience: int = 5 * SECOND
     replicas: int = 0
+    shards: int = 1
     tls: Optional[ssl.SSLContext] = field(default=None, repr=False)
 
 
 class Gateway:
-    """Sessions of one queue."""
+    """Sessions of one queue, or of one name over several queues."""
 
     def __init__(self, settings: Settings) -> None:
         self._settings = settings
-        self.calls = Calls(settings.queue, replicas=settings.replicas, patience=settings.patience / SECOND)
-        self.waits = Waits(self.calls, settings.wait)
-        self._upkeep = Upkeep(
-            settings.address, settings.queue, self.calls, lease=settings.lease // 1_000, policy=settings.policy,
-            mode=settings.mode, heard=self.waits.heard, may_have_missed=self.waits.look_now,
-            queue_is_gone=self._close_all,
-        )
+        names = shard_names(settings.queue, settings.shards)
+        queues = [Calls(it, replicas=settings.replicas, patience=settings.patience / SECOND) for it in names]
+        self.calls: Union[Calls, ShardedCalls]
+        if len(queues) == 1:
+            self.calls, self.waits = queues[0], Waits(queues, settings.wait)
+        else:
+            self.calls = ShardedCalls(queues, names)
+            self.waits = Waits(queues, settings.wait, self.calls)
+            self.calls.note = self.waits.note
+        self._upkeeps = [self._upkeep_of(number, *it) for number, it in enumerate(zip(names, queues))]
         self._sessions: set[Session] = set()
         self._server: asyncio.base_events.Server
         self._count = self._lost = 0
         self._all_ended = asyncio.Event()
 
-    async def join(self) -> Policy:
-        """Joins the queue, and returns its policy."""
-        return await self._upkeep.start()
+    def _upkeep_of(self, number: int, name: str, calls: Calls) -> Upkeep:
+        settings = self._settings
+        return Upkeep(
+            settings.address, name, calls, lease=settings.lease // 1_000, policy=settings.policy, mode=settings.mode,
+            heard=lambda message: self.waits.heard(message, number),
+            may_have_missed=lambda: self.waits.look_now(number), queue_is_gone=self._close_all,
+        )
+
+    async def join(self) -> None:
+        """Joins the queues. Raises `OSError`, `ErrorAnswer`, `NewerLibrary`."""
+        for upkeep in self._upkeeps:
+            await upkeep.start()
 
     async def listen(self, host: str, port: int) -> int:
         """Serves clients at this port, or at one of the system's choice for 0. Returns the port."""
@@ -78,14 +90,15 @@ class Gateway:
                 await asyncio.wait_for(self._all_ended.wait(), SECONDS_TO_END)
             except asyncio.TimeoutError:
                 pass
-        await self._upkeep.stop()
+        for upkeep in self._upkeeps:
+            await upkeep.stop()
         return self._count, self._lost
 
     def begin(self, session: Session) -> bytes:
         """A session begins. Returns what stands before each of its calls: its seat and a space."""
         self._sessions.add(session)
         self._count += 1
-        return b"%d " % (self._upkeep.gateway * SEATS_OF_A_GATEWAY + self._count % SEATS_OF_A_GATEWAY)
+        return self.calls.seat_of(self._count) + b" "
 
     def end(self, session: Session, lost: int) -> None:
         """A session has ended."""

@@ -15,9 +15,10 @@ from .durations import read_duration
 from .gateway import Gateway, Settings
 from .library import NewerLibrary
 from .limits import SECOND
+from .queues import add_queues_words
 from .resp import ErrorAnswer
 from .words import (
-    DEFAULT_ATTEMPTS, DEFAULT_DELAY, NAME, Parser, add_policy_words, add_queue_words, address_in, duration,
+    DEFAULT_ATTEMPTS, DEFAULT_DELAY, NAME, Parser, add_policy_words, address_in, duration,
     named_policy, sentence_of, whole,
 )
 
@@ -32,7 +33,7 @@ def add_to(commands: "argparse._SubParsersAction[Parser]") -> None:
     """Adds the command."""
     parser = commands.add_parser("serve", help="serves clients from a queue", allow_abbrev=False)
     parser.set_defaults(run=run)
-    add_queue_words(parser)
+    add_queues_words(parser)
     add = parser.add_argument
     add("--port", type=whole(0, 65_535), required=True, metavar="P", help="the port; 0 for one that is free")
     add("--bind", default=LOOPBACK, metavar="A", type=sentence_of(ipaddress.ip_address),
@@ -90,7 +91,7 @@ def settings_of(asked: argparse.Namespace) -> Settings:
     mode = "change" if asked.change_policy else "silent" if asked.no_history else ""
     return Settings(
         address_in(asked), asked.queue, named_policy(asked, DEFAULT_DELAY, DEFAULT_ATTEMPTS), mode, asked.wait,
-        asked.lease, asked.timeout, asked.replicas, tls_of(asked),
+        asked.lease, asked.timeout, asked.replicas, asked.shards, tls_of(asked),
     )
 
 

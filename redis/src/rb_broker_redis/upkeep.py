@@ -29,8 +29,7 @@ class Upkeep:
         self, address: Address, queue: str, calls: Calls, *, lease: int, policy: Optional[Policy], mode: str,
         heard: Callable[[bytes], None], may_have_missed: Callable[[], None], queue_is_gone: Callable[[], None],
     ) -> None:
-        self.gateway = 0
-        """Its number at the queue."""
+        self._gateway = 0
         self._address, self._queue, self._calls = address, queue, calls
         self._lease, self._policy, self._mode = lease, policy, mode
         self._heard, self._may_have_missed, self._queue_is_gone = heard, may_have_missed, queue_is_gone
@@ -41,24 +40,23 @@ class Upkeep:
         calls.queue_is_gone = self._join_anew
         calls.functions_are_gone = self._reload
 
-    async def start(self) -> Policy:
-        """Connects, and joins the queue. Returns the queue's policy. Raises `OSError`, `ErrorAnswer`, `NewerLibrary`."""
+    async def start(self) -> None:
+        """Connects, and joins the queue. Raises `OSError`, `ErrorAnswer`, `NewerLibrary`."""
         lost = asyncio.Event()
         link = await self._connect(lost)
-        policy = await self._join(link)
+        await self._join(link)
         self._tasks = [
             asyncio.ensure_future(self._keep_link(link, lost)),
             asyncio.ensure_future(self._keep_subscribed()),
             asyncio.ensure_future(self._keep_lease()),
             asyncio.ensure_future(self._watch()),
         ]
-        return policy
 
     async def stop(self) -> None:
         """Leaves the queue."""
         if self._link:
             try:
-                await self._call(self._link, "rb_leave", self.gateway)
+                await self._call(self._link, "rb_leave", self._gateway)
             except (OSError, ErrorAnswer):
                 pass  # the lease ends by itself
         for task in self._tasks:
@@ -84,13 +82,12 @@ class Upkeep:
     async def _call(self, link: Link, function: str, *args: "str | int") -> Any:
         return await link.ask("FCALL", function, len(self._keys), *self._keys, *args)
 
-    async def _join(self, link: Link) -> Policy:
+    async def _join(self, link: Link) -> None:
         words = self._policy.words() if self._policy else NO_WORDS
         joined = await self._call(link, "rb_join", self._lease, *words, self._mode)
-        self.gateway = int(joined[0])
-        self._calls.join(self.gateway, self._lease)
+        self._gateway = int(joined[0])
+        self._calls.join(self._gateway, self._lease)
         self._is_joined = True
-        return Policy(joined[1].decode(), int(joined[2]), int(joined[3]))
 
     def _join_anew(self) -> None:
         """The queue is gone, as after FLUSHALL: it is made again, and the sessions of the old one are closed."""
@@ -157,7 +154,7 @@ class Upkeep:
         while True:
             await asyncio.sleep(self._lease / 3e6)
             try:
-                while self._link and await self._call(self._link, "rb_renew", self.gateway, self._lease):
+                while self._link and await self._call(self._link, "rb_renew", self._gateway, self._lease):
                     LOG.warning("a gateway's lease is over: its sessions have ended, and their jobs come back")
             except OSError:
                 self._close_link()

@@ -4,7 +4,7 @@ from __future__ import annotations
 import asyncio
 import time
 from itertools import zip_longest
-from typing import Callable, Optional
+from typing import Callable, Optional, Protocol, Sequence
 
 from .calls import Calls
 from .limits import SECOND
@@ -16,42 +16,67 @@ STOPPED = b"STOPPED\n"
 EARLY = 0.0005
 """A loop's timer may run this many seconds early, since it counts milliseconds."""
 
+WaitAnswered = Callable[[Optional[bytes]], None]
+"""Gets the reply to a request that waited, or None where it is in doubt."""
+
+
+class Seats(Protocol):
+    """What a session is at each queue, and what it sees of a reply."""
+
+    def front_of(self, queue: int, seat: bytes) -> bytes:
+        """What stands before each of its calls at this queue."""
+
+    def seen(self, queue: int, seat: bytes, reply: bytes) -> bytes:
+        """The reply of this queue, as the session's client gets it."""
+
+
+class OneQueue:
+    """A session's seat and its replies are those of the only queue."""
+
+    def front_of(self, queue: int, seat: bytes) -> bytes:
+        return seat
+
+    def seen(self, queue: int, seat: bytes, reply: bytes) -> bytes:
+        return reply
+
+
+class Later:
+    """When a call that found nothing has to be tried again: the words of its reply, in moments of the node. There is a
+    start for each queue."""
+
+    __slots__ = ("head", "now", "starts")
+
+    def __init__(self, reply: bytes) -> None:
+        _, head, now, *self.starts = reply.split()
+        self.head = None if head == b"-" else int(head)
+        self.now = int(now)
+
+    def left(self, timeout: int) -> int:
+        """The nanoseconds until the deadline of a timed poll."""
+        return int(self.starts[0]) + timeout - self.now
+
 
 class Wait:
-    """One wait. `answered` gets the reply, or None where it is in doubt."""
+    """One wait."""
 
-    __slots__ = ("call", "answered", "timer", "asks_at_end", "is_tried", "is_over")
+    __slots__ = ("seat", "calls", "answered", "timer", "asks_at_end", "is_tried", "is_over")
 
-    def __init__(self, call: bytes, answered: Callable[[Optional[bytes]], None], asks_at_end: bool) -> None:
-        self.call, self.answered = call, answered
+    def __init__(self, seat: bytes, calls: list[bytes], answered: WaitAnswered, asks_at_end: bool) -> None:
+        self.seat, self.calls, self.answered = seat, calls, answered
+        """`calls` has one for each queue."""
         self.asks_at_end = asks_at_end
-        """A timed poll whose deadline comes before the longest wait is answered by the queue."""
+        """A timed poll whose deadline comes before the longest wait is answered by a queue."""
         self.timer: asyncio.TimerHandle
         self.is_tried = False
         self.is_over = False
         """Its time is over. A try that is under way still gives what it finds."""
 
 
-class Later:
-    """When a call that found nothing has to be tried again: the words of its reply, in moments of the node."""
-
-    __slots__ = ("head", "now", "start")
-
-    def __init__(self, reply: bytes) -> None:
-        _, head, now, start = reply.split()
-        self.head = None if head == b"-" else int(head)
-        self.now, self.start = int(now), start
-
-    def left(self, timeout: int) -> int:
-        """The nanoseconds until the deadline of a timed poll."""
-        return int(self.start) + timeout - self.now
-
-
 class Waits:
     """Waits are given up after `longest` nanoseconds, with STOPPED."""
 
-    def __init__(self, calls: Calls, longest: int) -> None:
-        self._calls, self._longest = calls, longest
+    def __init__(self, queues: Sequence[Calls], longest: int, seats: Seats = OneQueue()) -> None:
+        self._queues, self._longest, self._seats = queues, longest, seats
         self._waiting: Waiting[Wait] = Waiting()
         self._loop = asyncio.get_event_loop()
         self._timer: Optional[asyncio.TimerHandle] = None
@@ -60,19 +85,19 @@ class Waits:
     def __len__(self) -> int:
         return len(self._waiting)
 
-    def begin(
-        self, seat: bytes, request: bytes, reply: bytes, answered: Callable[[Optional[bytes]], None]
-    ) -> Wait:
+    def begin(self, seat: bytes, request: bytes, reply: bytes, answered: WaitAnswered) -> Wait:
         """A request, whose reply was LATER, waits."""
-        now, later = time.monotonic_ns(), Later(reply)
-        longest, asks_at_end = self._longest, False
+        later = Later(reply)
+        longest, asks_at_end, ends = self._longest, False, [b""] * len(self._queues)
         if request != b"TAKE":
             left = later.left(int(request.split()[1]))
             longest, asks_at_end = min(longest, left), left <= longest
-            request += b" " + later.start
-        wait = Wait(seat + request, answered, asks_at_end)
+            ends = [b" " + start for start in later.starts]
+        calls = [self._seats.front_of(queue, seat) + request + end for queue, end in enumerate(ends)]
+        wait = Wait(seat, calls, answered, asks_at_end)
         self._wait(wait, longest)
-        self._note(later, now)
+        if len(self._queues) == 1:
+            self.note(later)
         self._look()
         return wait
 
@@ -81,39 +106,38 @@ class Waits:
         wait.asks_at_end = False
         self._end(wait)
 
-    def stop(self) -> None:
-        """Gives up all waits."""
-        for wait in self._waiting.all():
-            self.give_up(wait)
+    def note(self, later: Later, queue: int = 0) -> None:
+        """This queue said when its earliest element expires."""
+        if later.head is not None:
+            self._waiting.hear(time.monotonic_ns() + later.head - later.now, queue)
 
-    def heard(self, message: bytes) -> None:
+    def heard(self, message: bytes, queue: int = 0) -> None:
         """An element has become the earliest: `HEAD NOW`, in moments of the node."""
         head, now = message.split()
-        self._waiting.hear(time.monotonic_ns() + int(head) - int(now))
+        self._waiting.hear(time.monotonic_ns() + int(head) - int(now), queue)
         self._look()
 
-    def look_now(self) -> None:
+    def look_now(self, queue: int = 0) -> None:
         """What was published may not have been heard."""
-        self._waiting.hear(time.monotonic_ns())
+        self._waiting.hear(time.monotonic_ns(), queue)
         self._look()
 
     def _wait(self, wait: Wait, nanoseconds: int) -> None:
         wait.timer = self._loop.call_later(max(nanoseconds, 0) / SECOND, self._end, wait)
         self._waiting.add(wait)
 
-    def _note(self, later: Later, now: int) -> None:
-        if later.head is not None:
-            self._waiting.hear(now + later.head - later.now)
-
     def _look(self) -> None:
-        """Tries, or sets the timer for the next try."""
+        """Tries, or sets the timer for the next try. A queue that is away is looked at when it is back."""
+        while (due := self._waiting.next_due) and not self._queues[due.queue].is_connected:
+            self._waiting.forget(due.queue)
         tried = self._waiting.start_tries(time.monotonic_ns())
-        if tried:
-            for wait in tried:
-                wait.is_tried = True
-            self._calls.submit([wait.call for wait in tried], lambda replies: self._tried(tried, replies))
-        else:
-            self._set_timer(self._waiting.next_try)
+        if not tried:
+            self._set_timer(due and due.moment)
+            return
+        queue = self._waiting.tried_queue
+        for wait in tried:
+            wait.is_tried = True
+        self._queues[queue].submit([wait.calls[queue] for wait in tried], lambda replies: self._tried(tried, replies))
 
     def _set_timer(self, moment: Optional[int]) -> None:
         if moment is None or moment == self._timed_for:
@@ -128,16 +152,16 @@ class Waits:
         self._look()
 
     def _tried(self, tried: list[Wait], replies: Optional[list[bytes]]) -> None:
-        now = time.monotonic_ns()
+        now, queue = time.monotonic_ns(), self._waiting.tried_queue
         if replies is None:  # whether an element is left for the others is not known either
-            self._waiting.hear(now)
+            self._waiting.hear(now, queue)
             self._waiting.end_tries(now, False)
         else:
             self._end_tries(replies[-1], now)
         for wait, reply in zip_longest(tried, replies or []):
             wait.is_tried = False
             if reply is None or not reply.startswith(LATER):
-                self._answer(wait, reply)
+                self._answer(wait, queue, reply)
             elif wait.is_over:
                 self._end(wait)
         self._look()
@@ -145,7 +169,7 @@ class Waits:
     def _end_tries(self, last: bytes, now: int) -> None:
         """The last of the replies to tries tells whether there may be more."""
         if last.startswith(LATER):
-            self._note(Later(last), now)
+            self.note(Later(last), self._waiting.tried_queue)
         self._waiting.end_tries(now, not last.startswith(LATER))
 
     def _end(self, wait: Wait) -> None:
@@ -154,26 +178,26 @@ class Waits:
         if wait.is_tried:
             return
         if not wait.asks_at_end:
-            self._answer(wait, STOPPED)
+            self._answer(wait, 0, STOPPED)
             return
         self._waiting.remove(wait)
         wait.is_tried = True
-        self._calls.submit([wait.call], lambda replies: self._polled(wait, replies))
+        self._queues[0].submit([wait.calls[0]], lambda replies: self._polled(wait, replies))
 
     def _polled(self, wait: Wait, replies: Optional[list[bytes]]) -> None:
         wait.is_tried = False
         reply = replies[0] if replies else None
         if reply is None or not reply.startswith(LATER):
-            self._answer(wait, reply)
+            self._answer(wait, 0, reply)
         elif wait.asks_at_end:  # the node's clock is behind
             later = Later(reply)
             wait.is_over = False
-            self._wait(wait, later.left(int(wait.call.split()[2])))
-            self._note(later, time.monotonic_ns())
+            self._wait(wait, later.left(int(wait.calls[0].split()[2])))
+            self.note(later)
         else:
-            self._answer(wait, STOPPED)
+            self._answer(wait, 0, STOPPED)
 
-    def _answer(self, wait: Wait, reply: Optional[bytes]) -> None:
+    def _answer(self, wait: Wait, queue: int, reply: Optional[bytes]) -> None:
         wait.timer.cancel()
         self._waiting.remove(wait)
-        wait.answered(reply)
+        wait.answered(reply and self._seats.seen(queue, wait.seat, reply))
