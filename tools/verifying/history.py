@@ -1,6 +1,7 @@
 """A history as verify looks at it: its events by seat, and by the ids of the elements that they name."""
 from __future__ import annotations
 
+import collections
 from array import array
 from typing import BinaryIO, Dict, List, Match, NamedTuple
 
@@ -111,15 +112,38 @@ def element_of(words: List[str]) -> Element:
     return Element(words[0], words[1], words[2], first, words[-2], words[-1])
 
 
-def read_history(file: BinaryIO) -> History:
-    """The history in a file, in any version."""
-    text = Text(file)
-    reader = _Reader(text.head)
-    for _, line in text.kept():
-        reader.keep(line)
-    for number, line in text.events():
-        reader.add(line, number)
-    return reader.history
+def read_history(*files: BinaryIO) -> History:
+    """The history in a file, in any version, or in several, each of which goes on where the one before ends."""
+    series = Series()
+    for file in files:
+        series.read(file)
+    return series.history
+
+
+class Series:
+    """Reads the files of a series, one after the other."""
+
+    def __init__(self) -> None:
+        self._reader: _Reader | None = None
+
+    @property
+    def history(self) -> History:
+        """What was read so far."""
+        assert self._reader
+        return self._reader.history
+
+    def read(self, file: BinaryIO) -> None:
+        """Adds a file. Whether it begins with the elements that the one before left is the affair of tools/report."""
+        text = Text(file)
+        if self._reader is None:
+            self._reader = _Reader(text.head)
+            for _, line in text.kept():
+                self._reader.keep(line)
+        else:
+            self._reader.go_on(text.head)
+            collections.deque(text.kept(), maxlen=0)
+        for number, line in text.events():
+            self._reader.add(line, number)
 
 
 class _Reader:
@@ -127,9 +151,17 @@ class _Reader:
 
     def __init__(self, head: Head) -> None:
         self.history = History(head.version, head.next_id)
-        self._next_id = head.next_id
+        self._next_id = head.next_id  # of the file that is read
+        self._next, self._last = head.next_id, head.opened_at  # with which a file begins that goes on
         self._latest: Dict[int, int] = {}  # the id of the latest attempt of each job that was offered again
         self._seat_indexes: Dict[bytes, int] = {}
+
+    def go_on(self, head: Head) -> None:
+        """Begins the next file."""
+        if (head.next_id, head.opened_at) != (self._next, self._last):
+            raise Damaged(2, f"it opens with {head.next_id} {head.opened_at}, and the file before it ends with "
+                             f"{self._next} {self._last}")
+        self._next_id = head.next_id
 
     def keep(self, line: Match[bytes]) -> None:
         """Adds an element of the opening."""
@@ -148,6 +180,7 @@ class _Reader:
         history.rows[index].append(event)
         history.text += line.string
         history.starts.append(len(history.text))
+        self._last = int(line[3])
         act = line.lastgroup
         if act == "offer":
             self._offer(event, int(line[4]), int(line[6]), number)
@@ -172,6 +205,7 @@ class _Reader:
         if not self._next_id <= id < self._next_id + FURTHEST_ID:
             raise Damaged(number, f"the id {id}, where the first one is {self._next_id}")
         self.history.offers[id] = event
+        self._next = id + 1
         if id != origin:
             self.history.returns[self._latest.get(origin, origin)] = event
             self._latest[origin] = id

@@ -25,6 +25,18 @@ class CommandTest(RunTest):
         self.assertEqual((ran.returncode, ran.stderr), (0, ""))
         self.assertEqual(ran.stdout.splitlines()[0], "0 events at 0 seats; 0 requests of 0 sessions")
 
+    def test_a_series_of_histories(self) -> None:
+        first, second = EVENTS[:6], EVENTS[6:]
+        parts = [self.file("first.txt", text_of(*first)), self.file("second.txt", "\n".join(
+            ["history 3", "open 3 60 2", "keep 1 60 1 60 1 y", "keep 2 65 0 10 2 x", *second, f"end {len(second)}", ""]))]
+        ran, whole = self.verify(*parts, self.record, "--all"), self.verify(self.history, self.record, "--all")
+        self.assertEqual((ran.returncode, ran.stderr, ran.stdout), (0, "", whole.stdout))
+        changed = self.file("changed.jsonl", record_of(lines()).replace("HEAD 2 65", "HEAD 2 66"))
+        self.assertIn("changed", self.verify(*parts, changed).stdout)
+        self.expect_refused(f"{parts[0]}: line 2: it opens with 0 0, and the file before it ends with 5 105",
+                            parts[1], parts[0], self.record)
+        self.expect_refused("there is no RECORD", *parts)
+
     def test_damaged_histories(self) -> None:
         for text, says in [
             ("", "line 1: no `history 1`, `history 2` or `history 3`"),
