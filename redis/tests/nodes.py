@@ -2,6 +2,7 @@
 a folder of its own, and may be killed at any moment."""
 from __future__ import annotations
 
+import atexit
 import contextlib
 import os
 import random
@@ -54,21 +55,38 @@ class Process:
     def __init__(self, words: Sequence[str], log: Path, environment: Optional[Dict[str, str]] = None) -> None:
         self._words, self._log, self._environment = list(words), log, environment
         self._process: Optional[subprocess.Popen[bytes]] = None
+        atexit.register(self.kill)  # where the tests are broken off
 
     def start(self) -> None:
-        """Starts it. What it says goes to its log."""
+        """Starts it. What it says goes to its log, and its standard input stays open."""
         with open(self._log, "ab") as log:
             environment = {**os.environ, **(self._environment or {})}
-            self._process = subprocess.Popen(self._words, stdin=subprocess.DEVNULL, stdout=log, stderr=log,
+            self._process = subprocess.Popen(self._words, stdin=subprocess.PIPE, stdout=log, stderr=log,
                                              env=environment)
+
+    def give(self, text: str) -> None:
+        """Gives it this on standard input, which ends."""
+        assert self._process and self._process.stdin
+        with contextlib.suppress(BrokenPipeError):
+            self._process.stdin.write(text.encode())
+            self._process.stdin.close()
+
+    def wait_for_end(self) -> int:
+        """Waits until it ends by itself, and gives its status."""
+        process, self._process = self._process, None
+        assert process and process.stdin
+        try:
+            return process.wait(PATIENCE)
+        finally:
+            with contextlib.suppress(BrokenPipeError):
+                process.stdin.close()
 
     def signal(self, number: int) -> int:
         """Ends it by a signal, and gives its status. One that has ended already stays so."""
         if self._process is None:
             return 0
         self._process.send_signal(number)
-        status, self._process = self._process.wait(PATIENCE), None
-        return status
+        return self.wait_for_end()
 
     def kill(self) -> None:
         """Ends it at once."""

@@ -1,14 +1,17 @@
 """Tests with a Redis of their own."""
 from __future__ import annotations
 
+import io
 import subprocess
 import sys
 import tempfile
 import unittest
+from contextlib import redirect_stderr, redirect_stdout
 from pathlib import Path
 
-from nodes import FORGETFUL, PATIENCE, Node
+from nodes import FORGETFUL, Node
 from rb_broker_redis.address import read_address
+from rb_broker_redis.command import main
 from rb_broker_redis.queue import Queue, connect
 
 SEAT = 1_000_000_000_001
@@ -45,11 +48,13 @@ class RedisTest(unittest.TestCase):
         queue.call("rb_join", 60_000_000, "delay", f"{0:020}", attempts, "")
         return queue
 
+    def words(self, *words: object) -> list[str]:
+        """The words of a command, with this test's Redis and queue."""
+        return [*map(str, words), "--redis", self.node.url, *([] if "--queue" in words else ["--queue", self.name])]
+
     def started(self, *words: object) -> subprocess.Popen[str]:
         """A command of the package for this test's queue, as a process."""
-        command = [sys.executable, "-B", "-m", "rb_broker_redis", *map(str, words), "--redis", self.node.url]
-        if "--queue" not in command:
-            command += ["--queue", self.name]
+        command = [sys.executable, "-B", "-m", "rb_broker_redis", *self.words(*words)]
         process = subprocess.Popen(command, stdout=subprocess.PIPE, stderr=subprocess.PIPE, encoding="utf-8",
                                    cwd=self.room)
         self.addCleanup(process.communicate)
@@ -57,10 +62,14 @@ class RedisTest(unittest.TestCase):
         return process
 
     def ran(self, *words: object) -> tuple[int, list[str], str]:
-        """The status of a command, the lines that it prints, and standard error."""
-        process = self.started(*words)
-        said, errors = process.communicate(timeout=PATIENCE)
-        return process.returncode, said.splitlines(), errors
+        """The status of a command, the lines that it prints, and standard error. It runs within this process."""
+        said, errors = io.StringIO(), io.StringIO()
+        with redirect_stdout(said), redirect_stderr(errors):
+            try:
+                status = main(self.words(*words))
+            except SystemExit as end:
+                status = end.code
+        return status, said.getvalue().splitlines(), errors.getvalue()
 
     def assert_prints(self, lines: list[str], *words: object) -> None:
         """A command ends well, and prints these lines."""
@@ -70,13 +79,13 @@ class RedisTest(unittest.TestCase):
         """A command ends with this status, prints nothing, and says just this."""
         self.assertEqual(self.ran(*words), (status, [], f"rb_broker_redis: {line}\n"))
 
-    def kill_again_and_again(self, step: float, *words: object) -> int:
-        """Starts a command and kills it, each time after so many seconds more, until it ends well before that. How often
-        it was killed."""
-        for kills in range(1_000):
+    def kill_again_and_again(self, *words: object) -> int:
+        """Starts a command and kills it, each time a bit later, until it ends well before that. How often it was
+        killed."""
+        for kills in range(100):
             process = self.started(*words)
             try:
-                _, errors = process.communicate(timeout=0.2 + step * kills)
+                _, errors = process.communicate(timeout=0.2 * 1.1 ** kills)
                 self.assertEqual((process.returncode, errors), (0, ""))
                 return kills
             except subprocess.TimeoutExpired:

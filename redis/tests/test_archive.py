@@ -8,7 +8,7 @@ from pathlib import Path
 from typing import List, Optional
 from unittest import mock
 
-from rb_broker_redis import archive, durable
+from rb_broker_redis import cuts, durable
 from rb_broker_redis.archive import Archive, Conflict, Position
 from rb_broker_redis.archive_folder import ArchiveFolder, FolderInUse
 from rb_broker_redis.history import FollowedQueue, read_text
@@ -34,10 +34,11 @@ class ListSource:
 
     def __init__(self, events: List[bytes]) -> None:
         self.list, self.first, self.kept = list(events), 0, [b"open 0 0 0"]
+        self.in_hand: frozenset[bytes] = frozenset()
         self.dies_before_cut = self.dies_after_cut = False
 
     def position(self) -> Position:
-        return Position(self.first, len(self.list))
+        return Position(self.first, len(self.list), self.in_hand)
 
     def opening(self) -> Optional[FollowedQueue]:
         return FollowedQueue.of_opening(self.kept) if self.kept else None
@@ -133,16 +134,33 @@ class FilesTest(ArchiveTest):
         with self.assertRaises(FolderInUse):
             self.take()
 
+    def test_events_of_jobs_in_hand_stay_until_it_is_known_what_becomes_of_them(self) -> None:
+        self.source.list, self.source.in_hand = EVENTS[:2], frozenset([b"0"])
+        self.take(7)
+        self.assertEqual(self.source.list, EVENTS[1:2])
+        self.source.list += EVENTS[2:]
+        self.take(7)
+        self.assertEqual(self.source.list, EVENTS[5:])  # job 0 is in hand again
+        self.source.in_hand = frozenset()
+        self.take(7)
+        self.assertEqual([it[:12] for it in sorted(os.listdir(self.folder))], ["jobs-0000000"] * 3)
+        self.assertEqual(self.source.list, [])
+
     def test_a_queue_with_more_elements_than_an_opening_may_have(self) -> None:
-        with mock.patch.object(archive, "MOST_KEPT", 1):
+        with mock.patch.object(cuts, "MOST_KEPT", 1):
             self.take(4)  # behind the fourth event are two
             self.assertEqual((self.folder / "jobs-000000000000.txt").read_bytes(), FIRST)
             self.assertEqual((self.folder / "jobs-000000000003.txt").read_bytes(),
                              SECOND.replace(b"end 3\n", b"2 17 17 poll none\nend 4\n"))
-        self.source = ListSource(EVENTS[:1])
-        with mock.patch.object(archive, "MOST_KEPT", 0), self.assertRaisesRegex(Conflict, "^jobs: more than 0 "):
-            self.take()
-        self.assertEqual(self.source.list, EVENTS[:1])
+        events = [b"1 5 5 offer 0 5 0 5 1 a", b"1 6 6 size 1", b"1 7 7 size 1"]
+        self.source = ListSource(events[:1])
+        self.source.name = "full"
+        with mock.patch.object(cuts, "MOST_KEPT", 0):
+            self.assertEqual(self.take(1), [])
+            self.source.list = events
+            with self.assertRaisesRegex(Conflict, "^full: more than 1,000,000 elements are in the queue, with which "):
+                self.take(1)
+        self.assertEqual(self.source.list, events)
 
 
 class KillTest(ArchiveTest):

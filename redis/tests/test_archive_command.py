@@ -1,8 +1,10 @@
 """The command `archive` with a Redis: kills at any moment, a process that goes on, an archive that begins anew."""
 from __future__ import annotations
 
+import os
 import random
 import signal
+import subprocess
 import unittest
 from pathlib import Path
 
@@ -19,11 +21,12 @@ class ArchiveCommandTest(RedisTest):
         self.folder = self.room / "archive"
 
     def make_events(self, queue: Queue, count: int) -> list[bytes]:
-        """Makes so many calls at random, each of which is an event. Their lines."""
+        """Makes so many calls at random, each of which is an event, and lets no job come back. Their lines."""
         draw = random.Random(count)
         calls = [draw.choice([f"{SEAT} OFFER {draw.randrange(10**9)} job-{number}", f"{SEAT + number} POLL",
                               f"{SEAT + number} DRAIN 3", f"{SEAT} PEEK", f"{SEAT} SIZE"]) for number in range(count)]
-        for place in range(0, count, 500):
+        calls += [f"{SEAT + number} END" for number in range(count)]
+        for place in range(0, len(calls), 500):
             queue.call("rb_calls", "", "", 0, *calls[place:place + 500])
         return queue.command("LRANGE", queue.history, 0, -1)
 
@@ -45,7 +48,7 @@ class ArchiveCommandTest(RedisTest):
 
 class TakeTest(ArchiveCommandTest):
     def test_files_of_so_many_events(self) -> None:
-        events = self.make_events(self.joined(), 2_500)
+        events = self.make_events(self.joined(attempts=1), 2_500)
         self.assert_prints([f"{self.name}: {count} events in {self.folder}/{self.name}-{first:012}.txt"
                             for first, count in ((0, 1_000), (1_000, 1_000), (2_000, 500))],
                            "archive", self.folder, "--events", 1_000)
@@ -54,16 +57,16 @@ class TakeTest(ArchiveCommandTest):
 
     def test_shards_share_a_folder(self) -> None:
         for it in range(2):
-            self.make_events(self.joined(name=f"{self.name}.{it}"), 10)
+            self.make_events(self.joined(1, f"{self.name}.{it}"), 10)
         self.ran("archive", self.folder, "--shards", 2)
         self.assertEqual([it.name for it in self.files()], [f"{self.name}.{it}-{0:012}.txt" for it in range(2)])
 
     def test_kills_at_any_moment(self) -> None:
-        events = self.make_events(self.joined(), 60_000)
-        kills = self.kill_again_and_again(0.03, "archive", self.folder, "--events", 7_000)
+        events = self.make_events(self.joined(attempts=1), 12_000)
+        kills = self.kill_again_and_again("archive", self.folder, "--events", 2_500)
         self.assertGreater(kills, 2)
         self.assert_archived(events)
-        self.assertEqual(self.joined().command("LLEN", self.joined().history), 0)
+        self.assertEqual(self.queue().command("LLEN", self.queue().history), 0)
 
     def test_a_process_that_goes_on(self) -> None:
         queue = self.joined()
@@ -94,6 +97,22 @@ class TakeTest(ArchiveCommandTest):
         self.assertIn("the Redis has lost events that were archived, from number 0: see ", said)
 
 
+class InHandTest(ArchiveCommandTest):
+    def test_each_file_has_the_jobs_that_come_back_in_it(self) -> None:
+        queue = self.joined()
+        for line in ("OFFER 0 a", "OFFER 0 b", "POLL", "POLL"):
+            queue.request(line, SEAT)
+        self.assert_prints([f"{self.name}: 2 events in {self.folder}/{self.name}-{0:012}.txt"], "archive", self.folder)
+        self.assert_prints([], "archive", self.folder)
+        queue.request("DONE 0", SEAT)
+        queue.request("FAIL 1", SEAT)
+        self.assert_prints([f"{self.name}: 3 events in {self.folder}/{self.name}-{2:012}.txt"], "archive", self.folder)
+        for path in self.files():
+            ran = subprocess.run([os.environ["RB_BROKER_PROGRAM"], "replay", str(path), "--chains", "--delay", "0"],
+                                 capture_output=True, text=True, check=False)
+            self.assertEqual((ran.returncode, ran.stderr), (0, ""), ran.stdout)
+
+
 class RefusalTest(ArchiveCommandTest):
     def test_a_queue_that_keeps_no_events(self) -> None:
         self.queue().call("rb_join", 60_000_000, "delay", f"{0:020}", 3, "silent")
@@ -119,7 +138,7 @@ class RefusalTest(ArchiveCommandTest):
 
     def test_a_series_without_its_last_file_begins_anew(self) -> None:
         queue = self.joined()
-        for line in ("OFFER 0 a", "OFFER 0 b", "POLL"):
+        for line in ("OFFER 0 a", "OFFER 0 b", "POLL", "DONE 0"):
             queue.request(line, SEAT)
         self.ran("archive", self.folder)
         queue.request("SIZE", SEAT)

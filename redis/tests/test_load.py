@@ -70,6 +70,7 @@ class QueueTest(LoadTest):
         self.assertEqual(queue.request("POLL", SEAT).split(" ")[3:], ["3", r'"e' + "\\"])
         self.assertEqual(queue.request("REMOVE 6", SEAT), "REMOVED yes")
         self.assertEqual(queue.request("SIZE", SEAT), "SIZE 0")
+        queue.request("END", SEAT)
         # The history begins with what was loaded, so that it can be checked with its retries.
         self.ran("archive", self.room / "archive")
         text = (self.room / "archive" / f"{self.name}-000000000000.txt").read_bytes().splitlines()
@@ -134,7 +135,7 @@ class QueueTest(LoadTest):
         count = 20_000
         lines = b"".join(b"keep %d %d %d %d 1 job-%d\n" % (it, it, it, it, it) for it in range(count))
         self.history.write_bytes(b"history 3\nopen %d 0 %d\n%bend 0\n" % (count, count, lines))
-        kills = self.kill_again_and_again(0.03, "load", self.history, "--began", NINE)
+        kills = self.kill_again_and_again("load", self.history, "--began", NINE)
         self.assertGreater(kills, 2)
         queue = self.joined()
         self.assertEqual(queue.request("SIZE", SEAT), f"SIZE {count}")

@@ -1,9 +1,11 @@
 """Takes the events of a queue out of the Redis, into files that `rb_broker replay --chains` can check."""
 from __future__ import annotations
 
-from typing import Iterator, NamedTuple, Protocol
+import collections
+from typing import Callable, Iterator, NamedTuple, Protocol
 
 from .archive_folder import ArchivedFile, ArchiveFolder
+from .cuts import Cut, Cuts
 from .history import MOST_EVENTS, MOST_KEPT, Damaged, FollowedQueue, read_text
 
 CHUNK = 10_000  # events that are fetched at a time
@@ -20,6 +22,8 @@ class Position(NamedTuple):
     """The number of the first event that it still has, counted from 0."""
     waiting: int
     """How many events it has."""
+    in_hand: frozenset[bytes]
+    """The origins of the jobs that are in hand behind them."""
 
 
 class Source(Protocol):
@@ -28,7 +32,7 @@ class Source(Protocol):
     name: str
 
     def position(self) -> Position:
-        """How far the events have been taken out."""
+        """How far the events have been taken out, and what is in hand then."""
 
     def opening(self) -> FollowedQueue | None:
         """The queue in front of the first event that is there, if that is kept."""
@@ -38,14 +42,6 @@ class Source(Protocol):
 
     def cut(self, first: int, count: int) -> bool:
         """Takes out `count` events. Does nothing if `first` is not the number of the first one any more."""
-
-
-class _DoesNotFit(Exception):
-    """Too many elements stand behind the last event. Behind the event of this count they would not, if it is not 0."""
-
-    def __init__(self, count: int) -> None:
-        super().__init__(count)
-        self.count = count
 
 
 class Archive:
@@ -63,13 +59,22 @@ class Archive:
         self._end = 0  # the number of the event that follows that file
 
     def take(self) -> Iterator[str]:
-        """Takes the events that are there now, and gives a line for each file. Raises a `Conflict`."""
+        """Takes the events that are there now, and gives a line for each file. Raises a `Conflict`.
+
+        Events stay in the Redis that a cut would part from the return of their job: see `cuts`.
+        """
         yield from self._settle()
-        left = self._source.position().waiting
-        while left > 0:
-            file = self._take(min(self._most, left))
-            left -= file.count
-            yield f"{self._source.name}: {file.count} events in {file.path}"
+        position = self._source.position()
+        end = position.first + position.waiting
+        while position.first < end:
+            cut = self._best_cut(position)
+            if not cut.count:
+                return
+            file = self._take(position.first, cut.count)
+            yield (f"{self._source.name}: {file.count} events in {file.path}" + (
+                f"; {cut.crossed} jobs that were in hand at its end came back later, so `replay --chains` refuses the next"
+                " file" if cut.crossed else ""))
+            position = self._source.position()
 
     def _settle(self) -> Iterator[str]:
         """Looks at the files whose events are not yet taken out. Either the process that wrote them was killed then,
@@ -89,55 +94,51 @@ class Archive:
         return (file.first == position.first and file.count <= position.waiting
                 and all(here == there for here, there in zip(file.events(), self._waiting(file.count))))
 
-    def _take(self, count: int) -> ArchivedFile:
-        """Writes the next file, of this many events or less, and takes them out."""
-        first = self._source.position().first
-        queue, self._behind = self._opening(first), None
-        try:
-            path = self._folder.write(self._source.name, first, queue.opening(), self._followed(queue, first, count),
-                                      count)
-        except _DoesNotFit as fault:
-            if fault.count:
-                return self._take(fault.count)
+    def _best_cut(self, position: Position) -> Cut:
+        """Where the next file ends."""
+        cuts = Cuts(self._opening(position.first).copy())
+        collections.deque(self._followed(cuts.follow, position.first, position.waiting), maxlen=0)
+        cut = cuts.best(position.in_hand, self._most)
+        if not cut.count and position.waiting >= 2 * self._most:
             raise Conflict(f"{self._source.name}: more than {MOST_KEPT:,} elements are in the queue, with which no "
-                           "history can begin; the events stay in the Redis until there are fewer") from None
-        file = ArchivedFile(path, first, count)
+                           "history can begin; the events stay in the Redis until there are fewer")
+        return cut
+
+    def _take(self, first: int, count: int) -> ArchivedFile:
+        """Writes the next file, of this many events, and takes them out."""
+        queue, self._behind = self._opening(first), None
+        lines = (event + b"\n" for event in self._followed(queue.follow, first, count))
+        file = ArchivedFile(self._folder.write(self._source.name, first, queue.opening(), lines, count), first, count)
         self._cut(file)
         self._behind, self._end = queue, file.end
         return file
 
     def _opening(self, first: int) -> FollowedQueue:
         """The queue in front of the event of this number."""
-        if self._behind is not None and self._end == first:
-            return self._behind
-        place = f"{self._source.name}: what is kept of its opening"
-        try:
-            kept = self._source.opening()
-            if kept is not None:
-                return kept
-            before = next((it for it in self._folder.files(self._source.name) if it.end == first), None)
-            if before is not None:
-                place = str(before.path)
-                return read_text(before.path).queue
-        except Damaged as fault:
-            raise Conflict(f"{place}: {fault}") from None
-        raise Conflict(f"{self._source.name}: event {first} is next, and no file in {self._folder.path} ends there: "
-                       "bring that file back, or begin a new series with --anew")
+        if self._behind is None or self._end != first:
+            self._behind, self._end = self._source.opening() or self._behind_file(first), first
+        return self._behind
 
-    def _followed(self, queue: FollowedQueue, first: int, count: int) -> Iterator[bytes]:
-        """The lines of the events, which the queue follows. The next file must be able to begin behind the last."""
-        fitting = 0
-        for number, event in enumerate(self._waiting(count), 1):
+    def _behind_file(self, first: int) -> FollowedQueue:
+        """The queue at the end of the file that ends there."""
+        before = next((it for it in self._folder.files(self._source.name) if it.end == first), None)
+        if before is None:
+            raise Conflict(f"{self._source.name}: event {first} is next, and no file in {self._folder.path} ends there: "
+                           "bring that file back, or begin a new series with --anew")
+        try:
+            return read_text(before.path).queue
+        except Damaged as fault:
+            raise Conflict(f"{before.path}: {fault}") from None
+
+    def _followed(self, follow: Callable[[bytes], None], first: int, count: int) -> Iterator[bytes]:
+        """The events, each of which was followed."""
+        for number, event in enumerate(self._waiting(count), first):
             try:
-                queue.follow(event)
+                follow(event)
             except Damaged as fault:
-                raise Conflict(f"{self._source.name}: event {first + number - 1} does not follow from those before it: "
+                raise Conflict(f"{self._source.name}: event {number} does not follow from those before it: "
                                f"{event.decode('latin-1')}: {fault}") from None
-            if len(queue.elements) <= MOST_KEPT:
-                fitting = number
-            yield event + b"\n"
-        if fitting < count:
-            raise _DoesNotFit(fitting)
+            yield event
 
     def _cut(self, file: ArchivedFile) -> None:
         if not self._source.cut(file.first, file.count):

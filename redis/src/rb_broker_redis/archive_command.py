@@ -2,6 +2,7 @@
 from __future__ import annotations
 
 import argparse
+import contextlib
 import signal
 import sys
 import time
@@ -27,6 +28,10 @@ A file NAME-NUMBER.txt is a history: its NUMBER is that of its first event, and 
 file before it left. It is written and synced before its events are taken out of the Redis, so a kill at any moment
 loses none. Leave the last file in the folder: the next one begins where it ends. One process at a time writes to a
 folder.
+
+A job that is in hand may still come back, and its return belongs in the file with the event that gave it. So the latest
+events stay in the Redis until it is known what becomes of their jobs. If twice --events are there and no good place for
+a cut, the best one is taken, and a line says that `replay --chains` refuses the next file.
 
 If the Redis itself comes back without events that are in a file already, that file is renamed to NAME-NUMBER.lost-1,
 and the history goes on with what the Redis has.
@@ -58,9 +63,13 @@ def add_to(commands: "argparse._SubParsersAction[Parser]") -> None:
 def run(asked: argparse.Namespace) -> int:
     """Takes the events once, or again and again."""
     try:
-        folder = ArchiveFolder(asked.folder)
+        with contextlib.closing(ArchiveFolder(asked.folder)) as folder:
+            return _archive(asked, folder)
     except FolderInUse as fault:
         return fail(1, fault)
+
+
+def _archive(asked: argparse.Namespace, folder: ArchiveFolder) -> int:
     sources = [QueueEvents(it) for it in queues_in(asked)]
     if asked.anew:
         for it in sources:

@@ -67,10 +67,20 @@ class FollowedQueue:
         """The moment of the last event."""
         self.elements: dict[int, bytes] = {}
         """The words of each element, as a `keep` line has them."""
+        self.offered: bytes | None = None
+        """The words of the element that the last event offered."""
+        self.gave: list[bytes] = []
+        """Those of the elements that it gave."""
         self._acts: dict[str | None, Callable[[Match[bytes]], None]] = {
             "offer": self._offer, "gave": self._give, "drain": self._drain, "found": self._remove,
             "clear": self._clear, "size": self._size, "peek": lambda match: None,
         }
+
+    def copy(self) -> FollowedQueue:
+        """Another one that goes on from here."""
+        other = FollowedQueue(self.next_id, self.last)
+        other.elements = self.elements.copy()
+        return other
 
     @classmethod
     def of_opening(cls, lines: Iterable[bytes]) -> FollowedQueue:
@@ -96,6 +106,7 @@ class FollowedQueue:
         at = int(match[2])
         if at != max(int(match[1]), self.last) or at > GREATEST:
             raise Damaged("its moment is not the later of the one asked and the last")
+        self.offered, self.gave = None, []
         self._acts[match.lastgroup](match)
         self.last = at
 
@@ -109,16 +120,15 @@ class FollowedQueue:
         words = match["offer"]
         if int(words.split(b" ", 1)[0]) != self.next_id:
             raise Damaged(f"its id is not the next one, {self.next_id}")
-        self.elements[self.next_id] = words
+        self.elements[self.next_id] = self.offered = words
         self.next_id += 1
 
     def _give(self, match: Match[bytes]) -> None:
         if match["gave"] != b"none":
-            self._leave(match["gave"])
+            self.gave.append(self._leave(match["gave"]))
 
     def _drain(self, match: Match[bytes]) -> None:
-        for id in match["drain"].split():
-            self._leave(id)
+        self.gave += map(self._leave, match["drain"].split())
 
     def _remove(self, match: Match[bytes]) -> None:
         if match["found"] == b"yes":
@@ -131,9 +141,11 @@ class FollowedQueue:
         if int(match["size"]) != len(self.elements):
             raise Damaged(f"the queue holds {len(self.elements)}")
 
-    def _leave(self, id: bytes) -> None:
-        if self.elements.pop(int(id), None) is None:
+    def _leave(self, id: bytes) -> bytes:
+        words = self.elements.pop(int(id), None)
+        if words is None:
             raise Damaged(f"element {id.decode()} is not in the queue")
+        return words
 
 
 class Run(NamedTuple):

@@ -6,6 +6,9 @@ from .archive import Conflict, Position
 from .history import FollowedQueue
 from .queue import Queue
 
+POSITION = """
+return { redis.call('HMGET', KEYS[4], 'cut', 'history'), redis.call('LLEN', KEYS[5]), redis.call('ZRANGE', KEYS[3], 0, -1) }
+"""
 ANEW = """
 local state = redis.call('HMGET', KEYS[4], 'next', 'at', 'calls')
 if not state[1] then return 0 end
@@ -32,18 +35,20 @@ class QueueEvents:
         self._queue, self.name = queue, queue.name
 
     def position(self) -> Position:
-        """How far the events have been taken out. Raises a `Conflict` if the queue keeps none."""
-        first, keeps = self._queue.command("HMGET", self._queue.state, "cut", "history")
+        """How far the events have been taken out, and what is in hand then. Raises a `Conflict` if the queue keeps
+        none."""
+        keys = self._queue.keys
+        (first, keeps), waiting, held = self._queue.command("EVAL", POSITION, len(keys), *keys)
         if keeps == b"no":
             raise Conflict(f"{self.name}: this queue keeps no events")
-        return Position(int(first or 0), int(self._queue.command("LLEN", self._queue.history)))
+        return Position(int(first or 0), waiting, frozenset(it.split(b" ")[3] for it in held))
 
     def opening(self) -> FollowedQueue | None:
         """The queue in front of the first event. It is known if that is the first of all, or if it is kept."""
         lines = self._queue.command("LRANGE", self._queue.opening, 0, -1)
         if lines:
             return FollowedQueue.of_opening(lines)
-        return None if self.position().first else FollowedQueue()
+        return None if self._queue.command("HGET", self._queue.state, "cut") not in (None, b"0") else FollowedQueue()
 
     def events(self, start: int, count: int) -> list[bytes]:
         """`count` events, from the one that has `start` others in front of it."""
