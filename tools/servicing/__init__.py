@@ -1,5 +1,15 @@
 """The parts of tools/service, the process that keeps a server running at one port.
 
+    service.py       one server after the other, each of which begins with what the one before left
+    settings.py, durations.py                the words of the command line
+    folder.py, record.py, runs.py            the folder of a service: what is written of a run, and in what order
+    clock.py, opening.py                     what a run begins with: its moment, its ids and its elements
+    deciding.py                              how a service begins, when a run ends, and which old ones are dropped
+    keeper.py, keeping.py, orphans.py        the process that holds a server and its history, and how it is found
+    server.py, ending.py, visits.py, cutting.py   a server, and how its run is brought to an end
+    watch.py, sockets.py, session.py, looking.py  what is seen of a server
+    signals.py, saying.py, notifying.py      how others ask for the end, and what they are told
+    showing.py       what the service shows of itself
     state.py         all that the service knows and shows at one moment; `Board` holds the latest
     pages.py         `Pages(board, port, folder, http).start()` serves the page, /metrics and /health: always at the
                      socket FOLDER/status, and at an address if --http names one

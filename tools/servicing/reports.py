@@ -1,6 +1,7 @@
 """Reports on runs that have ended: `tools/report` makes each when it is asked for, and the last ones are kept."""
 from __future__ import annotations
 
+import contextlib
 import os
 import subprocess
 import sys
@@ -90,7 +91,8 @@ class Reports:
                 raise OSError("the service has ended")
             process = subprocess.Popen(words, stdin=subprocess.DEVNULL, stdout=subprocess.DEVNULL,
                                        stderr=subprocess.PIPE, start_new_session=True)
-            os.setpriority(os.PRIO_PROCESS, process.pid, NICENESS)
+            with contextlib.suppress(PermissionError):  # a unit of systemd may not
+                os.setpriority(os.PRIO_PROCESS, process.pid, NICENESS)
             self._process = process
             return process
 

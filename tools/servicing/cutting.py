@@ -1,0 +1,53 @@
+"""Cuts sessions of a server from outside, without any right but that over its process.
+
+The server's own end of a connection is taken from it (pidfd_getfd of Linux 5.6) and closed for reading. The server sees
+the end of what the client sends, and ends the session: its jobs fail, and come back. The client sees a reset. A server
+that waits for a client to read its replies sees nothing of that, so at a second cut the end is closed for writing, too.
+"""
+from __future__ import annotations
+
+import contextlib
+import os
+import socket
+import struct
+from typing import Collection, Iterator, Set, Tuple
+
+PIDFD_GETFD = 438  # the number of the call, the same on all machines but Alpha
+RESETS = struct.pack("ii", 1, 0)
+
+
+def cut_sessions(pid: int, ports: Collection[int], again: Collection[int] = ()) -> Tuple[Set[int], str]:
+    """Cuts the sessions of the clients at these ports. Returns those that were cut, and why others were not.
+    `again` are those at which it was tried before."""
+    done: Set[int] = set()
+    try:
+        for it in _sockets_of(pid):
+            with it, contextlib.suppress(OSError):  # a socket that listens has no other end
+                port = it.getpeername()[1]
+                if port in ports:
+                    it.setsockopt(socket.SOL_SOCKET, socket.SO_LINGER, RESETS)
+                    it.shutdown(socket.SHUT_RDWR if port in again else socket.SHUT_RD)
+                    done.add(port)
+    except OSError as fault:
+        return done, fault.strerror or repr(fault)
+    return done, ""
+
+
+def _sockets_of(pid: int) -> Iterator[socket.socket]:
+    """The sockets that a process has open, each as one of this process too."""
+    import ctypes  # which a service that cuts nothing does without
+
+    calls = ctypes.CDLL(None, use_errno=True)
+    process = os.pidfd_open(pid)
+    try:
+        for name in os.listdir(f"/proc/{pid}/fd"):
+            with contextlib.suppress(FileNotFoundError):
+                if not os.readlink(f"/proc/{pid}/fd/{name}").startswith("socket:"):
+                    continue
+                own = calls.syscall(PIDFD_GETFD, process, int(name), 0)
+                if own >= 0:
+                    yield socket.socket(fileno=own)
+                elif ctypes.get_errno() != 9:  # it was closed meanwhile
+                    raise OSError(ctypes.get_errno(), os.strerror(ctypes.get_errno()))
+    finally:
+        os.close(process)

@@ -1,0 +1,96 @@
+"""What the service decides by what it knows, without looking at anything itself."""
+from __future__ import annotations
+
+from dataclasses import dataclass
+from enum import Enum
+from typing import List, Optional, Sequence
+
+from histories.grammar import MOST_OPENING_ELEMENTS
+from servicing.keeping import Held
+from servicing.record import Record
+from servicing.settings import Keep
+from servicing.state import Reason, Supply
+
+LOW, HALF = 0.9, 0.5  # shares of what a run has that are used
+UNANSWERED = 3.0  # seconds after which a free worker would have answered
+YOUNG = 60.0  # seconds that a run lasts before elements that were set aside end it
+SOON = 30_000_000_000  # nanoseconds
+
+
+class Start(Enum):
+    """How a service begins, by what the one before left."""
+
+    FIRST = "first"  # there is no run
+    GO_ON = "go on"  # the server of the last run is still there
+    COLLECT = "collect"  # it has ended, and its history is held
+    CONTINUE = "continue"  # the last run ended in good order, and its history is a file
+    AGAIN = "again"  # the last run is known to be lost, or no server was started
+    LOST = "lost"  # the last run is lost
+
+
+def how_to_start(last: Optional[Record], has_history: bool, held: Optional[Held], is_alive: bool) -> Start:
+    """`held` is what a keeper of an earlier service holds, and `is_alive` whether the server there still runs."""
+    if last is None:
+        return Start.FIRST
+    if has_history:
+        return Start.CONTINUE
+    if held is not None and held.run == last.number:
+        return Start.GO_ON if is_alive else Start.COLLECT
+    if last.end is not None:
+        return Start.AGAIN
+    if held is not None and (held.last or 0) < last.number:
+        return Start.AGAIN
+    return Start.LOST
+
+
+@dataclass(frozen=True)
+class Seen:
+    """What a service has seen of the present run."""
+
+    age: float  # seconds
+    every: float  # seconds
+    ending: float  # seconds that an end may take
+    calls: Supply
+    sessions: Supply
+    is_full: bool
+    unanswered: float  # seconds that the service's own session waits for a worker
+    free_workers: int
+    elements: Optional[int]
+    moment: Optional[int]
+    aside: int
+    first_aside: int  # a moment
+
+
+def why_to_end(seen: Seen) -> Optional[Reason]:
+    """Why the run has to end now, if it has to."""
+    if seen.is_full or _is_low(seen.calls, seen.ending):
+        return Reason.CALLS
+    if _is_low(seen.sessions, seen.ending):
+        return Reason.SESSIONS
+    if seen.unanswered > UNANSWERED and seen.free_workers > 0:
+        return Reason.SESSIONS  # they are used up: a worker that is free takes nobody
+    if seen.age >= seen.every:
+        return Reason.TIME
+    return Reason.ELEMENTS if _is_wanted_aside(seen) else None
+
+
+def _is_low(supply: Supply, ending: float) -> bool:
+    """Whether little is left, or so little at this pace that it may be used up before the run has ended."""
+    share = supply.used / supply.limit
+    return share >= LOW or (share >= HALF and supply.lasts is not None and supply.lasts < 2 * ending)
+
+
+def _is_wanted_aside(seen: Seen) -> bool:
+    """Whether elements that were set aside are to come into the queue: one is due soon, or there is much room."""
+    if not seen.aside or seen.elements is None or seen.moment is None or seen.age < YOUNG:
+        return False
+    room = MOST_OPENING_ELEMENTS - seen.elements
+    return room > 0 and (seen.first_aside <= seen.moment + SOON or room >= min(seen.aside, MOST_OPENING_ELEMENTS // 10))
+
+
+def runs_to_drop(records: Sequence[Record], keep: Keep, now: float) -> List[int]:
+    """The runs that are kept no longer, at this date. The last two are always kept, and one that has not ended."""
+    ended = [it for it in records[:-2] if it.end is not None]
+    if keep.runs is not None:
+        return [it.number for it in ended[:max(len(records) - keep.runs, 0)]]
+    return [it.number for it in ended if it.end and now - it.end.date > (keep.age or 0) / 1e9]

@@ -1,0 +1,148 @@
+"""Looks at a server again and again, and keeps what only several looks together show."""
+from __future__ import annotations
+
+import time
+from collections import deque
+from dataclasses import dataclass
+from typing import Deque, List, Optional, Set, Tuple
+
+from servicing.session import OwnSession, Told
+from servicing.sockets import Connection, Sockets
+from servicing.state import Client, Clients, Doing, Head, Queue, Supply
+
+WINDOW, SHORTEST = 60.0, 5.0  # seconds over which a pace is measured
+BRIEF = 1_000  # milliseconds; a client from which something came since is active
+CLOSE = 50  # milliseconds between a request and its reply that do not tell which came first
+SILENT_FROM = 10.0  # seconds of silence that count
+
+ORDER = list(Doing)
+
+
+class Pace:
+    """How fast a number rises, over the last minute."""
+
+    def __init__(self) -> None:
+        self._marks: Deque[Tuple[float, int]] = deque()
+
+    def add(self, at: float, number: int) -> None:
+        """The number had this value at this reading of the monotonic clock."""
+        self._marks.append((at, number))
+        while len(self._marks) > 2 and self._marks[1][0] <= at - WINDOW:
+            self._marks.popleft()
+
+    @property
+    def a_second(self) -> Optional[float]:
+        """None in the first seconds, in which one session more or less would mean too much."""
+        if not self._marks:
+            return None
+        (since, first), (until, last) = self._marks[0], self._marks[-1]
+        return (last - first) / (until - since) if until - since >= SHORTEST else None
+
+
+def client_of(it: Connection, was_unread: bool) -> Client:
+    """What a client does. `was_unread` says whether replies lay on the way to it at the look before, too."""
+    doing, seconds = _doing(it, was_unread), None if it.heard is None else it.heard / 1000
+    program = it.program
+    return Client(it.port, program.name if program else None, program.pid if program else None, doing, seconds,
+                  it.send_queue, it.receive_queue)
+
+
+def _doing(it: Connection, was_unread: bool) -> Doing:
+    if not it.is_served:
+        return Doing.WAITING
+    if it.send_queue and was_unread:
+        return Doing.NOT_READING
+    if it.has_hung_up:
+        return Doing.HUNG_UP
+    if it.heard is None or it.told is None:
+        return Doing.ACTIVE
+    if it.heard < it.told - CLOSE or (it.owes_reply and it.heard < it.told + CLOSE):
+        return Doing.IN_CALL
+    return Doing.ACTIVE if it.heard < BRIEF else Doing.SILENT
+
+
+def silent_ports(connections: List[Connection], seconds: float) -> List[int]:
+    """The clients over whose sessions nothing came and nothing went for so long."""
+    limit = seconds * 1000
+    return [it.port for it in connections if it.is_served and it.heard is not None and it.told is not None
+            and min(it.heard, it.told) >= limit]
+
+
+@dataclass(frozen=True)
+class Limits:
+    """How much a run has room for."""
+
+    workers: int
+    calls: int
+    sessions: int
+    next_id: int  # of its first offer
+    moment: int  # at its beginning
+    opening: int
+
+
+class Looks:
+    """What was seen of one run."""
+
+    def __init__(self, limits: Limits, own: OwnSession) -> None:
+        self._limits, self._own = limits, own
+        self._unread: Set[str] = set()  # the connections with a queue to the client at the last look
+        self._seen: Set[str] = set()  # the connections that were served at the last look
+        self._used_sessions, self._used_calls = 0, 0
+        self._sessions, self._calls = Pace(), Pace()
+        self.offers, self.leaves = Pace(), Pace()
+        self.clients: Optional[Clients] = None
+        self.connections: List[Connection] = []  # of clients
+        self.queue: Optional[Queue] = None
+        self.moment: Optional[int] = None
+        self.began: Optional[int] = None  # when the server's clock began to go at the latest, by `clock.up_time`
+        self.offered = self.left = 0  # elements of this run; a job that came back is offered again
+        self.visits = 0  # sessions that the service has used up
+
+    def see(self, sockets: Sockets) -> None:
+        """Takes what the system tells of the connections."""
+        own = self._own.own_port
+        served = {it.key for it in sockets.connections if it.is_served}
+        self._used_sessions += len(served - self._seen)
+        self._seen = served
+        self.connections = [it for it in sockets.connections if it.port != own]
+        clients = [client_of(it, it.key in self._unread) for it in self.connections]
+        self._unread = {it.key for it in sockets.connections if it.send_queue}
+        clients.sort(key=lambda it: (ORDER.index(it.doing), -(it.seconds or 0)))
+        self.clients = Clients(tuple(clients), self._limits.workers, SILENT_FROM)
+        self._sessions.add(time.monotonic(), self._used_sessions)
+
+    def hear(self, told: Told) -> None:
+        """Takes what the server told."""
+        self.moment = told.moment
+        began = told.at - (told.moment - self._limits.moment)
+        self.began = began if self.began is None else min(self.began, began)
+        ids = told.next_id - self._limits.next_id
+        self.offered = ids - self._own.probes
+        self.left = max(ids - told.elements + self._limits.opening - self._own.probes, 0)
+        # One call for each id, one for each element that has left, and the looks; that of a probe was counted twice.
+        calls = ids + self.left + self._own.calls - self._own.probes
+        self._used_calls = max(self._used_calls, min(calls, self._limits.calls))
+        for pace, number in ((self._calls, self._used_calls), (self.offers, self.offered), (self.leaves, self.left)):
+            pace.add(time.monotonic(), number)
+        it, head = told.head, None
+        if it is not None:
+            head = Head(it.id, it.expiry, it.attempt, it.payload, (told.moment - it.expiry) / 1e9)
+        self.queue = Queue(time.time(), told.elements, head)
+
+    @property
+    def sessions(self) -> Supply:
+        return Supply(self._used_sessions + self.visits, True, self._limits.sessions, self._sessions.a_second)
+
+    @property
+    def calls(self) -> Supply:
+        used = self._limits.calls if self._own.is_full else self._used_calls
+        return Supply(used, not self._own.is_full, self._limits.calls, self._calls.a_second)
+
+    @property
+    def waiting(self) -> int:
+        """The clients that wait for a worker, and have not given up."""
+        return sum(not it.is_served and not it.has_hung_up for it in self.connections)
+
+    @property
+    def served(self) -> int:
+        return self.clients.served if self.clients else 0

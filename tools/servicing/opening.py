@@ -1,0 +1,157 @@
+"""What a run begins with: the text that its server reads, made from the run before."""
+from __future__ import annotations
+
+from dataclasses import dataclass, field
+from typing import BinaryIO, Dict, Iterable, Iterator, List, Tuple
+
+from histories.grammar import GREATEST, GREATEST_OPENING_ID, MOST_OPENING_ELEMENTS
+
+# An element by its id: the rest of its `keep` line, which is EXPIRY ORIGIN FIRST ATTEMPT PAYLOAD. The ids rise.
+Elements = Dict[bytes, bytes]
+
+# The element by which the service asks for the moment. It would expire after 146 years, and never outlives a run.
+PROBE, PROBE_DELAY = "rb_broker-service", 1 << 62
+_PROBE_END = b" " + PROBE.encode()
+
+
+class NoIdsLeft(Exception):
+    """2^40 ids were given, and no run can begin above."""
+
+
+@dataclass(frozen=True)
+class Opening:
+    """What a run begins with."""
+
+    next_id: int
+    moment: int
+    elements: Elements
+    aside: Elements = field(default_factory=dict)  # beyond what an opening may have, which wait beside it
+
+    def lines(self) -> Iterator[bytes]:
+        """The text that the server reads."""
+        return _lines(self.next_id, self.moment, self.elements)
+
+    def aside_lines(self) -> Iterator[bytes]:
+        return _lines(self.next_id, self.moment, self.aside)
+
+    @property
+    def first_aside(self) -> int:
+        """The moment at which the first of the elements aside expires."""
+        return min((expiry_of(it) for it in self.aside.values()), default=GREATEST)
+
+
+@dataclass
+class Left:
+    """What a history says at its end."""
+
+    next_id: int
+    moment: int  # of its last event, or the opening's
+    elements: Elements
+    failed: int = 0  # jobs that came back
+    last_attempts: int = 0  # elements that were given their last attempt
+    probes: int = 0  # elements that the service itself offered
+
+
+def opening_after(left: Left, aside: Elements, moment: int) -> Opening:
+    """The opening of the run after one that ended in good order, at this moment or at that of its last event. At most
+    1,000,000 elements are in it, those that expire first; the others wait beside."""
+    return _opening(left.next_id, max(moment, left.moment), left.elements, aside)
+
+
+def opening_again(before: Opening, given: int, moment: int) -> Opening:
+    """The opening of the run after one that was lost, which may have given this many ids."""
+    return _opening(before.next_id + given, max(moment, before.moment), before.elements, before.aside)
+
+
+def _opening(next_id: int, moment: int, elements: Elements, aside: Elements) -> Opening:
+    if next_id > GREATEST_OPENING_ID:
+        raise NoIdsLeft
+    if aside or len(elements) > MOST_OPENING_ELEMENTS:
+        elements, aside = _parted({**elements, **aside})
+    return Opening(next_id, min(moment, GREATEST), elements, aside)
+
+
+def _parted(elements: Elements) -> Tuple[Elements, Elements]:
+    """As many as an opening may have, and the others, which expire last. The ids of both rise."""
+    if len(elements) <= MOST_OPENING_ELEMENTS:
+        return _rising(elements.items()), {}
+    order = sorted(elements.items(), key=lambda it: (expiry_of(it[1]), int(it[0])))
+    return _rising(order[:MOST_OPENING_ELEMENTS]), _rising(order[MOST_OPENING_ELEMENTS:])
+
+
+def _rising(elements: Iterable[Tuple[bytes, bytes]]) -> Elements:
+    return dict(sorted(elements, key=lambda it: int(it[0])))
+
+
+def _is_probe(words: bytes) -> bool:
+    return words.endswith(_PROBE_END) and expiry_of(words) >= PROBE_DELAY
+
+
+def expiry_of(words: bytes) -> int:
+    return int(words[:words.index(b" ")])
+
+
+def _lines(next_id: int, moment: int, elements: Elements) -> Iterator[bytes]:
+    yield b"history 3\nopen %d %d %d\n" % (next_id, moment, len(elements))
+    for id, words in elements.items():
+        yield b"keep %s %s\n" % (id, words)
+    yield b"end 0\n"
+
+
+def left_in(file: BinaryIO, attempts: int = 0) -> Left:
+    """What is left at the end of a history of the third version that `replay` has accepted, or of an opening.
+
+    It takes a microsecond for each line, and clients wait for it. So nothing else is checked here. Raises a
+    `ValueError`, an `IndexError` or a `KeyError` for another text.
+    """
+    if file.readline() != b"history 3\n":
+        raise ValueError
+    next_id, moment, count = map(int, file.readline().split()[1:])
+    left = Left(next_id, moment, {})
+    elements = left.elements
+    for _ in range(count):
+        _, id, words = file.readline()[:-1].split(b" ", 2)
+        elements[id] = words
+    last = b" %d " % attempts
+    words_of_event: List[bytes] = []
+    probes: List[bytes] = []
+    for line in file:
+        event = line[:-1].split(b" ", 5)
+        if len(event) < 4:  # the last line
+            break
+        words_of_event = event
+        act = event[3]
+        if act == b"offer":
+            id, words = event[4], event[5]
+            elements[id] = words
+            left.next_id += 1
+            left.failed += words.split(b" ", 2)[1] != id
+            if words.endswith(_PROBE_END) and _is_probe(words):
+                probes.append(id)
+        elif act in (b"size", b"peek"):
+            continue
+        else:
+            for id in _gone(act, event, elements):
+                words = elements.pop(id)
+                if last in words and act != b"remove":
+                    left.last_attempts += words.split(b" ", 4)[3] == last[1:-1]
+    if words_of_event:
+        left.moment = int(words_of_event[2])
+    for id in probes:  # a service that was killed may have left one
+        elements.pop(id, None)
+    left.probes = len(probes)
+    return left
+
+
+def _gone(act: bytes, event: List[bytes], elements: Elements) -> Iterable[bytes]:
+    """The ids of the elements that an event took out."""
+    if act in (b"take", b"poll"):
+        return () if event[4] == b"none" else (event[4],)
+    if act == b"pollfor":
+        id = event[5].split(b" ")[1]
+        return () if id == b"none" else (id,)
+    if act == b"drain":
+        return event[5].split() if len(event) > 5 else ()
+    if act == b"remove":
+        return (event[4],) if event[5] == b"yes" else ()
+    return list(elements)  # a clear

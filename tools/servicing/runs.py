@@ -1,0 +1,174 @@
+"""The runs of a folder: what each begins with, and what becomes of it, written down in the right order.
+
+Aside, opening and record are written in this order before a server starts, so a run with a record has an opening. A
+history is written before the record says that the run has ended, and that before the next opening. A service that was
+killed in between finds by `deciding.how_to_start` what is left to do.
+"""
+from __future__ import annotations
+
+import contextlib
+import os
+import threading
+import time
+from dataclasses import dataclass, replace
+from typing import Callable, Dict, Optional, Tuple
+
+from servicing.clock import Reading, elapsed, read_clock
+from servicing.deciding import runs_to_drop
+from servicing.folder import Folder, Unusable, opened
+from servicing.opening import Elements, Left, Opening, left_in, opening_after, opening_again
+from servicing.record import End, Record
+from servicing.saying import say
+from servicing.server import Server
+from servicing.settings import Keep, Settings
+from servicing.state import Reason
+
+LOW_PRIORITY = 10
+_TIDYING = threading.Lock()
+
+
+@dataclass(frozen=True)
+class Next:
+    """What the next run begins with, once it is known when."""
+
+    make: Callable[[int], Opening]  # by its moment
+    moment: int  # at `since`
+    since: Optional[Reading]
+
+    def at(self, now: Reading) -> Opening:
+        return self.make(self.moment + (elapsed(self.since, now) if self.since else 0))
+
+
+class Runs:
+    def __init__(self, folder: Folder) -> None:
+        self.folder = folder
+        self.records: Dict[int, Record] = {}
+        for number in folder.numbers():
+            record = folder.record(number)
+            if record is not None:
+                self.records[number] = record
+        # Histories of another service may be there, which are never written over.
+        self._greatest = max(folder.numbers(), default=0)
+
+    @property
+    def last(self) -> Optional[Record]:
+        return self.records.get(max(self.records, default=0))
+
+    @property
+    def next_number(self) -> int:
+        """That of the next run. A run whose server was never started gives its number to the next one."""
+        last = self.last
+        is_unused = last is not None and last.end is None and not self.folder.history(last.number)
+        return self._greatest if is_unused else self._greatest + 1
+
+    def first(self, begin_with: Optional[str], program_accepts: Callable[[str], str]) -> Next:
+        """What the first run begins with: nothing, what a history left, or what the last history left that a series
+        of runs has left in this folder. Raises an `Unusable`."""
+        path = begin_with or (self.folder.history(self._greatest) if self._greatest else None)
+        if path is None:
+            return Next(lambda moment: Opening(0, moment, {}), 0, None)
+        why_not = program_accepts(path)
+        if why_not:
+            raise Unusable(f"{path} can't be continued: {why_not}")
+        left = _left_of(path)
+        age = max(time.time_ns() - os.stat(path).st_mtime_ns, 0)
+        say("info", "begins-with", history=path, elements=len(left.elements))
+        return Next(lambda moment: opening_after(left, {}, moment), left.moment + age, None)
+
+    def prepare(self, following: Next, settings: Settings) -> Record:
+        """Writes down the next run, whose server is started right behind. Raises an `OSError` if the disk is full."""
+        now, number = read_clock(), self.next_number
+        opening = following.at(now)
+        before = self.last
+        lost = 0
+        if before is not None and before.number != number:
+            lost = before.lost_before + (before.end is not None and before.end.why is Reason.KILLED)
+        elif before is not None:
+            lost = before.lost_before
+        record = Record(number, opening.next_id, opening.moment, len(opening.elements), len(opening.aside),
+                        settings.calls, tuple(settings.policy), now, lost_before=lost)
+        if opening.aside:
+            self.folder.write(f"aside-{number}.txt", opening.aside_lines())
+        else:
+            self.folder.remove(f"aside-{number}.txt")
+        self.folder.write(f"opening-{number}.txt", opening.lines())
+        self._write(record)
+        self._greatest = number
+        return record
+
+    def see(self, record: Record, moment: int, began: Reading) -> None:
+        """Writes down at which moment a server really began, and when. It is no harm if that can't be written."""
+        seen = replace(record, moment=moment, began=began, is_seen=True)
+        try:
+            self._write(seen)
+        except OSError:
+            self.records[record.number] = seen
+
+    def after(self, record: Record, left: Left) -> Next:
+        """What follows a run that ended in good order."""
+        aside = self._aside(record)
+        return Next(lambda moment: opening_after(left, aside, moment), record.moment, record.surely_began)
+
+    def again(self, record: Record, given: int) -> Next:
+        """What follows a run that was lost, and may have given so many ids."""
+        left = _left_of(self.folder.file(f"opening-{record.number}.txt"))
+        before = Opening(record.next_id, record.moment, left.elements, self._aside(record))
+        return Next(lambda moment: opening_again(before, given, moment), record.moment, record.surely_began)
+
+    def after_file(self, record: Record, path: str) -> Next:
+        """What follows a run that ended in good order, by the file of its history."""
+        return self.after(record, _left_of(path))
+
+    def _aside(self, record: Record) -> Elements:
+        return _left_of(self.folder.file(f"aside-{record.number}.txt")).elements if record.aside else {}
+
+    def save_history(self, server: Server) -> None:
+        """Writes a run's history, unless it is there. Raises an `OSError`."""
+        if self.folder.history(server.run) is None:
+            self.folder.write(f"run-{server.run}.txt", server.text())
+
+    def save_damaged(self, server: Server) -> None:
+        """Keeps what is no history, for whoever wants to know why."""
+        with contextlib.suppress(OSError):
+            self.folder.write(f"damaged-{server.run}.txt", server.text())
+
+    def end(self, record: Record, end: End) -> None:
+        """Writes down what became of a run. Raises an `OSError`."""
+        self._write(replace(record, end=end))
+
+    def _write(self, record: Record) -> None:
+        self.folder.write(f"run-{record.number}.json", [record.text()])
+        self.records[record.number] = record
+
+    def tidy(self, keep: Keep, then: Callable[[], None]) -> None:
+        """Compresses the histories of all runs that have ended, and drops those that are kept no longer, on a thread of
+        its own that goes behind everybody else."""
+        ended = [it.number for it in self.records.values() if it.end is not None]
+        dropped = runs_to_drop(sorted(self.records.values(), key=lambda it: it.number), keep, time.time())
+        for number in dropped:
+            del self.records[number]
+        threading.Thread(target=self._tidy, args=(ended, dropped, then), daemon=True).start()
+
+    def _tidy(self, ended: "list[int]", dropped: "list[int]", then: Callable[[], None]) -> None:
+        with contextlib.suppress(OSError):
+            os.setpriority(os.PRIO_PROCESS, threading.get_native_id(), LOW_PRIORITY)
+        with _TIDYING:
+            for number in dropped:
+                self.folder.drop(number)
+            for number in ended:
+                self.folder.remove(f"opening-{number}.txt")
+                self.folder.remove(f"aside-{number}.txt")
+                with contextlib.suppress(OSError):  # a full disk: it stays as it is
+                    self.folder.compress(number)
+        then()
+
+
+def _left_of(path: str) -> Left:
+    """What is left in a file. Raises an `Unusable`."""
+    try:
+        with opened(path) as file:
+            return left_in(file)
+    except OSError as fault:
+        raise Unusable(f"{path}: {fault.strerror}") from None
+    except (ValueError, IndexError, KeyError):
+        raise Unusable(f"{path} is no history of the third version") from None

@@ -1,0 +1,163 @@
+"""The service's own session with its server: how many elements wait, which comes first, and the moment."""
+from __future__ import annotations
+
+import contextlib
+import socket
+import time
+from dataclasses import dataclass
+from typing import List, Optional
+
+from servicing.clock import up_time
+from servicing.opening import PROBE, PROBE_DELAY
+
+HOST = "127.0.0.1"
+PATIENCE = 0.5  # seconds that a look waits for a worker
+REPLY = 2.0  # seconds that it waits for a reply of one
+FULL = "ERR 6 full"
+
+
+@dataclass(frozen=True)
+class Item:
+    """The element that expires first, as the server shows it."""
+
+    id: int
+    expiry: int
+    attempt: int
+    payload: str
+
+
+@dataclass(frozen=True)
+class Told:
+    """What the server told at one look."""
+
+    elements: int
+    head: Optional[Item]
+    next_id: int
+    moment: int
+    at: int  # when that was heard, by the clock that `clock.up_time` reads
+
+
+class Lost(Exception):
+    """The session is lost, or the server does not listen."""
+
+
+class OwnSession:
+    """A session that is left after a look if clients wait for its worker, and otherwise stays.
+
+    A look offers an element and removes it, which shows the moment and the next id. It does so only once the server
+    has shown that a worker serves this session: a connection that still waits is carried out later, even if its client
+    has gone, and would leave the element behind.
+    """
+
+    def __init__(self, port: int) -> None:
+        self._port = port
+        self._socket: Optional[socket.socket] = None
+        self._heard = b""
+        self._is_greeted = False
+        self._since: Optional[float] = None  # when it was tried first to have a worker, since one last served this
+        self.sessions = 0  # that were begun
+        self.calls = 0
+        self.probes = 0
+        self.is_full = False  # whether the run takes no further calls
+
+    @property
+    def waits(self) -> float:
+        """For how many seconds the server has left this session without a worker."""
+        return 0.0 if self._since is None else time.monotonic() - self._since
+
+    @property
+    def is_open(self) -> bool:
+        return self._socket is not None
+
+    @property
+    def own_port(self) -> int:
+        """The port of this end, or 0."""
+        try:
+            return int(self._socket.getsockname()[1]) if self._socket else 0
+        except OSError:
+            return 0
+
+    def look(self) -> Optional[Told]:
+        """Asks the server. None if it does not answer soon, since no worker is free, or if the run is full. Raises a
+        `Lost`."""
+        try:
+            if not self._greet():
+                return None
+            self._send("SIZE", "PEEK", f"OFFER {PROBE_DELAY} {PROBE}")
+            size, head, offered = (self._reply() for _ in range(3))
+            self.calls += sum(not it.startswith("ERR") for it in (size, head, offered))
+            if not offered.startswith("OFFERED "):
+                self.is_full = self.is_full or offered == FULL
+                return None
+            return self._told(size, head, offered)
+        except (OSError, ValueError, IndexError) as fault:
+            self.drop()
+            raise Lost(repr(fault)) from None
+
+    def _told(self, size: str, head: str, offered: str) -> Told:
+        at = up_time()
+        id, expiry = map(int, offered.split(" ")[1:])
+        self._send(f"REMOVE {id}")
+        self.calls += not self._reply().startswith("ERR")
+        self.probes += 1
+        return Told(int(size.split(" ")[1]), _item(head), id + 1, expiry - PROBE_DELAY, at)
+
+    def last_call(self) -> None:
+        """Leaves with a call, the last of the run: by its moment the history tells when the run ended."""
+        with contextlib.suppress(OSError):
+            if self._socket and self._is_greeted:
+                self._send("SIZE", "QUIT")
+                while self._reply() != "BYE":
+                    pass
+        self.drop()
+
+    def leave(self) -> None:
+        """Ends the session, if a worker serves it. One that still waits is kept: in its place would come another."""
+        if self._is_greeted:
+            with contextlib.suppress(OSError):
+                self._send("QUIT")
+            self.drop()
+
+    def drop(self) -> None:
+        if self._socket is not None:
+            self._socket.close()
+        self._socket, self._heard, self._is_greeted = None, b"", False
+
+    def _greet(self) -> bool:
+        """Begins a session if there is none. Returns whether a worker serves it, by the answer to a request that costs
+        no call and changes nothing."""
+        if self._socket is None:
+            self._since = self._since or time.monotonic()
+            self._socket = socket.create_connection((HOST, self._port), PATIENCE)
+            self.sessions += 1
+            self._send("AT 0")
+        if not self._is_greeted:
+            try:
+                self._is_greeted = bool(self._reply())
+            except socket.timeout:
+                return False
+            self._since = None
+        return True
+
+    def _send(self, *requests: str) -> None:
+        assert self._socket
+        self._socket.sendall("".join(f"{it}\n" for it in requests).encode())
+
+    def _reply(self) -> str:
+        assert self._socket
+        until = time.monotonic() + (REPLY if self._is_greeted else PATIENCE)
+        while b"\n" not in self._heard:
+            self._socket.settimeout(max(until - time.monotonic(), 0.001))
+            piece = self._socket.recv(4096)
+            if not piece:
+                raise ConnectionError("the server has ended the session")
+            self._heard += piece
+        line, _, self._heard = self._heard.partition(b"\n")
+        return line.decode("ascii")
+
+
+def _item(head: str) -> Optional[Item]:
+    words: List[str] = head.split(" ")
+    if words[0] != "HEAD" or words[4] == PROBE:
+        return None
+    return Item(int(words[1]), int(words[2]), int(words[3]), words[4])

@@ -1,0 +1,163 @@
+"""The words of tools/service, and what follows from them for servers."""
+from __future__ import annotations
+
+import argparse
+import math
+import os
+import sys
+from dataclasses import dataclass
+from typing import Callable, List, NoReturn, Optional, Union
+
+from common.words import number, parser_of
+from servicing.address import Address, address_of
+from servicing.durations import SECOND, nanoseconds_of
+from servicing.keeper import HISTORY, OPENING
+
+TURN = 20_000_000  # nanoseconds that a turn of a wait lasts while nothing happens
+MOST_TURNS = 1_000_000
+NEVER = "never"
+
+DAY = 86_400 * SECOND
+
+
+@dataclass(frozen=True)
+class Keep:
+    """Which old runs are kept: so many, or those of so many nanoseconds."""
+
+    runs: Optional[int]
+    age: Optional[int]
+
+
+@dataclass(frozen=True)
+class Settings:
+    """How the service is to run. Spans are nanoseconds."""
+
+    port: int
+    folder: str
+    program: str
+    begin_with: Optional[str]  # the history whose elements the first run begins with
+    workers: int
+    sessions: int
+    calls: int
+    turns: int
+    delay: Optional[int]  # or else `rate`
+    rate: Optional[int]
+    attempts: int
+    timer: str
+    every: int
+    stop_within: int
+    silent: Optional[int]  # sessions that are silent for so long are cut
+    keep: Keep
+    http: Optional[Address]
+
+    @property
+    def policy(self) -> List[str]:
+        """The words by which `replay --chains` checks the retries of a run."""
+        retry = ["--rate", str(self.rate)] if self.rate is not None else ["--delay", str(self.delay)]
+        return [*retry, "--attempts", str(self.attempts)]
+
+    @property
+    def serve_words(self) -> List[str]:
+        """The command that serves a run, for a keeper."""
+        return [self.program, "serve", "--port", str(self.port), "--workers", str(self.workers),
+                "--sessions", str(self.sessions), "--calls", str(self.calls), "--turns", str(self.turns),
+                "--timer", self.timer, *self.policy, "--from", OPENING, "--history", HISTORY]
+
+
+class _Parser(argparse.ArgumentParser):
+    """Refuses words in one line."""
+
+    def error(self, message: str) -> NoReturn:
+        print(f"service: {message}", file=sys.stderr)
+        sys.exit(2)
+
+
+def _span(least: int, most: int, said: str) -> Callable[[str], int]:
+    """Reads a span from `least` to `most`, which `said` says."""
+
+    def read(word: str) -> int:
+        value = nanoseconds_of(word)
+        if not least <= value <= most:
+            raise argparse.ArgumentTypeError(f"{word} is not from {said}")
+        return value
+
+    return read
+
+
+def _silent(word: str) -> Optional[int]:
+    return None if word == NEVER else _span(SECOND, DAY, "1s to 1d")(word)
+
+
+def _keep(word: str) -> Keep:
+    """A number of runs, or an age."""
+    if word.isascii() and word.isdigit():
+        return Keep(int(number(int, 1, 1_000_000)(word)), None)
+    return Keep(None, nanoseconds_of(word))
+
+
+def _http(word: str) -> Address:
+    try:
+        return address_of(word)
+    except ValueError as fault:
+        raise argparse.ArgumentTypeError(str(fault)) from None
+
+
+def parser(doc: Optional[str]) -> argparse.ArgumentParser:
+    """The parser of all words."""
+    made: argparse.ArgumentParser = parser_of(
+        "service", doc, "service [--port P] [--folder DIR] [OPTION ..]", kind=_Parser)
+    add = made.add_argument
+    add("--port", type=number(int, 1, 65_535), default=7011, metavar="P", help="the port on 127.0.0.1 (7011)")
+    add("--folder", metavar="DIR", help="where the runs are kept (~/.local/state/rb_broker/PORT)")
+    add("--program", metavar="PATH", help="the program that serves (that of ./broker)")
+    add("--from", dest="begin_with", metavar="HISTORY", help="begins an empty folder with what this history left")
+    add("--status", action="store_true", help="shows the service of the folder in this terminal")
+    add("--json", action="store_true", help="with --status: one object of JSON")
+    _add_server_options(add)
+    add("--every", type=_span(SECOND, 30 * DAY, "1s to 30d"), default=3600 * SECOND, metavar="TIME",
+        help="the longest that a run lasts, and so the most that a kill loses, 1s to 30d (1h)")
+    add("--stop-within", type=_span(SECOND, 3600 * SECOND, "1s to 1h"), default=60 * SECOND, metavar="TIME",
+        help="how long a run's end waits for clients to leave, before it cuts their sessions, 1s to 1h (60s)")
+    add("--silent", type=_silent, default=None, metavar="TIME",
+        help="cuts sessions over which nothing came and nothing went for so long, 1s to 1d or never (never)")
+    add("--keep", type=_keep, default=Keep(None, 7 * DAY), metavar="N|TIME",
+        help="how many old runs are kept, or for how long (7d)")
+    add("--http", type=_http, metavar="HOST:PORT", help="serves a page, /metrics and /health there (nowhere)")
+    return made
+
+
+def _add_server_options(add: Callable[..., object]) -> None:
+    most = 2**64 - 1
+    add("--workers", type=number(int, 1, 16), default=16, metavar="N", help="clients served at once, 1 to 16 (16)")
+    add("--sessions", type=number(int, 1, 10_000), default=10_000, metavar="N",
+        help="sessions of a run, 1 to 10000 (10000)")
+    add("--calls", type=number(int, 1, 1_000_000), default=1_000_000, metavar="N",
+        help="calls of a run, 1 to 1000000 (1000000)")
+    add("--wait", type=_span(0, MOST_TURNS * TURN, "0s to 20000s"), default=SECOND, metavar="TIME",
+        help="how long a TAKE or POLLFOR waits at most, 0s to 20000s (1s)")
+    retry = add.__self__.add_mutually_exclusive_group().add_argument  # type: ignore[attr-defined]
+    retry("--delay", type=_span(0, most, "0s to 584 years"), metavar="TIME",
+          help="how long after a failure the job comes back (30s)")
+    retry("--rate", type=_span(0, most, "0s to 584 years"), metavar="TIME",
+          help="instead: the time from one attempt's expiry to the next")
+    add("--attempts", type=number(int, 1, 1000), default=20, metavar="N", help="attempts of a job, 1 to 1000 (20)")
+    add("--timer", choices=["list", "heap", "pairing", "wheel"], default="heap",
+        help="how the next element is found (heap)")
+
+
+def folder_of(given: Optional[str], port: int) -> str:
+    """Where the runs are kept: as said, where systemd keeps the state of its units, or where users keep theirs."""
+    if given is not None:
+        return os.path.abspath(given)
+    state = os.environ.get("XDG_STATE_HOME") or os.path.expanduser("~/.local/state")
+    return os.environ.get("STATE_DIRECTORY") or f"{state}/rb_broker/{port}"
+
+
+def settings_of(words: argparse.Namespace, program: Union[str, None]) -> Settings:
+    """The settings that the words of the command line say."""
+    delay = words.delay if words.delay is not None or words.rate is not None else 30 * SECOND
+    return Settings(
+        port=words.port, folder=folder_of(words.folder, words.port), program=program or "", begin_with=words.begin_with,
+        workers=words.workers, sessions=words.sessions, calls=words.calls, turns=math.ceil(words.wait / TURN),
+        delay=delay, rate=words.rate, attempts=words.attempts, timer=words.timer, every=words.every,
+        stop_within=words.stop_within, silent=words.silent, keep=words.keep, http=words.http)

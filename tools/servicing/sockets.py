@@ -1,0 +1,110 @@
+"""The connections of a port, as `ss` of iproute2 lists them. That uses no session of the server, and no call."""
+from __future__ import annotations
+
+import re
+import subprocess
+from dataclasses import dataclass
+from typing import Dict, List, Optional, Tuple
+
+
+
+HOST = "127.0.0.1"
+PATIENCE = 10  # seconds that the command may take
+
+_FIELD = re.compile(r"\b(ino|sk|lastrcv|lastsnd|data_segs_in|data_segs_out):([0-9a-f]+)")
+_PROGRAM = re.compile(r'users:\(\("([^"]*)",pid=(\d+)')
+
+# The states in which the server still has a connection: the client has closed its side in the second one.
+OPEN, HUNG_UP = "ESTAB", "CLOSE-WAIT"
+
+
+class Unwatchable(Exception):
+    """Why connections can't be listed."""
+
+
+@dataclass(frozen=True)
+class Program:
+    """A process that has an end of a connection."""
+
+    name: str
+    pid: int
+
+
+@dataclass(frozen=True)
+class Connection:
+    """A client's connection, seen from the server's end. Times are milliseconds, queues are bytes."""
+
+    port: int  # the client's
+    key: str  # the same as long as the connection lasts
+    has_hung_up: bool
+    is_served: bool  # or it waits until a worker accepts it
+    receive_queue: int  # what the client has sent, and the server has not read
+    send_queue: int  # what the server has sent, and the client's end has not taken
+    heard: Optional[int]  # since something last came from the client
+    told: Optional[int]  # since something was last sent to it
+    owes_reply: bool  # whether a request seems to be under way
+    program: Optional[Program]  # the client, as far as this user may see it
+
+
+@dataclass(frozen=True)
+class Sockets:
+    """What is at the port at one moment."""
+
+    is_listening: bool
+    server: Optional[Program]  # as far as this user may see it
+    connections: List[Connection]
+
+
+def look_at(port: int, with_programs: bool = True) -> Sockets:
+    """Lists the connections of a port of 127.0.0.1. Without the programs it takes less time."""
+    words = "-Htinoepa" if with_programs else "-Htinoea"
+    filter = f"( src {HOST}:{port} or dst {HOST}:{port} )"
+    try:
+        run = subprocess.run(["ss", words, "exclude", "time-wait", filter], capture_output=True, encoding="utf-8",
+                             errors="replace", timeout=PATIENCE, check=False,
+                             start_new_session=True)  # which Ctrl-C does not end
+    except FileNotFoundError:
+        raise Unwatchable("the command ss is not there, which iproute2 brings") from None
+    except subprocess.TimeoutExpired:
+        raise Unwatchable(f"the command ss took longer than {PATIENCE} seconds") from None
+    if run.returncode:
+        said = run.stderr.strip().splitlines() or [f"status {run.returncode}"]
+        raise Unwatchable(f"the command ss failed: {said[0]}")
+    return sockets_in(run.stdout, port)
+
+
+def sockets_in(text: str, port: int) -> Sockets:
+    """Reads what `ss` printed. A line that begins with a space belongs to the one before."""
+    here = f"{HOST}:{port}"
+    is_listening, server = False, None
+    ends: List[Tuple[List[str], str]] = []
+    clients: Dict[str, Optional[Program]] = {}
+    for line in re.sub(r"\n[ \t]+", " ", text).splitlines():
+        words = line.split(None, 5)
+        if len(words) < 5:
+            continue
+        state, local, peer = words[0], words[3], words[4]
+        if state == "LISTEN" and local == here:
+            is_listening, server = True, _program(line)
+        elif state in (OPEN, HUNG_UP) and local == here:
+            ends.append((words, line))
+        elif peer == here:
+            clients[local] = _program(line)
+    return Sockets(is_listening, server, [_connection(words, line, clients) for words, line in ends])
+
+
+def _program(line: str) -> Optional[Program]:
+    found = _PROGRAM.search(line)
+    return Program(found[1], int(found[2])) if found else None
+
+
+def _connection(words: List[str], line: str, clients: Dict[str, Optional[Program]]) -> Connection:
+    fields = dict(_FIELD.findall(line))
+    has_times = "rto:" in line  # the kernel told about the connection; what is 0 is left out then
+    heard, told = (int(fields.get(it, 0)) if has_times else None for it in ("lastrcv", "lastsnd"))
+    came, went = (int(fields.get(it, 0)) for it in ("data_segs_in", "data_segs_out"))
+    peer = words[4]
+    return Connection(
+        port=int(peer.rpartition(":")[2]), key=f"{peer} {fields.get('sk', '')}", has_hung_up=words[0] == HUNG_UP,
+        is_served=fields.get("ino", "0") != "0", receive_queue=int(words[1]), send_queue=int(words[2]),
+        heard=heard, told=told, owes_reply=came > went, program=clients.get(peer))

@@ -1,0 +1,172 @@
+"""The service as a process, with the lines that it says."""
+from __future__ import annotations
+
+import atexit
+import contextlib
+import json
+import os
+import re
+import signal
+import subprocess
+import sys
+import threading
+import time
+from typing import Callable, Dict, List, Optional, Sequence
+
+from common.program import TOP, tested_program
+from serving import PATIENCE
+from serving.server import free_port
+from serving.session import Session
+from common.testing import RoomTest
+
+WORD = re.compile(r'([a-z_]+)=(?:"((?:[^"\\]|\\.)*)"|(\S+))')
+
+SYSTEMS_PYTHON = "/usr/bin/python3"
+
+Event = Dict[str, str]
+
+
+def event_of(line: str) -> Event:
+    """The words of a line, with their values."""
+    return {name: re.sub(r"\\(.)", r"\1", quoted) or plain for name, quoted, plain in WORD.findall(line)}
+
+
+class Service:
+    """A service in a folder, until its end."""
+
+    def __init__(
+        self, folder: str, *options: object, port: Optional[int] = None, before: Sequence[str] = (), program: str = ""
+    ) -> None:
+        self.folder, self.port = folder, port or free_port()
+        python = SYSTEMS_PYTHON if before else sys.executable  # which another user may not run
+        words = [*before, python, "-B", f"{TOP}/tools/service", "--port", str(self.port), "--folder", folder,
+                 "--program", program or tested_program(), *map(str, options)]
+        self.process = subprocess.Popen(words, stderr=subprocess.PIPE, encoding="utf-8")
+        atexit.register(self.process.kill)
+        self.events: List[Event] = []
+        self.lines: List[str] = []
+        self._came = threading.Condition()
+        self._reader = threading.Thread(target=self._read, daemon=True)
+        self._reader.start()
+
+    def _read(self) -> None:
+        assert self.process.stderr
+        for line in self.process.stderr:
+            with self._came:
+                self.lines.append(line.rstrip("\n"))
+                self.events.append(event_of(line))
+                self._came.notify_all()
+
+    def all(self, event: str) -> List[Event]:
+        with self._came:
+            return [it for it in self.events if it.get("event") == event]
+
+    def wait(self, event: str, count: int = 1, patience: float = PATIENCE) -> Event:
+        """The last of this many lines of an event, once they are there."""
+        with self._came:
+            self._came.wait_for(lambda: len([it for it in self.events if it.get("event") == event]) >= count
+                                or (self.process.poll() is not None and not self._reader.is_alive()), patience)
+        found = self.all(event)
+        if len(found) < count:
+            raise AssertionError(f"{len(found)} of {count} lines of {event} came: {self.lines}")
+        return found[count - 1]
+
+    @property
+    def server(self) -> int:
+        """The process of the server that serves now."""
+        return int(self.all("serving")[-1]["process"])
+
+    def keeper(self) -> int:
+        """The keeper of the server that serves now."""
+        with open(f"/proc/{self.server}/stat", encoding="utf-8") as file:
+            return int(file.read().rpartition(")")[2].split()[1])
+
+    def wait_until_seen(self, run: int) -> None:
+        """Waits until it is written down since when the clock of a run's server goes."""
+        until = time.monotonic() + PATIENCE
+        while time.monotonic() < until:
+            with contextlib.suppress(OSError, ValueError), open(f"{self.folder}/run-{run}.json", "rb") as file:
+                if json.load(file)["is_seen"]:
+                    return
+            time.sleep(0.05)
+        raise AssertionError("the server did not show its moment")
+
+    def stop(self, number: int = signal.SIGTERM) -> int:
+        """Asks for the end, waits for it, and returns the status."""
+        self.process.send_signal(number)
+        return self.end()
+
+    def end(self) -> int:
+        status = self.process.wait(PATIENCE)
+        self._reader.join(PATIENCE)
+        return status
+
+    def kill(self) -> None:
+        """Kills the service alone."""
+        self.process.kill()
+        self.process.wait()
+
+    def kill_all(self) -> None:
+        """Kills what is left of it: the service, its server and its keeper."""
+        self.kill()
+        for it in os.listdir("/proc"):
+            with contextlib.suppress(OSError, ValueError):
+                if self._is_mine(int(it)):
+                    os.kill(int(it), signal.SIGKILL)
+
+    def _is_mine(self, pid: int) -> bool:
+        with open(f"/proc/{pid}/cmdline", "rb") as file:
+            words = file.read().decode(errors="replace").split("\0")
+        is_keeper = any(it.endswith("/keeper.py") for it in words) and self.folder in words
+        return is_keeper or ("serve" in words and str(self.port) in words)
+
+
+class ServiceTest(RoomTest):
+    """A test with a folder of its own, in which services run one after the other at one port."""
+
+    maxDiff = None
+
+    def setUp(self) -> None:
+        super().setUp()
+        self.port = free_port()
+
+    def begin(self, *options: object, folder: str = "", before: Sequence[str] = (), program: str = "") -> Service:
+        """A service that serves."""
+        service = self.start(*options, folder=folder, before=before, program=program)
+        service.wait("serving")
+        return service
+
+    def start(self, *options: object, folder: str = "", before: Sequence[str] = (), program: str = "") -> Service:
+        service = Service(folder or self.path("runs"), *options, port=self.port, before=before, program=program)
+        self.addCleanup(service.kill_all)
+        return service
+
+    def ask(self, *requests: str) -> List[str]:
+        """The replies in a session of its own, once a worker serves it; it is begun again if it is not served."""
+        until = time.monotonic() + PATIENCE
+        while True:
+            try:
+                with Session(self.port) as it:
+                    if it.ask("AT 0") == "ERR 1 syntax":
+                        replies = [it.ask(request) for request in requests]
+                        it.ask("QUIT")
+                        return replies
+            except OSError:
+                pass
+            if time.monotonic() > until:
+                raise AssertionError(f"nobody answers {requests}")
+            time.sleep(0.02)
+
+    def offer(self, count: int, delay: int = 0, name: str = "job") -> None:
+        """Offers this many jobs."""
+        with Session(self.port) as it:
+            it.send(*(f"OFFER {delay} {name}-{number}" for number in range(count)))
+            for _ in range(count):
+                self.assertRegex(it.line(), "^OFFERED ")
+            it.ask("QUIT")
+
+    def until(self, holds: Callable[[], bool], what: str) -> None:
+        until = time.monotonic() + PATIENCE
+        while not holds():
+            self.assertLess(time.monotonic(), until, what)
+            time.sleep(0.02)

@@ -1,0 +1,116 @@
+"""Cuts of a server's sessions: those of its clients that are named, and nothing else."""
+from __future__ import annotations
+
+import os
+import shutil
+import socket
+import subprocess
+import sys
+import threading
+import unittest
+from contextlib import ExitStack
+
+from common.program import TOP
+from serving import HOST
+from serving.server import Server, free_port
+from serving.session import Session
+from serving.testing import ServingTest
+from servicing.cutting import cut_sessions
+from servicing.sockets import look_at
+
+# A failed job is back at once.
+OPTIONS = ("--workers", 2, "--sessions", 400, "--turns", 50, "--delay", 0)
+
+
+def served(server: Server) -> "list[int]":
+    return [it.port for it in look_at(server.port).connections if it.is_served]
+
+
+class CutsTest(ServingTest):
+    def setUp(self) -> None:
+        super().setUp()
+        self.stack = ExitStack()
+        self.addCleanup(self.stack.close)
+
+    def client(self, port: int, own_port: int = 0) -> Session:
+        return self.stack.enter_context(Session(port, own_port=own_port))
+
+    def test_nobody_is_cut(self) -> None:
+        server = self.serve(*OPTIONS)
+        self.assertEqual(cut_sessions(server.process.pid, []), (set(), ""))
+        it = self.client(server.port)
+        it.ask("SIZE")
+        self.assertEqual(cut_sessions(server.process.pid, [1, 2]), (set(), ""))
+        self.assertEqual(it.ask("SIZE"), "SIZE 0")
+
+    def test_its_own_sessions_alone(self) -> None:
+        """Neither a client that waits, nor the door, nor a session of another server whose client has the same port."""
+        server, other = self.serve(*OPTIONS), self.serve(*OPTIONS)
+        own_port = free_port()
+        clients = [self.client(server.port, own_port), self.client(server.port)]
+        clients[0].ask("OFFER 0 job")
+        self.assertRegex(clients[0].ask("TAKE"), "^ITEM 0 ")
+        clients[1].ask("SIZE")
+        stranger = self.client(other.port, own_port=own_port)
+        stranger.ask("SIZE")
+        waiting = self.client(server.port)
+        waiting.send("POLLFOR 60000000000")
+        ports = served(server)
+        self.assertEqual(sorted(ports), sorted(it.own_port for it in clients))
+        self.assertEqual(cut_sessions(server.process.pid, ports), (set(ports), ""))
+        self.assertEqual([it.is_cut() for it in clients], [True, True])
+        self.assertRegex(waiting.heard(), "^ITEM 1 [0-9]+ 2 job$")
+        self.assertEqual(self.client(server.port).ask("SIZE"), "SIZE 0")
+        self.assertEqual(stranger.ask("SIZE"), "SIZE 0")
+        self.assertIsNone(other.process.poll())
+
+    def test_beside_visits(self) -> None:
+        """What connects and leaves at the same time disturbs no cut."""
+        server = self.serve("--workers", 4, "--sessions", 10_000)
+        it = self.client(server.port)
+        it.ask("SIZE")
+        over = threading.Event()
+        visitor = threading.Thread(target=self.visit, args=(server.port, over))
+        visitor.start()
+        try:
+            self.assertEqual(cut_sessions(server.process.pid, [it.own_port]), ({it.own_port}, ""))
+            self.assertTrue(it.is_cut())
+        finally:
+            over.set()
+            visitor.join()
+
+    def visit(self, port: int, over: threading.Event) -> None:
+        for _ in range(2_000):
+            if over.is_set():
+                return
+            with socket.create_connection((HOST, port)):
+                pass
+
+    def test_a_client_that_does_not_read_is_cut_the_second_time(self) -> None:
+        server = self.serve(*OPTIONS)
+        it = self.stack.enter_context(Session(server.port, receive_buffer=4096))
+        it.ask("OFFER 0 deaf")
+        it.ask("TAKE")
+        it.fill()
+        cut_sessions(server.process.pid, [it.own_port])
+        cut_sessions(server.process.pid, [it.own_port], [it.own_port])
+        self.assertEqual(self.client(server.port).ask("SIZE"), "SIZE 1")
+
+    def test_a_process_that_has_ended(self) -> None:
+        server = self.serve(*OPTIONS)
+        server.kill()
+        count, why = cut_sessions(server.process.pid, [1])
+        self.assertEqual((count, why), (set(), "No such process"))
+
+    @unittest.skipIf(os.geteuid() or not shutil.which("setpriv"), "it takes root and setpriv to be another user")
+    def test_a_user_who_may_not_cut_is_told_so(self) -> None:
+        server = self.serve(*OPTIONS)
+        it = self.client(server.port)
+        it.ask("SIZE")
+        code = (f"import sys; sys.path.insert(0, {TOP + '/tools'!r}); from servicing.cutting import cut_sessions; "
+                f"print(cut_sessions({server.process.pid}, [{it.own_port}]))")
+        words = ["setpriv", "--reuid=65534", "--regid=65534", "--clear-groups", "--bounding-set=-all",
+                 "--inh-caps=-all", sys.executable, "-S", "-B", "-c", code]
+        ran = subprocess.run(words, capture_output=True, encoding="utf-8", check=False)
+        self.assertRegex(ran.stdout + ran.stderr, r"^\(set\(\), '[A-Z][a-z ]+ (denied|permitted)'\)\n$")
+        self.assertEqual(it.ask("SIZE"), "SIZE 0")

@@ -1,0 +1,106 @@
+"""What a service does about what the one before left, and when a run has to end."""
+from __future__ import annotations
+
+import unittest
+from dataclasses import replace
+from typing import Optional
+
+from servicing.deciding import Seen, Start, how_to_start, runs_to_drop, why_to_end
+from servicing.keeping import Held
+from servicing.record import End, record_in
+from servicing.settings import Keep
+from servicing.state import Reason, Supply
+from servicing.tests.support import record
+
+WELL, LOST = End(1000.0, Reason.TIME, 5, 2, 0, 2, 0, 0, 0), End(1000.0, Reason.KILLED)
+
+
+def supply(used: int, limit: int = 1000, pace: Optional[float] = None) -> Supply:
+    return Supply(used, True, limit, pace)
+
+
+QUIET = Seen(age=100, every=3600, ending=60, calls=supply(0), sessions=supply(0), is_full=False, unanswered=0,
+             free_workers=16, elements=5, moment=10**12, aside=0, first_aside=0)
+
+
+class StartTest(unittest.TestCase):
+    def test_each_way(self) -> None:
+        going = record(7)
+        for wanted, last, has_history, held, is_alive in (
+            (Start.FIRST, None, False, None, False),
+            (Start.GO_ON, going, False, Held(7, 7, 99, None), True),
+            (Start.COLLECT, going, False, Held(7, 7, 99, 0), False),
+            (Start.CONTINUE, going, True, Held(7, 7, 99, 0), False),  # killed before the keeper was told to drop it
+            (Start.CONTINUE, record(7, WELL), True, None, False),
+            (Start.AGAIN, record(7, LOST), False, None, False),
+            (Start.AGAIN, going, False, Held(None, 6, 0, None), False),  # killed before the server was started
+            (Start.AGAIN, going, False, Held(None, None, 0, None), False),
+            (Start.AGAIN, going, False, Held(6, 6, 98, 0), False),
+            (Start.LOST, going, False, None, False),
+            (Start.LOST, going, False, Held(None, 7, 0, None), False),
+        ):
+            with self.subTest(wanted, held=held):
+                self.assertEqual(how_to_start(last, has_history, held, is_alive), wanted)
+
+
+class EndTest(unittest.TestCase):
+    def why(self, **told: object) -> Optional[Reason]:
+        return why_to_end(replace(QUIET, **told))
+
+    def test_a_quiet_run_goes_on(self) -> None:
+        self.assertIsNone(self.why())
+        self.assertIsNone(self.why(calls=supply(899), sessions=supply(899)))
+
+    def test_it_ends_in_time(self) -> None:
+        self.assertEqual(self.why(age=3600), Reason.TIME)
+        self.assertIsNone(self.why(age=3599))
+
+    def test_calls_run_low(self) -> None:
+        self.assertEqual(self.why(calls=supply(900)), Reason.CALLS)
+        self.assertEqual(self.why(is_full=True), Reason.CALLS)
+        self.assertEqual(self.why(calls=supply(500, pace=5)), Reason.CALLS)  # 100 seconds, and an end may take 60
+        self.assertIsNone(self.why(calls=supply(500, pace=4)))
+        self.assertIsNone(self.why(calls=supply(499, pace=50)))  # or a small run would never get anywhere
+
+    def test_sessions_run_low(self) -> None:
+        self.assertEqual(self.why(sessions=supply(900)), Reason.SESSIONS)
+        self.assertEqual(self.why(sessions=supply(600, pace=5)), Reason.SESSIONS)
+
+    def test_a_free_worker_that_takes_nobody_has_no_sessions_left(self) -> None:
+        self.assertEqual(self.why(unanswered=3.5), Reason.SESSIONS)
+        self.assertIsNone(self.why(unanswered=3.5, free_workers=0))
+        self.assertIsNone(self.why(unanswered=2.5))
+
+    def test_elements_that_were_set_aside_are_wanted(self) -> None:
+        late, soon = 10**12 + 31 * 10**9, 10**12 + 29 * 10**9
+        self.assertEqual(self.why(aside=5, first_aside=soon), Reason.ELEMENTS)
+        self.assertEqual(self.why(aside=5, first_aside=late), Reason.ELEMENTS)  # there is room for all of them
+        self.assertIsNone(self.why(aside=5, first_aside=soon, elements=1_000_000))
+        self.assertIsNone(self.why(aside=300_000, first_aside=late, elements=950_000))
+        self.assertEqual(self.why(aside=300_000, first_aside=late, elements=899_000), Reason.ELEMENTS)
+        self.assertIsNone(self.why(aside=5, first_aside=soon, age=59))
+
+
+class KeepTest(unittest.TestCase):
+    def test_so_many(self) -> None:
+        records = [record(it, WELL) for it in range(1, 10)] + [record(10)]
+        self.assertEqual(runs_to_drop(records, Keep(4, None), 0), [1, 2, 3, 4, 5, 6])
+        self.assertEqual(runs_to_drop(records, Keep(1, None), 0), [1, 2, 3, 4, 5, 6, 7, 8])
+        self.assertEqual(runs_to_drop(records, Keep(50, None), 0), [])
+
+    def test_so_long(self) -> None:
+        records = [record(it, End(1000.0 * it, Reason.TIME)) for it in range(1, 10)]
+        self.assertEqual(runs_to_drop(records, Keep(None, 3000 * 10**9), 7500), [1, 2, 3, 4])
+        self.assertEqual(runs_to_drop(records, Keep(None, 1), 10**6), [1, 2, 3, 4, 5, 6, 7])
+
+
+class RecordTest(unittest.TestCase):
+    def test_it_is_read_as_it_was_written(self) -> None:
+        for end in (None, LOST, replace(WELL, held_by=("client 5: 3s",), cut=2, closed=0.25)):
+            it = record(12, end, next_id=2**40, moment=2**64 - 1)
+            self.assertEqual(record_in(it.text()), it)
+
+    def test_other_texts_are_refused(self) -> None:
+        for text in (b"", b"{}", b"[]", b'{"end": null}', b"null"):
+            with self.subTest(text), self.assertRaises((ValueError, KeyError, TypeError)):
+                record_in(text)

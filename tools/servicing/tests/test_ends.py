@@ -1,0 +1,158 @@
+"""Runs end in good order, whatever their clients do."""
+from __future__ import annotations
+
+import fcntl
+import os
+import pty
+import shutil
+import signal
+import subprocess
+import sys
+import termios
+import time
+import unittest
+
+from common.program import TOP, tested_program
+from serving.session import Session
+from servicing.tests.process import SYSTEMS_PYTHON, ServiceTest
+
+
+class EndsTest(ServiceTest):
+    def test_it_waits_for_clients_and_says_for_whom(self) -> None:
+        service = self.begin()
+        with Session(self.port) as it:
+            self.assertRegex(it.ask("OFFER 0 left"), "^OFFERED ")
+            service.process.send_signal(signal.SIGTERM)
+            told = service.wait("waiting")
+            self.assertIn(f"client {it.own_port}", told["clients"])
+            self.assertEqual(it.ask("SIZE"), "SIZE 1")
+            it.ask("QUIT")
+        self.assertEqual(service.end(), 0)
+        self.assertEqual(service.all("saved")[0]["left"], "1")
+        self.assertEqual(service.all("stopped")[0]["why"], "asked")
+
+    def test_it_cuts_clients_that_stay(self) -> None:
+        service = self.begin("--stop-within", "2s", "--delay", "0s")
+        with Session(self.port) as it:
+            self.assertRegex(it.ask("OFFER 0 held"), "^OFFERED ")
+            self.assertRegex(it.ask("TAKE"), "^ITEM [0-9]+ [0-9]+ 1 held$")
+            began = time.monotonic()
+            self.assertEqual(service.stop(), 0)
+            self.assertGreaterEqual(time.monotonic() - began, 2)
+            self.assertLess(time.monotonic() - began, 10)
+            self.assertTrue(it.is_cut())
+        saved = service.all("saved")[0]
+        self.assertEqual((saved["left"], saved["cut"]), ("1", "1"))
+        self.begin("--delay", "0s")
+        self.assertRegex(self.ask("TAKE")[0], "^ITEM [0-9]+ [0-9]+ 2 held$")
+
+    def test_a_second_signal_cuts_at_once(self) -> None:
+        service = self.begin()
+        with Session(self.port) as it:
+            it.ask("SIZE")
+            service.process.send_signal(signal.SIGTERM)
+            service.wait("ending")
+            began = time.monotonic()
+            self.assertEqual(service.stop(signal.SIGINT), 0)
+            self.assertLess(time.monotonic() - began, 10)
+        self.assertEqual(service.all("saved")[0]["cut"], "1")
+
+    @unittest.skipIf(os.geteuid() or not shutil.which("setpriv"), "it takes root and setpriv to be another user")
+    @unittest.skipUnless(os.path.exists(SYSTEMS_PYTHON), f"there is no {SYSTEMS_PYTHON}")
+    def test_where_it_can_not_cut_it_leaves_the_server_to_the_next_service(self) -> None:
+        """A user who may not read a program may not reach into its process, either."""
+        program = self.path("program")
+        shutil.copy(tested_program(), program)
+        os.chmod(program, 0o711)
+        os.chmod(self.room, 0o777)
+        before = ("setpriv", "--reuid=65534", "--regid=65534", "--clear-groups", "--bounding-set=-all", "--inh-caps=-all")
+        service = self.begin("--stop-within", "1s", before=before, program=program)
+        with Session(self.port) as it:
+            self.assertRegex(it.ask("OFFER 0 left"), "^OFFERED ")
+            self.assertEqual(service.stop(), 1)
+            text = service.all("left-behind")[0]["text"]
+            self.assertRegex(text, "its clients do not leave, and can't be cut: [A-Z][a-z ]+ (denied|permitted);")
+            self.assertEqual(it.ask("SIZE"), "SIZE 1")
+            again = self.begin("--stop-within", "20s", before=before, program=program)
+            self.assertEqual(again.server, service.server)
+            again.process.send_signal(signal.SIGTERM)
+            again.wait("ending")
+            it.ask("QUIT")
+        self.assertEqual(again.end(), 0)
+        self.assertEqual(again.all("saved")[0]["left"], "1")
+
+    def test_it_cuts_clients_that_wait_or_do_not_read(self) -> None:
+        service = self.begin("--stop-within", "1s", "--wait", "1s")
+        with Session(self.port) as waiting, Session(self.port, receive_buffer=4096) as full:
+            waiting.send("TAKE", "TAKE", "TAKE", "TAKE", "TAKE", "TAKE", "TAKE", "TAKE")
+            full.fill()
+            self.assertEqual(service.stop(), 0)
+        self.assertEqual(service.all("lost-run"), [])
+
+    def test_a_rollover_cuts_clients_that_stay(self) -> None:
+        service = self.begin("--every", "1s", "--stop-within", "1s")
+        with Session(self.port) as it:
+            it.ask("OFFER 0 job")
+            served = service.wait("serving", 2)
+            self.assertIn(f"client {it.own_port}", served["held_by"])
+        self.assertEqual(self.ask("SIZE"), ["SIZE 1"])
+        self.assertEqual(service.stop(), 0)
+
+    def test_silent_clients_are_cut(self) -> None:
+        service = self.begin("--silent", "2s", "--delay", "0s", "--every", "1h")
+        with Session(self.port) as silent, Session(self.port) as busy:
+            silent.ask("OFFER 0 job")
+            self.assertRegex(silent.ask("TAKE"), "^ITEM ")
+            until = time.monotonic() + 6
+            while time.monotonic() < until:
+                self.assertRegex(busy.ask("SIZE"), "^SIZE ")
+                time.sleep(0.2)
+            self.assertTrue(silent.is_cut())
+            self.assertRegex(busy.ask("TAKE"), "^ITEM [0-9]+ [0-9]+ 2 job$")
+        self.assertEqual(service.all("cut-silent")[0]["sessions"], "1")
+
+    def test_signals_in_each_state(self) -> None:
+        for wait in (0.0, 0.02, 0.05, 0.08, 0.1, 0.15, 0.2, 0.3, 0.5):
+            service = self.start("--every", "1s", "--sessions", "400")
+            service.wait("service")
+            time.sleep(wait)
+            with self.subTest(wait=wait):
+                self.assertEqual(service.stop(), 0)
+                self.assertEqual(service.all("lost-run"), [])
+        service = self.begin("--every", "1s", "--sessions", "400")
+        service.wait("between-runs")
+        self.assertEqual(service.stop(), 0)
+        service = self.begin("--every", "1s", "--sessions", "400")
+        service.wait("ending")
+        self.assertEqual(service.stop(), 0)
+
+    def test_ctrl_c_in_a_terminal(self) -> None:
+        screen, terminal = pty.openpty()
+        words = [sys.executable, "-B", f"{TOP}/tools/service", "--port", str(self.port), "--folder", self.path("runs"),
+                 "--program", tested_program()]
+        process = subprocess.Popen(words, stdin=terminal, stdout=terminal, stderr=terminal, preexec_fn=_own_terminal)
+        os.close(terminal)
+        self.addCleanup(process.kill)
+        said = b""
+        while b"event=serving" not in said:
+            said += os.read(screen, 4096)
+        self.offer(3)
+        os.write(screen, b"\x03")
+        self.assertEqual(process.wait(60), 0)
+        service = self.begin()
+        self.assertEqual(service.all("lost-run"), [])
+        self.assertEqual(self.ask("SIZE"), ["SIZE 3"])
+
+    def test_the_last_call_tells_when_a_run_ended(self) -> None:
+        service = self.begin()
+        self.ask("OFFER 0 job")
+        time.sleep(2.5)
+        self.assertEqual(service.stop(), 0)
+        with open(self.path("runs/run-1.txt"), encoding="ascii") as file:
+            *_, last, _ = file.read().splitlines()
+        self.assertGreaterEqual(int(last.split(" ")[2]), 2_500_000_000)
+
+
+def _own_terminal() -> None:
+    os.setsid()
+    fcntl.ioctl(0, termios.TIOCSCTTY, 0)

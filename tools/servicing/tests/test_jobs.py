@@ -1,0 +1,55 @@
+"""Jobs through several runs, with workers in Perl that leave between two jobs, and with one whose sessions are cut."""
+from __future__ import annotations
+
+import gzip
+import io
+import time
+from collections import Counter
+from pathlib import Path
+from typing import List
+
+from examples.tests.processes import Worker
+from histories.element import Element
+from histories.text import Text, offers_in
+from serving import PATIENCE
+from servicing.opening import PROBE
+from servicing.tests.process import ServiceTest
+
+JOBS = 200
+
+# Runs a job: notes it in FOLDER/delivered, but fails those that end in 7 the first time. $0 is the folder.
+DELIVER = 'case $1 in *7) mkdir "$0/$1" 2> /dev/null && exit 1; esac; echo "$1" >> "$0/delivered"'
+
+
+def offered(path: Path) -> List[Element]:
+    """The elements that are offered in a history, without the service's own."""
+    text = gzip.decompress(path.read_bytes()) if path.suffix == ".gz" else path.read_bytes()
+    return [it for it in offers_in(Text(io.BytesIO(text))) if it.payload != PROBE]
+
+
+class JobsTest(ServiceTest):
+    def test_nothing_is_lost_or_done_twice(self) -> None:
+        """Each job is offered once, done once, and in the histories once."""
+        service = self.begin("--every", "2s", "--sessions", "400", "--delay", "100ms", "--calls", "20000")
+        workers = [Worker(self.port, "sh", "-c", DELIVER, self.room, session="0.5") for _ in range(2)]
+        payloads = [f"job-{number}" for number in range(JOBS)]
+        noted = Path(self.path("delivered"))
+        try:
+            for payload in payloads:
+                self.assertRegex(self.ask(f"OFFER 0 {payload}")[0], "^OFFERED ")
+                time.sleep(0.03)
+            until = time.monotonic() + PATIENCE
+            while time.monotonic() < until and (not noted.exists() or len(noted.read_text().splitlines()) < JOBS):
+                time.sleep(0.1)
+            time.sleep(1)  # in which a job that is run twice would show
+        finally:
+            reports = [it.stop().lines[-1] for it in workers]
+        self.assertEqual(service.stop(), 0)
+        self.assertGreaterEqual(len(service.all("saved")), 3)
+        for report in reports:
+            self.assertTrue(report.endswith("dead 0, lost 0, unheard 0"), report)
+        runs = sorted(Path(self.path("runs")).glob("run-*.txt*"))
+        told = Counter(it.payload for run in runs for it in offered(run) if it.attempt == 1)
+        self.assertEqual(told, Counter(payloads))
+        self.assertEqual(Counter(noted.read_text().splitlines()), Counter(payloads))
+        self.assertEqual(service.all("lost-run"), [])

@@ -1,0 +1,185 @@
+"""Processes are killed: the service in each of its states, its server, and its keeper."""
+from __future__ import annotations
+
+import os
+import signal
+import threading
+import time
+from typing import List
+
+from serving.session import Session
+from servicing.tests.process import Service, ServiceTest
+
+
+class KilledTest(ServiceTest):
+    def test_the_next_service_goes_on_with_the_server(self) -> None:
+        service = self.begin()
+        with Session(self.port) as it:
+            self.assertRegex(it.ask("OFFER 0 job"), "^OFFERED ")
+            id = it.ask("TAKE").split(" ")[1]
+            service.kill()
+            self.assertEqual(it.ask("SIZE"), "SIZE 0")
+            again = self.begin()
+            self.assertEqual(again.all("resume")[0]["how"], "go on")
+            self.assertEqual(again.server, service.server)
+            self.assertEqual(it.ask(f"DONE {id}"), f"DONE {id}")
+        self.assertEqual(again.stop(), 0)
+        self.assertEqual(again.all("saved")[0]["left"], "0")
+
+    def test_the_server_ends_while_no_service_is_there(self) -> None:
+        service = self.begin("--sessions", "3")
+        service.kill()
+        self.ask("OFFER 0 job")
+        while True:
+            try:
+                self.ask_once("SIZE")
+            except OSError:
+                break
+        again = self.begin()
+        self.assertEqual(again.all("resume")[0]["how"], "collect")
+        self.assertEqual(again.all("lost-run"), [])
+        self.assertRegex(self.ask("TAKE")[0], "^ITEM [0-9]+ [0-9]+ 1 job$")
+        self.assertEqual(again.stop(), 0)
+
+    def ask_once(self, request: str) -> str:
+        with Session(self.port) as it:
+            return it.ask(request)
+
+    def test_it_is_killed_while_a_run_ends(self) -> None:
+        service = self.begin("--sessions", "50")
+        with Session(self.port) as it:
+            self.assertRegex(it.ask("OFFER 0 job"), "^OFFERED ")
+            service.process.send_signal(signal.SIGTERM)
+            service.wait("ending")
+            time.sleep(0.5)
+            service.kill()
+            again = self.begin("--stop-within", "2s")
+            self.assertEqual(it.ask("SIZE"), "SIZE 1")
+            self.assertEqual(again.wait("ending")["why"], "sessions")
+        again.wait("serving", 2)
+        self.assertEqual(again.all("lost-run"), [])
+        self.assertEqual(self.ask("SIZE"), ["SIZE 1"])
+        self.assertEqual(again.stop(), 0)
+
+    def test_it_is_killed_at_any_moment(self) -> None:
+        """Services are killed after ever other times, while jobs are offered and done. Each is done once."""
+        done: List[str] = []
+        offered: List[str] = []
+        is_over = threading.Event()
+        clients = [threading.Thread(target=self.produce, args=(offered, is_over)),
+                   threading.Thread(target=self.work, args=(done, is_over))]
+        options = ("--every", "1s", "--wait", "100ms", "--delay", "0s", "--sessions", "600")
+        service = self.begin(*options)
+        for it in clients:
+            it.start()
+        try:
+            for number in range(20):
+                time.sleep(0.1 + number * 0.07)
+                service.kill()
+                self.assertEqual(service.all("lost-run"), [])
+                service = self.start(*options)
+            time.sleep(3)
+        finally:
+            is_over.set()
+            for it in clients:
+                it.join()
+        self.drain(done)
+        self.assertEqual(service.stop(), 0)
+        self.assertEqual(service.all("lost-run"), [])
+        self.assertGreater(len(offered), 100)
+        self.assertEqual(sorted(done), sorted(offered))
+
+    def produce(self, offered: List[str], is_over: threading.Event) -> None:
+        while not is_over.is_set():
+            name = f"job-{len(offered)}"
+            self.assertRegex(self.ask(f"OFFER 0 {name}")[0], "^OFFERED ")
+            offered.append(name)
+            time.sleep(0.01)
+
+    def work(self, done: List[str], is_over: threading.Event) -> None:
+        while not is_over.is_set():
+            self.drain(done)
+            time.sleep(0.01)
+
+    def drain(self, done: List[str]) -> None:
+        """Does all jobs that are due. Whether one is done is known before it is noted."""
+        try:
+            with Session(self.port) as it:
+                while it.ask("AT 0") == "ERR 1 syntax":
+                    item = it.ask("TAKE").split(" ")
+                    if item[0] != "ITEM":
+                        break
+                    if it.ask(f"DONE {item[1]}") == f"DONE {item[1]}":
+                        done.append(item[4])
+                it.ask("QUIT")
+        except OSError:
+            pass
+
+    def test_the_keeper_is_killed(self) -> None:
+        service = self.begin()
+        keeper = service.keeper()
+        self.offer(3)
+        os.kill(keeper, signal.SIGKILL)
+        service.wait("keeper")
+        service.kill()
+        again = self.begin()
+        self.assertEqual(again.all("resume")[0]["how"], "go on")
+        self.assertEqual(self.ask("SIZE"), ["SIZE 3"])
+        self.assertEqual(again.stop(), 0)
+        self.assertEqual(again.all("saved")[0]["left"], "3")
+
+    def test_the_service_and_the_keeper_are_killed(self) -> None:
+        service = self.begin()
+        keeper = service.keeper()
+        self.offer(3)
+        service.kill()
+        os.kill(keeper, signal.SIGKILL)
+        again = self.begin()
+        self.assertEqual(again.all("resume")[0]["how"], "go on")
+        self.assertEqual(again.stop(), 0)
+        self.assertEqual(again.all("saved")[0]["left"], "3")
+
+    def test_all_are_killed(self) -> None:
+        service = self.begin()
+        self.offer(3)
+        self.assertEqual(service.stop(), 0)
+        service = self.begin()
+        self.offer(5, name="lost")
+        service.kill_all()
+        again = self.begin()
+        self.assertEqual(again.all("lost-run")[0]["opening"], "3")
+        self.assertEqual(self.ask("SIZE"), ["SIZE 3"])
+        self.assertEqual(again.stop(), 0)
+
+    def test_the_server_is_killed_while_no_service_is_there(self) -> None:
+        service = self.begin()
+        server = service.server
+        service.kill()
+        os.kill(server, signal.SIGKILL)
+        again = self.begin()
+        self.assertEqual(again.all("lost-run")[0]["run"], "1")
+        self.assertEqual(again.stop(), 0)
+
+    def test_the_server_is_killed_while_it_ends(self) -> None:
+        service = self.begin()
+        with Session(self.port) as it:
+            it.ask("SIZE")
+            service.process.send_signal(signal.SIGTERM)
+            service.wait("ending")
+            os.kill(service.server, signal.SIGKILL)
+            self.assertEqual(service.end(), 0)
+        self.assertEqual(service.all("lost-run")[0]["run"], "1")
+
+    def test_a_second_service_says_who_has_the_folder(self) -> None:
+        service = self.begin()
+        second = Service(self.path("runs"), port=self.port)
+        self.assertEqual(second.end(), 1)
+        self.assertIn(f"is in use by the service of process {service.process.pid} at port {self.port}", second.lines[0])
+        self.assertEqual(len(second.lines), 1)
+        self.assertEqual(self.ask("SIZE"), ["SIZE 0"])
+
+    def test_a_second_folder_at_the_port_is_refused(self) -> None:
+        self.begin()
+        second = self.start(folder=self.path("others"))
+        self.assertEqual(second.end(), 1)
+        self.assertIn(f"no server at port {self.port}: rb_broker: cannot listen", second.lines[-1])

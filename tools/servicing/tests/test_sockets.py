@@ -1,0 +1,71 @@
+"""What `ss` prints, and what is read from it."""
+from __future__ import annotations
+
+import os
+import tempfile
+import unittest
+from unittest import mock
+
+from servicing.sockets import Program, Unwatchable, look_at, sockets_in
+
+# A listener with two connections that no worker has accepted yet, a client that does not read and one in a TAKE. Each
+# has its second line behind it, as without --oneline. The last is of another machine's port of the same number.
+LISTED = """LISTEN 2 128 127.0.0.1:7011 0.0.0.0:*     users:(("rb_broker",pid=30170,fd=3)) ino:32929 sk:2003 <->
+	 bbr cwnd:10 unacked:2
+ESTAB  5      0       127.0.0.1:7011 127.0.0.1:44070 ino:0 sk:2004 cgroup:/ <->
+	 ts sack bbr rto:200 rtt:0.007/0.003 segs_in:3 data_segs_in:1 lastsnd:1244 lastrcv:1208 lastack:1208
+ESTAB  57136  163298  127.0.0.1:7011 127.0.0.1:44066 users:(("rb_broker",pid=30170,fd=9)) ino:32930 sk:2005 <->
+	 ts sack bbr rto:816 data_segs_out:5 data_segs_in:7 lastsnd:36 lastrcv:952 notsent:131066
+CLOSE-WAIT 1  0       127.0.0.1:7011 127.0.0.1:44056 ino:28390 sk:2008 <->
+	 ts rto:204 data_segs_out:1 data_segs_in:2 lastsnd:1208
+ESTAB  0      0       127.0.0.1:44066 127.0.0.1:7011 users:(("python3",pid=30175,fd=5)) ino:32947 <->
+	 ts rto:208 lastsnd:952 lastrcv:892
+FIN-WAIT-2 0      0       127.0.0.1:44056 127.0.0.1:7011 ino:0 sk:2009 <->
+	 ts rto:208
+TIME-WAIT 0      0       127.0.0.1:7011 127.0.0.1:44001 ino:0 sk:200a
+ESTAB  0      0       10.0.0.2:44070 10.0.0.7:7011 users:(("other",pid=7,fd=5)) ino:1 sk:2011 <->
+	 ts rto:208
+"""
+
+
+class SocketsTest(unittest.TestCase):
+    def test_what_is_listed(self) -> None:
+        sockets = sockets_in(LISTED, 7011)
+        self.assertEqual((sockets.is_listening, sockets.server), (True, Program("rb_broker", 30170)))
+        waiting, unread, gone = sockets.connections
+        self.assertEqual((waiting.port, waiting.is_served, waiting.receive_queue), (44070, False, 5))
+        self.assertIsNone(waiting.program)
+        self.assertEqual((waiting.heard, waiting.told, waiting.has_hung_up), (1208, 1244, False))
+        self.assertEqual((unread.port, unread.is_served, unread.send_queue), (44066, True, 163298))
+        self.assertEqual((unread.program, unread.owes_reply), (Program("python3", 30175), True))
+        self.assertEqual((gone.port, gone.has_hung_up, gone.is_served, gone.heard), (44056, True, True, 0))
+
+    def test_another_port(self) -> None:
+        sockets = sockets_in(LISTED, 7012)
+        self.assertEqual((sockets.is_listening, sockets.server, sockets.connections), (False, None, []))
+
+    def test_a_kernel_that_tells_nothing_about_connections(self) -> None:
+        text = "ESTAB 0 7 127.0.0.1:7011 127.0.0.1:44070 ino:5 sk:1\n"
+        connection, = sockets_in(text, 7011).connections
+        self.assertEqual((connection.heard, connection.told, connection.owes_reply), (None, None, False))
+        self.assertEqual((connection.send_queue, connection.is_served), (7, True))
+
+    def test_lines_that_are_none(self) -> None:
+        self.assertEqual(sockets_in("", 7011).connections, [])
+        self.assertEqual(sockets_in("nonsense\n\n a b\n", 7011).connections, [])
+
+    def said_with(self, script: str) -> str:
+        """What is said where the command ss is this script, or missing if that is empty."""
+        with tempfile.TemporaryDirectory(prefix="rb-test-") as room:
+            if script:
+                with open(f"{room}/ss", "w", encoding="ascii") as file:
+                    file.write(script)
+                os.chmod(f"{room}/ss", 0o755)
+            with mock.patch.dict(os.environ, PATH=room), self.assertRaises(Unwatchable) as raised:
+                look_at(25999)
+        return str(raised.exception)
+
+    def test_where_ss_is_missing_or_fails(self) -> None:
+        self.assertEqual(self.said_with(""), "the command ss is not there, which iproute2 brings")
+        script = "#!/bin/sh\necho 'Cannot open netlink socket' >&2\nexit 1\n"
+        self.assertEqual(self.said_with(script), "the command ss failed: Cannot open netlink socket")

@@ -1,0 +1,59 @@
+"""Moments follow real time, whatever happens between two runs."""
+from __future__ import annotations
+
+import argparse
+import unittest
+
+from servicing.clock import elapsed, read_clock
+from servicing.durations import nanoseconds_of, text_of
+from servicing.runs import Next
+from servicing.opening import Opening
+from servicing.tests.support import SECOND, reading
+
+
+class ClockTest(unittest.TestCase):
+    def test_time_passes_while_the_machine_goes_on(self) -> None:
+        self.assertEqual(elapsed(reading(up=100), reading(up=160.5)), int(60.5 * SECOND))
+
+    def test_a_date_that_is_set_changes_nothing_while_the_machine_goes_on(self) -> None:
+        for date in (0, 1_700_000_000 - 3600, 1_700_000_000 + 3600):
+            self.assertEqual(elapsed(reading(up=100), reading(up=101, date=date)), SECOND)
+
+    def test_a_machine_that_was_off_counts_by_its_date(self) -> None:
+        later = reading(up=5, date=1_700_000_000 + 7200, boot="boot-2")
+        self.assertEqual(elapsed(reading(up=9000), later), 7200 * SECOND)
+
+    def test_a_date_that_was_set_back_over_a_restart_counts_as_no_time(self) -> None:
+        self.assertEqual(elapsed(reading(up=9000), reading(up=5, date=1_600_000_000, boot="boot-2")), 0)
+
+    def test_the_machine_has_these_clocks(self) -> None:
+        one, two = read_clock(), read_clock()
+        self.assertEqual(one.boot, two.boot)
+        self.assertGreaterEqual(elapsed(one, two), 0)
+        self.assertLess(elapsed(one, two), SECOND)
+
+    def test_a_run_begins_at_the_moment_of_the_one_before_plus_the_time_since(self) -> None:
+        following = Next(lambda moment: Opening(0, moment, {}), 5 * SECOND, reading(up=100))
+        self.assertEqual(following.at(reading(up=112)).moment, 17 * SECOND)
+        self.assertEqual(following.at(reading(up=3712)).moment, 3617 * SECOND)
+
+
+class DurationTest(unittest.TestCase):
+    def test_words(self) -> None:
+        for word, wanted in (
+            ("30s", 30 * SECOND), ("5m", 300 * SECOND), ("1h", 3600 * SECOND), ("7d", 604_800 * SECOND), ("0s", 0),
+            ("20ms", 20_000_000), ("3us", 3_000), ("9ns", 9), ("1.5s", 1_500_000_000), ("0.1ms", 100_000),
+        ):
+            self.assertEqual(nanoseconds_of(word), wanted)
+
+    def test_other_words_are_refused(self) -> None:
+        for word in ("30", "s", "", "-1s", "1 s", "1S", "1sec", "1h30m", "1e3s", "١s", "30000000000"):
+            with self.subTest(word), self.assertRaisesRegex(argparse.ArgumentTypeError, "such as 30s"):
+                nanoseconds_of(word)
+
+    def test_texts(self) -> None:
+        for seconds, wanted in (
+            (0, "0.0s"), (0.26, "0.3s"), (9.94, "9.9s"), (10.4, "10s"), (60, "1m"), (61, "1m 1s"), (3600, "1h"),
+            (3661, "1h 1m"), (86_400, "1d"), (90_000, "1d 1h"),
+        ):
+            self.assertEqual(text_of(seconds), wanted)
