@@ -226,7 +226,7 @@ class EndsTest(GatewayTest):
             (["--wait", "5 s"], "argument --wait: 5 s is no duration: write 30s, 2m or 1h (ns, us, ms, s, m, h, d), or"
                                 " nanoseconds"),
             (["--redis", "redis://:secret@127.0.0.1:1"],
-             "argument --redis: a password in the command line is seen by others: write --redis @FILE, or set"
+             "argument --redis: a password in the command line is seen by others: write --redis @FILE, or"
              " RB_BROKER_REDIS"),
         ):
             with self.subTest(words=words):

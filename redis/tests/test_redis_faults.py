@@ -69,6 +69,18 @@ class FaultyRedisTest(GatewayTest):
             os.kill(pid, signal.SIGCONT)
         self.assert_served_again(served)
 
+    def test_what_hung_is_not_carried_out_behind_the_end_of_its_session(self) -> None:
+        served = self.serve("--timeout", "500ms")
+        pid = self.pid()
+        with served.talker() as doubtful, served.talker() as other:
+            other.ask("OFFER 0 a")
+            os.kill(pid, signal.SIGSTOP)
+            doubtful.send("TAKE\n")
+            self.assertEqual(doubtful.rest(), [])
+            os.kill(pid, signal.SIGCONT)
+            self.assertEqual(other.ask("POLLFOR 900000000").split()[0], "ITEM")
+            self.assertEqual(self.node.ask("ZCARD", self.queue().held), 1)
+
     def test_jobs_of_a_session_that_ended_without_a_redis_come_back(self) -> None:
         served = self.serve("--wait", "60s")
         with served.talker() as talker:

@@ -135,8 +135,9 @@ class TlsTest(GatewayTest):
         self.addCleanup(node.kill)
         client = f"ssl_certfile={keys}/client.pem&ssl_keyfile={keys}/client.key"
         url = f"rediss://{HOST}:{port}?ssl_ca_certs={keys}/authority.pem&{client}"
-        command = [sys.executable, "-B", "-m", "rb_broker_redis", "serve", "--port", "0", "--queue", "q", "--redis", url]
-        process = subprocess.Popen(command, stdout=subprocess.PIPE, stderr=subprocess.PIPE, encoding="utf-8")
+        command = [sys.executable, "-B", "-m", "rb_broker_redis", "serve", "--port", "0", "--queue", "q"]
+        process = subprocess.Popen([*command, "--redis", url], stdout=subprocess.PIPE, stderr=subprocess.PIPE,
+                                   encoding="utf-8")
         self.addCleanup(process.communicate)
         self.addCleanup(process.kill)
         with Served(process).talker() as talker:

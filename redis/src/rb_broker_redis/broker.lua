@@ -117,7 +117,8 @@ local function open(keys, moment)
     if asked > at then at = asked end
     return {
         keys = keys, now = now, asked = asked, at = at, plain_asked = plain(asked), plain_at = plain(at),
-        stamp = ' ' .. plain(asked) .. ' ' .. plain(at) .. ' ', next = tonumber(state[1]), calls = tonumber(state[3]), fetched = tonumber(state[4]), wake = state[5],
+        stamp = ' ' .. plain(asked) .. ' ' .. plain(at) .. ' ',
+        next = tonumber(state[1]), calls = tonumber(state[3]), fetched = tonumber(state[4]), wake = state[5],
         pace = state[6], period = state[7], attempts = tonumber(state[8]), limit = tonumber(state[9] or '1e300'),
         silent = state[10] == 'no', lines = {}, counts = {},
         at_before = state[2], calls_before = tonumber(state[3]), wake_before = state[5],
@@ -201,7 +202,7 @@ local function fetch(queue, seat)
     local head = head_of(queue)
     if not head or string.sub(head, 1, 20) > queue.at then return nil end
     join(queue)
-    local expiry, id, origin, first, attempt, payload = string.match(head, '^(%d+):(%d+) (%d+) (%d+) (%d+) (.*)$')
+    local expiry, id, attempt, payload = string.match(head, '^(%d+):(%d+) %d+ %d+ (%d+) (.*)$')
     local shown = plain(id)
     redis.call('ZPOPMIN', queue.keys[1])
     redis.call('HDEL', queue.keys[2], shown)

@@ -5,7 +5,7 @@ from enum import Enum
 
 
 class ErrorReply(bytes, Enum):
-    """A reply line. If a line has several faults, the one of the first of LINE, SYNTAX, NUMBER and PAYLOAD is given; the
+    """A reply line. If a line has several faults, that of the first of LINE, SYNTAX, NUMBER and PAYLOAD is given; the
     others are tested by the functions of broker.lua."""
 
     LINE = b"ERR 8 line\n"

@@ -79,8 +79,8 @@ class Gateway:
         return int(self._server.sockets[0].getsockname()[1])
 
     async def stop(self) -> "tuple[int, int]":
-        """Ends in good order: no further client is served, waits are answered STOPPED, and sessions end. Returns how many
-        sessions there were, and how many jobs were lost."""
+        """Ends in good order: no further client is served, waits are answered STOPPED, and sessions end. Returns how
+        many sessions there were, and how many jobs were lost."""
         self._server.close()
         self._all_ended.clear()
         for session in list(self._sessions):

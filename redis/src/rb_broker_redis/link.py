@@ -69,10 +69,14 @@ async def connect(
         _, link = await asyncio.wait_for(opening, MOST_SECONDS_TO_CONNECT)
     except asyncio.TimeoutError:
         raise ConnectionError("it does not answer") from None
-    if address.password:
-        await link.ask("AUTH", *([address.username] if address.username else []), address.password)
-    if address.database:
-        await link.ask("SELECT", address.database)
+    try:
+        if address.password:
+            await link.ask("AUTH", *([address.username] if address.username else []), address.password)
+        if address.database:
+            await link.ask("SELECT", address.database)
+    except (OSError, ErrorAnswer):
+        link.close()
+        raise
     return link
 
 

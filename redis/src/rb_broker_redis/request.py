@@ -39,8 +39,8 @@ WITH_PAYLOAD = (b"OFFER", b"OFFERAT")
 _NUMBER = re.compile(rb"0|[1-9][0-9]{0,19}")
 _PAYLOAD = re.compile(rb"[!-~]{1,64}")
 
-# Most lines are well formed, and have a number of up to 19 digits, which can't pass 2^64 - 1. The groups are named after
-# kinds. A line that this pattern doesn't match may still be a request.
+# Most lines are well formed, and have a number of up to 19 digits, which can't pass 2^64 - 1. The groups are named
+# after kinds. A line that this pattern doesn't match may still be a request.
 _USUAL = re.compile(
     rb"(?:(?P<CALL>(?:OFFER|OFFERAT) (?:0|[1-9][0-9]{0,18}) [!-~]{1,64}"
     rb"|(?:DONE|FAIL|REMOVE|DRAIN) (?:0|[1-9][0-9]{0,18})|POLL|PEEK|SIZE|CLEAR)"

@@ -4,6 +4,7 @@ from __future__ import annotations
 import asyncio
 import logging
 from typing import Any, Awaitable, Callable, Optional, TypeVar
+from uuid import uuid4
 
 from . import library
 from .address import Address
@@ -30,6 +31,8 @@ class Upkeep:
         heard: Callable[[bytes], None], may_have_missed: Callable[[], None], queue_is_gone: Callable[[], None],
     ) -> None:
         self._gateway = 0
+        self._name = f"rb_broker-{uuid4().hex}".encode()
+        """That of its links, which no other gateway has."""
         self._address, self._queue, self._calls = address, queue, calls
         self._lease, self._policy, self._mode = lease, policy, mode
         self._heard, self._may_have_missed, self._queue_is_gone = heard, may_have_missed, queue_is_gone
@@ -66,8 +69,21 @@ class Upkeep:
     async def _connect(self, lost: asyncio.Event) -> Link:
         host, port = await place_of(self._address, self._queue)
         link = await connect(host, port, self._address, lost.set)
-        await self._load_functions(link)
+        try:
+            await self._cut_off(link)
+            await self._load_functions(link)
+        except BaseException:
+            link.close()
+            raise
         return link
+
+    async def _cut_off(self, link: Link) -> None:
+        """Ends the link before at the node's side too. What it was sent and has not carried out yet, it never does; so
+        the ends of the sessions that are in doubt come after all that they did."""
+        for client in (await link.ask("CLIENT", "LIST", "TYPE", "NORMAL")).split(b"\n"):
+            if b" name=%b " % self._name in client:
+                await link.ask("CLIENT", "KILL", "ID", client.partition(b" ")[0][len(b"id="):])
+        await link.ask("CLIENT", "SETNAME", self._name)
 
     async def _load_functions(self, link: Link) -> None:
         try:

@@ -81,8 +81,8 @@ class Waiting(Generic[Waiter]):
         return self._tried_queue
 
     def end_tries(self, now: int, found_all: bool) -> None:
-        """The tries are answered. If each found an element there may be more, for twice as many who wait; if not, `hear`
-        has been told when the next one expires."""
+        """The tries are answered. If each found an element there may be more, for twice as many who wait; if not,
+        `hear` has been told when the next one expires."""
         queue, self._tried_queue = self.tried_queue, None
         self._width = min(2 * self._width, MOST_TRIED) if found_all else 1
         if found_all:
