@@ -92,9 +92,13 @@ class HttpServer:
         self._has_begun = threading.Event()
 
     def listen(self, at: Address) -> Address:
-        """Takes an address, and returns it with its port. Clients are answered once `start` was called."""
+        """Takes an address, and returns it with its port. Clients are answered once `start` was called. Raises an
+        `OSError` in the system's words if it can't be had."""
         family = socket.AF_INET6 if at.is_six else socket.AF_INET
-        made = socket.create_server((at.host, at.port), family=family, backlog=MOST_CONNECTIONS)
+        try:
+            made = socket.create_server((at.host, at.port), family=family, backlog=MOST_CONNECTIONS)
+        except OSError as fault:
+            raise OSError(fault.errno, os.strerror(fault.errno or 0)) from None  # without the address once more
         address = Address(at.host, made.getsockname()[1])
         self._listening.append((made, address))
         return address

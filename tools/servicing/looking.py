@@ -61,6 +61,12 @@ def _doing(it: Connection, was_unread: bool) -> Doing:
     return Doing.ACTIVE if it.heard < BRIEF else Doing.SILENT
 
 
+def has_given_up(it: Connection) -> bool:
+    """Whether a client has left before it had a worker, and has sent nothing that will be carried out. The end of what
+    it sends is counted as a byte. The service itself leaves so, to use up the sessions of a run."""
+    return not it.is_served and it.has_hung_up and it.receive_queue <= 1
+
+
 def silent_ports(connections: List[Connection], seconds: float) -> List[int]:
     """The clients over whose sessions nothing came and nothing went for so long."""
     limit = seconds * 1000
@@ -105,7 +111,7 @@ class Looks:
         self._used_sessions += len(served - self._seen)
         self._seen = served
         self.connections = [it for it in sockets.connections if it.port != own]
-        clients = [client_of(it, it.key in self._unread) for it in self.connections]
+        clients = [client_of(it, it.key in self._unread) for it in self.connections if not has_given_up(it)]
         self._unread = {it.key for it in sockets.connections if it.send_queue}
         clients.sort(key=lambda it: (ORDER.index(it.doing), -(it.seconds or 0)))
         self.clients = Clients(tuple(clients), self._limits.workers, SILENT_FROM)

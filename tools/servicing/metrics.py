@@ -130,7 +130,7 @@ def _traffic(state: State) -> Iterator[Metric]:
 
 def _past(runs: Tuple[PastRun, ...], lost: int) -> Iterator[Metric]:
     """The last run that has ended, and the last one that was lost."""
-    yield counter("runs_lost_total", "Runs that were lost since the folder exists.", lost)
+    yield counter("lost_runs_total", "Runs that were lost since the folder exists.", lost)
     if runs:
         last = runs[0]
         yield gauge("last_run_closed_seconds", "Time between the last two runs without a server for new clients.",

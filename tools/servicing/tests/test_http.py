@@ -221,8 +221,9 @@ class StartedTest(HttpTest):
         self.assertEqual(self.get("/")[0], 200)
 
     def test_a_port_that_is_taken(self) -> None:
-        with self.assertRaises(OSError):
+        with self.assertRaises(OSError) as caught:
             HttpServer(answer).listen(Address("127.0.0.1", self.port))
+        self.assertEqual(caught.exception.strerror, "Address already in use")
         self.assertEqual(self.get("/")[0], 200)
 
     def test_a_stop_without_a_start(self) -> None:

@@ -37,7 +37,7 @@ class MetricsTest(unittest.TestCase):
             'phase{phase="ending"}': 0, 'phase{phase="between runs"}': 0, 'phase{phase="stopped"}': 0,
             "service_start_time_seconds": AT - 90_100, "state_time_seconds": AT, "unwritten_bytes": 0,
             'run_info{run="1f6c-12"}': 1, "run_start_time_seconds": AT - 4000, "run_opening_elements": 1200,
-            "elements_aside": 0, "runs_total": 12, "runs_lost_total": 1,
+            "elements_aside": 0, "runs_total": 12, "lost_runs_total": 1,
             "elements": 1204, "head_late_seconds": 3.25, "queue_time_seconds": AT - 1,
             "workers": 8, "clients_served": 5, "clients_waiting": 1, "clients_not_reading": 1, "clients_hung_up": 0,
             "clients_silent": 1, "longest_silence_seconds": 725,
@@ -53,7 +53,7 @@ class MetricsTest(unittest.TestCase):
         self.assertEqual(told.keys(), {
             "up", "healthy", 'phase{phase="starting"}', 'phase{phase="serving"}', 'phase{phase="ending"}',
             'phase{phase="between runs"}', 'phase{phase="stopped"}', "service_start_time_seconds",
-            "state_time_seconds", "unwritten_bytes", "runs_lost_total", "offered_total", "left_total", "failed_total",
+            "state_time_seconds", "unwritten_bytes", "lost_runs_total", "offered_total", "left_total", "failed_total",
             "last_attempts_total",
         })
         self.assertEqual((told["up"], told["healthy"], told['phase{phase="starting"}']), (0, 0, 1))

@@ -1,0 +1,131 @@
+"""What a service that runs shows: over HTTP, in a browser and in a terminal, through rollovers and a killed server."""
+from __future__ import annotations
+
+import http.client
+import os
+import re
+import signal
+import subprocess
+import tempfile
+import unittest
+from typing import Tuple
+
+from common.program import tested_program
+from common.testing import run_tool
+from reporting import tests as browsing
+from reporting.tests.browser import Browser
+from serving.server import free_port
+from servicing.looking import Limits, Looks
+from servicing.session import OwnSession
+from servicing.sockets import Connection, Sockets
+from servicing.state import Doing
+from servicing.tests.process import Service, ServiceTest
+from servicing.tests.test_metrics import PROMTOOL, promtool
+
+PATIENCE = 30
+
+
+class GivenUpTest(unittest.TestCase):
+    def test_who_has_given_up_without_a_request_is_no_client(self) -> None:
+        """The service's own visits leave like that, a hundred at a time while a run ends."""
+        connections = [Connection(port, str(port), has_hung_up, is_served, sent, 0, 0, 0, False, None)
+                       for port, has_hung_up, is_served, sent in (
+                           (1, True, False, 1), (2, True, False, 9), (3, False, False, 0), (4, True, True, 1))]
+        looks = Looks(Limits(4, 1000, 20, 0, 0, 0), OwnSession(1))
+        looks.see(Sockets(True, None, connections))
+        assert looks.clients is not None
+        told = {it.port: it.doing for it in looks.clients.all}
+        self.assertEqual(told, {2: Doing.WAITING, 3: Doing.WAITING, 4: Doing.HUNG_UP})
+
+
+class ShownTest(ServiceTest):
+    def setUp(self) -> None:
+        super().setUp()
+        self.page = free_port()
+
+    def begin_shown(self, *options: object) -> Service:
+        return self.begin("--http", f"127.0.0.1:{self.page}", "--stop-within", "2s", *options)
+
+    def get(self, path: str) -> Tuple[int, str]:
+        connection = http.client.HTTPConnection("127.0.0.1", self.page, timeout=PATIENCE)
+        try:
+            connection.request("GET", path)
+            answer = connection.getresponse()
+            return answer.status, answer.read().decode()
+        finally:
+            connection.close()
+
+    def metric(self, name: str) -> float:
+        """The value of a metric, which promtool takes if it is there."""
+        text = self.get("/metrics")[1]
+        if PROMTOOL:
+            self.assertEqual(promtool("metrics", text), (0, ""))
+        found = re.search(rf'^rb_broker_{name}{{port="{self.port}"[^}}]*}} (\S+)$', text, re.M)
+        return float(found[1]) if found else -1.0
+
+    def run_id(self) -> str:
+        found = re.search(r'^rb_broker_run_info\{port="\d+",run="([^"]+)"\} 1$', self.get("/metrics")[1], re.M)
+        return found[1] if found else ""
+
+    def test_what_is_counted_goes_on_through_rollovers_and_a_lost_run(self) -> None:
+        service = self.begin_shown("--every", "4s")
+        self.assertEqual(self.get("/health"), (200, "serving\n"))
+        self.offer(20)
+        self.until(lambda: self.metric("offered_total") == 20 and self.metric("elements") == 20, "20 offers")
+        first = self.run_id()
+        service.wait("serving", 2)
+        self.until(lambda: self.run_id() not in ("", first), "another run")
+        self.assertEqual((self.metric("offered_total"), self.metric("runs_total") >= 2), (20, True))
+        self.assertEqual(self.metric("lost_runs_total"), 0)
+        os.kill(service.server, signal.SIGKILL)
+        self.until(lambda: self.metric("lost_runs_total") == 1 and self.get("/health")[0] == 200, "a lost run")
+        self.assertEqual(self.metric("lost_run_opening_elements"), 20)
+        self.assertEqual(self.metric("offered_total"), 20)
+        self.assertEqual(service.stop(), 0)
+        self.assertRaises(ConnectionRefusedError, self.get, "/health")
+
+    def test_the_page_through_a_rollover_and_a_report(self) -> None:
+        if not browsing.BROWSER:
+            self.skipTest("there is no chromium")
+        service = self.begin_shown("--every", "5s")
+        with tempfile.TemporaryDirectory(prefix="rb-shown-") as room:
+            browser = Browser(browsing.BROWSER, room)
+            try:
+                browser.go(f"http://127.0.0.1:{self.page}/")
+                self.offer(20)
+                service.wait("serving", 2)
+                link = "document.querySelector('#runs a')"
+                self.until(lambda: bool(browser.value(f"{link} !== null")), "a run with a report")
+                title = f"serving, 20 elements: rb_broker {self.port}"
+                self.until(lambda: bool(browser.value("document.title") == title), title)
+                browser.value(f"{link}.click()")
+                self.until(lambda: ": report" in browser.value("document.title"), "a report")
+                self.assertEqual(browser.complaints, [])
+            finally:
+                browser.end()
+
+    def test_the_status_in_a_terminal(self) -> None:
+        service = self.begin("--every", "1h")
+        self.offer(3)
+        self.until(lambda: "queue      3 elements" in self.status().stdout, "three elements")
+        shown = self.status()
+        self.assertEqual((shown.returncode, shown.stderr), (0, ""))
+        self.assertRegex(shown.stdout, rf"^port {self.port}, serving for ")
+        self.assertEqual(self.status("--json").stdout[:1], "{")
+        self.assertEqual(service.stop(), 0)
+        self.assertEqual(self.status().returncode, 1)
+        self.assertFalse(os.path.exists(self.path("runs/status")))
+
+    def status(self, *options: str) -> "subprocess.CompletedProcess[str]":
+        return run_tool("service", "--status", "--folder", self.path("runs"), *options)
+
+    def test_an_address_that_can_not_be_had(self) -> None:
+        for word, says in (("nonsense", "'nonsense' is no address such as 127.0.0.1:7080"),
+                           ("example:80", "'example' is no address of this machine, such as 127.0.0.1")):
+            ran = run_tool("service", "--http", word)
+            self.assertEqual((ran.returncode, ran.stdout, ran.stderr), (2, "", f"service: argument --http: {says}\n"))
+        self.begin_shown()
+        other = ("--port", free_port(), "--folder", self.path("other"), "--program", tested_program())
+        ran = run_tool("service", *other, "--http", f"127.0.0.1:{self.page}")
+        says = f"service: --http 127.0.0.1:{self.page}: Address already in use\n"
+        self.assertEqual((ran.returncode, ran.stderr[-len(says):]), (1, says))
