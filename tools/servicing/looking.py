@@ -50,8 +50,8 @@ def client_of(it: Connection, was_unread: bool) -> Client:
 def _doing(it: Connection, was_unread: bool) -> Doing:
     if not it.is_served:
         return Doing.WAITING
-    if it.send_queue and was_unread:
-        return Doing.NOT_READING
+    if it.send_queue and was_unread and (it.receive_queue or it.heard is None or it.heard >= BRIEF):
+        return Doing.NOT_READING  # and not one that has just asked again, with the reply on the way at both looks
     if it.has_hung_up:
         return Doing.HUNG_UP
     if it.heard is None or it.told is None:

@@ -15,7 +15,7 @@ from common.testing import run_tool
 from reporting import tests as browsing
 from reporting.tests.browser import Browser
 from serving.server import free_port
-from servicing.looking import Limits, Looks
+from servicing.looking import Limits, Looks, client_of
 from servicing.session import OwnSession
 from servicing.sockets import Connection, Sockets
 from servicing.state import Doing
@@ -25,7 +25,15 @@ from servicing.tests.test_metrics import PROMTOOL, promtool
 PATIENCE = 30
 
 
-class GivenUpTest(unittest.TestCase):
+class DoingTest(unittest.TestCase):
+    def test_who_asks_again_has_read(self) -> None:
+        """A reply that is on the way at two looks is none that piles up."""
+        for heard, receive_queue, doing in ((16, 0, Doing.ACTIVE), (5_000, 0, Doing.NOT_READING),
+                                            (16, 40, Doing.NOT_READING), (None, 0, Doing.NOT_READING)):
+            connection = Connection(1, "1", False, True, receive_queue, 13, heard, 20, False, None)
+            self.assertIs(client_of(connection, was_unread=True).doing, doing, connection)
+            self.assertIsNot(client_of(connection, was_unread=False).doing, Doing.NOT_READING)
+
     def test_who_has_given_up_without_a_request_is_no_client(self) -> None:
         """The service's own visits leave like that, a hundred at a time while a run ends."""
         connections = [Connection(port, str(port), has_hung_up, is_served, sent, 0, 0, 0, False, None)
