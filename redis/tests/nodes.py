@@ -92,6 +92,15 @@ class Process:
         """Ends it at once."""
         self.signal(signal.SIGKILL)
 
+    def pause(self) -> None:
+        """Lets it do nothing until `go_on`."""
+        assert self._process
+        self._process.send_signal(signal.SIGSTOP)
+
+    def go_on(self) -> None:
+        assert self._process
+        self._process.send_signal(signal.SIGCONT)
+
     @property
     def is_alive(self) -> bool:
         return self._process is not None and self._process.poll() is None
@@ -104,11 +113,12 @@ class Process:
 class Node(Process):
     """A redis-server, which answers once it is started."""
 
-    def __init__(self, folder: Path, options: Sequence[object] = ALWAYS, port: int = 0) -> None:
+    def __init__(self, folder: Path, options: Sequence[object] = ALWAYS,
+                 environment: Optional[Dict[str, str]] = None) -> None:
         folder.mkdir(parents=True)
-        self.port = port or free_port()
+        self.port = free_port()
         words = ["redis-server", "--port", self.port, "--bind", HOST, "--dir", folder, "--save", "", *options]
-        super().__init__([*map(str, words)], folder / "log")
+        super().__init__([*map(str, words)], folder / "log", environment)
         self.start()
 
     def start(self) -> None:

@@ -8,8 +8,9 @@ from __future__ import annotations
 import fcntl
 import os
 import re
+from dataclasses import dataclass
 from pathlib import Path
-from typing import Iterable, Iterator, NamedTuple
+from typing import Iterable, Iterator
 
 from .durable import UNFINISHED, rename_durably, write_durably
 from .history import HEADER
@@ -19,7 +20,8 @@ class FolderInUse(Exception):
     """Another process writes to the folder."""
 
 
-class ArchivedFile(NamedTuple):
+@dataclass(frozen=True)
+class ArchivedFile:
     """The events of a queue from number `first` on."""
 
     path: Path

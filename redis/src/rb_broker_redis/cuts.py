@@ -7,12 +7,14 @@ done does not, so with few failures most cuts are good.
 from __future__ import annotations
 
 from array import array
-from typing import Iterable, NamedTuple
+from dataclasses import dataclass
+from typing import Iterable
 
 from .history import MOST_KEPT, FollowedQueue
 
 
-class Cut(NamedTuple):
+@dataclass(frozen=True)
+class Cut:
     """A place for a cut."""
 
     count: int

@@ -113,4 +113,4 @@ def _load(queue: Queue, token: str, lines: list[str]) -> None:
 
 def abandon(queue: Queue) -> bool:
     """Empties a queue into which a load has begun and not ended. Gives whether there was one."""
-    return queue.command("EVAL", ABANDON, len(queue.keys), *queue.keys, queue.state) == 1
+    return bool(queue.command("EVAL", ABANDON, len(queue.keys), *queue.keys, queue.state))

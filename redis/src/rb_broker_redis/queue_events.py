@@ -52,7 +52,7 @@ class QueueEvents:
 
     def events(self, start: int, count: int) -> list[bytes]:
         """`count` events, from the one that has `start` others in front of it."""
-        return self._queue.command("LRANGE", self._queue.history, start, start + count - 1)
+        return list(self._queue.command("LRANGE", self._queue.history, start, start + count - 1))
 
     def cut(self, first: int, count: int) -> bool:
         """Takes out `count` events, if `first` is the number of the first one."""

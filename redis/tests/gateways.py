@@ -1,0 +1,50 @@
+"""Gateways for tests: processes at ports that stay theirs, which may be killed at any moment."""
+from __future__ import annotations
+
+import socket
+import sys
+from pathlib import Path
+from typing import Sequence
+
+from nodes import HOST, PATIENCE, Process, free_port, wait_until
+
+POLICY = ("--delay", "20ms", "--attempts", 1000)
+"""So that no job of a hostile day dies, however many clients die with it."""
+
+
+class Gateway(Process):
+    """A gateway of a queue, which listens once it is started."""
+
+    def __init__(self, folder: Path, redis: str, queue: str, options: Sequence[object] = POLICY) -> None:
+        folder.mkdir(parents=True)
+        self.port = free_port()
+        words = [sys.executable, "-B", "-m", "rb_broker_redis", "serve", "--redis", redis, "--queue", queue,
+                 "--port", self.port, *options]
+        super().__init__([*map(str, words)], folder / "log")
+        self.start()
+
+    def start(self) -> None:
+        super().start()
+        self.wait()
+
+    def start_soon(self) -> None:
+        """Starts it, and does not wait until it listens."""
+        super().start()
+
+    def wait(self) -> None:
+        """Waits until it listens."""
+        wait_until(self._listens, f"the gateway at {self.port} does not listen")
+
+    def ask(self, *requests: str) -> list[str]:
+        """The lines that a session of its own gets for these requests."""
+        with socket.create_connection((HOST, self.port), PATIENCE) as connection:
+            connection.sendall("".join(f"{it}\n" for it in (*requests, "QUIT")).encode())
+            with connection.makefile("r") as replies:
+                return replies.read().splitlines()[:-1]
+
+    def _listens(self) -> bool:
+        try:
+            socket.create_connection((HOST, self.port), PATIENCE).close()
+            return True
+        except OSError:
+            return False

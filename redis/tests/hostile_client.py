@@ -1,0 +1,143 @@
+"""A client in a process of its own, which is killed at any moment: hostile_client.py KIND RECORD NOTES PORT ..
+
+A `producer` offers the payloads that it reads from standard input, a line each, each once. A `worker` does jobs until
+SIGTERM. Each connects to one of the ports, and to another when that one is gone. NOTES gets a line for all that becomes
+of a job, before anything else happens:
+
+    offer PAYLOAD            it is offered now
+    offered PAYLOAD          the reply has come
+    took PAYLOAD ATTEMPT     the worker has the job
+    done PAYLOAD ATTEMPT     the reply to DONE has come; or in place of done
+    failed, late             AGAIN, or ERR 5, since the session had ended
+    doubt, lost              the connection broke before the reply, or before DONE or FAIL was sent
+"""
+from __future__ import annotations
+
+import random
+import signal
+import sys
+import time
+from typing import Any, NamedTuple
+
+from recorded_session import Broken, Notes, RecordedSession
+
+MOST_HELD = 8
+PAUSE = 0.01  # seconds at most between two offers
+DELAYS = (0, 0, 1_000_000, 50_000_000, 400_000_000)  # of offers, in nanoseconds
+
+
+class Job(NamedTuple):
+    """A job that a worker holds."""
+
+    id: str
+    payload: str
+    attempt: int
+
+
+def is_to_fail(job: Any) -> bool:
+    """Whether an attempt of a job is to fail."""
+    return bool(job.attempt == 1 and job.payload.endswith("0"))
+
+
+def handle(job: Any) -> None:
+    """The handler of a worker of the package rb_broker_client."""
+    if is_to_fail(job):
+        raise ValueError(f"{job.payload} is to fail")
+
+
+class Client:
+    """What both kinds have."""
+
+    def __init__(self, record: str, notes: str, ports: list[int]) -> None:
+        self._record, self.notes, self._ports = Notes(record), Notes(notes), ports
+        self.random = random.Random()
+        self.is_over = False
+        signal.signal(signal.SIGTERM, self._stop)
+
+    def connected(self) -> RecordedSession:
+        """A session at one of the ports, once one listens."""
+        while True:
+            try:
+                return RecordedSession(self.random.choice(self._ports), self._record)
+            except Broken:
+                time.sleep(0.05)
+
+    def _stop(self, *_: object) -> None:
+        self.is_over = True
+
+
+def produce(client: Client) -> None:
+    session = client.connected()
+    for payload in map(str.strip, sys.stdin):
+        client.notes.add(f"offer {payload}")
+        try:
+            reply = session.ask(f"OFFER {client.random.choice(DELAYS)} {payload}")[0]
+            if not reply.startswith("OFFERED "):
+                raise ValueError(f"an offer is answered {reply}")
+            client.notes.add(f"offered {payload}")
+        except Broken:
+            session = client.connected()
+        time.sleep(client.random.random() * PAUSE)
+    session.leave()
+
+
+class Worker:
+    """Does jobs, some of them several at a time, and lets each tenth fail in its first attempt."""
+
+    def __init__(self, client: Client) -> None:
+        self._client = client
+        self._held: list[Job] = []
+
+    def work(self) -> None:
+        while not self._client.is_over:
+            session = self._client.connected()
+            try:
+                self._serve(session)
+                session.ask("QUIT")
+            except Broken as fault:
+                for job in self._held:
+                    in_doubt = fault.request in (f"DONE {job.id}", f"FAIL {job.id}")
+                    self._note("doubt" if in_doubt else "lost", job)
+            self._held.clear()
+
+    def _serve(self, session: RecordedSession) -> None:
+        """Works for a while, and leaves without a job."""
+        until = time.monotonic() + self._client.random.uniform(1, 10)
+        while time.monotonic() < until and not self._client.is_over:
+            self._fetch(session)
+            while self._held and (self._client.random.random() < 0.8 or len(self._held) >= MOST_HELD):
+                self._settle(session)
+        while self._held:
+            self._settle(session)
+
+    def _fetch(self, session: RecordedSession) -> None:
+        request = self._client.random.choice(["POLL", "POLLFOR 200000000", "POLLFOR 200000000", "DRAIN 5"])
+        for line in session.ask(request):
+            if line.startswith("ITEM "):
+                _, id, _, attempt, payload = line.split(" ")
+                self._held.append(Job(id, payload, int(attempt)))
+                self._note("took", self._held[-1])
+
+    def _settle(self, session: RecordedSession) -> None:
+        """Answers one of the jobs."""
+        place = self._client.random.randrange(len(self._held))
+        job = self._held[place]
+        words = session.ask(f"{'FAIL' if is_to_fail(job) else 'DONE'} {job.id}")[0].split(" ")
+        self._note({"DONE": "done", "AGAIN": "failed", "ERR": "late"}[words[0]], job)
+        del self._held[place]
+
+    def _note(self, what: str, job: Job) -> None:
+        self._client.notes.add(f"{what} {job.payload} {job.attempt}")
+
+
+def main() -> None:
+    kind, record, notes, *ports = sys.argv[1:]
+    client = Client(record, notes, [*map(int, ports)])
+    if kind == "producer":
+        produce(client)
+    else:
+        Worker(client).work()
+
+
+if __name__ == "__main__":
+    main()

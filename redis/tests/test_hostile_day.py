@@ -1,0 +1,210 @@
+"""Days on which all goes wrong: gateways, clients, the archive and the Redis itself are killed at any moment.
+
+Afterwards the program accepts each history that was archived, with its retries. Each job that was offered is in them
+once, each of its attempts came after a failure of the one before, and its last attempt was given and did not come
+back. A worker knows that it was done, and no other knows that too; or the job is named, since its worker died or lost
+its connection before it could know.
+"""
+from __future__ import annotations
+
+import os
+import random
+import signal
+import subprocess
+import sys
+import tempfile
+import threading
+import time
+import unittest
+from pathlib import Path
+from typing import Callable
+
+from accounts import attempts_in, sum_up
+from crew import Crew, Producer, compiled_java
+from gateways import POLICY, Gateway
+from nodes import ALWAYS, Node, Process, Replicas, Sentinels, wait_until
+from rb_broker_redis.archive_folder import ArchiveFolder
+
+JOBS = int(os.environ.get("RB_BROKER_JOBS", 1_500))
+PROGRAM = os.environ["RB_BROKER_PROGRAM"]
+TOP = Path(__file__).resolve().parents[2]
+PATIENCE = 600 + JOBS / 10  # seconds until all jobs are done
+GATEWAYS = 3
+PRODUCERS = 3
+EACH = 2  # workers of each kind
+SERVING = (*POLICY, "--wait", "200ms", "--lease", "10s")
+CHAINS = ("--chains", "--delay", "20000000", "--attempts", "1000")
+QUEUE = "jobs"
+
+
+class Day(unittest.TestCase):
+    """What both days have."""
+
+    def setUp(self) -> None:
+        room = tempfile.TemporaryDirectory(prefix="rb-day-")
+        self.addCleanup(room.cleanup)
+        self.room, self.archive = Path(room.name), Path(room.name) / "archive"
+        self.draw = random.Random()
+        self.kills = {it: 0 for it in ("gateway", "worker", "producer", "archive", "redis")}
+
+    def run_day(self, redis: str, kill_redis: Callable[[], None], serving: tuple[object, ...] = SERVING) -> None:
+        """Lets the day pass, and judges it."""
+        self.gateways = [Gateway(self.room / f"gateway-{it}", redis, QUEUE, serving) for it in range(GATEWAYS)]
+        self.crew = Crew(self.room, [it.port for it in self.gateways], compiled_java(self.room / "java"))
+        self.workers = [self.crew.start_worker(kind) for kind in self.crew.kinds for _ in range(EACH)]
+        for it in self.gateways:
+            self.addCleanup(it.kill)
+        self.addCleanup(lambda: [it.kill() for it in self.crew.started])
+        payloads = [str(it) for it in range(JOBS)]
+        self.producers = [Producer(self.crew, self.room, f"producer-{it}", payloads[it::PRODUCERS])
+                          for it in range(PRODUCERS)]
+        self.addCleanup(lambda: [it.kill() for it in self.producers])
+        self.take_events = [sys.executable, "-B", "-m", "rb_broker_redis", "archive", str(self.archive), "--redis", redis,
+                            "--queue", QUEUE]
+        self.archiving = Process([*self.take_events, "--every", "300ms"], self.room / "archive.log")
+        self.archiving.start()
+        self.addCleanup(self.archiving.kill)
+        self.let_all_go_wrong(kill_redis)
+        self.end_in_good_order()
+        self.judge()
+
+    def let_all_go_wrong(self, kill_redis: Callable[[], None]) -> None:
+        """Kills one after the other until all offers are made, and then waits until all jobs are done."""
+        began = time.monotonic()
+        while not all(it.is_over for it in self.producers):
+            self.assertLess(time.monotonic(), began + PATIENCE, "the offers are not made in time")
+            time.sleep(self.draw.uniform(0.1, 0.8))
+            self.start_what_has_ended()
+            what = self.draw.choices([*self.kills], [2, 5, 1, 1, 1])[0]
+            self.kills[what] += 1
+            if what == "gateway":
+                gateway = self.draw.choice(self.gateways)
+                gateway.kill()
+                gateway.start_soon()
+            elif what == "worker":
+                self.kill_worker()
+            elif what == "producer":
+                producer = self.draw.choice(self.producers)
+                producer.kill()
+                producer.start()
+            elif what == "archive":
+                self.archiving.kill()
+                self.archiving.start()
+            else:
+                kill_redis()
+        self.took = time.monotonic() - began
+        self.start_what_has_ended()
+        for it in self.gateways:
+            it.wait()
+        wait_until(self.is_empty, "the jobs are not done in time", PATIENCE)
+
+    def start_what_has_ended(self) -> None:
+        """As a supervisor does: a gateway that finds no Redis when it starts ends."""
+        for it in self.gateways:
+            if not it.is_alive:
+                it.start_soon()
+
+    def kill_worker(self) -> None:
+        """Kills a worker that has had work, and starts another of its kind."""
+        place = self.draw.randrange(len(self.workers))
+        if self.workers[place].has_worked:
+            self.workers[place].kill()
+            self.workers[place] = self.crew.start_worker(self.crew.kinds[place // EACH])
+
+    def is_empty(self) -> bool:
+        """Whether no job is in the queue or in hand, and stays so for longer than a lease."""
+        for _ in range(60):
+            if self.gateways[0].ask("SIZE") != ["SIZE 0"]:
+                return False
+            time.sleep(0.2)
+        return True
+
+    def end_in_good_order(self) -> None:
+        for it in self.workers:
+            it.stop()
+        for it in self.gateways:
+            self.assertEqual(it.signal(signal.SIGTERM), 0)
+        self.archiving.signal(signal.SIGTERM)
+        ran = subprocess.run(self.take_events, capture_output=True, text=True, timeout=60, check=False)
+        self.assertEqual((ran.returncode, ran.stderr), (0, ""))
+
+    def judge(self) -> None:
+        histories = self.histories()
+        for it in histories:
+            ran = subprocess.run([PROGRAM, "replay", str(it), *CHAINS], capture_output=True, text=True, check=False)
+            self.assertEqual(ran.returncode, 0, f"{it}: {ran.stdout}{ran.stderr}")
+        self.assert_said("tools/report", *histories)
+        verified = self.assert_said("tools/verify", *histories, *[it for it in self.crew.records if it.exists()])
+        jobs = attempts_in(histories)
+        offered = set().union(*(it.offered() for it in self.producers))
+        self.assertEqual(offered - jobs.keys(), set(), "offers were answered, and are in no history")
+        for payload, attempts in jobs.items():
+            expected = list(range(1, len(attempts.offered) + 1))
+            self.assertEqual(attempts.offered, expected, payload)
+            self.assertEqual(attempts.given, expected, payload)
+        day = sum_up(jobs, (note for it in self.crew.started for note in it.noted()))
+        self.assertEqual(day.done_twice, [])
+        self.assertEqual(day.done_once + len(day.in_doubt), day.jobs)
+        broken = sum(self.kills.values())
+        self.assertLessEqual(len(day.unseen), broken, day.unseen)
+        print(f"{self.id().rpartition('.')[2]}: {JOBS} jobs in {self.took:.0f} s; killed: "
+              f"{', '.join(f'{it} {count}' for it, count in self.kills.items())}; {len(offered)} offers answered, "
+              f"{day.jobs} made; {day.done_once} jobs done once, {len(day.done_twice)} twice, {len(day.in_doubt)} in "
+              f"doubt, of which {len(day.unseen)} without a note; {day.handled_again} handled again, {day.late} answers "
+              f"too late; {len(histories)} histories accepted; {verified}", flush=True)
+
+    def histories(self) -> list[Path]:
+        folder = ArchiveFolder(self.archive)
+        self.addCleanup(folder.close)
+        files = folder.files(QUEUE)
+        self.assertEqual([it.first for it in files], [0, *(it.end for it in files[:-1])])
+        return [it.path for it in files]
+
+    def assert_said(self, tool: str, *words: Path) -> str:
+        """A tool ends well. The last line that it prints."""
+        ran = subprocess.run([sys.executable, "-B", str(TOP / tool), *map(str, words)], capture_output=True, text=True,
+                             check=False)
+        self.assertEqual(ran.returncode, 0, f"{tool}: {ran.stdout}{ran.stderr}")
+        return ran.stdout.splitlines()[-1]
+
+
+class OneNodeTest(Day):
+    def test_one_node_that_is_killed_again_and_again(self) -> None:
+        node = Node(self.room / "node", ALWAYS)
+        self.addCleanup(node.kill)
+
+        def kill_redis() -> None:
+            node.kill()
+            time.sleep(self.draw.uniform(0, 0.5))
+            node.start()
+
+        self.run_day(node.url, kill_redis)
+        self.assertEqual(list(self.archive.glob("*.lost-*")), [])
+
+
+class SentinelTest(Day):
+    def test_fail_overs_under_sentinel(self) -> None:
+        watched = Replicas(self.room / "nodes", 2, ALWAYS)
+        self.addCleanup(watched.kill)
+        sentinels = Sentinels(self.room / "sentinels", watched)
+        self.addCleanup(sentinels.kill)
+
+        def kill_redis() -> None:
+            """Kills the primary, and starts it again once another has its place. The next one is killed only once both
+            replicas have all that it has."""
+            primary = sentinels.primary()
+            primary.kill()
+            wait_until(lambda: sentinels.primary() is not primary, "no replica takes over")
+            primary.start()
+            wait_until(lambda: sentinels.primary().client().info("replication")["connected_slaves"] == 2,
+                       "the replicas do not follow")
+            wait_until(lambda: all(it["state"] == "online" for name, it in
+                                   sentinels.primary().client().info("replication").items() if name[:5] == "slave"),
+                       "the replicas are not in step")
+
+        places = ",".join(f"127.0.0.1:{it}" for it in sentinels.ports)
+        self.run_day(f"redis+sentinel://{places}/{sentinels.name}", kill_redis, (*SERVING, "--replicas", 1))
+
+
+if __name__ == "__main__":
+    unittest.main()

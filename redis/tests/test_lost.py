@@ -1,0 +1,203 @@
+"""What is lost when a Redis dies, with each setting of its durability: offers that were answered, and are not there.
+
+A node is killed by SIGKILL. The system still writes what the node had handed to it, so a machine that loses its power is
+played as well: what was not synced is cut off the node's file.
+"""
+from __future__ import annotations
+
+import random
+import shutil
+import subprocess
+import tempfile
+import threading
+import time
+import unittest
+from pathlib import Path
+from typing import Callable, NamedTuple, Sequence
+
+from gateways import Gateway
+from nodes import ALWAYS, EVERYSEC, FORGETFUL, PATIENCE, Node, Replicas, Sentinels, wait_until
+from recorded_session import Broken, Notes, RecordedSession
+
+ROUNDS = 3
+PRODUCERS = 4
+SECONDS = 2.0  # before the kill
+QUEUE = "jobs"
+SHIM = Path(__file__).with_name("power_cut.c")
+
+
+class Offers:
+    """Producers in threads, which offer as fast as they can until their session breaks."""
+
+    def __init__(self, port: int, record: Path) -> None:
+        self.answered: dict[str, float] = {}  # payload to the time of the answer
+        self._threads = [threading.Thread(target=self._offer, args=(port, Notes(str(record)), it), daemon=True)
+                         for it in range(PRODUCERS)]
+        self.is_over = False
+        for it in self._threads:
+            it.start()
+
+    def _offer(self, port: int, record: Notes, producer: int) -> None:
+        session = RecordedSession(port, record)
+        try:
+            for number in range(10**6):
+                if self.is_over:
+                    return
+                if session.ask(f"OFFER 3600000000000 {producer}-{number}")[0].startswith("OFFERED "):
+                    self.answered[f"{producer}-{number}"] = time.monotonic()
+        except Broken:
+            pass
+        finally:
+            session.leave()
+
+    def end(self) -> None:
+        self.is_over = True
+        for it in self._threads:
+            it.join(PATIENCE)
+
+
+class Lost(NamedTuple):
+    """What became of the offers that were answered."""
+
+    answered: int
+    lost: int
+    seconds: float
+    """How long before the kill the first of the lost ones was answered."""
+
+
+class LostTest(unittest.TestCase):
+    def setUp(self) -> None:
+        room = tempfile.TemporaryDirectory(prefix="rb-test-")
+        self.addCleanup(room.cleanup)
+        self.room = Path(room.name)
+
+    def tried(self, row: str, round_of: Callable[[Path], Lost]) -> Lost:
+        """The sum of some rounds."""
+        rounds = [round_of(self.room / str(it)) for it in range(ROUNDS)]
+        total = Lost(sum(it.answered for it in rounds), sum(it.lost for it in rounds), max(it.seconds for it in rounds))
+        print(f"lost: {row}: {total.lost} of {total.answered} answered offers in {ROUNDS} rounds, "
+              f"the first {total.seconds:.2f} s before the end", flush=True)
+        self.assertGreater(total.answered, 0)
+        return total
+
+    def offered_until(self, room: Path, redis: str, kill: Callable[[], None], *options: object) -> "tuple[Offers, float]":
+        """Offers through a gateway until the kill. The answers, and the time of the kill."""
+        gateway = Gateway(room / "gateway", redis, QUEUE, ("--timeout", "1s", *options))
+        offers = Offers(gateway.port, room / "record")
+        time.sleep(random.uniform(0.6, 1.0) * SECONDS)
+        kill()
+        killed = time.monotonic()
+        offers.end()
+        gateway.kill()
+        return offers, killed
+
+    def missing(self, offers: Offers, killed: float, node: Node) -> Lost:
+        """What of the answered offers a node does not have."""
+        there = {it.split(b" ")[-1].decode() for it in node.ask("ZRANGE", f"{{{QUEUE}}}:due", 0, -1)}
+        lost = [when for payload, when in offers.answered.items() if payload not in there]
+        return Lost(len(offers.answered), len(lost), max((killed - it for it in lost), default=0.0))
+
+
+class OneNodeTest(LostTest):
+    def killed(self, options: Sequence[str]) -> Callable[[Path], Lost]:
+        def round_of(room: Path) -> Lost:
+            node = Node(room / "node", options)
+            try:
+                offers, killed = self.offered_until(room, node.url, node.kill)
+                node.start()
+                return self.missing(offers, killed, node)
+            finally:
+                node.kill()
+
+        return round_of
+
+    def test_always_and_a_kill(self) -> None:
+        self.assertEqual(self.tried("always, kill", self.killed(ALWAYS)).lost, 0)
+
+    def test_everysec_and_a_kill(self) -> None:
+        self.assertEqual(self.tried("everysec, kill", self.killed(EVERYSEC)).lost, 0)
+
+    def test_no_file_and_a_kill(self) -> None:
+        total = self.tried("no file, kill", self.killed(FORGETFUL))
+        self.assertEqual(total.lost, total.answered)
+
+
+class PowerCutTest(LostTest):
+    def setUp(self) -> None:
+        super().setUp()
+        if shutil.which("cc") is None:
+            self.skipTest("there is no cc, with which power_cut.c is compiled")
+        self.shim = self.room / "power_cut.so"
+        subprocess.run(["cc", "-shared", "-fPIC", "-o", self.shim, SHIM, "-ldl"], check=True)
+
+    def cut(self, options: Sequence[str]) -> Callable[[Path], Lost]:
+        def round_of(room: Path) -> Lost:
+            node = Node(room / "node", options, environment={"LD_PRELOAD": str(self.shim)})
+            try:
+                offers, killed = self.offered_until(room, node.url, node.kill)
+                for file in (room / "node" / "appendonlydir").glob("*.incr.aof"):
+                    note = Path(f"{file}.synced")
+                    with open(file, "r+b") as it:
+                        it.truncate(int(note.read_text()) if note.exists() else 0)
+                node.start()
+                return self.missing(offers, killed, node)
+            finally:
+                node.kill()
+
+        return round_of
+
+    def test_always(self) -> None:
+        self.assertEqual(self.tried("always, power cut", self.cut(ALWAYS)).lost, 0)
+
+    def test_everysec(self) -> None:
+        total = self.tried("everysec, power cut", self.cut(EVERYSEC))
+        self.assertGreater(total.lost, 0)
+        self.assertLess(total.seconds, 3)  # a second, and the sync that is under way
+
+
+class FailOverTest(LostTest):
+    def failed_over(self, is_cut_off: bool, *options: object) -> Callable[[Path], Lost]:
+        """The primary is killed, at once or 0.3 seconds after its replica was cut off."""
+
+        def round_of(room: Path) -> Lost:
+            watched = Replicas(room / "nodes", 1, ALWAYS)
+            sentinels = Sentinels(room / "sentinels", watched)
+            primary, (replica,) = watched.primary, watched.replicas
+
+            def kill() -> None:
+                if is_cut_off:
+                    replica.pause()
+                    primary.ask("CLIENT", "KILL", "TYPE", "replica")
+                    time.sleep(0.3)
+                primary.kill()
+                replica.go_on()
+
+            try:
+                places = ",".join(f"127.0.0.1:{it}" for it in sentinels.ports)
+                offers, killed = self.offered_until(room, f"redis+sentinel://{places}/{sentinels.name}", kill, *options)
+                wait_until(lambda: sentinels.primary() is replica and replica.client().info("replication")["role"]
+                           == "master", "the replica does not take over")
+                return self.missing(offers, killed, replica)
+            finally:
+                sentinels.kill()
+                watched.kill()
+
+        return round_of
+
+    def test_a_replica_that_keeps_up(self) -> None:
+        self.tried("replica, kill, fail-over", self.failed_over(False))
+
+    def test_a_replica_that_was_cut_off(self) -> None:
+        total = self.tried("replica that was cut off for 0.3 s, kill, fail-over", self.failed_over(True))
+        self.assertGreater(total.lost, 0)
+        self.assertLess(total.seconds, 1)
+
+    def test_replies_that_wait_for_a_replica(self) -> None:
+        for is_cut_off in (False, True):
+            total = self.tried(f"--replicas 1, {'cut off for 0.3 s, ' if is_cut_off else ''}kill, fail-over",
+                               self.failed_over(is_cut_off, "--replicas", 1))
+            self.assertEqual(total.lost, 0)
+
+
+if __name__ == "__main__":
+    unittest.main()
