@@ -64,6 +64,14 @@ class LeftTest(unittest.TestCase):
         queue = left_in(ACTS)
         self.assertEqual((queue.elements, queue.next_id, queue.last), ({}, 4, 6))
 
+    def test_the_earlier_versions(self) -> None:
+        first = b"history 1\n0 0 0 offer 0 7 0 1 a\n0 8 8 take 0\n0 8 8 offer 1 9 0 2 a\n0 8 8 offer 2 5 2 1 b\nend 4\n"
+        self.assertEqual(list(left_in(first).elements.values()), [b"1 9 0 7 2 a", b"2 5 2 5 1 b"])
+        second = b"history 2\nopen 3 4 1\nkeep 1 9 0 2 a\n0 9 9 poll 1\n0 9 9 offer 3 12 0 3 a\nend 2\n"
+        self.assertEqual(list(left_in(second).elements.values()), [b"3 12 0 9 3 a"])
+        with self.assertRaisesRegex(Damaged, "^line 2: it is no event$"):
+            left_in(first.replace(b"0 7 0 1 a", b"0 7 0 7 1 a"))
+
     def test_the_opening_of_the_next_run(self) -> None:
         opening = b"".join(left_in(RUN).opening())
         self.assertEqual(opening, b"open 7 180 4\nkeep 2 150 1 120 2 b\nkeep 4 1000001 4 1000001 1 d\n"
@@ -89,8 +97,9 @@ class DamagedTest(unittest.TestCase):
                             b"keep 2", b"keep 3")
 
     def test_what_is_no_history(self) -> None:
-        self.assert_damaged("line 1: no `history 3`; `rb_broker script --from` continues an earlier version as the third",
-                            b"history 3", b"history 2")
+        self.assert_damaged("line 1: no `history 1`, `history 2` or `history 3`", b"history 3", b"history 4")
+        self.assert_damaged("line 3: no `keep` line", b"history 3", b"history 2")
+        self.assert_damaged("line 3: no `keep` line", b"keep 0", b"kept 0")
         self.assert_damaged("line 2: no `open` line", b"open 3", b"open 03")
         self.assert_damaged("line 4: no `keep` line", b"keep 2", b"kept 2")
         self.assert_damaged("line 6: it is no event", b"2 120", b"2  120")

@@ -3,7 +3,12 @@ from __future__ import annotations
 
 import gzip
 import json
+import os
+import random
+import subprocess
+import sys
 import unittest
+from typing import IO
 from unittest import mock
 
 from rb_broker_redis.history import read_text
@@ -57,6 +62,61 @@ class ShowTest(LoadTest):
     def test_a_queue_that_is_empty_at_the_end(self) -> None:
         self.history.write_bytes(b"history 3\nopen 0 0 0\nend 0\n")
         self.assert_prints([], "load", self.history, "--began", NINE, "--show")
+
+
+    def assert_output_fails(self, output: IO[bytes], said: bytes) -> None:
+        """A command whose output goes there ends with status 2 and this line."""
+        command = [sys.executable, "-B", "-m", "rb_broker_redis", *self.words("load", self.history, "--began", NINE, "--show")]
+        ran = subprocess.run(command, stdout=output, stderr=subprocess.PIPE, timeout=60, check=False)
+        self.assertEqual((ran.returncode, ran.stderr), (2, said))
+
+    @unittest.skipUnless(os.path.exists("/dev/full"), "there is no /dev/full")
+    def test_an_output_that_takes_nothing(self) -> None:
+        with open("/dev/full", "wb") as full:
+            self.assert_output_fails(full, b"rb_broker_redis: output: No space left on device\n")
+
+    def test_an_output_that_is_closed(self) -> None:
+        reader, writer = os.pipe()
+        os.close(reader)
+        with open(writer, "wb") as closed:
+            self.assert_output_fails(closed, b"rb_broker_redis: cannot write output\n")
+
+
+class ProgramTest(LoadTest):
+    """A history of the program, and what the program itself finds when it continues it."""
+
+    def run_script(self, script: str, *options: str) -> list[str]:
+        ran = subprocess.run([os.environ["RB_BROKER_PROGRAM"], "script", *options], input=script, stdout=subprocess.PIPE,
+                             check=True, timeout=60, encoding="utf-8")
+        return ran.stdout.splitlines()
+
+    def test_what_the_next_run_finds_is_what_is_shown(self) -> None:
+        draw, path = random.Random(1), str(self.history)
+        lines = [f"OFFER {draw.randrange(10**10)} job-{number}" for number in range(300)]
+        lines += ["AT 5000000000", "DRAIN 40", *[f"DONE {id}" for id in range(300)]]
+        lines += [f"REMOVE {id}" for id in range(0, 90, 7)]
+        self.run_script("\n".join([*lines, "QUIT", ""]), "--calls", "1000", "--history", path)
+        for second in (6, 7, 8):  # one job at a time fails at the end of its run, so that no two expire at one moment
+            script = f"AT {second * 10**9}\nPOLL\nQUIT\n"
+            self.assertIn("ITEM", self.run_script(script, "--from", path, "--history", path)[1])
+        left = [json.loads(it) for it in self.ran("load", path, "--began", "dates", "--show")[1]]
+        asked = "".join(f"PEEK\nREMOVE {it['id']}\n" for it in left) + "PEEK\nQUIT\n"
+        expected = [line for it in left for line in
+                    (f"HEAD {it['id']} {it['expiry']} {it['attempt']} {it['payload']}", "REMOVED yes")]
+        self.assertEqual(self.run_script(asked, "--calls", "1000", "--from", path), [*expected, "NONE", "BYE"])
+        self.assertGreater(len(left), 200)
+        self.assertEqual([it["attempt"] for it in left].count(2), 3)
+
+    def test_the_program_continues_the_last_file_of_an_archive(self) -> None:
+        queue = self.joined(attempts=3)
+        for line in ("OFFER 0 a", "OFFER 3600000000000 b", "POLL", "FAIL 0", "POLL", "FAIL 2"):
+            queue.request(line, SEAT)
+        self.ran("archive", self.room / "archive")
+        file = self.room / "archive" / f"{self.name}-{0:012}.txt"
+        replies = self.run_script("SIZE\nPOLL\nPEEK\nQUIT\n", "--from", str(file), "--attempts", "3")
+        self.assertEqual([it.split(" ")[0] for it in replies], ["SIZE", "ITEM", "HEAD", "BYE"])
+        self.assertEqual((replies[0], replies[1].split(" ")[3:], replies[2].split(" ")[3:]),
+                         ("SIZE 2", ["3", "a"], ["1", "b"]))
 
 
 class QueueTest(LoadTest):

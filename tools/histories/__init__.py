@@ -9,7 +9,7 @@
     files.py                 the file of a history, which may be compressed
     faults.py                why a history can't be read
 
-tools/report and tools/export take the columns, in which all must be as a queue does it. tools/verify and the tests
+tools/report takes the columns, in which all must be as a queue does it. tools/verify and the tests
 take the lines, which may say what no queue does. The columns are `array`s, so that 1,000,000 events take tens of
 megabytes and no object each.
 

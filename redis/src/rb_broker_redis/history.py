@@ -16,6 +16,8 @@ MOST_KEPT = 1_000_000
 """A text opens with no more elements."""
 
 HEADER = b"history 3\n"
+EARLIER = {b"history 1\n": 1, b"history 2\n": 2}
+"""The versions that leave out an element's first expiry. Version 1 has no opening either."""
 LONGEST_LINE = 1 << 20
 
 _NUMBER = rb"(?:0|[1-9][0-9]{0,19})"
@@ -29,6 +31,8 @@ _EVENT = re.compile(rb"%b (%b) (%b) (?:" % (_NUMBER, _NUMBER, _NUMBER) + b"|".jo
     rb"size (?P<size>%b)" % _NUMBER,
     rb"peek (?P<peek>%b|none)" % _NUMBER,
 ]) + rb")")
+_EARLIER_ELEMENT = re.compile(rb"((?:%b %b %b offer|keep) %b (%b) (%b)) ([1-9][0-9]{0,2}|1000) ([!-~]{1,64})\n" % (
+    (_NUMBER,) * 6))
 _KEEP = re.compile(rb"keep (%b)\n" % _ELEMENT)
 _OPEN = re.compile(rb"open (%b) (%b) (%b)\n" % (_NUMBER, _NUMBER, _NUMBER))
 _END = re.compile(rb"end (%b)\n" % _NUMBER)
@@ -50,8 +54,8 @@ class Element(NamedTuple):
 
     @classmethod
     def of(cls, words: bytes) -> Element:
-        *numbers, payload = words.decode("ascii").split(" ")
-        return cls(*map(int, numbers), payload)  # type: ignore[arg-type]
+        id, expiry, origin, first, attempt, payload = words.decode("ascii").split(" ")
+        return cls(int(id), int(expiry), int(origin), int(first), int(attempt), payload)
 
 
 class FollowedQueue:
@@ -158,9 +162,8 @@ class Run(NamedTuple):
 
 
 def read_text(path: Path) -> Run:
-    """Reads a text of the third version whole, also one that gzip has compressed. Raises a `Damaged` that names the
-    line."""
-    with gzip.open(path) if path.suffix == ".gz" else open(path, "rb") as file:
+    """Reads a text whole, in any version, also one that gzip has compressed. Raises a `Damaged` that names the line."""
+    with gzip.GzipFile(path) if path.suffix == ".gz" else open(path, "rb") as file:
         reader = _Reader(file)
         try:
             return reader.read()
@@ -173,13 +176,19 @@ def read_text(path: Path) -> Run:
 class _Reader:
     """Reads a text line by line."""
 
-    def __init__(self, file: BinaryIO) -> None:
+    def __init__(self, file: BinaryIO | gzip.GzipFile) -> None:
         self._file, self.number = file, 0
+        self._version = 3
+        self._firsts: dict[bytes, bytes] = {}  # the first expiry of each job, by its origin
 
     def read(self) -> Run:
-        if self._line() != HEADER:
-            raise Damaged("no `history 3`; `rb_broker script --from` continues an earlier version as the third")
-        next_id, opened_at, kept = map(int, self._matched(_OPEN, "no `open` line").groups())
+        header = self._line()
+        self._version = 3 if header == HEADER else EARLIER.get(header, 0)
+        if not self._version:
+            raise Damaged("no `history 1`, `history 2` or `history 3`")
+        next_id = opened_at = kept = 0
+        if self._version > 1:
+            next_id, opened_at, kept = map(int, self._matched(_OPEN, "no `open` line").groups())
         queue = FollowedQueue(next_id, opened_at)
         for _ in range(kept):
             queue.keep(self._matched(_KEEP, "no `keep` line")[1])
@@ -204,7 +213,17 @@ class _Reader:
         line = self._file.readline(LONGEST_LINE)
         if not line.endswith(b"\n"):
             raise Damaged("the text ends before the history does")
+        if self._version < 3 and (line.startswith(b"keep ") or b" offer " in line):
+            return self._with_first(line)
         return line
+
+    def _with_first(self, line: bytes) -> bytes:
+        """The line as the third version has it. The first expiry of a job is that of its earliest line."""
+        match = _EARLIER_ELEMENT.fullmatch(line)
+        if match is None:
+            raise Damaged("no `keep` line" if line.startswith(b"keep ") else "it is no event")
+        words, expiry, origin, attempt, payload = match.groups()
+        return b"%b %b %b %b\n" % (words, self._firsts.setdefault(origin, expiry), attempt, payload)
 
     def _matched(self, pattern: Pattern[bytes], otherwise: str) -> Match[bytes]:
         match = pattern.fullmatch(self._line())

@@ -2,6 +2,7 @@
 from __future__ import annotations
 
 import argparse
+import os
 import sys
 from pathlib import Path
 
@@ -16,7 +17,7 @@ DATES = "dates"
 
 ABOUT = """loads what the run of a server left into a queue
 
-HISTORY is a text that `rb_broker` wrote with --history, or such a text compressed by gzip, with the name HISTORY.gz;
+HISTORY is a text that `rb_broker` wrote with --history, in any version, or compressed by gzip if its name ends in .gz;
 check it with `rb_broker replay` first. Each element keeps its job and its attempt. A server's moments begin with its
 run, and --began says when that was: a date such as 2026-11-26T08:00:00Z, in UTC if it has no zone, or seconds since
 1970 such as @1795680000. `--began dates` is for a file of `archive`, whose moments are dates.
@@ -56,12 +57,19 @@ def run(asked: argparse.Namespace) -> int:
     try:
         runs = [_read(it) for it in asked.histories]
         left = Left.of(runs, [run.opened_at if it is None else it for run, it in zip(runs, asked.began)])
-        if asked.show:
-            sys.stdout.writelines(f"{it}\n" for it in left.json_lines())
-            return 0
-        return _load(asked, left)
+        return _show(left) if asked.show else _load(asked, left)
     except (Damaged, NotLoaded) as fault:
         return fail(1, fault)
+
+
+def _show(left: Left) -> int:
+    try:
+        sys.stdout.writelines(f"{it}\n" for it in left.json_lines())
+        sys.stdout.flush()
+        return 0
+    except OSError as fault:
+        os.dup2(os.open(os.devnull, os.O_WRONLY), sys.stdout.fileno())  # for the last flush
+        return fail(2, "cannot write output" if isinstance(fault, BrokenPipeError) else f"output: {fault.strerror}")
 
 
 def _load(asked: argparse.Namespace, left: Left) -> int:

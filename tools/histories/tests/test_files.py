@@ -22,17 +22,15 @@ class FilesTest(RoomTest):
         status, told, errors = call_tool("report", compressed)
         self.assertEqual((status, errors), (0, ""))
         self.assertEqual(told, call_tool("report", plain)[1].replace(plain.encode(), compressed.encode()))
-        self.assertEqual(call_tool("export", compressed), call_tool("export", plain))
 
     def test_a_compressed_history_that_is_damaged(self) -> None:
         whole = gzip.compress(RUN.encode())
         other_sum = whole[:-8] + bytes([whole[-8] ^ 255]) + whole[-7:]
         for text in (whole[:-20], whole[:-1], other_sum, b"", RUN.encode()):
             path = self.compressed(text)
-            for tool in ("report", "export"):
-                status, told, errors = call_tool(tool, path)
-                self.assertEqual(told, b"")
-                if text:
-                    self.assertEqual((status, errors), (2, f"{tool}: {path}: damaged as a compressed file\n"))
-                else:
-                    self.assertEqual(status, 1, "an empty file has an empty text")
+            status, told, errors = call_tool("report", path)
+            self.assertEqual(told, b"")
+            if text:
+                self.assertEqual((status, errors), (2, f"report: {path}: damaged as a compressed file\n"))
+            else:
+                self.assertEqual(status, 1, "an empty file has an empty text")
