@@ -23,7 +23,7 @@ TOP = os.path.dirname(os.path.dirname(os.path.realpath(__file__)))
 sys.path[:0] = [f"{TOP}/tools", f"{TOP}/clients/python/src"]
 
 from common.program import add_program_option, built_program  # noqa: E402
-from rb_broker_client import Fleet, FleetProducer, FleetWorker, Item, Server  # noqa: E402
+from rb_broker_client import Fleet, FleetProducer, FleetWorker, Job, Server  # noqa: E402
 from serving.server import Server as Program  # noqa: E402
 
 COUNTS = (1, 2, 4)
@@ -41,7 +41,7 @@ class Handler:
         self._lock = threading.Lock()
         self.all_done = threading.Event()
 
-    def __call__(self, job: Item) -> None:
+    def __call__(self, job: Job) -> None:
         if self._seconds:
             time.sleep(self._seconds)
         with self._lock:
@@ -57,7 +57,7 @@ def offer(fleet: Fleet, jobs: int) -> float:
 
         def work(first: int) -> None:
             for number in range(first, jobs, THREADS):
-                producer.offer(0, str(number))
+                producer.offer(str(number))
             offered.append(first)
 
         threads = [threading.Thread(target=work, args=[it], daemon=True) for it in range(THREADS)]

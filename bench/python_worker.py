@@ -5,11 +5,13 @@ For Worker and AsyncWorker, with 1, 8 and 64 jobs at the same time: how many job
 before the worker begins, jobs of nothing and jobs that sleep for 50 ms. Then, with 8 at a time, 10 jobs a second of
 50 ms that are offered one by one, at random: how long after its offer a job begins, and how long after the end of its
 handler the server has told that the job is done. Server, worker and producer share the machine; medians of N runs (3 by
-default).
+default). Last, with --crowd alone: a server of four workers, and 1 to 4 times as many clients, of which one is a
+producer that connects for each offer and the others are idle workers: how long an offer takes.
 """
 import argparse
 import asyncio
 import json
+import logging
 import os
 import random
 import statistics
@@ -22,7 +24,7 @@ TOP = os.path.dirname(os.path.dirname(os.path.realpath(__file__)))
 sys.path[:0] = [f"{TOP}/tools", f"{TOP}/clients/python/src"]
 
 from common.program import add_program_option, built_program  # noqa: E402
-from rb_broker_client import AsyncWorker, Broker, Producer, Worker, requests  # noqa: E402
+from rb_broker_client import AsyncWorker, Broker, Producer, Request, Worker  # noqa: E402
 from serving.server import Server  # noqa: E402
 
 OPTIONS = ("--workers", 2, "--sessions", 100, "--calls", 1_000_000)
@@ -30,6 +32,7 @@ PIECE = 1_000
 NAP = 0.05  # seconds that a job sleeps
 SPARSE = 200  # jobs that are offered one by one
 PAUSE = 0.1  # seconds between two of these, in the mean
+SEATS, MINUTE = 4, 60  # workers of a server with more clients, and seconds for which it is watched
 
 
 class Run:
@@ -72,7 +75,7 @@ def rate(program, is_async, nap, concurrency):
     with Server(OPTIONS, program) as server:
         with Broker(server.port) as broker:
             for first in range(0, count, PIECE):
-                broker.ask_all([requests.offer(0, str(it)) for it in range(first, min(first + PIECE, count))])
+                broker.ask_all([Request.offer(str(it)) for it in range(first, min(first + PIECE, count))])
             broker.quit()
         began = time.monotonic()
         run = Run(is_async, server.port, nap, concurrency)
@@ -90,7 +93,7 @@ def delays(program, is_async):
         with Producer(server.port) as producer:
             for number in range(SPARSE):
                 offered[str(number)] = time.monotonic()
-                producer.offer(0, str(number))
+                producer.offer(str(number))
                 time.sleep(chance.expovariate(1 / PAUSE))
         run.await_done(SPARSE)
         run.stop()
@@ -101,6 +104,29 @@ def delays(program, is_async):
     return begins, [(received - run.ended[id]) / 1e6 for id, received in done]
 
 
+def crowd(program, clients):
+    """The seconds that each offer of a minute takes, beside so many clients less one that are idle workers."""
+    logging.disable(logging.WARNING)  # each offer that waits is logged
+    waits = []
+    with Server(("--workers", SEATS, "--sessions", 10_000, "--calls", 1_000_000, "--turns", 50), program) as server:
+        workers = [Worker(lambda job: None, server.port) for _ in range(clients - 1)]
+        threads = [threading.Thread(target=it.run, daemon=True) for it in workers]
+        for it in threads:
+            it.start()
+        end = time.monotonic() + MINUTE
+        while time.monotonic() < end:
+            began = time.monotonic()
+            with Producer(server.port, patience=MINUTE) as producer:
+                producer.offer(str(len(waits)))
+            waits.append(time.monotonic() - began)
+            time.sleep(PAUSE)
+        for it in workers:
+            it.stop()
+        for it in threads:
+            it.join()
+    return waits
+
+
 def percentile(values, percent):
     return sorted(values)[min(len(values) * percent // 100, len(values) - 1)]
 
@@ -109,8 +135,15 @@ def main():
     asked = argparse.ArgumentParser(description=__doc__, formatter_class=argparse.RawDescriptionHelpFormatter)
     add_program_option(asked, "the program to measure")
     asked.add_argument("--runs", type=int, default=3, metavar="N", help="how often each is measured (default: 3)")
+    asked.add_argument("--crowd", action="store_true", help="only the server with more clients than workers")
     options = asked.parse_args()
     program = built_program(options.program)
+    for times in range(1, 5) if options.crowd else ():
+        waits = crowd(program, times * SEATS)
+        print(f"{times} times as many clients as workers: {len(waits)} offers in {MINUTE} s, seconds of one: median "
+              f"{statistics.median(waits):.3f}, greatest {max(waits):.1f}", flush=True)
+    if options.crowd:
+        return
     kinds = (("Worker", False), ("AsyncWorker", True))
     for name, is_async in kinds:
         for nap in (0, NAP):

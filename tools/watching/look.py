@@ -4,7 +4,7 @@ from __future__ import annotations
 from dataclasses import dataclass
 from typing import List, Optional
 
-from rb_broker_client import Item
+from rb_broker_client import Job
 from watching.sockets import Connection, Program
 
 # What a client does, the worst first.
@@ -26,7 +26,7 @@ class Client:
 class Head:
     """The element that expires first."""
 
-    item: Item
+    item: Job
     late: Optional[float]  # seconds since its expiry, below 0 before it; None if the moment is not known
 
 

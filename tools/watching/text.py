@@ -23,7 +23,7 @@ def head_of(head: Head) -> str:
     item = head.item
     name = f"id {item.id}, attempt {item.attempt}, {item.payload}"
     if head.late is None:
-        return f"the first ({name}) expires at {item.expiry} ns; the moment is not known"
+        return f"the first ({name}) expires at {item.expires_at_ns} ns; the moment is not known"
     if head.late <= 0:
         return f"the first ({name}) expires in {seconds(-head.late)}"
     return f"the first ({name}) is {seconds(head.late)} late"

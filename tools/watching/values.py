@@ -32,7 +32,7 @@ def _head(look: Look) -> Optional[Dict[str, Any]]:
     if look.head is None:
         return None
     item = look.head.item
-    return {"id": item.id, "expiry": item.expiry, "attempt": item.attempt, "payload": item.payload,
+    return {"id": item.id, "expiry": item.expires_at_ns, "attempt": item.attempt, "payload": item.payload,
             "late_seconds": _rounded(look.head.late)}
 
 

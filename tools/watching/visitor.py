@@ -6,13 +6,14 @@ from dataclasses import dataclass
 from typing import Any, Dict, List, Optional
 
 import watching  # noqa: F401  # which says where the client package is
-from rb_broker_client import SECOND, Broker, BrokerError, Full, Item, Offered, Refused, Request, requests
+from rb_broker_client import Broker, BrokerError, FullError, Job, Offered, RefusedError, Request
 
+SECOND = 1_000_000_000  # nanoseconds
 PATIENCE = 0.5  # seconds that a look waits for replies
 LONGEST = 60  # seconds after which the session is left, so that a server can end
 
 # The element by which the moment is asked for would expire after 146 years.
-FAR, PROBE = 1 << 62, "watch"
+FAR, PROBE = 4_611_686_018 * SECOND, "watch"
 
 
 @dataclass(frozen=True)
@@ -20,7 +21,7 @@ class Queue:
     """What the server answered."""
 
     elements: int
-    head: Optional[Item]
+    head: Optional[Job]
     next_id: Optional[int] = None  # of the next offer, by an element that was offered and removed
     moment: Optional[int] = None  # the server's, by the same element
     at: Optional[int] = None  # the same by this machine's monotonic clock, if the reply came soon
@@ -54,7 +55,7 @@ class Visitor:
         try:
             broker = self._broker or self._connected()
             self._receive_all(broker)
-            self._ask(broker, size=requests.size(), head=requests.peek(), **self._probe())
+            self._ask(broker, size=Request.size(), head=Request.peek(), **self._probe())
             self._receive_all(broker)
             return self._queue()
         except TimeoutError:
@@ -66,11 +67,11 @@ class Visitor:
     def _connected(self) -> Broker:
         self._broker = Broker(self._port, patience=PATIENCE)
         self.sessions += 1
-        self._ask(self._broker, greeting=requests.greeting())  # which is no call, if there is no worker for long
+        self._ask(self._broker, greeting=Request.greeting())  # which is no call, if there is no worker for long
         return self._broker
 
     def _probe(self) -> Dict[str, Request[Any]]:
-        return {"offered": requests.offer(FAR, PROBE)} if self._probes else {}
+        return {"offered": Request.offer(PROBE, delay=FAR // SECOND)} if self._probes else {}
 
     def _ask(self, broker: Broker, **questions: Request[Any]) -> None:
         self._asked = time.monotonic_ns()
@@ -86,8 +87,8 @@ class Visitor:
         try:
             answer = broker.receive()
             self.calls += 1
-        except Refused as refusal:
-            self.is_full = self.is_full or isinstance(refusal, Full)
+        except RefusedError as refusal:
+            self.is_full = self.is_full or isinstance(refusal, FullError)
             answer = refusal
         name = self._due.pop(0)
         self._found[name] = answer
@@ -97,15 +98,15 @@ class Visitor:
             at = time.monotonic_ns()
             self.ids += 1
             self._found["at"] = at if at - self._asked < PATIENCE * SECOND else None
-            self._ask(broker, removed=requests.remove(answer.id))
+            self._ask(broker, removed=Request.remove(answer.id))
 
     def _queue(self) -> Optional[Queue]:
         size, head, offered = self._found["size"], self._found["head"], self._found.get("offered")
-        if isinstance(size, Refused) or isinstance(head, Refused):
+        if isinstance(size, RefusedError) or isinstance(head, RefusedError):
             return None
         if not isinstance(offered, Offered):
             return Queue(size, head)
-        return Queue(size, head, offered.id + 1, offered.expiry - FAR, self._found["at"])
+        return Queue(size, head, offered.id + 1, offered.expires_at_ns - FAR, self._found["at"])
 
     def rest(self, is_wanted_elsewhere: bool) -> None:
         """What to do until the next look: the session is left if a client needs the worker, or if it is old. One that

@@ -128,7 +128,7 @@ class Watcher:
         if queue is None or queue.head is None:
             return None
         moment = self._moment()
-        return Head(queue.head, None if moment is None else (moment - queue.head.expiry) / SECOND)
+        return Head(queue.head, None if moment is None else (moment - queue.head.expires_at_ns) / SECOND)
 
     def _found(self, sockets: Sockets, clients: List[Client], queue: Optional[Queue]) -> Look:
         server, visitor = self._server, self._visitor

@@ -10,10 +10,10 @@ import logging
 import signal
 import sys
 
-from rb_broker_client import SECOND, BrokerError, Item, Producer, Worker
+from rb_broker_client import BrokerError, Job, Producer, Worker
 
 
-def deliver(job: Item) -> None:
+def deliver(job: Job) -> None:
     """Delivers a letter. An exception says that it has to be brought again."""
     print(f"{job.payload}, attempt {job.attempt}")
     if job.payload == "to-bob" and job.attempt == 1:
@@ -28,8 +28,8 @@ port = asked.parse_args().port
 
 try:
     with Producer(port, patience=3) as producer:
-        producer.offer(0, "to-ann")
-        producer.offer(SECOND, "to-bob")
+        producer.offer("to-ann")
+        producer.offer("to-bob", delay=1)
 except (BrokerError, OverflowError) as fault:
     sys.exit(f"letters: {fault}")
 

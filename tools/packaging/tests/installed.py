@@ -27,7 +27,7 @@ port, seconds, jobs = map(int, sys.argv[1:])
 logging.disable()
 with Producer(port) as producer:
     for number in range(jobs):
-        producer.offer(0, f"job-{number}")
+        producer.offer(f"job-{number}")
 done, began = set(), time.monotonic()
 def handle(job):
     if time.monotonic() < began + seconds:

@@ -10,7 +10,7 @@ from typing import List
 
 import verifying.tests  # noqa: F401  # which says where the client package is
 from common.testing import run_tool, tool
-from rb_broker_client import Item, Producer, Worker
+from rb_broker_client import Job, Producer, Worker
 from serving.server import Server
 from serving.testing import ServingTest
 from verifying.tests.recording_client import RecordingClient
@@ -72,7 +72,7 @@ class ServedTest(RunTest, ServingTest):
                                  "--delay", 1_000_000, "--attempts", 9)
         path, done = f"{self.room}/package.jsonl", threading.Semaphore(0)
 
-        def deliver(job: Item) -> None:
+        def deliver(job: Job) -> None:
             if (job.id + job.attempt) % 3 == 0:
                 raise ValueError("not today")
             done.release()
@@ -83,7 +83,7 @@ class ServedTest(RunTest, ServingTest):
             thread.start()
         with self.assertLogs("rb_broker_client"), Producer(server.port, session=0.1, record=path) as producer:
             for number in range(300):
-                producer.offer(0, f"letter-{number}")
+                producer.offer(f"letter-{number}")
             for _ in range(300):
                 self.assertTrue(done.acquire(timeout=60))
             for worker, thread in zip(workers, threads):

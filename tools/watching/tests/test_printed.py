@@ -13,7 +13,7 @@ from unittest import mock
 
 import watching  # noqa: F401  # which says where the client package is
 from common.program import TOP
-from rb_broker_client import Item
+from rb_broker_client import Job
 from watching import prometheus
 from watching.look import ACTIVE, IN_CALL, NOT_READING, SILENT, WAITING, Client, Head, Look, Supply
 from watching.screen import frame
@@ -43,7 +43,7 @@ LOOK = Look(
     time=1_700_000_000.25, port=7011, server=Program("rb_broker", 30170), up=4000.0, workers=4,
     clients=[client(41000, ACTIVE, 0.1, pid=9), client(41001, SILENT, 725, pid=11), client(41002, SILENT, 3),
              client(41003, WAITING, 2), client(41004, NOT_READING, 30, 163_298, 12), client(41005, IN_CALL, 5)],
-    silent_from=10, has_session=True, is_full=False, elements=1204, head=Head(Item(17, 5_000, 2, "letter-17"), 3.25),
+    silent_from=10, has_session=True, is_full=False, elements=1204, head=Head(Job(17, 5_000, 2, "letter-17"), 3.25),
     calls=Supply(400_000, False, 1_000_000, 12.5), sessions=Supply(57, True, 10_000, 0.5),
     looks=8, own_calls=16, own_sessions=1)
 

@@ -4,39 +4,37 @@
 - `Producer` offers jobs to a server that may be replaced by another.
 - `Worker` takes jobs, runs a handler on each, and tells the server what came of it.
 - `AsyncBroker`, `AsyncProducer` and `AsyncWorker` do the same for asyncio.
-- `FleetProducer` and `FleetWorker` do what the two without `Fleet` do, with several servers as one `Fleet`.
 
-Delays, timeouts, expiries and moments are nanoseconds, as in the protocol: `5 * SECOND`. What the client itself
-waits for (`patience`, `Pauses`) is seconds.
+Delays, waits, timeouts and patience are seconds or a `timedelta`. Moments of the protocol are whole nanoseconds of the
+server's clock, under names that end in `_ns`.
 """
-from . import requests
-from .async_broker import AsyncBroker
-from .async_producer import AsyncProducer
-from .async_worker import AsyncHandler, AsyncOnDead, AsyncWorker
-from .broker import Broker
+from .broker import AsyncBroker, AsyncHeldJob, Broker, HeldJob
+from .dead_letters import DeadLetters
+from .durations import Duration
 from .errors import (
-    BrokerError, Disconnected, Full, HeldTooMany, InDoubt, LineRefused, NotHeld, NotOffered, NumberRefused,
-    OutOfMemory, PayloadRefused, RangeRefused, Refused, Stopped, SyntaxRefused, UnknownReply,
+    BrokerError, DisconnectedError, FullError, HeldTooManyError, InDoubtError, LineRefusedError, NotHeldError,
+    NotOfferedError, NumberRefusedError, OutOfMemoryError, PayloadRefusedError, RangeRefusedError, RefusedError,
+    StoppedError, SyntaxRefusedError, UnknownReplyError,
 )
-from .fleet import Fleet, Server
-from .fleet_producer import FleetProducer
-from .fleet_worker import FleetWorker
-from .limits import GREATEST_NUMBER, LONGEST_PAYLOAD, MOST_HELD, SECOND
+from .fleet import Fleet, FleetProducer, FleetWorker, Server
+from .handlers import AsyncHandler, Handler, OnDead
+from .job import Again, Dead, Job, Offered, Verdict
+from .limits import GREATEST_NUMBER, LONGEST_PAYLOAD, MOST_HELD
 from .pauses import Pauses
-from .producer import Producer
+from .producer import AsyncProducer, Producer
 from .record import RecordTarget
-from .replies import Again, Dead, Item, Offered, Verdict
 from .report import Report
-from .requests import Request
-from .worker import Handler, OnDead, Worker
+from .request import Request
+from .worker import AsyncWorker, Worker
 
-__version__ = "1.1.0"
+__version__ = "2.0.0"
 
 __all__ = [
-    "Again", "AsyncBroker", "AsyncHandler", "AsyncOnDead", "AsyncProducer", "AsyncWorker", "Broker", "BrokerError",
-    "Dead", "Disconnected", "Fleet", "FleetProducer", "FleetWorker", "Full", "GREATEST_NUMBER", "Handler",
-    "HeldTooMany", "InDoubt", "Item", "LONGEST_PAYLOAD", "LineRefused", "MOST_HELD", "NotHeld", "NotOffered",
-    "NumberRefused", "Offered", "OnDead", "OutOfMemory", "Pauses", "PayloadRefused", "Producer", "RangeRefused",
-    "RecordTarget", "Refused", "Report", "Request", "SECOND", "Server", "Stopped", "SyntaxRefused", "UnknownReply",
-    "Verdict", "Worker", "__version__", "requests",
+    "Again", "AsyncBroker", "AsyncHandler", "AsyncHeldJob", "AsyncProducer", "AsyncWorker", "Broker", "BrokerError",
+    "Dead", "DeadLetters", "DisconnectedError", "Duration", "Fleet", "FleetProducer", "FleetWorker", "FullError",
+    "GREATEST_NUMBER", "Handler", "HeldJob", "HeldTooManyError", "InDoubtError", "Job", "LONGEST_PAYLOAD",
+    "LineRefusedError", "MOST_HELD", "NotHeldError", "NotOfferedError", "NumberRefusedError", "Offered", "OnDead",
+    "OutOfMemoryError", "Pauses", "PayloadRefusedError", "Producer", "RangeRefusedError", "RecordTarget",
+    "RefusedError", "Report", "Request", "Server", "StoppedError", "SyntaxRefusedError", "UnknownReplyError",
+    "Verdict", "Worker", "__version__",
 ]

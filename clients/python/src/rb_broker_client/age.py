@@ -4,6 +4,14 @@ from __future__ import annotations
 import time
 from typing import Optional
 
+from .durations import Duration, seconds
+
+WAITED = 0.1
+"""Seconds after which a session was served late: others were served, and may be waiting now."""
+
+BRIEF = 3.0
+"""Seconds of a session while others may be waiting."""
+
 
 class Age:
     """The age of a session, and the limit beyond which it is left."""
@@ -17,9 +25,20 @@ class Age:
         """Whether the session is as old as it may be."""
         return self.end is not None and time.monotonic() >= self.end
 
-    @staticmethod
-    def checked(limit: Optional[float]) -> Optional[float]:
-        """The limit, unless it makes no sense."""
-        if limit is not None and not limit > 0:
-            raise ValueError("a session lasts more than 0 seconds, or as long as it can with None")
-        return limit
+
+class Ages:
+    """How old the sessions of a client may become.
+
+    One that was served late is brief, so that each of several clients that wait for a server's workers has its turn.
+    """
+
+    def __init__(self, limit: Optional[Duration], first_is_brief: bool) -> None:
+        """`limit` is for sessions that were served at once; with None all become as old as they can. The first one may
+        be brief, since it can't know whether others wait."""
+        self.limit = None if limit is None else seconds(limit)
+        self._is_next_brief = first_is_brief
+
+    def next(self, waited: float) -> Age:
+        """That of a session that is served now, after a wait of so many seconds."""
+        is_brief, self._is_next_brief = self._is_next_brief or waited >= WAITED, False
+        return Age(min(self.limit, BRIEF) if self.limit is not None and is_brief else self.limit)

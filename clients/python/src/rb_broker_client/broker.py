@@ -1,181 +1,203 @@
-"""A session with a server."""
+"""The sessions that callers use: blocking, and for asyncio."""
 from __future__ import annotations
 
-from types import TracebackType
-from typing import Any, Iterable, List, Optional, Type, Union
+import inspect
+from typing import TYPE_CHECKING, Any, Callable, Coroutine, Iterable, List, Optional, Type, TypeVar
 
-from . import requests
-from .connection import Connection
-from .dialogue import Dialogue, Incomplete
-from .errors import Refused, Stopped, SyntaxRefused, UnknownReply
-from .record import Record, RecordTarget
-from .replies import Item, Offered, Verdict
-from .requests import Answer, Request
+from .blocking import Blocking, Result, run
+from .durations import Duration
+from .job import Job, Verdict
+from .looping import Looping
+from .request import Answer, Request
+from .session import Either, Session
+
+if TYPE_CHECKING:
+    from typing_extensions import Concatenate, ParamSpec
+
+    Words = ParamSpec("Words")
+
+Held = TypeVar("Held", bound="_Held")
+Method = TypeVar("Method", bound=Callable[..., Any])
 
 
-class Broker:
+def _described(method: Method, of: Callable[..., Any], has_self: bool) -> Method:
+    """A method with the name, the text and the words of what it is made of."""
+    signature, me = inspect.signature(of), inspect.Parameter("self", inspect.Parameter.POSITIONAL_OR_KEYWORD)
+    words = [*signature.parameters.values()] if has_self else [me, *signature.parameters.values()]
+    method.__name__, method.__doc__ = of.__name__.lstrip("_"), of.__doc__
+    setattr(method, "__signature__", signature.replace(parameters=words))
+    return method
+
+
+def _asks(of: Callable[Words, Request[Answer]]) -> Callable[Concatenate[Broker, Words], Answer]:
+    """A method that asks such a request and waits for the answer."""
+
+    def method(self: Broker, /, *words: Words.args, **options: Words.kwargs) -> Answer:
+        return run(self._ask(of(*words, **options)))
+
+    return _described(method, of, has_self=False)
+
+
+def _awaits(of: Callable[Words, Request[Answer]]) -> Callable[Concatenate[AsyncBroker, Words],
+                                                              Coroutine[Any, Any, Answer]]:
+    """A coroutine method that asks such a request and waits for the answer."""
+
+    async def method(self: AsyncBroker, /, *words: Words.args, **options: Words.kwargs) -> Answer:
+        return await self._ask(of(*words, **options))
+
+    return _described(method, of, has_self=False)
+
+
+def _blocks(of: Callable[Concatenate[Session, Words], Coroutine[Any, Any, Result]]
+            ) -> Callable[Concatenate[Broker, Words], Result]:
+    """A method that runs a coroutine method to its end."""
+
+    def method(self: Broker, /, *words: Words.args, **options: Words.kwargs) -> Result:
+        return run(of(self, *words, **options))
+
+    return _described(method, of, has_self=True)
+
+
+class _Held(Job):
+    """A job that a session holds until it is done or fails, or the session ends."""
+
+    _session: Session
+
+    @classmethod
+    def of(cls: Type[Held], session: Session, job: Job) -> Held:
+        """The job, which this session was given."""
+        held = cls(job.id, job.expires_at_ns, job.attempt, job.payload)
+        object.__setattr__(held, "_session", session)  # past the lock of a frozen class
+        return held
+
+
+class HeldJob(_Held):
+    """A job that a `Broker` holds until it is done or fails, or its session ends."""
+
+    def done(self) -> None:
+        """The job is finished. Raises `NotHeldError` if it isn't held any more, also if its session has ended."""
+        run(self._session._settle(Request.done, self))
+
+    def fail(self) -> Verdict:
+        """The job failed now. Gives `Again` or `Dead`, and raises what `done` does."""
+        return run(self._session._settle(Request.fail, self))
+
+
+class AsyncHeldJob(_Held):
+    """A job that an `AsyncBroker` holds until it is done or fails, or its session ends."""
+
+    async def done(self) -> None:
+        """The job is finished. Raises `NotHeldError` if it isn't held any more, also if its session has ended."""
+        await self._session._settle(Request.done, self)
+
+    async def fail(self) -> Verdict:
+        """The job failed now. Gives `Again` or `Dead`, and raises what `done` does."""
+        return await self._session._settle(Request.fail, self)
+
+
+class Broker(Session):
     """One session with `rb_broker serve`, from the connection to its end. One thread at a time may use it.
 
     There is a method for each request, which sends it, waits for the reply and gives that as a value. A refusal
-    is raised as a kind of `Refused`, a lost connection as an `OSError`. To send several requests in one piece use
+    is raised as a kind of `RefusedError`, a lost connection as an `OSError`. To send several requests in one piece use
     `ask_all`, or `send` and then a `receive` for each.
 
     The jobs that a session holds fail when it ends, by `quit`, by `close` or at the end of a `with`: they come
     back to other sessions until their attempts are used up.
     """
 
-    def __init__(self, port: int, host: str = "127.0.0.1", patience: Optional[float] = None, *,
-                 record: Union[RecordTarget, Record, None] = None) -> None:
-        """Connects. A reply that does not come within `patience` seconds raises `TimeoutError`; it is still due
-        then, and `receive` waits for it again. To `record`, a path or an open text file, a line is added for each
-        request and its reply."""
-        recorded = Record.of(record)
-        self._record = None if recorded is None else recorded.begin()
-        self._dialogue = Dialogue(None if self._record is None else self._record.note)
-        self._connection = Connection(port, host, patience, self._dialogue.feed)
+    _kind = Blocking
+
+    def _begin(self) -> None:
+        run(self._connect())
 
     def __enter__(self) -> Broker:
         return self
 
-    def __exit__(self, kind: Optional[Type[BaseException]], fault: Optional[BaseException],
-                 trace: Optional[TracebackType]) -> None:
+    def __exit__(self, *fault: object) -> None:
         self.close()
 
-    def offer(self, delay: int, payload: str) -> Offered:
-        """Offers an element that expires `delay` from now."""
-        return self.ask(requests.offer(delay, payload))
+    def poll(self) -> Optional[HeldJob]:
+        """Takes a job that has expired, or gives None if there is none."""
+        job = self.ask(Request.poll())
+        return None if job is None else HeldJob.of(self, job)
 
-    def offer_at(self, expiry: int, payload: str) -> Offered:
-        """Offers an element that expires at `expiry`, which may have passed."""
-        return self.ask(requests.offer_at(expiry, payload))
+    def poll_for(self, timeout: Duration) -> Optional[HeldJob]:
+        """Takes a job, waiting for one up to this timeout. Gives None if none has expired by then."""
+        job = self.ask(Request.poll_for(timeout))
+        return None if job is None else HeldJob.of(self, job)
 
-    def poll(self) -> Optional[Item]:
-        """Takes a job that has expired, or returns None if there is none."""
-        return self.ask(requests.poll())
-
-    def poll_for(self, timeout: int) -> Optional[Item]:
-        """Takes a job, waiting for one up to `timeout`. Returns None if none has expired by then."""
-        return self.ask(requests.poll_for(timeout))
-
-    def take(self) -> Item:
+    def take(self) -> HeldJob:
         """Takes a job, and waits until there is one. Nothing cancels the wait, and a program that is killed meanwhile
-        may cost the next job an attempt, so a loop of `poll_for(SECOND)` is better in a service."""
-        return self.ask(requests.take())
+        may cost the next job an attempt, so a loop of `poll_for(1)` is better in a service."""
+        return HeldJob.of(self, self.ask(Request.take()))
 
-    def peek(self) -> Optional[Item]:
-        """Shows an element of least expiry, expired or not, or returns None if the queue is empty."""
-        return self.ask(requests.peek())
+    def drain(self, most: int) -> List[HeldJob]:
+        """Takes up to so many jobs that have expired, and no more than the session may hold."""
+        return [HeldJob.of(self, it) for it in self.ask(Request.drain(most))]
 
-    def drain(self, most: int) -> List[Item]:
-        """Takes up to `most` jobs that have expired, and no more than the session may hold."""
-        return self.ask(requests.drain(most))
-
-    def done(self, id: int) -> None:
-        """The job that is held under this id is finished."""
-        self.ask(requests.done(id))
-
-    def fail(self, id: int) -> Verdict:
-        """The job that is held under this id failed now. Gives `Again` or `Dead`."""
-        return self.ask(requests.fail(id))
-
-    def remove(self, id: int) -> bool:
-        """Takes the element of this id out of the queue, expired or not. Gives whether it was there."""
-        return self.ask(requests.remove(id))
-
-    def clear(self) -> None:
-        """Takes all elements out of the queue, expired or not."""
-        self.ask(requests.clear())
-
-    def size(self) -> int:
-        """Counts the elements in the queue, expired or not."""
-        return self.ask(requests.size())
-
-    def at(self, moment: int) -> int:
-        """Moves time to `moment` and gives the moment that holds. A server refuses it by `SyntaxRefused`."""
-        return self.ask(requests.at(moment))
-
-    def quit(self) -> None:
-        """Ends the session, waits until the server has read so, and hangs up."""
-        self.ask(requests.quit())
-        self.close()
-
-    def await_service(self) -> None:
-        """Waits until the server serves this session. One that connects while all of the server's workers are
-        busy is only served when one of them is free. This is no call and changes nothing."""
-        try:
-            self.ask(requests.greeting())
-        except SyntaxRefused:
-            pass
+    offer, offer_at, peek = _asks(Request.offer), _asks(Request.offer_at), _asks(Request.peek)
+    done, fail, remove = _asks(Request.done), _asks(Request.fail), _asks(Request.remove)
+    clear, size = _asks(Request.clear), _asks(Request.size)
+    send, quit, await_service = _blocks(Session._send), _blocks(Session._quit), _blocks(Session._await_service)
 
     def ask(self, request: Request[Answer]) -> Answer:
         """Sends a request and gives its answer."""
-        self._demand_none_due()
-        self.send(request)
-        answer: Answer = self.receive()
-        return answer
+        return run(self._ask(request))
 
-    def ask_all(self, questions: Iterable[Request[Answer]]) -> List[Union[Answer, Refused, Stopped]]:
-        """Sends any number of requests in one piece, and returns the answer to each. For a request that was refused, or
+    def ask_all(self, questions: Iterable[Request[Answer]]) -> List[Either[Answer]]:
+        """Sends any number of requests in one piece, and gives the answer to each. For a request that was refused, or
         whose wait was given up, the answer is that exception."""
-        self._demand_none_due()
-        self.send(*questions)
-        return [self._receive_either() for _ in range(self.unanswered)]
-
-    def send(self, *questions: Request[Any]) -> None:
-        """Sends requests in one piece, and waits for no reply. If this raises an `OSError`, some may have been
-        served."""
-        self._connection.send(self._dialogue.ask(*questions))
+        return run(self._ask_all(questions))
 
     def receive(self) -> Any:
         """The answer to the first request that has none yet. A refusal is raised."""
-        while True:
-            try:
-                return self._dialogue.answer()
-            except Incomplete:
-                self._connection.receive()
-            except UnknownReply:
-                self.close()  # which line answers which request is no longer known
-                raise
+        return run(self._receive())
 
-    def receive_ready(self) -> List[Any]:
-        """Waits for nothing: the answers whose replies have come, each refusal in its place."""
-        try:
-            answers = self._dialogue.complete_answers()
-            if not answers:
-                self._connection.receive_now()
-                answers = self._dialogue.complete_answers()
-            return answers
-        except UnknownReply:
-            self.close()
-            raise
 
-    @property
-    def unanswered(self) -> int:
-        """How many requests were sent whose replies have not been received."""
-        return self._dialogue.unanswered
+class AsyncBroker(Session):
+    """One session with `rb_broker serve`, as `Broker`, for asyncio. One task at a time may use it.
 
-    def is_lost(self) -> bool:
-        """Whether the server is known to have ended the session. If not, it may have ended it all the same."""
-        return self._connection.is_lost()
+        async with AsyncBroker(7011) as broker:
+            await broker.offer("letter-17")
 
-    def fileno(self) -> int:
-        """The descriptor of the connection, for a selector that waits until a reply comes."""
-        return self._connection.fileno()
+    If a task is cancelled while it waits for a reply, that is still due: `receive` waits for it again, and nothing
+    else can be asked before. So prefer `poll_for` to a `take` with a timeout around it.
+    """
 
-    def close(self) -> None:
-        """Hangs up. After that the session is of no more use."""
-        self._connection.close()
-        self._dialogue.end()
-        if self._record is not None:
-            self._record.close()
+    _kind = Looping
 
-    def _receive_either(self) -> Any:
-        """The answer to the first request that has none yet, or its refusal."""
-        try:
-            return self.receive()
-        except (Refused, Stopped) as instead:
-            return instead
+    async def connect(self) -> AsyncBroker:
+        """Connects, and gives this broker."""
+        await self._connect()
+        return self
 
-    def _demand_none_due(self) -> None:
-        if self.unanswered:
-            raise RuntimeError(f"{self.unanswered} replies have to be received first")
+    async def __aenter__(self) -> AsyncBroker:
+        return await self.connect()
+
+    async def __aexit__(self, *fault: object) -> None:
+        self.close()
+
+    async def poll(self) -> Optional[AsyncHeldJob]:
+        """Takes a job that has expired, or gives None if there is none."""
+        job = await self._ask(Request.poll())
+        return None if job is None else AsyncHeldJob.of(self, job)
+
+    async def poll_for(self, timeout: Duration) -> Optional[AsyncHeldJob]:
+        """Takes a job, waiting for one up to this timeout. Gives None if none has expired by then."""
+        job = await self._ask(Request.poll_for(timeout))
+        return None if job is None else AsyncHeldJob.of(self, job)
+
+    async def take(self) -> AsyncHeldJob:
+        """Takes a job, and waits until there is one. Nothing cancels the wait at the server."""
+        return AsyncHeldJob.of(self, await self._ask(Request.take()))
+
+    async def drain(self, most: int) -> List[AsyncHeldJob]:
+        """Takes up to so many jobs that have expired, and no more than the session may hold."""
+        return [AsyncHeldJob.of(self, it) for it in await self._ask(Request.drain(most))]
+
+    offer, offer_at, peek = _awaits(Request.offer), _awaits(Request.offer_at), _awaits(Request.peek)
+    done, fail, remove = _awaits(Request.done), _awaits(Request.fail), _awaits(Request.remove)
+    clear, size = _awaits(Request.clear), _awaits(Request.size)
+    ask, ask_all, send, receive = Session._ask, Session._ask_all, Session._send, Session._receive
+    quit, await_service = Session._quit, Session._await_service

@@ -3,15 +3,20 @@
     worker MODULE:FUNCTION   takes jobs and calls the function with each, until SIGTERM or Ctrl-C, and a second one ends
                              it at once. The module is looked for in the current folder too. A coroutine function
                              runs in an event loop.
-    offer DELAY PAYLOAD      offers a job that expires after this delay: 5s, 2m, 1h, or a number of nanoseconds
+    offer DELAY [PAYLOAD ..] offers jobs that expire after this delay: 5s, 2m, 1h, or a number of seconds. Without a
+                             payload it offers one for each line of standard input
     size                     counts the elements in the queue, expired or not
     peek                     shows an element of least expiry, expired or not, and takes nothing out
+    drain [MOST]             takes out the jobs that have expired, shows each, and finishes it
+    remove ID ..             takes the elements of these ids out, expired or not
+    clear                    takes all elements out, expired or not
+    dead FILE [--offer]      shows the dead letters of a file, or offers them again and takes them out of the file
 
-The last three print the server's reply as docs/PROTOCOL.md has it, such as `SIZE 3`. A worker logs to standard error,
-and prints finally what became of its jobs.
+They print the server's replies as docs/PROTOCOL.md has them, such as `SIZE 3`. A worker logs to standard error, and
+prints finally what became of its jobs. COMMAND --help has an example.
 
-Exit status: 0; 1 if there is no server, or it refuses, with a line on standard error; 2 if a word is wrong. A worker
-goes on looking for a server until it is stopped.
+Exit status: 0; 1 if there is no server, or it refuses, or a file can't be used, with a line on standard error; 2 if a
+word is wrong. A worker goes on looking for a server until it is stopped.
 """
 from __future__ import annotations
 
@@ -22,19 +27,20 @@ import inspect
 import logging
 import signal
 import sys
-from typing import Any, Callable, List, NoReturn, Optional
+from contextlib import contextmanager
+from typing import Any, Callable, Iterator, List, NoReturn, Optional
 
-from .async_worker import AsyncWorker
 from .broker import Broker
-from .delays import read_delay
-from .errors import BrokerError, InDoubt, NotOffered, Refused
+from .dead_letters import payload_of, read_letters, take_letters
+from .durations import read_delay
+from .errors import BrokerError, InDoubtError, NotOfferedError, RefusedError
+from .job import Job
 from .limits import MOST_HELD
 from .producer import Producer
-from .replies import Item
-from .report import Report
-from .worker import Worker
+from .worker import AsyncWorker, Worker
 
 NAME = "rb_broker_client"
+Asked = argparse.Namespace
 
 
 class _Parser(argparse.ArgumentParser):
@@ -48,29 +54,29 @@ def main(words: Optional[List[str]] = None) -> int:
     """Runs the command that these words ask for. Gives the exit status."""
     asked = _parser().parse_args(words)
     try:
-        told: str = asked.run(asked)
-        print(told, flush=True)
+        for line in asked.run(asked):
+            print(line, flush=True)
         return 0
-    except ValueError as fault:  # a payload with a line end, a host that is none
-        status, text = 2, str(fault)
     except KeyboardInterrupt:
         status, text = 1, "it was broken off"
     except (BrokerError, OSError) as fault:
         status, text = 1, _sentence(fault, f"{asked.host}:{asked.port}")
+    except ValueError as fault:  # a payload that is none, a host that is none
+        status, text = 2, str(fault)
     print(f"{NAME}: {text}", file=sys.stderr)
     return status
 
 
 def _sentence(fault: Exception, place: str) -> str:
     """What went wrong, in one line."""
-    if isinstance(fault, Refused):
+    if isinstance(fault, RefusedError):
         return f"the server at {place} refused it: {fault}"
-    if isinstance(fault, NotOffered):
+    if isinstance(fault, NotOfferedError):
         return f"not offered at {place}: {fault}"
-    if isinstance(fault, InDoubt):
+    if isinstance(fault, InDoubtError):
         return f"it may have been offered at {place} or not: {fault}"
     if isinstance(fault, OSError) and fault.filename is not None:
-        return f"{fault.filename} can't be written: {fault.strerror}"
+        return f"{fault.filename} can't be used: {fault.strerror}"
     return f"no answer from {place}: {fault}"
 
 
@@ -78,41 +84,57 @@ def _parser() -> argparse.ArgumentParser:
     about, _, rest = (__doc__ or "").partition("\n\n")
     form = argparse.RawDescriptionHelpFormatter
     parser = _Parser(f"python3 -m {NAME}", description=about, epilog=rest, formatter_class=form, allow_abbrev=False)
+    parser.add_argument("--version", action="version", version=f"{NAME} {_version()}")
     commands = parser.add_subparsers(metavar="COMMAND", required=True)
 
-    def command(name: str, run: Callable[[argparse.Namespace], str], help: str) -> argparse.ArgumentParser:
-        added = commands.add_parser(name, help=help, allow_abbrev=False)
+    def command(run: Callable[[Asked], Iterator[str]], name: str, help: str, example: str,
+                needs_port: bool = True) -> argparse.ArgumentParser:
+        added = commands.add_parser(name, help=help, description=help, allow_abbrev=False, formatter_class=form,
+                                    epilog=f"example: python3 -m {NAME} {name} {example}")
         added.set_defaults(run=run)
-        added.add_argument("--port", type=_whole(1, 65_535), required=True, metavar="P", help="the server's port")
+        added.add_argument("--port", type=_whole(1, 65_535), required=needs_port, metavar="P", help="the server's port")
         added.add_argument("--host", default="127.0.0.1", metavar="H", help="where it is (default: 127.0.0.1)")
         added.add_argument("--record", metavar="FILE", help="adds each request and its reply to this file")
+        if name != "worker":
+            added.add_argument("--patience", type=_seconds, default=5.0, metavar="SECONDS",
+                               help="how long a server is looked for, and a reply waited for (default: 5)")
         return added
 
-    worker = command("worker", _work, "runs a function on each job")
+    worker = command(_work, "worker", "runs a function on each job", "letters:deliver --port 7011 --concurrency 8")
     worker.add_argument("handler", type=_function, metavar="MODULE:FUNCTION", help="what is called with each job")
     worker.add_argument("--concurrency", type=_whole(1, MOST_HELD), default=1, metavar="N",
                         help=f"how many jobs run at the same time, 1 to {MOST_HELD} (default: 1)")
     worker.add_argument("--session", type=_seconds, default=30.0, metavar="SECONDS",
                         help="leaves a session that is so old, and begins the next (default: 30)")
+    worker.add_argument("--timeout", type=_seconds, metavar="SECONDS", help="fails a job that takes longer")
     worker.add_argument("--on-dead", type=_function, metavar="MODULE:FUNCTION",
                         help="what is called with each job whose last attempt failed")
-    offer = command("offer", _offer, "offers a job")
-    offer.add_argument("delay", type=_delay, metavar="DELAY", help="5s, 2m, 1h, or a number of nanoseconds")
-    offer.add_argument("payload", metavar="PAYLOAD", help="1 to 64 characters of printable ASCII, and no space")
-    for it in (offer, command("size", _size, "counts the elements"), command("peek", _peek, "shows the next element")):
-        it.add_argument("--patience", type=_seconds, default=5.0, metavar="SECONDS",
-                        help="how long a server is looked for, and a reply waited for (default: 5)")
+    offer = command(_offer, "offer", "offers jobs", "2s letter-17 letter-18 --port 7011")
+    offer.add_argument("delay", type=_delay, metavar="DELAY", help="5s, 2m, 1h, or a number of seconds")
+    offer.add_argument("payloads", nargs="*", metavar="PAYLOAD",
+                       help="1 to 64 characters of printable ASCII, no space (default: the lines of standard input)")
+    command(_size, "size", "counts the elements", "--port 7011")
+    command(_peek, "peek", "shows the next element", "--port 7011")
+    drain = command(_drain, "drain", "takes out and finishes jobs that have expired", "10 --port 7011")
+    drain.add_argument("most", nargs="?", type=_whole(1, 10**9), default=10**9, metavar="MOST",
+                       help="how many (default: all that have expired)")
+    remove = command(_remove, "remove", "takes elements out", "17 18 --port 7011")
+    remove.add_argument("ids", nargs="+", type=_whole(0, 2**64 - 1), metavar="ID", help="what `OFFERED` or `HEAD` told")
+    command(_clear, "clear", "takes all elements out", "--port 7011")
+    dead = command(_dead, "dead", "shows dead letters, or offers them again", "dead.jsonl --offer --port 7011", False)
+    dead.add_argument("file", metavar="FILE", help="what DeadLetters wrote")
+    dead.add_argument("--offer", action="store_true", help="offers each, and takes it out of the file")
     return parser
 
 
-def _work(asked: argparse.Namespace) -> str:
+def _work(asked: Asked) -> Iterator[str]:
     logging.basicConfig(level=logging.INFO, format="%(asctime)s %(levelname)s %(message)s")
     is_async = inspect.iscoroutinefunction(asked.handler)
     if asked.on_dead is not None and inspect.iscoroutinefunction(asked.on_dead) != is_async:
         raise ValueError("either both functions are coroutine functions or none")
     kind: Any = AsyncWorker if is_async else Worker
     worker = kind(asked.handler, asked.port, asked.host, concurrency=asked.concurrency, session=asked.session,
-                  on_dead=asked.on_dead, record=asked.record)
+                  timeout=asked.timeout, on_dead=asked.on_dead, record=asked.record)
 
     def stop(number: int, _: Any) -> None:
         signal.signal(number, signal.SIG_DFL)  # whoever asks twice does not want to wait
@@ -120,32 +142,81 @@ def _work(asked: argparse.Namespace) -> str:
 
     for number in (signal.SIGINT, signal.SIGTERM):
         signal.signal(number, stop)
-    report: Report = asyncio.run(worker.run()) if is_async else worker.run()
-    return ", ".join(f"{name} {count}" for name, count in vars(report).items())
+    report = asyncio.run(worker.run()) if is_async else worker.run()
+    yield ", ".join(f"{name} {count}" for name, count in vars(report).items())
 
 
-def _offer(asked: argparse.Namespace) -> str:
-    with Producer(asked.port, asked.host, patience=asked.patience, record=asked.record) as producer:
-        offered = producer.offer(asked.delay, asked.payload)
-    return f"OFFERED {offered.id} {offered.expiry}"
+def _offer(asked: Asked) -> Iterator[str]:
+    with _producer(asked) as producer:
+        for payload in asked.payloads or (it.rstrip("\r\n") for it in sys.stdin):
+            offered = producer.offer(payload, delay=asked.delay)
+            yield f"OFFERED {offered.id} {offered.expires_at_ns}"
 
 
-def _size(asked: argparse.Namespace) -> str:
-    return f"SIZE {_ask(asked, Broker.size)}"
+def _size(asked: Asked) -> Iterator[str]:
+    with _broker(asked) as broker:
+        yield f"SIZE {broker.size()}"
 
 
-def _peek(asked: argparse.Namespace) -> str:
-    head: Optional[Item] = _ask(asked, Broker.peek)
-    return "NONE" if head is None else f"HEAD {head.id} {head.expiry} {head.attempt} {head.payload}"
+def _peek(asked: Asked) -> Iterator[str]:
+    with _broker(asked) as broker:
+        head = broker.peek()
+        yield "NONE" if head is None else _line("HEAD", head)
 
 
-def _ask(asked: argparse.Namespace, question: Callable[[Broker], Any]) -> Any:
-    """The answer of one session."""
+def _drain(asked: Asked) -> Iterator[str]:
+    count = 0
+    with _broker(asked) as broker:
+        while count < asked.most:
+            jobs = broker.drain(min(asked.most - count, MOST_HELD))
+            for job in jobs:
+                yield _line("ITEM", job)
+                job.done()  # once it is printed
+            count += len(jobs)
+            if not jobs:
+                break
+    yield f"DRAINED {count}"
+
+
+def _remove(asked: Asked) -> Iterator[str]:
+    with _broker(asked) as broker:
+        for id in asked.ids:
+            yield f"REMOVED {'yes' if broker.remove(id) else 'no'}"
+
+
+def _clear(asked: Asked) -> Iterator[str]:
+    with _broker(asked) as broker:
+        broker.clear()
+        yield "CLEARED"
+
+
+def _dead(asked: Asked) -> Iterator[str]:
+    if not asked.offer:
+        for line in read_letters(asked.file):
+            payload_of(line)
+            yield line.decode()
+        return
+    if asked.port is None:
+        raise ValueError("the following arguments are required: --port")
+    with _producer(asked) as producer:
+        yield f"offered {take_letters(asked.file, producer.offer)}"
+
+
+def _producer(asked: Asked) -> Producer:
+    return Producer(asked.port, asked.host, patience=asked.patience, record=asked.record)
+
+
+@contextmanager
+def _broker(asked: Asked) -> Iterator[Broker]:
+    """A session, which is left with `QUIT` if nothing went wrong."""
     with Broker(asked.port, asked.host, asked.patience, record=asked.record) as broker:
         broker.await_service()  # a question that is given up before that costs no call
-        answer = question(broker)
+        yield broker
         broker.quit()
-    return answer
+
+
+def _line(keyword: str, job: Job) -> str:
+    return f"{keyword} {job.id} {job.expires_at_ns} {job.attempt} {job.payload}"
 
 
 def _whole(least: int, most: int) -> Callable[[str], int]:
@@ -167,14 +238,14 @@ def _seconds(word: str) -> float:
     return seconds
 
 
-def _delay(word: str) -> int:
+def _delay(word: str) -> Any:
     try:
         return read_delay(word)
     except ValueError as fault:
         raise argparse.ArgumentTypeError(str(fault)) from None
 
 
-def _function(word: str) -> Callable[[Item], object]:
+def _function(word: str) -> Callable[[Job], object]:
     """The function that `MODULE:FUNCTION` names."""
     module, colon, name = word.partition(":")
     if not (module and colon and name):
@@ -187,5 +258,11 @@ def _function(word: str) -> Callable[[Item], object]:
         raise argparse.ArgumentTypeError(f"{word} can't be had: {type(fault).__name__}: {fault}") from None
     if not callable(found):
         raise argparse.ArgumentTypeError(f"{word} is not a function")
-    function: Callable[[Item], object] = found
+    function: Callable[[Job], object] = found
     return function
+
+
+def _version() -> str:
+    from . import __version__
+
+    return __version__

@@ -7,12 +7,11 @@ from __future__ import annotations
 
 import time
 from collections import deque
-from typing import Any, Callable, Deque, Iterator, List, NamedTuple, Optional, Sequence
+from typing import Any, Callable, Deque, Iterator, List, Optional, Sequence, Tuple
 
-from .errors import Refused, Stopped, UnknownReply
+from .errors import RefusedError, StoppedError, UnknownReplyError
 from .limits import LONGEST_REPLY
-from .replies import Words, words_of
-from .requests import Request
+from .request import Request
 
 Note = Callable[[int, Optional[int], bytes, Sequence[bytes]], None]
 """Notes a request: when it was sent, when its reply had come (None if that never came), its line, the reply's lines."""
@@ -22,19 +21,12 @@ class Incomplete(Exception):
     """The reply that is due has not come, or not all of it."""
 
 
-class _Question(NamedTuple):
-    """A request that has no answer yet, and the moment of the monotonic clock before it was sent."""
-
-    request: Request[Any]
-    sent: int
-
-
 class Dialogue:
     """The requests of a session that have no answer yet, and what came to answer them."""
 
     def __init__(self, note: Optional[Note] = None) -> None:
         """`note` is called for each request once it has its answer, or at the end."""
-        self._unanswered: Deque[_Question] = deque()
+        self._unanswered: Deque[Tuple[Request[Any], int]] = deque()  # with the monotonic moment before each was sent
         self._received = bytearray()
         self._came = 0  # when something came for the last time
         self._begun: List[bytes] = []  # the lines of the first reply, while more of them are to come
@@ -48,7 +40,7 @@ class Dialogue:
     def ask(self, *requests: Request[Any]) -> bytes:
         """Notes that these requests are sent now. Gives the bytes to send."""
         sent = time.monotonic_ns()
-        self._unanswered.extend(_Question(it, sent) for it in requests)
+        self._unanswered.extend((it, sent) for it in requests)
         return b"".join(it.line + b"\n" for it in requests)
 
     def feed(self, data: bytes) -> None:
@@ -59,32 +51,27 @@ class Dialogue:
     def answer(self) -> Any:
         """The answer to the first request that has none. A refusal is raised.
 
-        Raises `Incomplete` if more has to come first, after which it may be asked again, and `UnknownReply` if what
-        came is no reply: which line answers which request is no longer known then.
+        Raises `Incomplete` if more has to come first, after which it may be asked again, and `UnknownReplyError` if
+        what came is no reply: which line answers which request is no longer known then.
         """
         if not self._unanswered:
             raise RuntimeError("no reply is due")
         try:
-            answer = self._unanswered[0].request.read(self._lines().__next__)
-        except (Refused, Stopped, UnknownReply):
+            answer = self._unanswered[0][0].read(self._lines().__next__)
+        except (RefusedError, StoppedError, UnknownReplyError):
             self._forget_first(self._came)
             raise
         self._forget_first(self._came)
         return answer
 
-    def answer_or_refusal(self) -> Any:
-        """The answer to the first request that has none, or its refusal."""
-        try:
-            return self.answer()
-        except (Refused, Stopped) as instead:
-            return instead
-
     def complete_answers(self) -> List[Any]:
         """The answers to the first requests, as far as they have come, with each refusal in its place."""
-        answers = []
+        answers: List[Any] = []
         while self._unanswered:
             try:
-                answers.append(self.answer_or_refusal())
+                answers.append(self.answer())
+            except (RefusedError, StoppedError) as instead:
+                answers.append(instead)
             except Incomplete:
                 break
         return answers
@@ -94,20 +81,19 @@ class Dialogue:
         while self._unanswered:
             self._forget_first(None)
 
-    def _lines(self) -> Iterator[Words]:
+    def _lines(self) -> Iterator[bytes]:
         """The lines of the first reply. Those come first that were read when it was not complete."""
-        for line in self._begun:
-            yield words_of(line)
+        yield from [*self._begun]
         while True:
             self._begun.append(self._next_line())
-            yield words_of(self._begun[-1])
+            yield self._begun[-1]
 
     def _next_line(self) -> bytes:
         """The next line, without its line feed."""
         end = self._received.find(b"\n", 0, LONGEST_REPLY)
         if end < 0:
             if len(self._received) >= LONGEST_REPLY:
-                raise UnknownReply(f"a line that begins {bytes(self._received[:LONGEST_REPLY])!r}")
+                raise UnknownReplyError(f"a line that begins {bytes(self._received[:LONGEST_REPLY])!r}")
             raise Incomplete
         line = bytes(self._received[:end])
         del self._received[:end + 1]

@@ -1,8 +1,5 @@
 """The numbers of the protocol that a client has to know."""
 
-SECOND = 1_000_000_000
-"""Nanoseconds of a second. Delays, timeouts, expiries and moments are nanoseconds."""
-
 GREATEST_NUMBER = 2**64 - 1
 """The greatest number that a request or a reply may have."""
 

@@ -15,54 +15,42 @@ import logging
 import os
 import threading
 import uuid
-from typing import Optional, Sequence, TextIO, Union
+from typing import Optional, Sequence, TextIO, TypeVar, Union
 
 log = logging.getLogger(__name__)
 
 RecordTarget = Union[str, "os.PathLike[str]", TextIO]
 """Where a record is written: the path of a file, to whose end it is added, or a text file that is open."""
 
+Target = TypeVar("Target", bound=Optional[RecordTarget])
+
 _WRITING = threading.Lock()  # clients of several threads may write to one file
 
 
+def check_record(target: Target) -> Target:
+    """The target. Raises `OSError` if it is a path that can't be written."""
+    if isinstance(target, (str, os.PathLike)):
+        open(target, "ab").close()
+    return target
+
+
 class Record:
-    """Where the sessions of a client are recorded. Several clients, also of several processes, may have one path."""
-
-    def __init__(self, target: RecordTarget) -> None:
-        """Raises `OSError` if the path can't be written."""
-        self._target = target
-        if isinstance(target, (str, os.PathLike)):
-            open(target, "ab").close()  # so that it is no fault of the server when it can't
-
-    @staticmethod
-    def of(target: Union[RecordTarget, Record, None]) -> Optional[Record]:
-        """The record that is asked for, if one is."""
-        return target if target is None or isinstance(target, Record) else Record(target)
-
-    def begin(self) -> SessionRecord:
-        """The record of the next session."""
-        return SessionRecord(self._target)
-
-
-class SessionRecord:
     """The record of one session. If it can't be written that is logged, and the session goes on without it."""
 
     def __init__(self, target: RecordTarget) -> None:
         self._session = uuid.uuid4().hex
-        self._target = target
+        self._target: Optional[RecordTarget] = target
         self._file: Optional[int] = None
-        self._is_broken = False
 
     def note(self, sent: int, received: Optional[int], request: bytes, reply: Sequence[bytes]) -> None:
         """Adds the line of a request. It is in the file when this returns."""
-        if self._is_broken:
-            return
         told = {"session": self._session, "sent": sent, "received": received, "request": _text(request),
                 "reply": [_text(it) for it in reply]}
         try:
             self._write(json.dumps(told) + "\n")
         except (OSError, ValueError) as fault:  # a file that was closed is a ValueError
-            self._break(fault)
+            log.error("the record can't be written, and ends here: %s", fault)
+            self._target = None
 
     def close(self) -> None:
         """The session has ended."""
@@ -72,18 +60,14 @@ class SessionRecord:
 
     def _write(self, line: str) -> None:
         with _WRITING:
-            if not isinstance(self._target, (str, os.PathLike)):
+            if isinstance(self._target, (str, os.PathLike)):
+                if self._file is None:
+                    self._file = os.open(self._target, os.O_WRONLY | os.O_APPEND | os.O_CREAT | os.O_CLOEXEC, 0o666)
+                if os.write(self._file, line.encode()) < len(line):  # in one piece: other processes may add to it
+                    raise OSError("a line was not written whole")
+            elif self._target is not None:
                 self._target.write(line)
                 self._target.flush()
-                return
-            if self._file is None:
-                self._file = os.open(self._target, os.O_WRONLY | os.O_APPEND | os.O_CREAT | os.O_CLOEXEC, 0o666)
-            if os.write(self._file, line.encode()) < len(line):  # in one piece: other processes may add to the file
-                raise OSError("a line was not written whole")
-
-    def _break(self, fault: Exception) -> None:
-        log.error("the record can't be written, and ends here: %s", fault)
-        self._is_broken = True
 
 
 def _text(line: bytes) -> str:

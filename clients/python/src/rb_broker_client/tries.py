@@ -5,7 +5,7 @@ import copy
 import time
 from typing import Optional
 
-from .errors import BrokerError, InDoubt
+from .errors import BrokerError, InDoubtError
 from .pauses import Pauses
 
 
@@ -18,7 +18,7 @@ class Tries:
         self._may_double = may_double
         self._pauses = copy.copy(pauses)  # other offers may be tried at the same time
         self._pauses.reset()
-        self._doubt: Optional[InDoubt] = None
+        self._doubt: Optional[InDoubtError] = None
 
     def seconds_left(self) -> float:
         """Within how many seconds a try may begin."""
@@ -27,7 +27,7 @@ class Tries:
     def pause_after(self, fault: BrokerError) -> float:
         """The pause before the next try, after one that ended like this. If there is none, raises what the caller is
         told."""
-        if isinstance(fault, InDoubt):
+        if isinstance(fault, InDoubtError):
             self._doubt = self._doubt or fault
         pause = self._pauses.next()
         if (self._doubt and not self._may_double) or pause > self.seconds_left():

@@ -2,208 +2,277 @@
 from __future__ import annotations
 
 import logging
+import ssl
+import threading
 import time
-from collections import deque
-from functools import partial
-from typing import Callable, Deque, Optional, Tuple, Union
+from typing import ClassVar, Generic, List, Optional, Type, TypeVar
 
-from . import requests
-from .age import Age
-from .broker import Broker
-from .errors import SyntaxRefused
-from .limits import SECOND
+from . import handlers
+from .age import Ages
+from .blocking import Blocking, run, thread_of
+from .broker import AsyncBroker, Broker
+from .connection import Kind
+from .durations import Duration, seconds
+from .handlers import AsyncHandler, Handler, Handlers, OnDead
+from .looping import Looping
 from .pauses import Pauses
 from .presence import Presence
-from .record import Record, RecordTarget
-from .replies import Item
+from .record import RecordTarget, check_record
 from .report import Report
-from .stop import Stop, Waiting
-from .tasks import Tasks, TasksHere, TasksInThreads
+from .request import Request
+from .run import Run
+from .session import Session
 from .work import Terms, Work
 
 log = logging.getLogger(__name__)
 
-Handler = Callable[[Item], object]
-"""Does a job. The job is done when it returns, whatever it returns, and fails when it raises an `Exception`."""
+BESIDE = 1.0
+"""Seconds within which a session is to be connected while another one goes on, whose jobs end meanwhile."""
 
-OnDead = Callable[[Item], object]
-"""Is told of a job that failed in its last attempt, and that the server no longer has."""
+AnyHandler = TypeVar("AnyHandler", Handler, AsyncHandler)
 
 
-class Worker:
-    """Takes jobs and runs the handler on each, up to `concurrency` of them at the same time.
+class _Visit:
+    """A session of a worker, from the moment at which it is connected."""
 
-    It has one session at a time. One that is older than `session` seconds is left once the jobs in hand have ended,
-    and the next begins, so that a server which is to be replaced can end, and other clients have their turn. When a
-    session is lost it connects again, after pauses that grow while no server answers. So a job may be handled more
-    than once, even if its handler returned: when the session is lost before the server has read that the job is done,
-    it comes back as its next attempt.
+    def __init__(self, session: Session) -> None:
+        self.session, self.began = session, time.monotonic()
+        self.work: Optional[Work] = None  # once the session is served
+        self.late = 0.0  # when the reply that is due is too late
 
-    It never fetches more jobs than it can start at once. Each worker keeps one of the server's workers busy.
-    """
 
-    def __init__(self, handler: Handler, port: int, host: str = "127.0.0.1", *, concurrency: int = 1,
-                 wait: int = SECOND, patience: float = 10.0, session: Optional[float] = 30.0,
-                 on_dead: Optional[OnDead] = None, pauses: Optional[Pauses] = None,
-                 record: Union[RecordTarget, Record, None] = None) -> None:
-        """Connects to nothing yet.
+class BaseWorker(Generic[AnyHandler]):
+    """What `Worker` and `AsyncWorker` have in common. The coroutines are those of both kinds."""
 
-        With a `concurrency` of 1 the handler runs in the thread of `run`, and else in up to 64 threads of its own: it
-        must bear to be called by several at a time. `wait` is how many nanoseconds the worker waits for a job at a
-        time, and so how long a stop takes at most while it is idle. It makes a call each time. While jobs run a wait
-        is a fifth of that, since a server reads nothing behind a wait: the end of a job is told so much later at most.
-        A reply that is `patience` seconds late is taken for a lost session. `session` is the age in seconds beyond
-        which a session is left; None keeps each as long as it can be had.
+    _kind: ClassVar[Kind]
+    _session_of: ClassVar[Type[Session]]
+
+    def __init__(self, handler: AnyHandler, port: int, host: str = "127.0.0.1", *, concurrency: int = 1,
+                 wait: Duration = 1.0, patience: Duration = 10.0, session: Optional[Duration] = 30.0,
+                 timeout: Optional[Duration] = None, on_dead: Optional[OnDead] = None,
+                 tls: Optional[ssl.SSLContext] = None, pauses: Optional[Pauses] = None,
+                 record: Optional[RecordTarget] = None) -> None:
+        """Connects to nothing yet. Durations are seconds or a `timedelta`.
+
+        `wait` is how long the worker waits for a job at a time, and so how long a stop takes at most while it is idle.
+        It makes a call each time. While jobs run a wait is a fifth of that, since a server reads nothing behind a wait:
+        the end of a job is told so much later at most. A reply that is `patience` late is taken for a lost session.
+        `session` is the age beyond which a session is left; None keeps each as long as it can be had. A job whose
+        handler takes longer than `timeout` fails; its place is free once the handler returns.
 
         `on_dead` is called with each job whose failure the server answered with `DEAD`, and is the place to keep it.
         It isn't called for a job whose last attempt ended with its session, of which no reply tells. An `Exception`
-        that it raises is logged. `record` is a path or an open text file to which a line is added for each request.
+        that it raises is logged. With `tls` the connection is encrypted, and the certificates are those of this
+        context. `record` is a path or an open text file to which a line is added for each request.
         """
-        self._terms = Terms(concurrency, wait, f"{host}:{port}")
-        self._handler, self._on_dead = handler, on_dead
-        self._port, self._host, self._record = port, host, Record.of(record)
-        self._patience, self._session = patience, Age.checked(session)
+        self._terms = Terms(concurrency, seconds(wait), f"{host}:{port}")
+        self._port, self._host, self._tls, self._record = port, host, tls, check_record(record)
+        self._patience, self._ages = seconds(patience), Ages(session, first_is_brief=True)
         self._pauses = pauses or Pauses()
-        self._stop = Stop()
-        self._tasks: Tasks = TasksHere()
-        self._ends: Deque[Tuple[Work, Item, bool]] = deque()  # jobs whose handlers have ended
-        self._presence = Presence(log, self._terms.place)
+        self._presence, self._run_known = Presence(log, self._terms.place), Run(log, self._terms.place)
+        self._wakeup = self._kind.wakeup()
+        self._handlers = Handlers(self._kind, handler, on_dead, timeout, concurrency, self._wakeup)
+        self._is_stopping = False
+        self._visits: List[_Visit] = []  # two at most, the older one first
+        self._next_visit = self._last_end = 0.0  # when the next may begin, and when one has ended
         self.report = Report()
 
     def stop(self, *_: object) -> None:
         """Lets `run` end once the jobs in hand are settled. Other threads and signal handlers may call it, and it can
         be a signal's handler itself: `signal.signal(signal.SIGTERM, worker.stop)`."""
-        self._stop.request()
+        self._is_stopping = True
+        self._wakeup.wake()
 
-    def run(self) -> Report:
-        """Works until `stop`, once for each worker. At the end no job is held, and the session has ended."""
-        if self._terms.concurrency > 1:
-            self._tasks = TasksInThreads()
+    async def _work(self) -> Report:
+        """Works until `stop`. At the end no job is held, and each session has ended."""
         try:
-            while not self._stop.is_requested:
-                self._await_tasks(self._terms.concurrency - 1)
-                if not self._stop.is_requested and not self._run_session():
-                    self._stop.wait(self._pauses.next())
-            self._await_tasks(0)
+            while not self._is_finished():
+                await self._step()
         finally:
-            self._tasks.close()
-            self._stop.close()
+            for visit in [*self._visits]:
+                self._end(visit)
+            await self._handlers.close()
         return self.report
 
-    def _run_session(self) -> bool:
-        """One session, to its end or until nothing more comes of it. Gives whether the next may begin at once."""
+    def _is_finished(self) -> bool:
+        return self._is_stopping and not self._visits and self._handlers.are_settled()
+
+    async def _step(self) -> None:
+        """Tells and asks what is to be told and asked, waits until something happens, and takes what has come."""
+        self._handlers.settle()
+        if self._may_begin():
+            await self._begin()
+        for visit in [*self._visits]:
+            try:
+                await self._attend(visit)
+            except OSError as fault:
+                self._lose(visit, fault)
+        await self._wakeup.wait(self._pause())
+        for visit in [*self._visits]:
+            try:
+                self._receive(visit)
+            except OSError as fault:
+                self._lose(visit, fault)
+
+    def _may_begin(self) -> bool:
+        """Whether a session is to be begun: there is none, or the one that there is fetches no more since it is old,
+        and waits for jobs that may take long."""
+        if self._is_stopping or self._handlers.running >= self._terms.concurrency or time.monotonic() < self._next_visit:
+            return False
+        works = [it.work for it in self._visits]
+        return not works or len(works) == 1 and works[0] is not None and works[0].is_old and works[0].is_holding
+
+    async def _begin(self) -> None:
+        """Begins a session. Nothing is fetched before it is served: a `POLLFOR` that waits for a busy server can't be
+        taken back, and if the worker left meanwhile it would cost a job one attempt."""
         try:
-            broker = Broker(self._port, self._host, self._patience, record=self._record)
+            session = await self._greeted(min(self._patience, BESIDE) if self._visits else self._patience)
         except OSError as fault:
             self._presence.lost("no server at %s: %s", fault)
-            return False
-        with broker:
-            try:
-                if not self._is_served(broker):
-                    return False
-                work = Work(self._terms, self.report, self._pauses, Age(self._session))
-                try:
-                    self._work_off(broker, work)
-                finally:
-                    work.lost()
-                broker.quit()
-            except OSError as fault:
-                self._presence.lost("the session at %s was lost: %s", fault)
-                return False
-        return not work.is_used_up
+            self._next_visit = time.monotonic() + self._pauses.next()
+        else:
+            session.connection.patience = self._patience
+            self._visits.append(_Visit(session))
+            self._wakeup.watch(session.connection)
 
-    def _is_served(self, broker: Broker) -> bool:
-        """Waits until the session is served, or a stop is requested. Gives whether it is served.
-
-        Nothing is fetched before that. A `POLLFOR` that waits for a busy server can't be taken back: if the worker
-        left meanwhile, it would cost a job one attempt.
-        """
-        broker.send(requests.greeting())
-        if self._stop.wait(None, broker.fileno()):
-            return False
+    async def _greeted(self, patience: float) -> Session:
+        session = self._session_of(self._port, self._host, patience, tls=self._tls, record=self._record)
         try:
-            broker.receive()
-        except SyntaxRefused:
-            pass
+            await session._connect()
+            await session._send(Request.greeting())
+        except BaseException:
+            session.close()
+            raise
+        return session
+
+    async def _attend(self, visit: _Visit) -> None:
+        """Sends what is to be sent in a session now, or leaves it."""
+        work, running, was_due = visit.work, self._handlers.running, visit.session.unanswered > 0
+        if work is None:
+            if self._is_stopping:
+                self._end(visit)
+            return
+        if not work.is_over(self._is_stopping):
+            fetching = sum(it.work.fetching for it in self._visits if it.work is not None)
+            free = self._terms.concurrency - running - fetching
+            questions = work.ask(free, running, self._is_stopping, self._stays(visit))
+            if questions:
+                await visit.session._send(*questions)
+            if not was_due:
+                visit.late = self._late()
+        if work.is_over(self._is_stopping):
+            await visit.session._quit()
+            self._end(visit)
+            if work.is_used_up:
+                self._next_visit = time.monotonic() + self._pauses.next()
+
+    def _stays(self, visit: _Visit) -> bool:
+        """Whether a session fetches on though it is old: there are two already, or the next one is not served and this
+        one can't end soon. In that case others would not have its place either."""
+        if len(self._visits) == 1 or visit is self._visits[1]:
+            return len(self._visits) == 2
+        return self._visits[1].work is None and visit.work is not None and self._handlers.take_long(visit.work)
+
+    def _receive(self, visit: _Visit) -> None:
+        """Takes the answers that have come in a session."""
+        answers = visit.session.receive_ready()
+        if visit.work is None:
+            for it in answers:
+                self._serve(visit, it)
+            return
+        if answers:
+            visit.late = self._late()
+        elif visit.session.unanswered and time.monotonic() >= visit.late:
+            raise TimeoutError(f"the server did not answer within {self._patience} seconds")
+        for it in answers:
+            visit.work.answered(it)
+        self._handlers.start(visit.work)
+
+    def _serve(self, visit: _Visit, answer: object) -> None:
+        """The server has a worker for a session, as the answer to the greeting tells."""
+        if isinstance(answer, Exception):
+            raise answer
         self._presence.served()
-        return True
-
-    def _work_off(self, broker: Broker, work: Work) -> None:
-        """Takes and runs jobs until a stop is requested or the session is to be left."""
-        late = 0.0  # when the reply that is due is too late
-        with Waiting(self._stop, broker.fileno(), self._tasks.fileno()) as waiting:
-            while True:
-                is_stopping, was_due = self._stop.is_requested, broker.unanswered > 0
-                self._ask(broker, work, is_stopping)
-                if work.is_over(is_stopping):
-                    return
-                if not was_due:
-                    late = self._late()
-                self._wait(waiting, broker, work.pause(), late, is_stopping)
-                answers = broker.receive_ready()
-                if answers:
-                    late = self._late()
-                for answer in answers:
-                    work.answered(answer)
-                self._start(work)
-
-    def _ask(self, broker: Broker, work: Work, is_stopping: bool) -> None:
-        """Sends what is to be sent now."""
-        self._tasks.settle()
-        while self._ends:
-            of, job, is_done = self._ends.popleft()
-            of.ended(job, is_done)
-        running = self._tasks.running
-        questions = work.ask(self._terms.concurrency - running, running, is_stopping)
-        if questions:
-            broker.send(*questions)
+        waited = time.monotonic() - max(visit.began, self._last_end)  # not while this worker itself took the place
+        visit.work = Work(self._terms, self.report, self._pauses, self._ages.next(waited), self._run_known)
 
     def _late(self) -> float:
         """When a reply is too late whose request is read now, even one to a wait."""
-        return time.monotonic() + self._patience + self._terms.wait / SECOND
+        return time.monotonic() + self._patience + self._terms.wait
 
-    def _wait(self, waiting: Waiting, broker: Broker, pause: Optional[float], late: float, is_stopping: bool) -> None:
-        """Waits until something came, a task ended, or something else is to be sent: after the pause, if there is
-        one."""
-        if broker.unanswered == 0:
-            waiting.wait(pause, heeds_stop=not is_stopping)
-            return
-        # What was asked can't be taken back, so a stop changes nothing.
-        rest = max(late - time.monotonic(), 0)
-        if not waiting.wait(rest if pause is None else min(rest, pause), heeds_stop=False) and rest == 0:
-            raise TimeoutError(f"the server did not answer within {self._patience} seconds")
+    def _lose(self, visit: _Visit, fault: OSError) -> None:
+        self._presence.lost("the session at %s was lost: %s", fault)
+        self._end(visit)
+        self._next_visit = time.monotonic() + self._pauses.next()
 
-    def _start(self, work: Work) -> None:
-        """Runs what was given, and tells of what is dead."""
-        for job in work.given:
-            self._tasks.start(partial(self._handle, work, job))
-        work.given.clear()
-        if self._on_dead is not None:
-            for job in work.dead:
-                self._tasks.start(partial(self._bury, self._on_dead, job))
-        work.dead.clear()
+    def _end(self, visit: _Visit) -> None:
+        """Hangs up. The end of what runs is told to nobody."""
+        if visit.work is not None:
+            visit.work.lost()
+        visit.session.close()
+        self._visits.remove(visit)
+        self._last_end = time.monotonic()
 
-    def _handle(self, work: Work, job: Item) -> None:
-        """Runs the handler, and notes whether the job is done."""
-        is_done = True
+    def _pause(self) -> Optional[float]:
+        """Within how many seconds something is to be done though nothing happens. None: never."""
+        if self._is_finished() or self._may_begin():
+            return 0
+        now = time.monotonic()
+        times = [self._next_visit - now] if self._next_visit > now else []
+        for visit in self._visits:
+            pause = None if visit.work is None else visit.work.pause()
+            times += [] if pause is None else [pause]
+            times += [visit.late - now] if visit.work is not None and visit.session.unanswered else []
+        times += [self._handlers.next_look - now] if self._handlers.running else []
+        return max(min(times), 0) if times else None
+
+
+class Worker(BaseWorker[Handler]):
+    """Takes jobs and runs the handler on each, up to `concurrency` of them at the same time.
+
+    With a `concurrency` of 1 and no `timeout` the handler runs in the thread of `run`, and else in up to 64 threads of
+    its own: it must bear to be called by several at a time.
+
+    It has one session at a time. One that is older than `session` fetches no more and ends with its last job; if that
+    may take long the next begins beside it. So a server which is to be replaced can end, and other clients have their
+    turn. Where others may be waiting a session is left after three seconds. When a session is lost the worker connects
+    again, after pauses that grow while no server answers. So a job may be handled more than once, even if its handler
+    returned: when the session is lost before the server has read that the job is done, it comes back as its next
+    attempt.
+
+    It never fetches more jobs than it can start at once. Each session keeps one of the server's workers busy.
+    """
+
+    _kind, _session_of = Blocking, Broker
+
+    def run(self) -> Report:
+        """Works until `stop`, once for each worker. At the end no job is held, and the session has ended."""
+        is_over = threading.Event()
+
+        def watch() -> None:  # while a handler runs in the thread of `run`, nothing else does there
+            while not is_over.wait(handlers.LONG / 4):
+                self._handlers.log_long()
+
+        thread_of(watch, "rb_broker_client-watches")
         try:
-            self._handler(job)
-        except Exception:
-            log.warning("attempt %d of job %s failed", job.attempt, job.payload, exc_info=True)
-            is_done = False
-        self._ends.append((work, job, is_done))
+            return run(self._work())
+        finally:
+            is_over.set()
 
-    def _bury(self, on_dead: OnDead, job: Item) -> None:
-        """The server dropped a job after its last attempt."""
-        try:
-            on_dead(job)
-        except Exception:
-            log.error("on_dead failed for job %s", job.payload, exc_info=True)
 
-    def _await_tasks(self, most: int) -> None:
-        """Waits until no more tasks run than these. They may be those of a session that was lost."""
-        self._tasks.settle()
-        while self._tasks.running > most:
-            with Waiting(self._stop, self._tasks.fileno()) as waiting:
-                waiting.wait(None, heeds_stop=False)
-            self._tasks.settle()
+class AsyncWorker(BaseWorker[AsyncHandler]):
+    """Takes jobs and runs the handler on each, up to `concurrency` of them at the same time, as `Worker`, for asyncio.
+
+        worker = AsyncWorker(deliver, 7011, concurrency=64)
+        asyncio.get_running_loop().add_signal_handler(signal.SIGTERM, worker.stop)
+        report = await worker.run()
+
+    Each job is a task of the loop, which is cancelled after `timeout`. If `run` is cancelled so are these tasks, and
+    the session ends with their jobs.
+    """
+
+    _kind, _session_of = Looping, AsyncBroker
+
+    async def run(self) -> Report:
+        """Works until `stop`, once for each worker. At the end no job is held, and the session has ended."""
+        return await self._work()

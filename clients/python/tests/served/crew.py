@@ -2,7 +2,7 @@
 import threading
 from typing import Any, Callable, List
 
-from rb_broker_client import Item, Pauses, Report, Worker
+from rb_broker_client import Job, Pauses, Report, Worker
 
 PATIENCE = 30  # seconds that a test waits for anything
 
@@ -14,10 +14,10 @@ class Failure(Exception):
 class Crew:
     """Workers of one port, with these options. `is_done` says whether an attempt of a job is done, or fails."""
 
-    def __init__(self, port: int, count: int, is_done: Callable[[Item], bool], **options: Any) -> None:
+    def __init__(self, port: int, count: int, is_done: Callable[[Job], bool], **options: Any) -> None:
         self._is_done = is_done
         self._lock = threading.Lock()
-        self.handled: List[Item] = []
+        self.handled: List[Job] = []
         options = {"pauses": Pauses(first=0.05, longest=0.2), **options}
         self.workers = [Worker(self._handle, port, **options) for _ in range(count)]
         self._threads = [threading.Thread(target=it.run, daemon=True) for it in self.workers]
@@ -39,7 +39,7 @@ class Crew:
         with self._lock:
             return [it.payload for it in self.handled if self._is_done(it)]
 
-    def _handle(self, job: Item) -> None:
+    def _handle(self, job: Job) -> None:
         with self._lock:
             self.handled.append(job)
         if not self._is_done(job):

@@ -71,6 +71,12 @@ class Server:
         self._process.stderr.close()
 
 
+def free_port():
+    """A port at which nobody listens."""
+    with socket.create_server(("127.0.0.1", 0)) as it:
+        return it.getsockname()[1]
+
+
 class ServedTest(unittest.TestCase):
     """A test that starts servers and workers, each of which is gone at its end."""
 

@@ -117,10 +117,12 @@ class CommandTest(ServedTest):
         self.assertEqual(worker.stdout.readline(), "second 1\n")
         worker.send_signal(signal.SIGTERM)
         _, errors = worker.communicate(timeout=PATIENCE)
-        lost, again = errors.splitlines()
+        lost, again, run = errors.splitlines()
         place = f"127.0.0.1:{server.port}"
         self.assertRegex(lost, f" WARNING the session at {place} was lost: ")
         self.assertRegex(again, f" INFO served again at {place}$")
+        told = f" ERROR the server at {place} has lost its run: it gave a job of id 0 for the second time, "
+        self.assertIn(told, run)
 
 
 if __name__ == "__main__":

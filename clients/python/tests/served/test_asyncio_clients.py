@@ -5,8 +5,8 @@ import unittest
 
 from history import History
 from rb_broker_client import (
-    SECOND, Again, AsyncBroker, AsyncProducer, AsyncWorker, Dead, Full, Item, NotHeld, Offered, Pauses, PayloadRefused,
-    Report, Stopped, SyntaxRefused, requests,
+    Again, AsyncBroker, AsyncProducer, AsyncWorker, Dead, FullError, Job, NotHeldError, Offered, Pauses, Report,
+    Request, StoppedError,
 )
 from server import PATIENCE, ServedTest
 
@@ -31,31 +31,33 @@ class SessionTest(ServedTest):
     async def live_a_day(self, port):
         async with AsyncBroker(port, patience=PATIENCE) as client:
             await client.await_service()
-            offered = await client.offer(0, "letter")  # call 1
+            offered = await client.offer("letter")  # call 1
             self.assertEqual(offered.id, 0)
-            self.assertEqual(await client.take(), Item(0, offered.expiry, 1, "letter"))
+            self.assertEqual(await client.take(), Job(0, offered.expires_at_ns, 1, "letter"))
             again = await client.fail(0)
             self.assertIsInstance(again, Again)
-            self.assertEqual(await client.poll_for(SECOND), Item(1, again.expiry, 2, "letter"))
+            self.assertEqual(await client.poll_for(1), Job(1, again.expires_at_ns, 2, "letter"))
             self.assertEqual(await client.fail(1), Dead(1))  # no call
             self.assertIsNone(await client.poll())  # call 5
             self.assertIsNone(await client.peek())
-            answers = await client.ask_all([requests.offer_at(5, "a"), requests.done(7), requests.offer_at(6, "b")])
+            answers = await client.ask_all([Request.offer_at("a", expires_at_ns=5), Request.done(7),
+                                            Request.offer_at("b", expires_at_ns=6)])
             self.assertEqual([answers[0], answers[2]], [Offered(2, 5), Offered(3, 6)])
-            self.assertIsInstance(answers[1], NotHeld)
+            self.assertIsInstance(answers[1], NotHeldError)
             self.assertEqual(await client.size(), 2)  # call 9
-            self.assertEqual([it.payload for it in await client.drain(9)], ["a", "b"])
-            await client.done(2)
+            drained = await client.drain(9)
+            self.assertEqual([it.payload for it in drained], ["a", "b"])
+            await drained[0].done()
             await client.done(3)
-            for wrong, kind in (("two words", SyntaxRefused), ("a" * 65, PayloadRefused)):
-                with self.assertRaises(kind):
-                    await client.offer(0, wrong)
-            with self.assertRaises(SyntaxRefused):
-                await client.at(5)
-            self.assertEqual((await client.offer_at(2**64 - 1, "late")).id, 4)
+            with self.assertRaises(NotHeldError):
+                await drained[1].fail()
+            for wrong in ("two words", "a" * 65):
+                with self.assertRaises(ValueError):
+                    await client.offer(wrong)
+            self.assertEqual((await client.offer_at("late", expires_at_ns=2**64 - 1)).id, 4)
             self.assertTrue(await client.remove(4))
             self.assertFalse(await client.remove(4))
-            self.assertEqual((await client.offer(SECOND, "cleared")).id, 5)
+            self.assertEqual((await client.offer("cleared", delay=1)).id, 5)
             await client.clear()  # call 15
             self.assertEqual([await client.size() for _ in range(3)], [0, 0, 0])
             await client.quit()
@@ -63,10 +65,10 @@ class SessionTest(ServedTest):
     def test_refusals_of_the_run(self):
         async def ask(port):
             async with AsyncBroker(port, patience=PATIENCE) as client:
-                with self.assertRaises(Stopped):
+                with self.assertRaises(StoppedError):
                     await client.take()
                 await client.size()
-                with self.assertRaises(Full):
+                with self.assertRaises(FullError):
                     await client.size()
 
         asyncio.run(ask(self.serve("--turns", 0, "--calls", 1).port))
@@ -98,7 +100,7 @@ class WorkTest(ServedTest):
         async with AsyncProducer(port, session=0.3, pauses=pauses, record=self.record, patience=PATIENCE) as producer:
             async def offer(first):
                 for number in range(first, JOBS, 8):
-                    await producer.offer(0, str(number))
+                    await producer.offer(str(number))
 
             await asyncio.gather(*(offer(it) for it in range(8)))
 

@@ -4,7 +4,7 @@ import time
 import unittest
 
 from history import History
-from rb_broker_client import MOST_HELD, SECOND, Broker, Report, Worker, requests
+from rb_broker_client import MOST_HELD, Broker, Report, Request, Worker
 from server import PATIENCE, ServedTest
 
 JOBS = 6_000
@@ -44,7 +44,7 @@ class ConcurrentJobsTest(ServedTest):
 
     def offer(self, server, count):
         with Broker(server.port) as broker:
-            broker.ask_all([requests.offer(0, str(it)) for it in range(count)])
+            broker.ask_all([Request.offer(str(it)) for it in range(count)])
             broker.quit()
 
     def test_as_many_run_as_a_session_holds_and_no_more(self):
@@ -89,7 +89,7 @@ class ConcurrentJobsTest(ServedTest):
         thread = self.run_worker(worker)
         with Broker(server.port, patience=PATIENCE) as broker:
             for payload in ends:
-                broker.offer(0, payload)
+                broker.offer(payload)
             self.wait_until(lambda: broker.size() == 0)
             time.sleep(0.3)
             ends["quick"].set()
@@ -116,7 +116,7 @@ class ConcurrentJobsTest(ServedTest):
         self.assert_lost_none(ended, 200)
         self.assertEqual(self.assert_chained(path, *POLICY), ended[1][1])
         history = History(path)
-        handled = sorted((it.id, it.expiry, it.attempt, it.payload) for it in crew.handled)
+        handled = sorted((it.id, it.expires_at_ns, it.attempt, it.payload) for it in crew.handled)
         told = [history.elements[id] for id in sorted(history.given)]
         self.assertEqual(handled, [(it.id, it.expiry, it.attempt, it.payload) for it in told])
         wanted = {str(it): list(range(1, attempts_of(it) + 1)) for it in range(JOBS)}
@@ -132,7 +132,7 @@ class ConcurrentJobsTest(ServedTest):
             self.wait_until(lambda: broker.size() == 0)
         server.kill()
         self.wait_until(lambda: worker.report.unheard == 8)
-        following = self.serve("--sessions", 2, "--delay", SECOND // 10, port=server.port)
+        following = self.serve("--sessions", 2, "--delay", 100_000_000, port=server.port)
         may_end.set()
         self.offer(following, 8)
         self.wait_until(lambda: worker.report.done == 8)

@@ -1,13 +1,14 @@
 """Workers and producers that nobody stops, while servers end and are followed by the next."""
 import threading
 import unittest
+from datetime import timedelta
 
 from history import History
-from rb_broker_client import SECOND, Pauses, Producer, Report
+from rb_broker_client import Pauses, Producer, Report
 from server import PATIENCE, ServedTest
 
 POLICY = ("--delay", 1_000_000, "--attempts", 5)
-HOUR = 3_600 * SECOND
+HOUR = timedelta(hours=1)
 JOBS, SERVERS = 1_500, 4
 
 
@@ -21,26 +22,26 @@ class LeavingTest(ServedTest):
         """The server of this number, which continues the run of the one before."""
         self.histories = [f"{self.room}/{it}" for it in range(number + 1)]
         opening = ["--from", self.histories[-2]] if number else []
-        return self.serve("--workers", 5, "--sessions", 100, "--calls", 100_000, *POLICY, *opening, "--history",
+        return self.serve("--workers", 5, "--sessions", 1_000, "--calls", 100_000, *POLICY, *opening, "--history",
                           self.histories[-1], port=port)
 
     def assert_ends_well(self, server):
         """The server ends once its sessions are used up, though no client is told to leave."""
         server.use_up()
         ended = server.end()
-        self.assert_lost_none(ended, 100)
+        self.assert_lost_none(ended, 1_000)
         self.assertEqual(self.assert_chained(self.histories[-1], *POLICY), ended[1][1])
 
     def test_a_server_ends_beside_an_idle_worker_and_an_idle_producer(self):
         server = self.serve_run(0)
         crew = self.gather(server, 1, is_done, session=0.5)
         with Producer(server.port, session=0.5) as producer:
-            producer.offer(HOUR, "1")
-            producer.offer(0, "2")
+            producer.offer("1", delay=HOUR)
+            producer.offer("2")
             self.wait_until(lambda: crew.done() == ["2"])
             self.assert_ends_well(server)
             following = self.serve_run(1, server.port)
-            producer.offer(0, "3")
+            producer.offer("3")
             self.wait_until(lambda: crew.done() == ["2", "3"])
             self.assert_ends_well(following)
         self.assertEqual(crew.stop(), Report(done=2))
@@ -69,7 +70,7 @@ class LeavingTest(ServedTest):
     def produce(self, port):
         with Producer(port, patience=2 * PATIENCE, session=0.2, pauses=Pauses(0.05, 0.2)) as producer:
             for number in range(JOBS):
-                producer.offer(0, str(number))
+                producer.offer(str(number))
 
 
 class DeadTest(ServedTest):
@@ -79,7 +80,7 @@ class DeadTest(ServedTest):
         crew = self.gather(server, 1, lambda job: job.payload == "good", on_dead=dead.append)
         with Producer(server.port) as producer:
             for payload in ("bad", "good", "worse"):
-                producer.offer(0, payload)
+                producer.offer(payload)
         self.wait_until(lambda: len(dead) == 2 and crew.done() == ["good"])
         self.assertEqual(crew.stop(), Report(done=1, again=2, dead=2))
         self.assertEqual(sorted((it.attempt, it.payload) for it in dead), [(2, "bad"), (2, "worse")])

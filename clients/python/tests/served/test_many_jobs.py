@@ -2,7 +2,7 @@
 import unittest
 
 from history import History
-from rb_broker_client import Broker, Report, requests
+from rb_broker_client import Broker, Report, Request
 from server import LONGEST, ServedTest
 
 JOBS, PIECE = 20_000, 1_000
@@ -39,14 +39,14 @@ class ManyJobsTest(ServedTest):
     def offer_all(self, port):
         with Broker(port) as broker:
             for first in range(0, JOBS, PIECE):
-                offers = [requests.offer(0, str(it)) for it in range(first, first + PIECE)]
+                offers = [Request.offer(str(it)) for it in range(first, first + PIECE)]
                 ids = [it.id for it in broker.ask_all(offers)]
                 self.assertEqual(ids, sorted(set(ids)))
             broker.quit()
 
     def check_history(self, history, crew):
         """Each element that was given was handled once, as it was offered; and each job had its attempts."""
-        handled = sorted((it.id, it.expiry, it.attempt, it.payload) for it in crew.handled)
+        handled = sorted((it.id, it.expires_at_ns, it.attempt, it.payload) for it in crew.handled)
         given = [history.elements[id] for id in sorted(history.given)]
         self.assertEqual(handled, [(it.id, it.expiry, it.attempt, it.payload) for it in given])
         wanted = {str(it): list(range(1, min(attempts_of(it), ATTEMPTS) + 1)) for it in range(JOBS)}

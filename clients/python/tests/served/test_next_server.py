@@ -1,9 +1,10 @@
 """A server that goes away while workers and a producer go on, and the next one at its port."""
+import logging
 import threading
 import unittest
 
 from history import History
-from rb_broker_client import Broker, Full, Producer
+from rb_broker_client import Broker, FullError, NotHeldError, Producer
 from server import PATIENCE, ServedTest
 
 JOBS = 2_000
@@ -43,14 +44,14 @@ class NextServerTest(ServedTest):
     def produce(self, port):
         with Producer(port, patience=2 * PATIENCE) as producer:
             for number in range(JOBS):
-                producer.offer(0, str(number))
+                producer.offer(str(number))
 
     def wait_until_full(self, server):
         """Waits until the first run has made all its calls, of which a few are the ones that ask."""
         def is_full():
             try:
                 broker.size()
-            except Full:
+            except FullError:
                 return True
             return False
 
@@ -77,16 +78,62 @@ class NextServerTest(ServedTest):
         self.assertEqual(len(set(crew.done())), JOBS - report.lost)
         self.assertEqual(len(crew.done()), JOBS - report.lost)
 
+    def test_a_run_that_was_lost_is_logged_and_one_that_goes_on_is_not(self):
+        """A worker and a producer go on through a server that ends well, one that is killed, and the next."""
+        policy = (*POLICY, "--workers", 3, "--sessions", 300)
+        server = self.serve(*policy, "--history", self.histories[0])
+        crew = self.gather(server, 1, is_done, session=0.3)
+        logging.disable(logging.NOTSET)
+        with self.assertLogs("rb_broker_client", logging.ERROR) as said, \
+                Producer(server.port, patience=PATIENCE, session=0.3) as producer:
+            def offer(*numbers):
+                for it in numbers:
+                    producer.offer(str(it))
+                self.wait_until(lambda: {str(it) for it in numbers} <= {*crew.done()})
+
+            offer(*range(1, 30))
+            server.use_up()
+            self.assert_lost_none(server.end(), 300)
+            server = self.serve(*policy, "--from", self.histories[0], port=server.port)
+            offer(*range(30, 60))
+            self.assertEqual(said.records, [])
+            server.kill()
+            self.serve(*policy, "--from", self.histories[0], port=server.port)
+            offer(*range(60, 90))
+            crew.stop()
+        logging.disable(logging.CRITICAL)
+        of_producer = [it for it in said.records if it.name == "rb_broker_client.producer"]
+        self.assertEqual(len(of_producer), 1)
+        self.assertIn("of the 59 jobs that this client had offered", of_producer[0].getMessage())
+        self.assertTrue(all("has lost its run" in it.getMessage() for it in said.records))
+        self.assertEqual({it.name for it in said.records}, {"rb_broker_client.producer", "rb_broker_client.worker"})
+
+    def test_a_job_of_a_lost_run_is_held_no_more(self):
+        """The id of a job that was held names another one in the next run, which is left alone."""
+        server = self.serve("--sessions", 9)
+        with Broker(server.port, patience=PATIENCE) as broker:
+            broker.offer("before")
+            job = broker.take()
+            server.kill()
+            following = self.serve("--sessions", 9, port=server.port)
+            with Broker(following.port, patience=PATIENCE) as other:
+                other.offer("stranger")
+                stranger = other.take()
+                self.assertEqual(stranger.id, job.id)
+                self.assertRaises(NotHeldError, job.done)
+                self.assertRaises(NotHeldError, job.fail)
+                stranger.done()
+
     def test_a_server_that_is_killed(self):
         server = self.serve("--sessions", 3)
         crew = self.gather(server, 1, lambda job: True)
         with Broker(server.port, patience=PATIENCE) as broker, Producer(server.port, patience=PATIENCE) as producer:
-            producer.offer(0, "first")
+            producer.offer("first")
             self.wait_until(lambda: crew.done() == ["first"])
             server.kill()
             self.assertRaises(OSError, broker.size)
             following = self.serve("--sessions", 2, port=server.port)
-            producer.offer(0, "second")
+            producer.offer("second")
             self.wait_until(lambda: crew.done() == ["first", "second"])
         crew.stop()
         self.assertEqual(following.end()[1][0], "sessions 2 faults 0 lost 0")

@@ -7,7 +7,7 @@ import time
 import unittest
 
 from history import History
-from rb_broker_client import SECOND, Broker, Report
+from rb_broker_client import Broker, Report
 from server import PATIENCE, ServedTest, start
 
 FOLDER = os.path.dirname(os.path.realpath(__file__))
@@ -46,7 +46,7 @@ class OneWorkerTest(ServedTest):
     def test_a_worker_that_is_killed_with_a_job(self):
         server = self.serve_with_history(3)
         with Broker(server.port, patience=PATIENCE) as broker:
-            broker.offer(0, "letter")
+            broker.offer("letter")
             broker.quit()
         killed = self.start_worker(server.port)
         self.assertEqual(killed.stdout.readline(), "held 0 1\n")
@@ -62,8 +62,8 @@ class OneWorkerTest(ServedTest):
         server = self.serve_with_history(2)
         worker = self.start_worker(server.port)
         with Broker(server.port, patience=PATIENCE) as broker:
-            broker.offer(0, "first")
-            broker.offer(SECOND // 10, "second")
+            broker.offer("first")
+            broker.offer("second", delay=0.1)
             broker.quit()
         self.assertEqual(worker.stdout.readline(), "held 0 1\n")
         worker.stdin.write("done\n")

@@ -3,7 +3,7 @@ import threading
 import unittest
 
 from history import History
-from rb_broker_client import SECOND, Broker, Fleet, FleetProducer, FleetWorker, NotOffered, Pauses, Report, Server
+from rb_broker_client import Broker, Fleet, FleetProducer, FleetWorker, NotOfferedError, Pauses, Report, Server
 from server import PATIENCE, ServedTest
 
 JOBS = 3_000
@@ -65,7 +65,7 @@ class FleetTest(ServedTest):
         with FleetProducer(fleet, patience=PATIENCE) as producer:
             def offer(first):
                 for number in range(first, JOBS, 2):
-                    producer.offer(0, str(number))
+                    producer.offer(str(number))
 
             threads = [threading.Thread(target=offer, args=[it], daemon=True) for it in range(2)]
             for it in threads:
@@ -87,12 +87,12 @@ class FleetTest(ServedTest):
         jobs = {name: [it for it in map(str, range(200)) if fleet.server_of(it).name == name] for name in "ab"}
         note, stop = self.work(fleet)
         with FleetProducer(fleet, patience=0.3) as producer:
-            self.assertRaises(NotOffered, producer.offer, 0, jobs["b"][0])
+            self.assertRaises(NotOfferedError, producer.offer, jobs["b"][0])
         with FleetProducer(fleet, patience=2 * PATIENCE) as producer:
-            waiting = threading.Thread(target=lambda: [producer.offer(0, it) for it in jobs["b"]], daemon=True)
+            waiting = threading.Thread(target=lambda: [producer.offer(it) for it in jobs["b"]], daemon=True)
             waiting.start()
             for it in jobs["a"]:
-                producer.offer(0, it)
+                producer.offer(it)
             self.wait_until(lambda: len(note.done) >= len(jobs["a"]))
             self.assertEqual(sorted(note.done), sorted(jobs["a"]))
             b = self.serve_named("b", away.port)
@@ -109,12 +109,12 @@ class FleetTest(ServedTest):
         jobs = list(map(str, range(300)))
         with FleetProducer(before, patience=PATIENCE) as producer:
             for it in jobs[:100]:
-                producer.offer(SECOND, it)
+                producer.offer(it, delay=1)
         after = Fleet(places.values(), draining=["a"])
         note, stop = self.work(after)
         with FleetProducer(after, patience=PATIENCE) as producer:
             for it in jobs[100:]:
-                producer.offer(0, it)
+                producer.offer(it)
         self.wait_until(lambda: len(note.done) >= 300)
         with Broker(servers["a"].port) as broker:
             self.assertEqual(broker.size(), 0)

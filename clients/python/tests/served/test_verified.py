@@ -56,13 +56,13 @@ class VerifiedTest(ServedTest):
         async def offer():
             async with AsyncProducer(port, **options) as producer:
                 for number in range(1, JOBS, 2):
-                    await producer.offer(0, str(number))
+                    await producer.offer(str(number))
 
         other = threading.Thread(target=lambda: asyncio.run(offer()), daemon=True)
         other.start()
         with Producer(port, **options) as producer:
             for number in range(0, JOBS, 2):
-                producer.offer(0, str(number))
+                producer.offer(str(number))
         other.join(PATIENCE)
 
     def assert_verified(self, history, record):

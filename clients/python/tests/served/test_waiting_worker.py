@@ -13,7 +13,7 @@ class WaitingWorkerTest(ServedTest):
         crew = self.gather(server, 1, lambda job: True)
         with Broker(server.port, patience=PATIENCE) as broker:
             for payload in ("first", "second"):
-                broker.offer(200_000_000, payload)
+                broker.offer(payload, delay=0.2)
                 self.wait_until(lambda: payload in crew.done())
             broker.quit()
         self.assertEqual(crew.stop(), Report(done=2))
@@ -23,7 +23,7 @@ class WaitingWorkerTest(ServedTest):
         path = f"{self.room}/history"
         server = self.serve("--workers", 1, "--sessions", 2, "--history", path)
         with Broker(server.port, patience=PATIENCE) as broker:
-            broker.offer(0, "letter")
+            broker.offer("letter")
             crew = self.gather(server, 1, lambda job: True)
             time.sleep(0.3)  # it is connected then, and waits for its first reply
             self.assertEqual(crew.stop(), Report())

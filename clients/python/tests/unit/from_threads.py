@@ -55,15 +55,6 @@ class BrokerFromThreads(FromThreads):
         super().__init__(loop, AsyncBroker(*words, **options))
         loop.run(self.thing.connect())
 
-    def is_lost(self):
-        self._loop.run(asyncio.sleep(0.01))  # the loop reads what has come
-        return self.thing.is_lost()
-
-    def close(self):
-        self._loop.run(self._close())
-
-    async def _close(self):
-        self.thing.close()
 
 
 class WorkerFromThreads(FromThreads):
@@ -96,6 +87,9 @@ class LoopCase:
 
 class BrokerCase(LoopCase):
     made = BrokerFromThreads
+
+    def end(self, of_job):
+        return self.kind.args[0].run(of_job())
 
 
 class ProducerCase(LoopCase):

@@ -21,14 +21,15 @@ class OnceMoreCame:
 
 
 class ScriptedServer:
-    """Serves its sessions one after the other, at a free port, and then listens no more.
+    """Serves its sessions one after the other, or `together`, at a free port, and then listens no more.
 
     A session is a list of steps: the request line that has to come, and the reply. Bytes are sent as they are, and a
     text as a line. A function in the reply's place is called for it. `NOTHING` in a request's place is no wait. After
     the last step the client has to leave, and to send nothing before. `ended` is released once for each session.
     """
 
-    def __init__(self, *sessions):
+    def __init__(self, *sessions, together=False):
+        self._together = together
         self._listener = socket.create_server(("127.0.0.1", 0))
         self._listener.settimeout(PATIENCE)
         self.port = self._listener.getsockname()[1]
@@ -44,16 +45,29 @@ class ScriptedServer:
             self.faults.append("a session does not end")
 
     def _serve_all(self, sessions):
+        threads = []
         with self._listener:
             for number, steps in enumerate(sessions):
                 try:
-                    self._serve(steps)
+                    connection, _ = self._listener.accept()
                 except OSError as fault:
                     self.faults.append(f"session {number}: {fault}")
-                self.ended.release()
+                    continue
+                threads.append(threading.Thread(target=self._serve_one, args=[number, steps, connection], daemon=True))
+                threads[-1].start()
+                if not self._together:
+                    threads[-1].join()
+        for it in threads:
+            it.join()
 
-    def _serve(self, steps):
-        connection, _ = self._listener.accept()
+    def _serve_one(self, number, steps, connection):
+        try:
+            self._serve(steps, connection)
+        except OSError as fault:
+            self.faults.append(f"session {number}: {fault}")
+        self.ended.release()
+
+    def _serve(self, steps, connection):
         connection.settimeout(PATIENCE)
         with connection, connection.makefile("rb") as lines:
             for request, reply in steps:
@@ -78,9 +92,9 @@ class ScriptedServer:
 class ScriptedTest(unittest.TestCase):
     """A test whose servers play scripts. At its end each script has to be played to its last step."""
 
-    def play(self, *sessions):
+    def play(self, *sessions, together=False):
         """A server that plays these sessions."""
-        server = ScriptedServer(*sessions)
+        server = ScriptedServer(*sessions, together=together)
 
         def end():
             server.end()

@@ -10,7 +10,7 @@ import test_producer
 import test_worker
 from scripted import GOODBYE, GREETING, HANGS_UP, NOTHING, PATIENCE, SAYS_NOTHING, ScriptedTest, free_port
 from test_worker import POLL, setUpModule, tearDownModule
-from rb_broker_client import AsyncBroker, AsyncProducer, AsyncWorker, InDoubt, Item, Offered, Report
+from rb_broker_client import AsyncBroker, AsyncProducer, AsyncWorker, InDoubtError, Job, Offered, Report
 
 
 class AsyncBrokerTest(from_threads.BrokerCase, test_broker.BrokerTest):
@@ -86,14 +86,14 @@ class CancelTest(ScriptedTest):
                 return await broker.receive(), await broker.size()
 
         server = self.play([("TAKE", lambda: time.sleep(0.2) or "ITEM 0 5 1 a"), ("SIZE", "SIZE 0")])
-        self.assertEqual(asyncio.run(run(server.port)), (Item(0, 5, 1, "a"), 0))
+        self.assertEqual(asyncio.run(run(server.port)), (Job(0, 5, 1, "a"), 0))
 
     def test_the_next_offer_begins_another_session(self):
         async def run(port):
             async with AsyncProducer(port, patience=PATIENCE) as producer:
                 with self.assertRaises(asyncio.TimeoutError):
-                    await asyncio.wait_for(producer.offer(5, "a"), 0.1)
-                return await producer.offer(5, "b")
+                    await asyncio.wait_for(producer.offer("a", delay=5e-9), 2)
+                return await producer.offer("b", delay=5e-9)
 
         server = self.play([GREETING, ("OFFER 5 a", SAYS_NOTHING)], [GREETING, ("OFFER 5 b", "OFFERED 1 5")])
         self.assertEqual(asyncio.run(run(server.port)), Offered(1, 5))
@@ -135,9 +135,9 @@ class BusyLoopTest(ScriptedTest):
 
         async def run():
             async with AsyncProducer(server.port, patience=PATIENCE) as producer:
-                first = await producer.offer(5, "a")
+                first = await producer.offer("a", delay=5e-9)
                 self.assertTrue(server.ended.acquire(timeout=PATIENCE))
-                return first, await producer.offer(5, "a")
+                return first, await producer.offer("a", delay=5e-9)
 
         self.assertEqual(asyncio.run(run()), (Offered(0, 5), Offered(1, 5)))
 

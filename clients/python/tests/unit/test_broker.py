@@ -6,7 +6,9 @@ import unittest
 import unittest.mock
 
 from scripted import HANGS_UP, PATIENCE, SAYS_NOTHING, ScriptedTest, free_port
-from rb_broker_client import Broker, Disconnected, Full, Item, Offered, Stopped, UnknownReply, requests
+from rb_broker_client import (
+    Again, Broker, DisconnectedError, FullError, Job, NotHeldError, Offered, Request, StoppedError, UnknownReplyError,
+)
 
 
 class BrokerTest(ScriptedTest):
@@ -19,26 +21,26 @@ class BrokerTest(ScriptedTest):
 
     def test_replies_are_received_in_the_order_of_the_requests(self):
         broker = self.connect(("OFFER 0 a", "OFFERED 0 5"), ("SIZE", "ERR 6 full"), ("TAKE", "ITEM 0 5 1 a"))
-        broker.send(requests.offer(0, "a"), requests.size())
-        broker.send(requests.take())
+        broker.send(Request.offer("a"), Request.size())
+        broker.send(Request.take())
         self.assertEqual(broker.unanswered, 3)
         self.assertEqual(broker.receive(), Offered(0, 5))
-        self.assertRaises(Full, broker.receive)
-        self.assertEqual(broker.receive(), Item(0, 5, 1, "a"))
+        self.assertRaises(FullError, broker.receive)
+        self.assertEqual(broker.receive(), Job(0, 5, 1, "a"))
         self.assertEqual(broker.unanswered, 0)
 
     def test_a_refusal_in_the_middle_of_many(self):
         broker = self.connect(("SIZE", "SIZE 3"), ("SIZE", "ERR 6 full"), ("TAKE", "STOPPED"), ("SIZE", "SIZE 4"))
-        answers = broker.ask_all([requests.size(), requests.size(), requests.take(), requests.size()])
-        self.assertEqual([type(it) for it in answers], [int, Full, Stopped, int])
+        answers = broker.ask_all([Request.size(), Request.size(), Request.take(), Request.size()])
+        self.assertEqual([type(it) for it in answers], [int, FullError, StoppedError, int])
         self.assertEqual((answers[0], answers[3]), (3, 4))
 
     def test_requests_by_turns_and_at_once_are_not_mixed(self):
         broker = self.connect(("SIZE", "SIZE 3"))
         self.assertRaises(RuntimeError, broker.receive)
-        broker.send(requests.size())
+        broker.send(Request.size())
         self.assertRaises(RuntimeError, broker.size)
-        self.assertRaises(RuntimeError, broker.ask_all, [requests.size()])
+        self.assertRaises(RuntimeError, broker.ask_all, [Request.size()])
         self.assertEqual(broker.receive(), 3)
         self.assertEqual(broker.ask_all([]), [])
 
@@ -54,40 +56,66 @@ class BrokerTest(ScriptedTest):
         first, second = "DRAINED 2\nITEM 0 0 1 a", "ITEM 1 0 1 b\nSIZE 0"
         steps = ("DRAIN 2", first), ("SIZE", lambda: is_late.wait(PATIENCE) and second)
         broker = self.connect(*steps, patience=0.05)
-        broker.send(requests.drain(2), requests.size())
+        broker.send(Request.drain(2), Request.size())
         self.assertRaises(TimeoutError, broker.receive)
         is_late.set()
-        self.assertEqual(receive_in_time(broker), [Item(0, 0, 1, "a"), Item(1, 0, 1, "b")])
+        self.assertEqual(receive_in_time(broker), [Job(0, 0, 1, "a"), Job(1, 0, 1, "b")])
         self.assertEqual(receive_in_time(broker), 0)
 
     def test_a_server_that_hangs_up(self):
         broker = self.connect(("SIZE", HANGS_UP))
-        self.assertRaises(Disconnected, broker.size)
+        self.assertRaises(DisconnectedError, broker.size)
 
     def test_a_line_that_is_cut_off(self):
         broker = self.connect(("SIZE", b"SIZ"), ("QUIT", HANGS_UP))
-        broker.send(requests.size(), requests.quit())
-        self.assertRaises(Disconnected, broker.receive)
+        broker.send(Request.size(), Request.quit())
+        self.assertRaises(DisconnectedError, broker.receive)
 
     def test_after_an_unknown_reply_the_session_is_closed(self):
         broker = self.connect(("SIZE", "HELLO"))
-        self.assertRaises(UnknownReply, broker.size)
+        self.assertRaises(UnknownReplyError, broker.size)
         self.assertRaises(OSError, broker.size)
 
     def test_a_line_that_never_ends(self):
         broker = self.connect(("SIZE", "SIZE " + "1" * 1000))
-        self.assertRaises(UnknownReply, broker.size)
+        self.assertRaises(UnknownReplyError, broker.size)
 
     def test_service_is_awaited_by_a_request_that_is_no_call(self):
         broker = self.connect(("AT 0", "ERR 1 syntax"), ("QUIT", "BYE"))
         broker.await_service()
         broker.quit()
 
+    def test_a_job_is_told_of_by_itself(self):
+        steps = [("POLL", "ITEM 0 5 1 a"), ("DONE 0", "DONE 0"), ("TAKE", "ITEM 1 5 1 b"), ("FAIL 1", "AGAIN 3 9"),
+                 ("DRAIN 9", "DRAINED 1\nITEM 2 5 1 c"), ("DONE 2", "DONE 2"), ("POLLFOR 500000000", "NONE")]
+        broker = self.connect(*steps)
+        job = broker.poll()
+        self.assertEqual(job, Job(0, 5, 1, "a"))
+        self.end(job.done)
+        self.assertEqual(self.end(broker.take().fail), Again(3, 9))
+        (drained,) = broker.drain(9)
+        self.end(drained.done)
+        self.assertIsNone(broker.poll_for(0.5))
+
+    def test_a_job_of_a_session_that_has_ended_is_held_no_more(self):
+        broker = self.connect(("TAKE", "ITEM 0 5 1 a"))
+        job = broker.take()
+        broker.close()
+        for end in (job.done, job.fail):
+            self.assertRaises(NotHeldError, self.end, end)
+
+    def test_what_is_shown_is_not_held(self):
+        self.assertFalse(hasattr(self.connect(("PEEK", "HEAD 0 150 1 a")).peek(), "done"))
+
+    def end(self, of_job):
+        """Calls `done` or `fail` of a job."""
+        return of_job()
+
     def test_a_lost_connection_is_known_once_its_end_has_come(self):
         broker = self.connect(("SIZE", "SIZE 3"), ("SIZE", SAYS_NOTHING))
         self.assertEqual(broker.size(), 3)
         self.assertFalse(broker.is_lost())
-        broker.send(requests.size())
+        broker.send(Request.size())
         broker.close()
         self.assertTrue(broker.is_lost())
 
@@ -114,7 +142,7 @@ class ManyTest(unittest.TestCase):
         thread = threading.Thread(target=answer_each_line, args=(listener,), daemon=True)
         thread.start()
         with self.kind(listener.getsockname()[1], patience=PATIENCE) as broker:
-            answers = broker.ask_all([requests.offer(0, "a" * 64)] * self.COUNT)
+            answers = broker.ask_all([Request.offer("a" * 64)] * self.COUNT)
         self.assertEqual(answers, [Offered(2**64 - 1, 2**64 - 1)] * self.COUNT)
         thread.join(PATIENCE)
 

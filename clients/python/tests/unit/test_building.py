@@ -1,16 +1,18 @@
-"""The package as pip installs it, from the folder and from an archive, without a network; and its types."""
+"""The package as pip installs it with the setuptools that is there, from the folder and from archives, without a
+network; and its types."""
 import hashlib
 import os
 import shutil
 import subprocess
 import sys
+import tarfile
 import tempfile
 import unittest
-import venv
 
 TOP = os.path.realpath(os.path.join(os.path.dirname(os.path.realpath(__file__)), *[os.pardir] * 2))
-SOURCE = os.path.join(TOP, "src", "rb_broker_client")
+SOURCE = os.path.join("src", "rb_broker_client")
 LONGEST = 300  # seconds; the proofs may need the machine
+PYTHONS = (sys.executable, "/usr/bin/python3")
 
 SAYS = """
 import importlib.metadata, os, rb_broker_client
@@ -20,47 +22,61 @@ print(importlib.metadata.metadata("rb-broker-client")["Requires-Python"])
 """
 
 
+def environment():
+    """The variables of a process, of which none changes what python or pip does. Files that are built are of 1980."""
+    kept = {name: value for name, value in os.environ.items() if not name.startswith(("PYTHON", "PIP_"))}
+    return {**kept, "SOURCE_DATE_EPOCH": "315532800", "PYTHONDONTWRITEBYTECODE": "1"}
+
+
 def run(words, cwd, status=0):
     """Runs a program to its end, which must have this status. What it wrote."""
-    environment = {name: value for name, value in os.environ.items() if not name.startswith(("PYTHON", "PIP_"))}
     ran = subprocess.run(words, stdout=subprocess.PIPE, stderr=subprocess.STDOUT, encoding="utf-8", timeout=LONGEST,
-                         env=environment, cwd=cwd)
+                         env=environment(), cwd=cwd)
     if ran.returncode != status:
         raise AssertionError(f"{words}: status {ran.returncode}: {ran.stdout}")
     return ran.stdout
 
 
-def built(hook, folder):
-    """Calls a hook of the builder in a process of its own, as pip does. The path of what it wrote."""
-    code = f"import sys; sys.path.insert(0, 'building'); import backend; print(backend.{hook}(sys.argv[1]))"
-    return os.path.join(folder, run([sys.executable, "-B", "-c", code, folder], TOP).strip())
+def can_build(python):
+    """Whether this python has what builds the package."""
+    words = [python, "-c", "import venv, ensurepip, wheel, setuptools; assert int(setuptools.__version__[:2]) >= 61"]
+    try:
+        return subprocess.run(words, stderr=subprocess.DEVNULL, env=environment()).returncode == 0
+    except OSError:
+        return False
 
 
-class InstallTest(unittest.TestCase):
-    """A fresh environment, into which the package is installed with no index to fetch from."""
+class BuildingCase(unittest.TestCase):
+    """An environment that has pip, setuptools and wheel, and a copy of the sources, since building leaves files."""
 
     @classmethod
     def setUpClass(cls):
+        cls.builder = next(filter(can_build, PYTHONS), None)
+        if cls.builder is None:
+            raise unittest.SkipTest("no python has setuptools 61, wheel and venv")
         room = tempfile.TemporaryDirectory()
         cls.addClassCleanup(room.cleanup)
-        cls.room = room.name
+        cls.room = os.path.realpath(room.name)
+        cls.sources = os.path.join(cls.room, "sources")
+        shutil.copytree(TOP, cls.sources, ignore=shutil.ignore_patterns("__pycache__", "build", "*.egg-info"))
         cls.place = os.path.join(cls.room, "environment")
         cls.python = os.path.join(cls.place, "bin", "python")
-        try:
-            venv.create(cls.place, with_pip=True)
-            cls.has_pip = True
-        except subprocess.CalledProcessError:  # this python came without ensurepip
-            cls.has_pip = False
+        run([cls.builder, "-m", "venv", "--system-site-packages", cls.place], cls.room)
 
-    def setUp(self):
-        if not self.has_pip:
-            self.skipTest("no environment with pip can be made")
+    def built(self, hook, *folders):
+        """Calls a hook of the builder, as pip does. The path of what it wrote."""
+        folder = os.path.join(self.room, *folders)
+        os.makedirs(folder, exist_ok=True)
+        code = f"import sys; from setuptools import build_meta; print(build_meta.{hook}(sys.argv[1]))"
+        return os.path.join(folder, run([self.python, "-c", code, folder], self.sources).splitlines()[-1])
 
+
+class InstallTest(BuildingCase):
     def pip(self, *words):
         run([self.python, "-m", "pip", "--no-cache-dir", "--disable-pip-version-check", *words], self.room)
 
     def install(self, *what):
-        self.pip("install", "--no-index", *what)
+        self.pip("install", "--no-index", "--no-build-isolation", *what)
         self.addCleanup(self.uninstall)
 
     def uninstall(self):
@@ -75,44 +91,49 @@ class InstallTest(unittest.TestCase):
         self.assertTrue(folder.startswith(place), folder)
         self.assertTrue(os.path.exists(os.path.join(folder, "py.typed")))
         self.assertEqual(sorted(it for it in os.listdir(folder) if it.endswith(".py")),
-                         sorted(it for it in os.listdir(SOURCE) if it.endswith(".py")))
+                         sorted(it for it in os.listdir(os.path.join(TOP, SOURCE)) if it.endswith(".py")))
         told = run([self.python, "-m", "rb_broker_client", "--help"], self.room)
         self.assertIn("usage: python3 -m rb_broker_client", told)
 
     def test_from_the_folder(self):
-        self.install(TOP)
+        self.install(self.sources)
         self.assert_installed(self.place)
 
     def test_from_an_archive_of_the_sources(self):
-        self.install(built("build_sdist", self.room))
+        self.install(self.built("build_sdist"))
         self.assert_installed(self.place)
 
     def test_where_the_sources_are(self):
-        self.install("--editable", TOP)
-        self.assert_installed(SOURCE)
+        self.install("--editable", self.sources)
+        self.assert_installed(os.path.join(self.sources, SOURCE))
 
 
-class BuildingTest(unittest.TestCase):
-    def setUp(self):
-        room = tempfile.TemporaryDirectory()
-        self.addCleanup(room.cleanup)
-        self.room = room.name
-
+class BuildingTest(BuildingCase):
     def test_what_is_built_twice_is_the_same(self):
-        for hook in ("build_wheel", "build_sdist"):
-            digests = set()
-            for folder in ("first", "second"):
-                place = os.path.join(self.room, hook, folder)
-                os.makedirs(place)
-                with open(built(hook, place), "rb") as file:
-                    digests.add(hashlib.sha256(file.read()).hexdigest())
-            self.assertEqual(len(digests), 1, hook)
+        digests = set()
+        for folder in ("first", "second"):
+            with open(self.built("build_wheel", folder), "rb") as file:
+                digests.add(hashlib.sha256(file.read()).hexdigest())
+        self.assertEqual(len(digests), 1)
 
-    def test_nothing_is_left_beside_the_sources(self):
-        before = {os.path.join(place, it) for place, _, names in os.walk(TOP) for it in names}
-        built("build_wheel", self.room)
-        after = {os.path.join(place, it) for place, _, names in os.walk(TOP) for it in names}
-        self.assertEqual(after, before)
+    def test_what_an_archive_of_the_sources_has(self):
+        contents = []
+        for folder in ("first", "second"):
+            with tarfile.open(self.built("build_sdist", folder)) as archive:
+                files = [it for it in archive.getmembers() if it.isfile()]
+                contents.append({it.name.partition("/")[2]: archive.extractfile(it).read() for it in files})
+        self.assertEqual(*contents)
+        self.assertTrue({"README.md", "pyproject.toml", f"{SOURCE}/worker.py"} <= {*contents[0]})
+
+    def test_git_ignores_what_is_left_beside_the_sources(self):
+        names = lambda: {os.path.join(place, it) for place, _, names in os.walk(self.sources) for it in names}
+        before = names()
+        run(["git", "init", "--quiet"], self.sources)
+        shutil.copy(os.path.join(TOP, os.pardir, os.pardir, ".gitignore"), self.sources)
+        run(["git", "add", "."], self.sources)
+        self.built("build_wheel")
+        self.assertGreater(len(names()), len(before))
+        self.assertEqual(run(["git", "status", "--porcelain", "--untracked-files"], self.sources).count("?? "), 0)
 
 
 class TypesTest(unittest.TestCase):

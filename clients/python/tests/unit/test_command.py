@@ -6,10 +6,12 @@ import os
 import sys
 import tempfile
 import unittest
+import unittest.mock
 
+import rb_broker_client
 from scripted import GOODBYE, GREETING, HANGS_UP, ScriptedTest, free_port
 from rb_broker_client.command import main
-from rb_broker_client.delays import read_delay
+from rb_broker_client.durations import nanoseconds, read_delay
 
 handled = []
 
@@ -28,10 +30,11 @@ async def handle_async(job):
 not_a_function = 5
 
 
-def run(*words):
+def run(*words, lines=""):
     """Runs the command in this process. Its status, and what it wrote to standard output and standard error."""
     said, errors = io.StringIO(), io.StringIO()
-    with contextlib.redirect_stdout(said), contextlib.redirect_stderr(errors):
+    with contextlib.redirect_stdout(said), contextlib.redirect_stderr(errors), \
+            unittest.mock.patch("sys.stdin", io.StringIO(lines)):
         try:
             status = main([str(it) for it in words])
         except SystemExit as ended:
@@ -47,17 +50,38 @@ class CommandTest(ScriptedTest):
             (("size",), ("SIZE", "SIZE 3"), "SIZE 3\n", True),
             (("peek",), ("PEEK", "HEAD 0 150 2 a"), "HEAD 0 150 2 a\n", True),
             (("peek",), ("PEEK", "NONE"), "NONE\n", True),
+            (("clear",), ("CLEAR", "CLEARED"), "CLEARED\n", True),
+            (("remove", 17), ("REMOVE 17", "REMOVED yes"), "REMOVED yes\n", True),
+            (("remove", 17), ("REMOVE 17", "REMOVED no"), "REMOVED no\n", True),
+            (("drain",), ("DRAIN 64", "DRAINED 0"), "DRAINED 0\n", True),
         ]
         for words, step, told, says_goodbye in cases:
             with self.subTest(words=words):
                 server = self.play([GREETING, step, *([GOODBYE] if says_goodbye else [])])
                 self.assertEqual(run(*words, "--port", server.port), (0, told, ""))
 
+    def test_several_payloads_and_several_lines(self):
+        steps = [("OFFER 2000000000 a", "OFFERED 0 5"), ("OFFER 2000000000 b", "OFFERED 1 6")]
+        for words, lines in ((("a", "b"), ""), ((), "a\nb\n"), ((), "a\r\nb")):
+            server = self.play([GREETING, *steps])
+            told = "OFFERED 0 5\nOFFERED 1 6\n"
+            self.assertEqual(run("offer", "2s", *words, "--port", server.port, lines=lines), (0, told, ""))
+
+    def test_several_ids(self):
+        server = self.play([GREETING, ("REMOVE 3", "REMOVED yes"), ("REMOVE 9", "REMOVED no"), GOODBYE])
+        self.assertEqual(run("remove", 3, 9, "--port", server.port), (0, "REMOVED yes\nREMOVED no\n", ""))
+
+    def test_what_is_drained_is_finished(self):
+        steps = [("DRAIN 2", "DRAINED 1\nITEM 0 5 1 a"), ("DONE 0", "DONE 0"),
+                 ("DRAIN 1", "DRAINED 1\nITEM 1 6 3 b"), ("DONE 1", "DONE 1")]
+        server = self.play([GREETING, *steps, GOODBYE])
+        told = "ITEM 0 5 1 a\nITEM 1 6 3 b\nDRAINED 2\n"
+        self.assertEqual(run("drain", 2, "--port", server.port), (0, told, ""))
+
     def test_refusals(self):
-        long = "a" * 65
-        server = self.play([GREETING, (f"OFFER 0 {long}", "ERR 4 payload")])
-        told = f"rb_broker_client: the server at 127.0.0.1:{server.port} refused it: ERR 4 payload\n"
-        self.assertEqual(run("offer", 0, long, "--port", server.port), (1, "", told))
+        server = self.play([GREETING, ("OFFER 0 a", "ERR 3 range")])
+        told = f"rb_broker_client: the server at 127.0.0.1:{server.port} refused it: ERR 3 range\n"
+        self.assertEqual(run("offer", 0, "a", "--port", server.port), (1, "", told))
         server = self.play([GREETING, ("SIZE", "ERR 6 full")])
         told = f"rb_broker_client: the server at 127.0.0.1:{server.port} refused it: ERR 6 full\n"
         self.assertEqual(run("size", "--port", server.port), (1, "", told))
@@ -83,6 +107,9 @@ class CommandTest(ScriptedTest):
         for words in (
             (), ("size",), ("size", "--port", 0), ("size", "--port", 65_536), ("size", "--port", "x"), ("sizes",),
             ("size", "--port", 1, "more"), ("size", "--port", 1, "--patience", 0), ("offer", "--port", 1),
+            ("offer", 0, "a" * 65, "--port", 1),
+            ("offer", 0, "two words", "--port", 1), ("remove", "--port", 1), ("remove", "x", "--port", 1),
+            ("drain", 0, "--port", 1), ("clear",), ("dead", "--port", 1), ("dead", os.devnull, "--offer"),
             ("offer", "5x", "a", "--port", 1), ("offer", "-5", "a", "--port", 1), ("offer", 0, "a\nCLEAR", "--port", 1),
             ("worker", "--port", 1), ("worker", here), ("worker", __name__, "--port", 1),
             ("worker", "no_such_module:handle", "--port", 1), ("worker", f"{__name__}:no_such", "--port", 1),
@@ -97,7 +124,7 @@ class CommandTest(ScriptedTest):
                 self.assertRegex(errors, r"\Arb_broker_client: [^\n]+\n\Z")
 
     def test_a_record_that_can_not_be_written(self):
-        told = "rb_broker_client: /no/such/folder can't be written: No such file or directory\n"
+        told = "rb_broker_client: /no/such/folder can't be used: No such file or directory\n"
         for words in (("size",), ("offer", 0, "a"), ("worker", f"{__name__}:handle")):
             self.assertEqual(run(*words, "--port", 1, "--record", "/no/such/folder"), (1, "", told))
 
@@ -112,24 +139,32 @@ class CommandTest(ScriptedTest):
                          [("AT 0", ["ERR 1 syntax"]), ("SIZE", ["SIZE 3"]), ("QUIT", ["BYE"])])
 
     def test_help(self):
-        for words in (("--help",), ("worker", "--help"), ("offer", "--help")):
+        commands = ("worker", "offer", "size", "peek", "drain", "remove", "clear", "dead")
+        for words in (("--help",), *((it, "--help") for it in commands)):
             status, said, errors = run(*words)
             self.assertEqual((status, errors), (0, ""))
             self.assertIn("usage: python3 -m rb_broker_client", said)
+            if words[0] in commands:
+                self.assertIn(f"example: python3 -m rb_broker_client {words[0]} ", said)
+            else:
+                self.assertTrue(all(f"\n    {it}" in said for it in commands))
+
+    def test_the_version(self):
+        self.assertEqual(run("--version"), (0, f"rb_broker_client {rb_broker_client.__version__}\n", ""))
 
 
 class DelayTest(unittest.TestCase):
     def test_units(self):
         for text, delay in {
-            "0": 0, "250": 250, "250ns": 250, "3us": 3_000, "5ms": 5_000_000, "5s": 5_000_000_000,
+            "0": 0, "250": 250_000_000_000, "250ns": 250, "3us": 3_000, "5ms": 5_000_000, "5s": 5_000_000_000,
             "2m": 120_000_000_000, "1h": 3_600_000_000_000, "1d": 86_400_000_000_000, "1.5h": 5_400_000_000_000,
-            "0.000000001s": 1, "18446744073709551615": 2**64 - 1, "007s": 7_000_000_000,
+            "0.000000001s": 1, "18446744073709551615ns": 2**64 - 1, "007s": 7_000_000_000, "0.5": 500_000_000,
         }.items():
-            self.assertEqual(read_delay(text), delay, text)
+            self.assertEqual(nanoseconds(read_delay(text)), delay, text)
 
     def test_what_is_no_delay(self):
-        for text in ("", "s", "-1s", "+1s", "1 s", "1S", "1.s", ".5s", "1e3", "1h30m", "1_000", "0.5", "1.5ns",
-                     "18446744073709551616", "213504d", "\u0665s"):
+        for text in ("", "s", "-1s", "+1s", "1 s", "1S", "1.s", ".5s", "1e3", "1h30m", "1_000", "1.5ns",
+                     "18446744073709551616ns", "18446744074", "213504d", "\u0665s"):
             self.assertRaises(ValueError, read_delay, text)
 
 

@@ -7,7 +7,7 @@ import unittest.mock
 
 from scripted import GOODBYE, GREETING, HANGS_UP, NOTHING, PATIENCE, SAYS_NOTHING, OnceMoreCame
 from test_worker import AGE, POLL, WorkerCase, setUpModule, tearDownModule
-from rb_broker_client import Item, Pauses, Report
+from rb_broker_client import Job, Pauses, Report
 
 BRIEF = "POLLFOR 200000000"  # a wait while jobs run
 LONG_ENOUGH = 0.05  # seconds after which a wait has waited
@@ -174,7 +174,7 @@ class ThreadsTest(ConcurrencyCase):
         steps = [(POLL, waited("ITEM 0 0 3 b")), (BRIEF, self.jobs.ends("b", "NONE")), ("FAIL 0", "DEAD 0"),
                  (BRIEF, lambda: is_over.set() or self.stops("NONE")()), GOODBYE]
         self.assertEqual(self.run_worker(steps, on_dead=keep), Report(dead=1))
-        self.assertEqual(told, [(Item(0, 0, 3, "b"), True)])
+        self.assertEqual(told, [(Job(0, 0, 3, "b"), True)])
 
     def test_no_thread_is_left(self):
         name = "rb_broker_client-1"

@@ -9,7 +9,8 @@ import unittest
 
 from scripted import GOODBYE, GREETING, HANGS_UP, PATIENCE, ScriptedTest, free_port
 from rb_broker_client import (
-    Fleet, FleetProducer, FleetWorker, InDoubt, NotOffered, Offered, Pauses, PayloadRefused, Report, Server, UnknownReply
+    Fleet, FleetProducer, FleetWorker, InDoubtError, NotOfferedError, Offered, Pauses, RangeRefusedError, Report, Server,
+    UnknownReplyError,
 )
 
 POLL = "POLLFOR 1000000000"
@@ -104,40 +105,39 @@ class FleetProducerTest(ScriptedTest):
         a = self.play([GREETING, ("OFFER 5 bob", "OFFERED 0 5"), ("OFFERAT 9 ann", "OFFERED 1 9")])
         b = self.play([GREETING, ("OFFER 5 ann", "OFFERED 0 5"), ("OFFER 5 bob", "OFFERED 1 5")])
         producer = self.produce([a.port, b.port])
-        self.assertEqual(producer.offer(5, "bob"), Offered(0, 5))
-        self.assertEqual(producer.offer(5, "ann"), Offered(0, 5))
-        self.assertEqual(producer.offer_at(9, "ann", key="letter-18"), Offered(1, 9))
-        self.assertEqual(producer.offer(5, "bob", key="letter-17"), Offered(1, 5))
+        self.assertEqual(producer.offer("bob", delay=5e-9), Offered(0, 5))
+        self.assertEqual(producer.offer("ann", delay=5e-9), Offered(0, 5))
+        self.assertEqual(producer.offer_at("ann", expires_at_ns=9, key="letter-18"), Offered(1, 9))
+        self.assertEqual(producer.offer("bob", delay=5e-9, key="letter-17"), Offered(1, 5))
 
     def test_what_is_no_str_is_not_offered(self):
         producer = self.produce([free_port(), free_port()])
         for payload, key in ((None, None), (b"ann", None), ("ann", 17), (None, "ann")):
-            self.assertRaises(TypeError, producer.offer, 5, payload, key=key)
+            self.assertRaises(TypeError, producer.offer, payload, key=key)
 
     def test_an_offer_to_a_server_that_is_away_holds_up_no_other(self):
         b = self.play([GREETING, *[("OFFER 5 ann", f"OFFERED {id} 5") for id in range(20)]])
         with self.produce([free_port(), b.port], patience=3) as producer:
             ended = threading.Event()
-            waiting = threading.Thread(target=lambda: (self.assertRaises(NotOffered, producer.offer, 5, "bob"),
+            waiting = threading.Thread(target=lambda: (self.assertRaises(NotOfferedError, producer.offer, "bob", delay=5e-9),
                                                        ended.set()), daemon=True)
             waiting.start()
-            self.assertEqual([producer.offer(5, "ann").id for _ in range(20)], list(range(20)))
+            self.assertEqual([producer.offer("ann", delay=5e-9).id for _ in range(20)], list(range(20)))
             self.assertFalse(ended.is_set())
             self.assertTrue(ended.wait(PATIENCE))
 
     def test_the_refusals_and_doubts_of_a_producer(self):
-        long = "a" * 65
-        a = self.play([GREETING, (f"OFFER 5 {long}", "ERR 4 payload"), ("OFFER 5 bob", HANGS_UP)])
+        a = self.play([GREETING, ("OFFER 5 ann", "ERR 3 range"), ("OFFER 5 bob", HANGS_UP)])
         with self.produce([a.port, free_port()], patience=0.3) as producer:
-            self.assertRaises(PayloadRefused, producer.offer, 5, long, key="bob")
-            self.assertRaises(InDoubt, producer.offer, 5, "bob")
-            self.assertRaises(NotOffered, producer.offer, 5, "ann")
+            self.assertRaises(RangeRefusedError, producer.offer, "ann", delay=5e-9, key="bob")
+            self.assertRaises(InDoubtError, producer.offer, "bob", delay=5e-9)
+            self.assertRaises(NotOfferedError, producer.offer, "ann", delay=5e-9)
 
     def test_a_draining_server_is_not_connected_to(self):
         b = self.play([GREETING, ("OFFER 5 bob", "OFFERED 0 5")])
         fleet = Fleet([Server(free_port(), name="a"), Server(b.port, name="b")], draining=["a"])
         with FleetProducer(fleet, patience=PATIENCE) as producer:
-            self.assertEqual(producer.offer(5, "bob"), Offered(0, 5))
+            self.assertEqual(producer.offer("bob", delay=5e-9), Offered(0, 5))
 
 
 class FleetWorkerTest(ScriptedTest):
@@ -221,7 +221,7 @@ class FleetWorkerTest(ScriptedTest):
 
         a = self.play([GREETING, (POLL, lambda: is_asked.wait(PATIENCE) and "HELLO")])
         b = self.play([GREETING, (POLL, answer), GOODBYE])
-        self.assertRaises(UnknownReply, self.work(a.port, b.port).run)
+        self.assertRaises(UnknownReplyError, self.work(a.port, b.port).run)
 
     def test_options_that_make_no_sense(self):
         self.assertRaises(ValueError, self.work, free_port(), concurrency=65)

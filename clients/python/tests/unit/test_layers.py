@@ -8,7 +8,7 @@ import rb_broker_client
 
 SOURCE = os.path.dirname(rb_broker_client.__file__)
 TOP = os.path.realpath(os.path.join(SOURCE, *[os.pardir] * 4))
-BOTH_KINDS = (("broker", "async_broker"), ("producer", "async_producer"), ("worker", "async_worker"))
+STANDS_ON = {"session": "dialogue", "producer": "tries", "worker": "work"}  # what both kinds of client are made of
 DEVICES = {"asyncio", "select", "selectors", "signal", "socket", "ssl", "subprocess", "threading"}
 
 
@@ -44,15 +44,21 @@ class LayersTest(unittest.TestCase):
                 self.assertEqual(imports_of(it)[1] & DEVICES, set(), f"{it}, below {module}")
 
     def test_both_kinds_stand_on_it(self):
-        for kinds, module in zip(BOTH_KINDS, ("dialogue", "tries", "work")):
-            for kind in kinds:
-                self.assertIn(module, imports_of(kind)[0], kind)
+        for body, module in STANDS_ON.items():
+            self.assertIn(module, imports_of(body)[0], body)
+        for names in (("Broker", "AsyncBroker"), ("Producer", "AsyncProducer"), ("Worker", "AsyncWorker")):
+            one, other = (getattr(rb_broker_client, it) for it in names)
+            shared = [it for it in one.__mro__[1:] if it in other.__mro__ and it.__module__ != "builtins"]
+            self.assertIn(shared[0].__module__.partition(".")[2], STANDS_ON, names)
 
     def test_both_kinds_have_the_same_methods(self):
         for one, other in (("Broker", "AsyncBroker"), ("Producer", "AsyncProducer"), ("Worker", "AsyncWorker")):
             methods = [{it for it in dir(getattr(rb_broker_client, kind)) if not it.startswith("_")}
                        for kind in (one, other)]
-            self.assertEqual(methods[0] - {"fileno"}, methods[1] - {"connect", "call_when_ready"})
+            self.assertEqual(methods[0], methods[1] - {"connect"})
+            for name in methods[0]:
+                texts = [getattr(getattr(rb_broker_client, kind), name).__doc__ for kind in (one, other)]
+                self.assertTrue(all(texts), name)
 
 
 class VersionTest(unittest.TestCase):

@@ -6,7 +6,10 @@ import unittest
 import unittest.mock
 
 from scripted import GOODBYE, GREETING, HANGS_UP, NOTHING, PATIENCE, ScriptedTest, free_port
-from rb_broker_client import Full, InDoubt, NotOffered, Offered, OutOfMemory, Pauses, PayloadRefused, Producer
+from rb_broker_client import (
+    FullError, InDoubtError, NotOfferedError, Offered, OutOfMemoryError, Pauses, Producer,
+    RangeRefusedError,
+)
 
 OFFER = "OFFER 5 a"
 AGE = 0.5  # seconds beyond which a session is left: long enough for an offer before, on a busy machine too
@@ -34,68 +37,74 @@ class ProducerCase(ScriptedTest):
 class ProducerTest(ProducerCase):
     def test_offers_go_through_one_session(self):
         producer, _ = self.produce([(OFFER, "OFFERED 0 5"), ("OFFERAT 9 b", "OFFERED 1 9")])
-        self.assertEqual(producer.offer(5, "a"), Offered(0, 5))
-        self.assertEqual(producer.offer_at(9, "b"), Offered(1, 9))
+        self.assertEqual(producer.offer("a", delay=5e-9), Offered(0, 5))
+        self.assertEqual(producer.offer_at("b", expires_at_ns=9), Offered(1, 9))
 
     def test_a_connection_that_was_lost_before_the_offer(self):
         producer, server = self.produce([(OFFER, "OFFERED 0 5"), (NOTHING, HANGS_UP)], [(OFFER, "OFFERED 1 6")])
-        self.assertEqual(producer.offer(5, "a"), Offered(0, 5))
+        self.assertEqual(producer.offer("a", delay=5e-9), Offered(0, 5))
         self.assertTrue(server.ended.acquire(timeout=PATIENCE))
-        self.assertEqual(producer.offer(5, "a"), Offered(1, 6))
+        self.assertEqual(producer.offer("a", delay=5e-9), Offered(1, 6))
 
     def test_a_reply_that_is_not_heard_leaves_a_doubt(self):
         producer, server = self.produce([(OFFER, HANGS_UP)])
-        with self.assertRaisesRegex(InDoubt, OFFER):
-            producer.offer(5, "a")
+        with self.assertRaisesRegex(InDoubtError, OFFER):
+            producer.offer("a", delay=5e-9)
         server.end()
         self.assertEqual(server.faults, [])
 
     def test_after_a_doubt_the_next_offer_connects_again(self):
         producer, _ = self.produce([(OFFER, HANGS_UP)], [("OFFER 5 b", "OFFERED 0 5")])
-        self.assertRaises(InDoubt, producer.offer, 5, "a")
-        self.assertEqual(producer.offer(5, "b"), Offered(0, 5))
+        self.assertRaises(InDoubtError, producer.offer, "a", delay=5e-9)
+        self.assertEqual(producer.offer("b", delay=5e-9), Offered(0, 5))
 
     def test_an_offer_that_may_double_is_made_again(self):
         producer, _ = self.produce([(OFFER, HANGS_UP)], [(OFFER, "OFFERED 7 6")], may_double=True)
-        self.assertEqual(producer.offer(5, "a"), Offered(7, 6))
+        self.assertEqual(producer.offer("a", delay=5e-9), Offered(7, 6))
 
     def test_a_doubt_stays_when_no_server_comes_back(self):
         producer, _ = self.produce([(OFFER, HANGS_UP)], patience=0.3, may_double=True)
-        self.assertRaises(InDoubt, producer.offer, 5, "a")
+        self.assertRaises(InDoubtError, producer.offer, "a", delay=5e-9)
 
     def test_a_doubt_stays_when_the_next_server_refuses(self):
         sessions = [[(OFFER, HANGS_UP)], *[[(OFFER, "ERR 6 full")] for _ in range(3)]]
-        producer, _ = self.produce(*sessions, patience=0.3, may_double=True)
-        self.assertRaises(InDoubt, producer.offer, 5, "a")
+        producer, _ = self.produce(*sessions, patience=3, may_double=True)
+        self.assertRaises(InDoubtError, producer.offer, "a", delay=5e-9)
 
     def test_no_server(self):
         with self.kind(free_port(), patience=0.2) as producer:
-            self.assertRaises(NotOffered, producer.offer, 5, "a")
+            self.assertRaises(NotOfferedError, producer.offer, "a", delay=5e-9)
 
     def test_a_server_that_hangs_up_before_it_serves(self):
         server = self.play([("AT 0", HANGS_UP)], [GREETING, (OFFER, "OFFERED 0 5")])
         with self.kind(server.port, pauses=Pauses(first=0.01)) as producer:
-            self.assertEqual(producer.offer(5, "a"), Offered(0, 5))
+            self.assertEqual(producer.offer("a", delay=5e-9), Offered(0, 5))
 
     def test_a_full_run_is_left_for_the_next(self):
         producer, _ = self.produce([(OFFER, "ERR 6 full")], [(OFFER, "OFFERED 0 5")])
-        self.assertEqual(producer.offer(5, "a"), Offered(0, 5))
+        self.assertEqual(producer.offer("a", delay=5e-9), Offered(0, 5))
 
     def test_want_of_memory_is_tried_again_in_the_same_session(self):
         producer, _ = self.produce([(OFFER, "ERR 7 memory"), (OFFER, "ERR 7 memory"), (OFFER, "OFFERED 0 5")])
-        self.assertEqual(producer.offer(5, "a"), Offered(0, 5))
+        self.assertEqual(producer.offer("a", delay=5e-9), Offered(0, 5))
 
     def test_patience_has_an_end(self):
-        for reply, refusal in (("ERR 6 full", Full), ("ERR 7 memory", OutOfMemory)):
+        for reply, refusal in (("ERR 6 full", FullError), ("ERR 7 memory", OutOfMemoryError)):
             server = self.play([GREETING, (OFFER, reply)])
             with self.kind(server.port, patience=0.4, pauses=Pauses(first=1.0)) as producer:
-                self.assertRaises(refusal, producer.offer, 5, "a")
+                self.assertRaises(refusal, producer.offer, "a", delay=5e-9)
 
     def test_other_refusals_are_the_callers(self):
-        long = "a" * 65
-        producer, _ = self.produce([(f"OFFER 5 {long}", "ERR 4 payload"), (OFFER, "OFFERED 0 5")])
-        self.assertRaises(PayloadRefused, producer.offer, 5, long)
-        self.assertEqual(producer.offer(5, "a"), Offered(0, 5))
+        producer, _ = self.produce([(OFFER, "ERR 3 range"), (OFFER, "OFFERED 0 5")])
+        self.assertRaises(RangeRefusedError, producer.offer, "a", delay=5e-9)
+        self.assertEqual(producer.offer("a", delay=5e-9), Offered(0, 5))
+
+    def test_what_a_server_would_refuse_is_not_sent(self):
+        producer, _ = self.produce([(OFFER, "OFFERED 0 5")])
+        for wrong in ("a" * 65, "two words", ""):
+            self.assertRaises(ValueError, producer.offer, wrong, delay=5e-9)
+        self.assertRaises(TypeError, producer.offer, None)
+        self.assertEqual(producer.offer("a", delay=5e-9), Offered(0, 5))
 
 
 class AgeTest(ProducerCase):
@@ -103,22 +112,22 @@ class AgeTest(ProducerCase):
 
     def test_an_idle_producer_leaves_by_itself(self):
         producer, server = self.produce([(OFFER, "OFFERED 0 5"), GOODBYE], [(OFFER, "OFFERED 1 5")], session=AGE)
-        self.assertEqual(producer.offer(5, "a"), Offered(0, 5))
+        self.assertEqual(producer.offer("a", delay=5e-9), Offered(0, 5))
         self.assertTrue(server.ended.acquire(timeout=PATIENCE))
-        self.assertEqual(producer.offer(5, "a"), Offered(1, 5))
+        self.assertEqual(producer.offer("a", delay=5e-9), Offered(1, 5))
 
     def test_an_offer_that_goes_on_is_answered_first(self):
         late = lambda: time.sleep(2 * AGE) or "OFFERED 0 5"
         producer, server = self.produce([(OFFER, late), GOODBYE], session=AGE)
-        self.assertEqual(producer.offer(5, "a"), Offered(0, 5))
+        self.assertEqual(producer.offer("a", delay=5e-9), Offered(0, 5))
         self.assertTrue(server.ended.acquire(timeout=PATIENCE))
 
     def test_a_server_that_does_not_say_goodbye(self):
         steps = [(OFFER, "OFFERED 0 5"), ("QUIT", HANGS_UP)]
         producer, server = self.produce(steps, [(OFFER, "OFFERED 1 5")], session=AGE)
-        producer.offer(5, "a")
+        producer.offer("a", delay=5e-9)
         self.assertTrue(server.ended.acquire(timeout=PATIENCE))
-        self.assertEqual(producer.offer(5, "a"), Offered(1, 5))
+        self.assertEqual(producer.offer("a", delay=5e-9), Offered(1, 5))
 
     def test_ages_that_make_no_sense(self):
         for age in (0, -1.0, float("nan")):
@@ -131,20 +140,20 @@ class LeavingThreadTest(ProducerCase):
     def test_where_no_thread_can_be_had_the_next_offer_leaves(self):
         producer, server = self.produce([(OFFER, "OFFERED 0 5"), GOODBYE], [(OFFER, "OFFERED 1 5")], session=AGE)
         with unittest.mock.patch("threading.Timer.start", side_effect=RuntimeError("can't start new thread")):
-            self.assertEqual(producer.offer(5, "a"), Offered(0, 5))
+            self.assertEqual(producer.offer("a", delay=5e-9), Offered(0, 5))
             self.assertFalse(server.ended.acquire(timeout=2 * AGE))
-            self.assertEqual(producer.offer(5, "a"), Offered(1, 5))
+            self.assertEqual(producer.offer("a", delay=5e-9), Offered(1, 5))
 
     def test_none_keeps_it_without_a_thread(self):
         producer, server = self.produce([(OFFER, "OFFERED 0 5"), (OFFER, "OFFERED 1 5")], session=None)
-        self.assertEqual(producer.offer(5, "a"), Offered(0, 5))
+        self.assertEqual(producer.offer("a", delay=5e-9), Offered(0, 5))
         self.assertNotIn(LEAVES, thread_names())
         self.assertFalse(server.ended.acquire(timeout=2 * AGE))
-        self.assertEqual(producer.offer(5, "a"), Offered(1, 5))
+        self.assertEqual(producer.offer("a", delay=5e-9), Offered(1, 5))
 
     def test_a_closed_producer_leaves_no_thread(self):
         producer, _ = self.produce([(OFFER, "OFFERED 0 5")])
-        producer.offer(5, "a")
+        producer.offer("a", delay=5e-9)
         self.assertEqual(thread_names().count(LEAVES), 1)
         producer.close()
         deadline = time.monotonic() + PATIENCE
@@ -158,17 +167,17 @@ class ForkTest(ProducerCase):
         first = self.play([GREETING, (OFFER, "OFFERED 0 5"), (OFFER, "OFFERED 1 5")])
         producer = self.kind(first.port, session=None)
         self.addCleanup(producer.close)
-        producer.offer(5, "a")
+        producer.offer("a", delay=5e-9)
         other = self.play([GREETING, (OFFER, "OFFERED 7 5")])
         child = os.fork()
         if child == 0:
             try:
                 producer._port = other.port  # each scripted server serves one session at a time
-                os._exit(producer.offer(5, "a").id)
+                os._exit(producer.offer("a", delay=5e-9).id)
             finally:
                 os._exit(99)
         self.assertEqual(os.waitstatus_to_exitcode(os.waitpid(child, 0)[1]), 7)
-        self.assertEqual(producer.offer(5, "a"), Offered(1, 5))
+        self.assertEqual(producer.offer("a", delay=5e-9), Offered(1, 5))
 
 
 class ThreadsTest(ProducerCase):
@@ -179,7 +188,7 @@ class ThreadsTest(ProducerCase):
         producer, _ = self.produce([(OFFER, f"OFFERED {id} 5") for id in range(count)])
         told, threads = [], []
         for _ in range(4):
-            work = lambda: [told.append(producer.offer(5, "a").id) for _ in range(count // 4)]
+            work = lambda: [told.append(producer.offer("a", delay=5e-9).id) for _ in range(count // 4)]
             threads.append(threading.Thread(target=work, daemon=True))
         for it in threads:
             it.start()
@@ -195,11 +204,11 @@ class ThreadsTest(ProducerCase):
             return is_over.wait(PATIENCE) and "OFFERED 0 5"
 
         producer, _ = self.produce([(OFFER, answer)])
-        first = threading.Thread(target=lambda: told.append(producer.offer(5, "a")), daemon=True)
+        first = threading.Thread(target=lambda: told.append(producer.offer("a", delay=5e-9)), daemon=True)
         first.start()
         self.assertTrue(is_asked.wait(PATIENCE))
         with unittest.mock.patch.object(getattr(producer, "thing", producer), "_patience", 0.2):
-            self.assertRaises(NotOffered, producer.offer, 5, "b")
+            self.assertRaises(NotOfferedError, producer.offer, "b", delay=5e-9)
         is_over.set()
         first.join(PATIENCE)
         self.assertEqual(told, [Offered(0, 5)])

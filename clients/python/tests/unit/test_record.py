@@ -10,7 +10,7 @@ import unittest
 
 import from_threads
 from scripted import GOODBYE, GREETING, HANGS_UP, NOTHING, PATIENCE, SAYS_NOTHING, ScriptedTest
-from rb_broker_client import Broker, Offered, Pauses, Producer, Report, UnknownReply, Worker, requests
+from rb_broker_client import Broker, Offered, Pauses, Producer, Report, Request, UnknownReplyError, Worker
 
 OFFER = "OFFER 5 a"
 
@@ -49,7 +49,7 @@ class BrokerRecordTest(RecordCase):
         steps = [("OFFER 0 a", "OFFERED 0 5"), ("DRAIN 9", "DRAINED 2\nITEM 0 5 1 a\nITEM 1 6 1 b"),
                  ("SIZE", "ERR 6 full"), ("TAKE", "STOPPED"), GOODBYE]
         broker = self.connect(*steps)
-        broker.ask_all([requests.offer(0, "a"), requests.drain(9), requests.size(), requests.take()])
+        broker.ask_all([Request.offer("a"), Request.drain(9), Request.size(), Request.take()])
         broker.quit()
         self.assertEqual(self.told(), [
             ("OFFER 0 a", ["OFFERED 0 5"]), ("DRAIN 9", ["DRAINED 2", "ITEM 0 5 1 a", "ITEM 1 6 1 b"]),
@@ -76,7 +76,7 @@ class BrokerRecordTest(RecordCase):
 
     def test_a_request_whose_reply_never_came(self):
         broker = self.connect(("SIZE", "SIZE 3"), ("TAKE", HANGS_UP))
-        broker.send(requests.size(), requests.take(), requests.quit())
+        broker.send(Request.size(), Request.take(), Request.quit())
         self.assertEqual(broker.receive(), 3)
         self.assertRaises(OSError, broker.receive)
         broker.close()
@@ -85,7 +85,7 @@ class BrokerRecordTest(RecordCase):
 
     def test_a_reply_of_which_a_part_came(self):
         broker = self.connect(("DRAIN 9", b"DRAINED 2\nITEM 0 5 1 a\nITE"), ("QUIT", HANGS_UP))
-        broker.send(requests.drain(9), requests.quit())
+        broker.send(Request.drain(9), Request.quit())
         self.assertRaises(OSError, broker.receive)
         broker.close()
         self.assertEqual(self.told(), [("DRAIN 9", ["DRAINED 2", "ITEM 0 5 1 a"]), ("QUIT", [])])
@@ -93,7 +93,7 @@ class BrokerRecordTest(RecordCase):
 
     def test_what_is_no_reply(self):
         broker = self.connect(("SIZE", b"\xffHELLO\n"))
-        self.assertRaises(UnknownReply, broker.size)
+        self.assertRaises(UnknownReplyError, broker.size)
         self.assertEqual(self.told(), [("SIZE", ["\\xffHELLO"])])
 
     def test_an_open_file(self):
@@ -137,9 +137,9 @@ class ProducerRecordTest(RecordCase):
     def test_the_sessions_of_a_producer(self):
         server = self.play([GREETING, (OFFER, "OFFERED 0 5"), (NOTHING, HANGS_UP)], [GREETING, (OFFER, "OFFERED 1 5")])
         with self.kind(server.port, pauses=Pauses(0.01, 0.02), record=self.path) as producer:
-            self.assertEqual(producer.offer(5, "a"), Offered(0, 5))
+            self.assertEqual(producer.offer("a", delay=5e-9), Offered(0, 5))
             self.assertTrue(server.ended.acquire(timeout=PATIENCE))
-            self.assertEqual(producer.offer(5, "a"), Offered(1, 5))
+            self.assertEqual(producer.offer("a", delay=5e-9), Offered(1, 5))
         greeted = ("AT 0", ["ERR 1 syntax"])
         self.assertEqual(self.told(), [greeted, (OFFER, ["OFFERED 0 5"]), greeted, (OFFER, ["OFFERED 1 5"])])
         first, same, other, last = [it["session"] for it in self.lines()]

@@ -3,12 +3,15 @@ import logging
 import unittest
 import unittest.mock
 
-from rb_broker_client import SECOND, Again, Dead, Full, HeldTooMany, Item, NotHeld, OutOfMemory, Pauses, Report, Stopped
+from rb_broker_client import (
+    Again, Dead, FullError, HeldTooManyError, Job, NotHeldError, OutOfMemoryError, Pauses, Report, StoppedError,
+)
 from rb_broker_client.age import Age
+from rb_broker_client.run import Run
 from rb_broker_client.work import Terms, Work
 
-A, B = Item(0, 5, 1, "a"), Item(1, 6, 1, "b")
-WAIT, BRIEF = f"POLLFOR {SECOND}", f"POLLFOR {SECOND // 5}"
+A, B = Job(0, 5, 1, "a"), Job(1, 6, 1, "b")
+WAIT, BRIEF = "POLLFOR 1000000000", "POLLFOR 200000000"
 PAUSE = 0.4  # seconds of the longest pause; each is between the half of it and the whole
 
 
@@ -24,8 +27,9 @@ class WorkTest(unittest.TestCase):
         self.report = Report()
 
     def begin(self, concurrency=1, age=None, pauses=None):
-        terms = Terms(concurrency, SECOND, "a place")
-        self.work = Work(terms, self.report, pauses or Pauses(first=PAUSE, longest=PAUSE), Age(age))
+        terms = Terms(concurrency, 1.0, "a place")
+        run = Run(logging.getLogger("rb_broker_client.worker"), "a place")
+        self.work = Work(terms, self.report, pauses or Pauses(first=PAUSE, longest=PAUSE), Age(age), run)
         self.concurrency = concurrency
 
     def asked(self, running=0, is_stopping=False):
@@ -40,7 +44,7 @@ class WorkTest(unittest.TestCase):
         return jobs
 
     def test_a_wait_that_was_given_up_at_once_is_asked_again_after_a_pause(self):
-        for refusal in (Stopped("STOPPED"), OutOfMemory("ERR 7 memory")):
+        for refusal in (StoppedError("STOPPED"), OutOfMemoryError("ERR 7 memory")):
             self.begin()
             self.assertEqual(self.asked(), [WAIT])
             self.work.answered(refusal)
@@ -56,20 +60,20 @@ class WorkTest(unittest.TestCase):
         for _ in range(3):
             self.assertEqual(self.asked(), [WAIT])
             self.moment += PAUSE + 0.01
-            self.work.answered(Stopped("STOPPED"))
+            self.work.answered(StoppedError("STOPPED"))
 
     def test_pauses_between_waits_grow_only_while_each_is_given_up_at_once(self):
         self.begin(pauses=Pauses(first=0.1, longest=100.0))
         for longest in (0.1, 0.2, 0.4, 0.8, 1.0, 1.0):  # and are no longer than the wait itself
             self.assertEqual(self.asked(), [WAIT])
-            self.work.answered(Stopped("STOPPED"))
+            self.work.answered(StoppedError("STOPPED"))
             self.assertTrue(longest / 2 <= self.work.pause() <= longest, longest)
             self.moment += 1.0
         self.assertEqual(self.asked(), [WAIT])
         self.moment += 1.0
-        self.work.answered(Stopped("STOPPED"))
+        self.work.answered(StoppedError("STOPPED"))
         self.assertEqual(self.asked(), [WAIT])
-        self.work.answered(Stopped("STOPPED"))
+        self.work.answered(StoppedError("STOPPED"))
         self.assertLessEqual(self.work.pause(), 0.1)
 
     def test_what_is_asked_while_jobs_run(self):
@@ -93,7 +97,7 @@ class WorkTest(unittest.TestCase):
         self.asked()
         self.work.answered(A)
         self.assertEqual(self.asked(running=1), ["DRAIN 63"])
-        jobs = [Item(it, 5, 1, "c") for it in range(1, 64)]
+        jobs = [Job(it, 5, 1, "c") for it in range(1, 64)]
         self.work.answered(jobs)
         self.assertEqual(len(self.given()), 64)
         self.work.ended(A, True)
@@ -106,7 +110,7 @@ class WorkTest(unittest.TestCase):
     def test_ends_of_jobs(self):
         self.begin(concurrency=4)
         self.asked()
-        jobs = [A, B, Item(2, 5, 3, "c"), Item(3, 5, 3, "d")]
+        jobs = [A, B, Job(2, 5, 3, "c"), Job(3, 5, 3, "d")]
         self.work.answered(jobs[0])
         self.asked(running=1)
         self.work.answered(jobs[1:])
@@ -116,7 +120,7 @@ class WorkTest(unittest.TestCase):
         for answer in (None, Again(4, 9), Dead(2)):
             self.work.answered(answer)
         self.assertEqual(self.asked(), [])  # a failure has no answer yet
-        self.work.answered(Full("ERR 6 full"))
+        self.work.answered(FullError("ERR 6 full"))
         self.assertEqual((self.report, self.work.dead), (Report(done=1, again=1, dead=1, lost=1), [jobs[2]]))
         self.assertTrue(self.work.is_used_up and self.work.is_over(False))
 
@@ -126,11 +130,11 @@ class WorkTest(unittest.TestCase):
         self.work.answered(A)
         self.work.ended(A, False)
         self.assertEqual(self.asked(), ["FAIL 0"])
-        self.work.answered(OutOfMemory("ERR 7 memory"))
+        self.work.answered(OutOfMemoryError("ERR 7 memory"))
         self.assertEqual(self.asked(), [])
         self.moment += self.work.pause() + 0.01
         self.assertEqual(self.asked(), ["FAIL 0"])
-        self.work.answered(OutOfMemory("ERR 7 memory"))
+        self.work.answered(OutOfMemoryError("ERR 7 memory"))
         self.assertFalse(self.work.is_over(False))
         self.assertEqual(self.asked(is_stopping=True), [])
         self.assertEqual((self.work.is_over(True), self.report), (True, Report(unheard=1)))
@@ -159,7 +163,7 @@ class WorkTest(unittest.TestCase):
         self.assertTrue(self.work.is_over(False))
 
     def test_a_full_run_and_a_session_that_holds_too_many_are_used_up(self):
-        for refusal in (Full("ERR 6 full"), HeldTooMany("ERR 9 held")):
+        for refusal in (FullError("ERR 6 full"), HeldTooManyError("ERR 9 held")):
             self.begin()
             self.asked()
             self.work.answered(refusal)
@@ -168,14 +172,14 @@ class WorkTest(unittest.TestCase):
     def test_refusals_that_can_not_be(self):
         self.begin()
         self.asked()
-        self.assertRaises(NotHeld, self.work.answered, NotHeld("ERR 5 not-held"))
+        self.assertRaises(NotHeldError, self.work.answered, NotHeldError("ERR 5 not-held"))
         for is_done in (True, False):
             self.begin()
             self.asked()
             self.work.answered(A)
             self.work.ended(A, is_done)
             self.asked(running=1)
-            self.assertRaises(NotHeld, self.work.answered, NotHeld("ERR 5 not-held"))
+            self.assertRaises(NotHeldError, self.work.answered, NotHeldError("ERR 5 not-held"))
 
     def test_a_session_that_is_lost(self):
         self.begin(concurrency=2)

@@ -8,7 +8,7 @@ import unittest
 import unittest.mock
 
 from scripted import GOODBYE, GREETING, HANGS_UP, PATIENCE, SAYS_NOTHING, ScriptedTest, free_port
-from rb_broker_client import SECOND, Item, Pauses, Report, UnknownReply, Worker
+from rb_broker_client import Job, Pauses, Report, UnknownReplyError, Worker
 
 POLL = "POLLFOR 1000000000"
 AGE = 0.5  # seconds beyond which a session is left: long enough for what is to happen before, on a busy machine too
@@ -28,9 +28,9 @@ class WorkerCase(ScriptedTest):
 
     kind = Worker  # the tests of AsyncWorker are these too
 
-    def work(self, *sessions, handler=None, is_greeted=True, **options):
+    def work(self, *sessions, handler=None, is_greeted=True, together=False, **options):
         """Makes a worker for these sessions, each of which begins with the greeting."""
-        server = self.play(*([GREETING, *steps] if is_greeted else steps for steps in sessions))
+        server = self.play(*([GREETING, *steps] if is_greeted else steps for steps in sessions), together=together)
         return self.make(handler or self.handle, server.port, **options)
 
     def make(self, handler, port, pauses=None, **options):
@@ -69,10 +69,10 @@ class JobTest(WorkerCase):
         steps = [GIVES_A, ("DONE 0", "DONE 0"), GIVES_B, ("FAIL 1", "AGAIN 2 1000"), (POLL, "NONE"),
                  (POLL, "ITEM 2 1000 3 b"), ("FAIL 2", "DEAD 2")]
         self.assertEqual(self.work([*steps, *self.last()]).run(), Report(done=1, again=1, dead=1))
-        self.assertEqual(self.handled, [Item(0, 0, 1, "a"), Item(1, 0, 1, "b"), Item(2, 1000, 3, "b")])
+        self.assertEqual(self.handled, [Job(0, 0, 1, "a"), Job(1, 0, 1, "b"), Job(2, 1000, 3, "b")])
 
     def test_a_server_of_another_kind(self):
-        self.assertRaises(UnknownReply, self.work([(POLL, "HELLO")]).run)
+        self.assertRaises(UnknownReplyError, self.work([(POLL, "HELLO")]).run)
 
 
 class BreakTest(WorkerCase):
@@ -134,7 +134,7 @@ class LossTest(WorkerCase):
     def test_a_server_that_does_not_answer(self):
         server = self.play([GREETING, ("POLLFOR 1000000", SAYS_NOTHING)],
                            [GREETING, ("POLLFOR 1000000", self.stops("NONE")), GOODBYE])
-        worker = self.make(self.handle, server.port, wait=1_000_000, patience=0.2)
+        worker = self.make(self.handle, server.port, wait=0.001, patience=0.2)
         self.assertEqual(worker.run(), Report())
 
 
@@ -161,12 +161,12 @@ class AgeTest(WorkerCase):
         self.assertEqual(worker.run(), Report())
 
     def test_without_being_told_it_is_thirty_seconds(self):
-        sessions = [GIVES_A, ("DONE 0", "DONE 0"), GIVES_A, ("DONE 0", "DONE 0"), GOODBYE], self.last()
-        seconds = iter([29.5, 0.5])
+        sessions = [GIVES_A, ("DONE 0", "DONE 0"), GIVES_A, ("DONE 0", "DONE 0"), GOODBYE]
+        seconds = iter([2.5, 0.5, 29.5, 0.5])  # the first session is brief
         with unittest.mock.patch("rb_broker_client.age.time") as clock:
             clock.monotonic.return_value = 1_000.0
-            worker = self.work(*sessions, handler=lambda _: pass_on(clock, next(seconds)))
-            self.assertEqual(worker.run(), Report(done=2))
+            worker = self.work(sessions, sessions, self.last(), handler=lambda _: pass_on(clock, next(seconds)))
+            self.assertEqual(worker.run(), Report(done=4))
 
     def test_none_keeps_it(self):
         sessions = [[GIVES_A, ("DONE 0", "DONE 0"), *self.last()]]
@@ -188,7 +188,7 @@ class DeadTest(WorkerCase):
                  (POLL, "ITEM 2 1000 3 b"), ("FAIL 2", "DEAD 2")]
         dead = []
         self.assertEqual(self.work([*steps, *self.last()], on_dead=dead.append).run(), Report(1, 1, 1))
-        self.assertEqual(dead, [Item(2, 1000, 3, "b")])
+        self.assertEqual(dead, [Job(2, 1000, 3, "b")])
 
     def test_a_fault_of_its_own_is_logged_and_the_worker_goes_on(self):
         def refuse(job):
@@ -282,11 +282,10 @@ class StopTest(WorkerCase):
         self.assertEqual(worker.run(), Report(done=1))
 
     def test_by_another_thread_in_a_pause_within_a_session(self):
-        minute = 60 * SECOND
         for steps in ([("POLLFOR 60000000000", "STOPPED")],
                       [("POLLFOR 60000000000", "ITEM 0 0 1 b"), ("FAIL 0", "ERR 7 memory")]):
             server = self.play([GREETING, *steps, GOODBYE])
-            worker = self.make(self.handle, server.port, Pauses(first=60.0, longest=60.0), wait=minute)
+            worker = self.make(self.handle, server.port, Pauses(first=60.0, longest=60.0), wait=60)
             stopping = threading.Timer(0.3, worker.stop)
             stopping.daemon = True
             stopping.start()

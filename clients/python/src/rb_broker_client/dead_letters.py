@@ -1,0 +1,80 @@
+"""Jobs that failed in their last attempt, kept in a file or in a queue of their own."""
+from __future__ import annotations
+
+import json
+import os
+from contextlib import contextmanager
+from datetime import datetime, timezone
+from typing import IO, Callable, Iterator, List, Union
+
+from .job import Job
+from .producer import AsyncProducer, Producer
+
+
+_LONGEST = 4_096  # bytes of no line are more
+
+
+class DeadLetters:
+    """Keeps dead jobs: `Worker(.., on_dead=DeadLetters("dead.jsonl"))`.
+
+    A file has a line of JSON for each, which is on the disk when the call returns. Several workers may have one file.
+    A producer, of a server that is the queue for such jobs, offers each to it.
+    """
+
+    def __init__(self, target: Union[str, "os.PathLike[str]", Producer, AsyncProducer]) -> None:
+        """Raises `OSError` if the file can't be written."""
+        self._target = target
+        if isinstance(target, (str, os.PathLike)):
+            open(target, "ab").close()
+
+    def __call__(self, job: Job) -> object:
+        """Keeps a job. What is given for an `AsyncProducer` is to be awaited."""
+        if not isinstance(self._target, (str, os.PathLike)):
+            return self._target.offer(job.payload)
+        died = datetime.now(timezone.utc).isoformat(timespec="milliseconds")
+        letter = {"payload": job.payload, "attempts": job.attempt, "died": died, "id": job.id}
+        with _locked(self._target, "ab") as file:
+            file.write(json.dumps(letter).encode() + b"\n")
+        return None
+
+
+def read_letters(path: str) -> List[bytes]:
+    """The lines of a file of dead letters."""
+    with _locked(path, "rb") as file:
+        return file.read().splitlines()
+
+
+def take_letters(path: str, use: Callable[[str], object]) -> int:
+    """Calls this with each payload, the latest first, and then takes its line out of the file. Gives how many there
+    were. One that is added meanwhile is left, unless it takes the place of one that is."""
+    count = len(read_letters(path))
+    for _ in range(count):
+        with _locked(path, "r+b") as file:  # no line is added while one is taken out
+            end = file.seek(0, os.SEEK_END)
+            file.seek(max(end - _LONGEST, 0))
+            last = file.read().splitlines(keepends=True)[-1]
+            use(payload_of(last))
+            file.truncate(end - len(last))
+    return count
+
+
+def payload_of(line: bytes) -> str:
+    """The payload of a line. Raises `ValueError` if it is no dead letter."""
+    try:
+        payload: str = json.loads(line)["payload"]
+        return payload
+    except (ValueError, KeyError, TypeError):
+        raise ValueError(f"this line is no dead letter: {line!r}") from None
+
+
+@contextmanager
+def _locked(path: Union[str, "os.PathLike[str]"], mode: str) -> Iterator[IO[bytes]]:
+    """The file, while no other process and no other thread has it. What is written is on the disk at the end."""
+    import fcntl  # not on each system
+
+    with open(path, mode) as file:
+        fcntl.flock(file, fcntl.LOCK_EX)
+        yield file
+        if mode != "rb":
+            file.flush()
+            os.fsync(file.fileno())

@@ -1,0 +1,128 @@
+"""Handlers that hang, and more clients than workers."""
+import asyncio
+import threading
+import time
+import unittest
+import unittest.mock
+
+from rb_broker_client import AsyncWorker, Broker, Producer, Report, Worker
+from server import PATIENCE, ServedTest
+
+QUICK = 40  # jobs that come while one hangs
+PAUSE = 0.1  # seconds between two of them
+AGE = 1.0  # seconds beyond which a session is left: they come over several of these
+
+
+class HangTest(ServedTest):
+    """A worker one of whose handlers hangs."""
+
+    def setUp(self):
+        super().setUp()
+        self.may_end, self.done = threading.Event(), []
+
+    def handle(self, job):
+        if job.payload == "hangs":
+            self.may_end.wait(10 * PATIENCE)
+        self.done.append(job.payload)
+
+    async def handle_async(self, job):
+        while job.payload == "hangs" and not self.may_end.is_set():
+            await asyncio.sleep(0.05)
+        self.done.append(job.payload)
+
+    def start(self, run):
+        thread = threading.Thread(target=run, daemon=True)
+        thread.start()
+        return thread
+
+    def work(self, server, kind, **options):
+        """A worker of this kind, and the thread that runs it."""
+        handler = self.handle if kind is Worker else self.handle_async
+        worker = kind(handler, server.port, concurrency=16, **{"session": AGE, **options})
+        return worker, self.start(worker.run if kind is Worker else lambda: asyncio.run(worker.run()))
+
+    def offer(self, server):
+        """Offers a job that hangs, and others behind it."""
+        with Producer(server.port) as producer:
+            for payload in ("hangs", *map(str, range(QUICK))):
+                producer.offer(payload)
+                time.sleep(PAUSE)
+
+    def end(self, worker, thread):
+        self.may_end.set()
+        worker.stop()
+        thread.join(PATIENCE)
+        self.assertFalse(thread.is_alive())
+        return worker.report
+
+    def fetch_on(self, kind):
+        server = self.serve("--workers", 4, "--sessions", 100)
+        worker, thread = self.work(server, kind)
+        self.offer(server)
+        self.wait_until(lambda: len(self.done) == QUICK)
+        self.assertNotIn("hangs", self.done)
+        self.assertEqual(self.end(worker, thread), Report(done=QUICK + 1))
+        server.use_up()
+        self.assert_lost_none(server.end(), 100)
+
+    def test_jobs_go_on_being_fetched(self):
+        self.fetch_on(Worker)
+
+    def test_jobs_go_on_being_fetched_for_asyncio(self):
+        self.fetch_on(AsyncWorker)
+
+    def test_two_sessions_at_a_time_at_most(self):
+        server = self.serve("--workers", 3, "--sessions", 100)
+        worker, thread = self.work(server, Worker)
+        most = []
+        with Broker(server.port, patience=PATIENCE) as broker:  # the third worker, which is never taken from it
+            for payload in ("hangs", *map(str, range(QUICK))):
+                broker.offer(payload)
+                most.append(len(worker._visits))
+                time.sleep(PAUSE)
+            self.wait_until(lambda: len(self.done) == QUICK)
+            broker.quit()
+        self.assertEqual(max(most), 2)
+        self.assertEqual(self.end(worker, thread), Report(done=QUICK + 1))
+
+    def test_where_the_server_has_no_worker_for_the_next(self):
+        """The session that it has fetches on, once it is clear that its job takes long."""
+        with unittest.mock.patch("rb_broker_client.handlers.LONG", 2 * AGE):
+            server = self.serve("--workers", 1, "--sessions", 100)
+            worker, thread = self.work(server, Worker, session=0.2)
+            with Producer(server.port, session=None) as producer:
+                for payload in ("hangs", *map(str, range(QUICK))):
+                    producer.offer(payload)
+            self.wait_until(lambda: len(self.done) == QUICK)
+            self.assertEqual(self.end(worker, thread), Report(done=QUICK + 1))
+
+    def test_a_job_that_takes_too_long_fails_and_is_given_again(self):
+        server = self.serve("--workers", 4, "--sessions", 100, "--attempts", 2)
+        dead = []
+        worker, thread = self.work(server, Worker, timeout=0.5, on_dead=dead.append)
+        self.offer(server)
+        self.wait_until(lambda: len(self.done) == QUICK and dead)
+        self.assertEqual([(it.payload, it.attempt) for it in dead], [("hangs", 2)])
+        self.assertEqual(self.end(worker, thread), Report(done=QUICK, again=1, dead=1))
+
+
+class CrowdTest(ServedTest):
+    """More clients than the server has workers."""
+
+    def test_a_producer_has_its_turn_beside_idle_workers(self):
+        server = self.serve("--workers", 4, "--sessions", 2_000, "--turns", 50)
+        crew = self.gather(server, 8, lambda job: True)
+        time.sleep(0.5)  # all of the server's workers have one of them
+        with Producer(server.port) as producer:
+            for payload in ("first", "second"):
+                began = time.monotonic()
+                producer.offer(payload)
+                self.assertLess(time.monotonic() - began, 15)
+                producer.close()
+            self.assertGreater(producer.waited, 0)
+        self.wait_until(lambda: len(crew.done()) == 2)
+        self.assertEqual(crew.stop(), Report(done=2))
+
+
+if __name__ == "__main__":
+    unittest.main()

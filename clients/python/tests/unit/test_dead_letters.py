@@ -1,0 +1,123 @@
+"""Dead letters: kept in a file or in a queue of their own, shown, and offered again."""
+import asyncio
+import json
+import os
+import tempfile
+import threading
+import unittest
+
+from scripted import GOODBYE, GREETING, HANGS_UP, PATIENCE, ScriptedTest, free_port
+from test_command import run
+from test_worker import POLL, WorkerCase, setUpModule, tearDownModule
+from rb_broker_client import AsyncProducer, AsyncWorker, DeadLetters, Job, Producer, Report
+
+BAD = (POLL, "ITEM 2 1000 3 b"), ("FAIL 2", "DEAD 2")
+
+
+class FileCase(ScriptedTest):
+    def setUp(self):
+        room = tempfile.TemporaryDirectory()
+        self.addCleanup(room.cleanup)
+        self.path = os.path.join(room.name, "dead.jsonl")
+        super().setUp()
+
+    def keep(self, *payloads):
+        letters = DeadLetters(self.path)
+        for id, payload in enumerate(payloads):
+            letters(Job(id, 1000, 3, payload))
+
+    def letters(self):
+        with open(self.path, encoding="ascii") as file:
+            return [json.loads(it) for it in file]
+
+    def payloads(self):
+        return [it["payload"] for it in self.letters()]
+
+
+class KeptTest(FileCase, WorkerCase):
+    def test_each_dead_job_is_a_line(self):
+        worker = self.work([*BAD, *self.last()], on_dead=DeadLetters(self.path))
+        self.assertEqual(worker.run(), Report(dead=1))
+        (letter,) = self.letters()
+        self.assertRegex(letter.pop("died"), r"^20\d\d-\d\d-\d\dT\d\d:\d\d:\d\d\.\d{3}\+00:00$")
+        self.assertEqual(letter, {"payload": "b", "attempts": 3, "id": 2})
+
+    def test_a_queue_of_its_own(self):
+        other = self.play([GREETING, ("OFFER 0 b", "OFFERED 0 5")])
+        with Producer(other.port, patience=PATIENCE) as producer:
+            worker = self.work([*BAD, *self.last()], on_dead=DeadLetters(producer))
+            self.assertEqual(worker.run(), Report(dead=1))
+
+    def test_for_asyncio(self):
+        other = self.play([GREETING, ("OFFER 0 b", "OFFERED 0 5")])
+
+        async def handle(job):
+            worker.stop()
+            raise ValueError(job.payload)
+
+        async def work(port, target):
+            nonlocal worker
+            worker = AsyncWorker(handle, port, on_dead=DeadLetters(target))
+            await worker.run()
+
+        async def both():
+            await work(self.play([GREETING, *BAD, GOODBYE]).port, self.path)
+            async with AsyncProducer(other.port, patience=PATIENCE) as producer:
+                await work(self.play([GREETING, *BAD, GOODBYE]).port, producer)
+
+        worker = None
+        asyncio.run(both())
+        self.assertEqual(self.payloads(), ["b"])
+
+    def test_several_threads_have_one_file(self):
+        def keep(number):
+            self.keep(*[f"{number}-{it}" for it in range(50)])
+
+        threads = [threading.Thread(target=keep, args=[it], daemon=True) for it in range(4)]
+        for it in threads:
+            it.start()
+        for it in threads:
+            it.join(PATIENCE)
+        self.assertEqual(sorted(self.payloads()), sorted(f"{n}-{it}" for n in range(4) for it in range(50)))
+
+    def test_a_file_that_can_not_be_written(self):
+        self.assertRaises(FileNotFoundError, DeadLetters, "/no/such/folder/dead.jsonl")
+
+
+class CommandTest(FileCase):
+    def test_they_are_shown(self):
+        self.keep("a", "b")
+        status, said, errors = run("dead", self.path)
+        self.assertEqual((status, errors), (0, ""))
+        self.assertEqual([json.loads(it)["payload"] for it in said.splitlines()], ["a", "b"])
+        self.assertEqual(self.payloads(), ["a", "b"])
+
+    def test_they_are_offered_and_taken_out_of_the_file(self):
+        self.keep("a", "b")
+        server = self.play([GREETING, ("OFFER 0 b", "OFFERED 0 5"), ("OFFER 0 a", "OFFERED 1 5")])
+        self.assertEqual(run("dead", self.path, "--offer", "--port", server.port), (0, "offered 2\n", ""))
+        self.assertEqual(self.payloads(), [])
+        self.assertEqual(run("dead", self.path, "--offer", "--port", free_port()), (0, "offered 0\n", ""))
+
+    def test_what_was_not_offered_stays_in_the_file(self):
+        self.keep("a", "b", "c")
+        server = self.play([GREETING, ("OFFER 0 c", "OFFERED 0 5"), ("OFFER 0 b", HANGS_UP)])
+        self.assertEqual(run("dead", self.path, "--offer", "--port", server.port, "--patience", 0.5)[0], 1)
+        self.assertEqual(self.payloads(), ["a", "b"])
+
+    def test_what_is_no_dead_letter(self):
+        for text in ("letter\n", '{"payload"\n', "[]\n", '{"id": 3}\n'):
+            with open(self.path, "w", encoding="ascii") as file:
+                file.write(text)
+            for words in ((), ("--offer", "--port", free_port())):
+                status, said, errors = run("dead", self.path, *words)
+                self.assertEqual((status, said), (2, ""))
+                self.assertRegex(errors, r"\Arb_broker_client: this line is no dead letter: [^\n]+\n\Z")
+
+    def test_no_file(self):
+        told = "rb_broker_client: /no/such/file can't be used: No such file or directory\n"
+        self.assertEqual(run("dead", "/no/such/file"), (1, "", told))
+
+
+if __name__ == "__main__":
+    unittest.main()
