@@ -11,17 +11,23 @@ from typing import Optional
 TOP = os.path.dirname(os.path.dirname(os.path.dirname(os.path.realpath(__file__))))
 PROGRAM = os.path.join(TOP, "crates", "rb_broker", "out", "rb_broker")
 
+# The program of an installed package, of which the tools are a part.
+INSTALLED = os.path.join(TOP, "..", "..", "bin", "rb_broker")
+
 # The setting that names the program that tests run, if it is not this checkout's.
 TESTED = "RB_BROKER_PROGRAM"
 
 
 def built_program(given: Optional[str] = None) -> str:
-    """The path of the program to run: the given one, or this checkout's, which ./broker first builds if it has to.
+    """The path of the program to run: the given one, or this checkout's, which ./broker first builds if it has to, or
+    that of the package.
 
     If that fails, ./broker has said why, and this process exits with status 2.
     """
     if given:
         return given
+    if not os.path.exists(os.path.join(TOP, "broker")) and os.path.exists(INSTALLED):
+        return os.path.abspath(INSTALLED)
     if subprocess.run([os.path.join(TOP, "broker"), "--help"], stdout=subprocess.DEVNULL, check=False).returncode:
         sys.exit(2)
     return PROGRAM

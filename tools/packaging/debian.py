@@ -15,7 +15,7 @@ from packaging.tree import DOCUMENTS, content_of, is_file, kibibytes, lay_out, r
 from packaging.version import Version
 
 SCRIPTS = ("postinst", "prerm", "postrm")
-NEEDED_BY_SCRIPTS = "iproute2"  # a stop cuts sessions by its ss
+NEEDED_BY_SERVICE = "python3 (>= 3.9), iproute2"  # whose ss lists the clients
 
 
 def make_package(program: str, version: Version, folder: str) -> str:
@@ -54,7 +54,7 @@ def write_control(root: str, version: Version, needs: Needs) -> None:
         "version": version.text,
         "architecture": needs.architecture,
         "size": str(kibibytes(root)),
-        "depends": ", ".join(it for it in (NEEDED_BY_SCRIPTS, needs.depends) if it),
+        "depends": ", ".join(it for it in (NEEDED_BY_SERVICE, needs.depends) if it),
     }
     control = content_of(f"{SOURCES}/debian/control").decode()
     for name, part in parts.items():

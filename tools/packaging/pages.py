@@ -5,7 +5,10 @@ import posixpath
 import re
 
 # They lie below the folder of documents as they lie below this repository's.
-PAGES = ("docs/OPERATING.md", "docs/PROTOCOL.md", "docs/HISTORY.md", "docs/DELAYQUEUE.md", "clients/python/README.md")
+PAGES = (
+    "docs/OPERATING.md", "docs/PROTOCOL.md", "docs/HISTORY.md", "docs/DELAYQUEUE.md", "docs/SCALING.md",
+    "clients/python/README.md",
+)
 
 LINK = re.compile(r"!?\[([^\]\n]*)\]\(([^)\s#]+)[^)\n]*\)")
 

@@ -22,13 +22,7 @@ CLIENT = "usr/share/rb_broker/clients/python/src/rb_broker_client"
 # Where files of packaging/ go, and whether they are commands.
 COPIED = {
     "rb_broker@.service": ("usr/lib/systemd/system/rb_broker@.service", False),
-    "rb_broker_silent@.service": ("usr/lib/systemd/system/rb_broker_silent@.service", False),
-    "rb_broker_silent@.timer": ("usr/lib/systemd/system/rb_broker_silent@.timer", False),
     "rb_broker.default": ("etc/default/rb_broker", False),
-    "prepare_run": ("usr/lib/rb_broker/prepare_run", True),
-    "stop_server": ("usr/lib/rb_broker/stop_server", True),
-    "cut_sessions": ("usr/lib/rb_broker/cut_sessions", True),
-    "cut_silent": ("usr/lib/rb_broker/cut_silent", True),
     "debian/copyright": (f"{DOCUMENTS}/copyright", False),
 }
 
@@ -36,8 +30,10 @@ COPIED = {
 BESIDE_PAGES = ("docs/*.png", "docs/*.svg", "examples/*", "clients/python/examples/*.py")
 
 # The tools that become commands, each with the folder of its modules, and what several of them import.
-COMMANDS = {"report": "reporting", "verify": "verifying", "watch": "watching", "load": "loading"}
-SHARED = ("common/__init__.py", "common/words.py", "histories/*.py")
+COMMANDS = {
+    "service": "servicing", "report": "reporting", "verify": "verifying", "load": "loading", "export": "exporting",
+}
+SHARED = ("common/__init__.py", "common/program.py", "common/words.py", "histories/*.py")
 
 
 def write(root: str, place: str, content: bytes, is_command: bool = False) -> None:

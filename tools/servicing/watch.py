@@ -62,7 +62,7 @@ class Watch:
 
     def names(self) -> List[str]:
         """The same, with what each does."""
-        return [f"{_label(it)}, which {it.doing.value}" for it in self._served_clients()]
+        return [f"{_label(it)}: {it.doing.value}" for it in self._served_clients()]
 
     def _served_clients(self) -> List[Client]:
         clients = self.looks.clients.all if self.looks.clients else ()

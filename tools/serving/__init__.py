@@ -1,6 +1,6 @@
 """Servers and their clients, for all tests that need some, and the parts of tools/check_server.
 
-    server.py, session.py, cuts.py   the program as a server, a client's session, and cuts of sessions from outside
+    server.py, session.py            the program as a server, and a client's session
     clients.py, accounts.py          the clients of check_server, and what their replies say about the history
 """
 

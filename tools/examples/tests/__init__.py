@@ -1,5 +1,3 @@
-"""The tests of the worker in Perl, examples/worker.pl, and of examples/rollover.sh, which tools/check_worker and
-tools/check_rollover run.
-"""
+"""The tests of the worker in Perl, examples/worker.pl, which tools/check_worker runs."""
 
 NEEDS_PROGRAM = True

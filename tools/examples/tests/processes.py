@@ -12,7 +12,6 @@ from common.program import TOP
 
 PATIENCE = 60  # seconds after which something has failed
 WORKER = f"{TOP}/examples/worker.pl"
-ROLLOVER = f"{TOP}/examples/rollover.sh"
 
 
 class Ended(NamedTuple):

@@ -22,21 +22,21 @@ CODE = (
     "signal.signal(signal.SIGTERM, lambda *_: threading.Timer(10, worker.stop).start()); worker.run()"
 )
 
-# Fewer sessions than as installed, since each stop uses up those that are left.
-OPTIONS = 'RB_BROKER_OPTIONS="--workers 16 --sessions 200 --turns 50"\n'
+# Fewer sessions than by default, since each end uses up those that are left.
+OPTIONS = 'RB_BROKER_OPTIONS="--sessions 200 --stop-within 1s {}"\n'
 # Triggers of other packages, such as an index of all manual pages, would take most of the time.
 DPKG = ["dpkg", "--force-depends", "--force-unsafe-io", "--no-triggers"]
 
 
-def try_units(tally: Tally, package: str, folder: str, reason: str) -> None:
-    """Boots a systemd and runs the units in it. The reason is why nothing can be cut here, if so."""
-    reason = reason or reason_not_to_boot()
+def try_units(tally: Tally, package: str, folder: str) -> None:
+    """Boots a systemd and runs the unit in it."""
+    reason = reason_not_to_boot()
     if reason:
-        tally.pass_over("the units under systemd", reason)
+        tally.pass_over("the unit under systemd", reason)
         return
     with Machine(folder) as machine:
         if not machine.is_up():
-            tally.pass_over("the units under systemd", f"it does not start: {machine.console()[-200:]}")
+            tally.pass_over("the unit under systemd", f"it does not start: {machine.console()[-200:]}")
             return
         shutil.copy(package, f"{folder}/upper/rb-broker.deb")
         told = machine.run(*DPKG, "--install", "/rb-broker.deb")
@@ -44,7 +44,9 @@ def try_units(tally: Tally, package: str, folder: str, reason: str) -> None:
         machine.run("systemctl", "daemon-reload")
         tally.count("the package in a machine", fault_unless(told.status == 0, told))
         service = Service(machine, free_port())
+        try_start(tally, service)
         try_stop_by_systemd(tally, service)
+        try_kills(tally, service)
         try_silence(tally, service)
         try_order(tally, service)
         try_removal(tally, service)
@@ -57,15 +59,10 @@ class Service:
         self.machine, self.port, self.name = machine, port, f"rb_broker@{port}.service"
         self.heard = ""
 
-    def start(self, **seconds: int) -> None:
-        """Starts it with settings of its own, named in small letters, and waits until its port is open."""
-        lines = "".join(f"RB_BROKER_{name.upper()}_SECONDS={value}\n" for name, value in seconds.items())
-        self.machine.write(f"/etc/default/rb_broker@{self.port}", OPTIONS + lines)
-        self.machine.run("systemctl", "start", self.name)
-        for _ in range(100):
-            if self.machine.run("ss", "-Hltn", f"src 127.0.0.1:{self.port}").said:
-                return
-            time.sleep(0.1)
+    def start(self, *options: str) -> Told:
+        """Starts it with options of its own, and waits until systemd takes it as started, which is when it serves."""
+        self.machine.write(f"/etc/default/rb_broker@{self.port}", OPTIONS.format(" ".join(options)))
+        return self.machine.run("systemctl", "start", self.name)
 
     def has_client(self) -> bool:
         """Waits until a client is served. Gives whether one is."""
@@ -85,46 +82,92 @@ class Service:
         heard, self.heard = self.heard, self.machine.run("journalctl", "--output=cat", "-u", self.name).said
         return self.heard[len(heard) :]
 
+    def show(self, *names: str) -> str:
+        """What systemd knows of it."""
+        return self.machine.run("systemctl", "show", "--value", "--property", ",".join(names), self.name).said.strip()
 
-def cuts_in(journal: str) -> list[str]:
-    """How many sessions were cut, by each stop that a journal tells of."""
-    return re.findall(r"^stop_server: .* has ended; open sessions that were cut: (\d+)$", journal, re.M)
+
+def cuts_in(journal: str) -> int:
+    """How many sessions were cut, by a journal."""
+    return sum(map(int, re.findall(r" event=cut run=\d+ sessions=(\d+) ", journal)))
+
+
+def try_start(tally: Tally, service: Service) -> None:
+    """It counts as started when clients are served, and its state is a line."""
+    told = service.start()
+    with Session(service.port) as it:
+        reply = it.ask("SIZE")
+        line = service.show("StatusText")
+        it.ask("QUIT")
+    is_right = told == Told(0, "", "") and reply == "SIZE 0" and line.startswith("serving, run 1")
+    tally.count("systemctl start", fault_unless(is_right, (told, reply, line, service.journal())))
+    told = service.machine.run("systemctl", "status", "--no-pager", service.name)
+    tally.count("systemctl status", fault_unless('Status: "serving, run 1' in told.said, told))
+    service.stop()
 
 
 def try_stop_by_systemd(tally: Tally, service: Service) -> None:
     """A client that stays is cut, and the next start has its job."""
-    service.start(stop=1)
+    service.start()
+    service.journal()
     with Session(service.port) as it:
         replies = it.ask("OFFER 0 held"), it.ask("TAKE")
         told = service.stop()
         is_cut = it.is_cut()
     journal = service.journal()
-    is_right = told == Told(0, "", "") and is_cut and cuts_in(journal) == ["1"] and "faults 1 lost 0" in journal
-    tally.count("systemctl stop with an open session", fault_unless(is_right, (told, replies, journal)))
-    service.start(stop=1)
+    is_right = told == Told(0, "", "") and is_cut and cuts_in(journal) == 1 and " left=1 cut=1" in journal
+    tally.count("systemctl stop with an open session", fault_unless(is_right, (told, is_cut, replies, journal)))
+    service.start()
     with Session(service.port) as it:
         reply = it.ask("SIZE")
         it.ask("QUIT")
     tally.count("systemctl start behind it", fault_unless(reply == "SIZE 1", reply))
     told, journal = service.stop(), service.journal()
-    is_right = told == Told(0, "", "") and not cuts_in(journal)
+    is_right = told == Told(0, "", "") and not cuts_in(journal) and " event=lost-run " not in journal
     tally.count("systemctl stop with none", fault_unless(is_right, (told, journal)))
 
 
+def try_kills(tally: Tally, service: Service) -> None:
+    """If the service is killed, its server goes on, and so does a session. If the server is killed, that is said."""
+    service.start()
+    service.journal()
+    with Session(service.port) as it:
+        it.ask("OFFER 3600000000000 kept")
+        before = service.show("MainPID")
+        service.machine.run("kill", "-KILL", before)
+        for _ in range(100):
+            if service.show("MainPID", "SubState").split() not in ([before, "running"], ["0", "auto-restart"]):
+                break
+            time.sleep(0.1)
+        time.sleep(1)
+        reply = it.ask("SIZE")
+        it.ask("QUIT")
+    journal = service.journal()
+    is_right = reply == "SIZE 2" and 'how="go on"' in journal and " event=lost-run " not in journal
+    tally.count("a service that is killed under systemd", fault_unless(is_right, (reply, journal)))
+    server = re.findall(r" event=serving .* process=(\d+)", journal)[-1:]
+    service.machine.run("kill", "-KILL", *server)
+    time.sleep(1)
+    with Session(service.port) as it:
+        reply = it.ask("SIZE")
+        it.ask("QUIT")
+    journal = service.journal()
+    is_right = reply == "SIZE 1" and journal.count(" event=lost-run ") == 1
+    tally.count("a server that is killed under systemd", fault_unless(is_right, (reply, server, journal)))
+    service.stop()
+
+
 def try_silence(tally: Tally, service: Service) -> None:
-    """The timer cuts a silent session, and is stopped with the service."""
-    service.start(stop=1, silent=1)
+    """A silent session is cut, by the unit's own rights."""
+    service.start("--silent", "1s")
+    service.journal()
     with Session(service.port) as it:
         it.ask("SIZE")
         is_cut = it.is_cut()
-    silent = f"rb_broker_silent@{service.port}"
-    service.machine.run("journalctl", "--sync")
-    told = service.machine.run("journalctl", "--output=cat", "-u", f"{silent}.service").said
-    wanted = f"cut_silent: port {service.port}: sessions that were cut after 1 s of silence: 1\n"
-    tally.count("a silent session under systemd", fault_unless(is_cut and told == wanted, told))
+    journal = service.journal()
+    is_right = is_cut and " event=cut-silent sessions=1 " in journal
+    tally.count("a silent session under systemd", fault_unless(is_right, (is_cut, journal)))
     service.stop()
-    state = service.machine.run("systemctl", "is-active", f"{silent}.timer").said
-    tally.count("the timer of a service that was stopped", fault_unless(state == "inactive\n", state))
 
 
 def try_order(tally: Tally, service: Service) -> None:
@@ -133,7 +176,8 @@ def try_order(tally: Tally, service: Service) -> None:
         code = CODE.format(port=service.port)
         service.machine.write("/run/units/client.service", CLIENT.format(after=after, code=code))
         service.machine.run("systemctl", "daemon-reload")
-        service.start(stop=1)
+        service.start()
+        service.journal()
         service.machine.run("systemctl", "start", "client.service")
         is_there = service.has_client()
         told, journal = service.stop("client.service"), service.journal()
@@ -142,12 +186,13 @@ def try_order(tally: Tally, service: Service) -> None:
 
 
 def try_removal(tally: Tally, service: Service) -> None:
-    """A package that is removed stops its servers in good order before."""
-    service.start(stop=1)
+    """A package that is removed stops its services in good order before."""
+    service.start()
+    service.journal()
     with Session(service.port) as it:
         it.ask("OFFER 0 later")
         told = service.machine.run(*DPKG, "--remove", "rb-broker")
         is_cut = it.is_cut()
-    history = service.machine.run("tail", "-n", "1", f"/var/lib/private/rb_broker/{service.port}/history.txt").said
-    is_right = told.status == 0 and is_cut and history.startswith("end ")
-    tally.count("a removal while a server runs", fault_unless(is_right, (told, history)))
+    journal = service.journal()
+    is_right = told.status == 0 and is_cut and " event=stopped " in journal and " event=lost-run " not in journal
+    tally.count("a removal while a server runs", fault_unless(is_right, (told, is_cut, journal)))

@@ -1,11 +1,11 @@
-"""The commands of the installed units, with the words that systemd would give them."""
+"""The command of the installed unit, with the words that systemd would give it."""
 from __future__ import annotations
 
 import re
 import shlex
 from collections.abc import Mapping
 
-UNITS = "usr/lib/systemd/system"
+UNIT = "usr/lib/systemd/system/rb_broker@.service"
 
 
 def settings_of(text: str) -> dict[str, str]:
@@ -15,30 +15,14 @@ def settings_of(text: str) -> dict[str, str]:
     return dict(it.split("=", 1) for it in words)
 
 
-def words_of(line: str, port: int, settings: Mapping[str, str]) -> list[str]:
-    """The words of a command of a unit: `${NAME}` is a word, also if it is empty, and `$NAME` as many as it has."""
-    words: list[str] = []
-    for word in line.replace("%i", str(port)).split():
-        if re.fullmatch(r"\$\w+", word):
-            words += settings[word[1:]].split()
-        else:
-            words.append(re.sub(r"\$\{(\w+)\}", lambda it: settings[it[1]], word))
-    return words
-
-
-class Unit:
-    """A unit that is installed below a root, for a port. The settings that are given replace those of the files."""
-
-    def __init__(self, root: str, name: str, port: int, settings: Mapping[str, str]) -> None:
-        self.root, self.port = root, port
-        with open(f"{root}/{UNITS}/{name}", encoding="utf-8") as it:
-            self.text = it.read()
-        with open(f"{root}/etc/default/rb_broker", encoding="utf-8") as it:
-            self.settings = {**settings_of(self.text), **settings_of(it.read()), **settings}
-
-    def command(self, name: str, process: str = "") -> list[str]:
-        """The words of a command such as ExecStop. Its program is the installed one, `process` the main process."""
-        line = re.search(rf"^{name}=\+?(.*)$", self.text, re.M)
-        assert line, f"the unit has no {name}"
-        program, *words = words_of(line[1], self.port, {**self.settings, "MAINPID": process})
-        return [f"{self.root}{program}", *words]
+def start_of(root: str, port: int, folder: str, settings: Mapping[str, str]) -> list[str]:
+    """The words of the unit's ExecStart, with the program and the file of options that are installed below a root, and a
+    folder in the place of the service's own. The settings that are given replace those of the files."""
+    with open(f"{root}/{UNIT}", encoding="utf-8") as unit, open(f"{root}/etc/default/rb_broker", encoding="utf-8") as it:
+        text = unit.read()
+        settings = {**settings_of(text), **settings_of(it.read()), **settings}
+    line = re.search(r"^ExecStart=(.*)$", text, re.M)
+    assert line, "the unit has no ExecStart"
+    program, *words = line[1].replace("%S/rb_broker/%i", folder).replace("%i", str(port)).split()
+    split = (settings[it[1:]].split() if it.startswith("$") else [it] for it in words)
+    return [f"{root}{program}", *(word for words in split for word in words)]

@@ -3,7 +3,6 @@ from __future__ import annotations
 
 import gzip
 import json
-import os
 import re
 import shutil
 import signal
@@ -14,10 +13,10 @@ from common.checking import Tally
 from common.program import TOP
 from packaging.pages import PAGES
 from packaging.tests.running import PATIENCE, Told, fault_unless, run
-from packaging.tests.service import ONE, Serving
+from packaging.tests.service import Serving
 from packaging.tree import COMMANDS, DOCUMENTS, PYTHON
 
-OF_A_CHECKOUT = {"package", "conform"}  # beside the checks
+OF_A_CHECKOUT = {"package", "conform", "run_tests"}  # beside the checks
 
 # Fails each job for the first seconds of the run, and then does it; ends when all are done.
 RAISES = """
@@ -53,7 +52,7 @@ def try_installed(tally: Tally, root: str, folder: str) -> None:
     check_commands(tally, root)
     check_changelog(tally, root, folder)
     try_load(tally, root, f"{folder}/load")
-    try_examples(tally, root, f"{folder}/rollover")
+    try_examples(tally, root, f"{folder}/examples")
     try_default_retries(tally, root, f"{folder}/retries")
 
 
@@ -89,53 +88,43 @@ def check_changelog(tally: Tally, root: str, folder: str) -> None:
     tally.count("dpkg-parsechangelog", fault_unless(told == Told(0, "rb-broker\n", ""), told))
 
 
-def try_load(tally: Tally, root: str, state: str) -> None:
-    """rb_broker_load puts load on a server, and rb_broker_report sums up its history."""
-    few = {"RB_BROKER_OPTIONS": "--workers 4 --sessions 4 --calls 10000"}
-    with Serving(root, state, few) as server:
-        words = ["--port", str(server.port), "--clients", "4", "--rate", "100", "--seconds", "1"]
+def try_load(tally: Tally, root: str, folder: str) -> None:
+    """rb_broker_load puts load on a server; rb_broker_report sums up its history, and rb_broker_export reads it."""
+    with Serving(root, folder, {"RB_BROKER_OPTIONS": "--calls 10000"}) as service:
+        words = ["--port", str(service.port), "--clients", "4", "--rate", "100", "--seconds", "1"]
         told = run(f"{root}/usr/bin/rb_broker_load", *words)
-        ended = server.end()
+        shown = run(f"{root}/usr/bin/rb_broker_service", "--status", "--json", "--folder", folder)
+        stopped = service.stop()
     tally.count("rb_broker_load", fault_unless(told.status == 0 and "\nerrors 0\n" in told.said, told))
-    calls = json.loads(ended.lines[-1])["calls"]
-    told = run(f"{root}/usr/bin/rb_broker_report", f"{state}/history.txt")
-    is_right = told.status == 0 and f" {calls} events, 4 seats" in told.said
-    tally.count("rb_broker_report", fault_unless(is_right, (calls, told)))
+    is_right = shown.status == 0 and json.loads(shown.said)["phase"] == "serving"
+    tally.count("rb_broker_service --status", fault_unless(is_right, shown))
+    calls = re.findall(r" event=saved run=1 calls=(\d+) ", stopped.errors)
+    told = run(f"{root}/usr/bin/rb_broker_report", f"{folder}/run-1.txt")
+    is_right = told.status == 0 and calls != [] and f" {calls[0]} events, " in told.said
+    tally.count("rb_broker_report", fault_unless(is_right, (stopped, told)))
+    told = run(f"{root}/usr/bin/rb_broker_export", f"{folder}/run-1.txt")
+    tally.count("rb_broker_export", fault_unless(told.status == 0 and not told.errors, told))
 
 
 def try_examples(tally: Tally, root: str, folder: str) -> None:
-    """The rollover script serves, two clients of bash and the worker in Perl find their server, and the script ends."""
-    examples = f"{root}/{DOCUMENTS}/examples"
-    os.mkdir(folder)
-    with Serving(root, f"{folder}/port", ONE) as free:
-        free.kill()  # its port is free now
-    settings = {**os.environ, "RB_BROKER": f"{root}/usr/bin/rb_broker"}
-    words = [f"{examples}/rollover.sh", str(free.port), folder, "600", "--sessions", "20"]
-    pipe = subprocess.PIPE
-    script = subprocess.Popen(words, stdout=pipe, stderr=pipe, encoding="utf-8", env=settings)
-    assert script.stdout
-    line = script.stdout.readline()
-    tally.count("the rollover script's run", fault_unless(line.startswith("rollover: run 1 serves"), line))
-    replies = free.talk("OFFER 0 one", "QUIT")
-    if shutil.which("perl"):
-        words = ["perl", f"{examples}/worker.pl", str(free.port), "true"]
-        worker = subprocess.Popen(words, stdout=pipe, encoding="utf-8")
+    """The worker in Perl finds its server."""
+    if not shutil.which("perl"):
+        tally.pass_over("the worker in Perl", "perl is not installed")
+        return
+    with Serving(root, folder, {}) as service:
+        replies = service.talk("OFFER 0 one", "QUIT")
+        words = ["perl", f"{root}/{DOCUMENTS}/examples/worker.pl", str(service.port), "true"]
+        worker = subprocess.Popen(words, stdout=subprocess.PIPE, encoding="utf-8")
         assert worker.stdout
         line = worker.stdout.readline()
         worker.send_signal(signal.SIGTERM)
         worker.communicate(timeout=PATIENCE)
-        tally.count("the worker in Perl", fault_unless(line == "one, attempt 1: done\n", (line, replies)))
-    else:
-        tally.pass_over("the worker in Perl", "perl is not installed")
-    script.send_signal(signal.SIGTERM)
-    said, errors = script.communicate(timeout=PATIENCE)
-    is_right = script.returncode == 0 and not errors and said.endswith("stopped in good order after run 1, 0 left\n")
-    tally.count("the rollover script's end", fault_unless(is_right, (said, errors)))
+    tally.count("the worker in Perl", fault_unless(line == "one, attempt 1: done\n", (line, replies)))
 
 
-def try_default_retries(tally: Tally, root: str, state: str) -> None:
+def try_default_retries(tally: Tally, root: str, folder: str) -> None:
     """With the installed options no job is dead of a handler that raises for 20 seconds."""
     jobs = 200
-    with Serving(root, state, {}) as server:
-        told = python(root, "-c", RAISES, str(server.port), "20", str(jobs))
+    with Serving(root, folder, {}) as service:
+        told = python(root, "-c", RAISES, str(service.port), "20", str(jobs))
     tally.count("a handler that raises for 20 s", fault_unless(told == Told(0, f"{jobs} {jobs} 0 0\n", ""), told))

@@ -9,15 +9,12 @@ from common.program import TOP
 from packaging import Fault
 from packaging.table import Table
 from packaging.tests.booted import try_units
-from packaging.tests.cutting import try_cuts
 from packaging.tests.installed import try_installed
 from packaging.tests.page import check_layout
 from packaging.tests.running import Told, fault_unless, run
 from packaging.tests.service import try_service
 from packaging.tests.shells import check_bash, check_zsh
-from packaging.tests.stopping import try_stops
 from packaging.tests.unit import check_by_systemd
-from serving.cuts import reason_not_to_cut
 
 
 def try_package(tally: Tally, program: str, table: Table, folder: str) -> None:
@@ -32,12 +29,9 @@ def try_package(tally: Tally, program: str, table: Table, folder: str) -> None:
     check_bash(tally, f"{root}/usr/share/bash-completion/completions/rb_broker", f"{folder}/files", table)
     check_zsh(tally, f"{root}/usr/share/zsh/vendor-completions/_rb_broker", table)
     try_service(tally, root, f"{folder}/state")
-    reason = reason_not_to_cut()
-    try_cuts(tally, root, f"{folder}/cuts", reason)
-    try_stops(tally, root, f"{folder}/stops", reason)
     try_installed(tally, root, folder)
     remove(tally, root)
-    try_units(tally, package, f"{folder}/machine", reason)
+    try_units(tally, package, f"{folder}/machine")
 
 
 def write_empty(path: str) -> None:

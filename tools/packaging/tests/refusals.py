@@ -5,39 +5,32 @@ import os
 
 from common.checking import Tally
 from common.program import TOP
-from packaging import SOURCES
 from packaging.tests.running import fault_unless, run
 
 
 def check_refusals(tally: Tally, program: str, folder: str) -> None:
     """Runs the tools with what they can't work with. The folder is empty, and is as empty at the end."""
-    package, prepare = f"{TOP}/tools/package", f"{SOURCES}/prepare_run"
+    package, service = f"{TOP}/tools/package", f"{TOP}/tools/service"
     refused(tally, 2, "is no file", folder, package, "--program", f"{folder}/none")
     refused(tally, 2, "is no ELF program", folder, package, "--program", f"{TOP}/README.md")
     refused(tally, 2, "is no folder", folder, package, "--program", program, "--output", f"{folder}/none")
     refused(tally, 2, "begins with a digit", folder, package, "--program", program, "--version", "next-1")
-    refuse_words_about_sessions(tally, folder)
-    os.mkdir(f"{folder}/history.txt")
-    os.mkdir(f"{folder}/history.txt/more")
-    refused(tally, 3, "cannot read history", folder, prepare, program)
-    os.rmdir(f"{folder}/history.txt/more")
-    os.rmdir(f"{folder}/history.txt")
+    refuse_words_of_a_service(tally, folder, service)
     tally.count("files of what was refused", fault_unless(not os.listdir(folder), os.listdir(folder)))
 
 
-def refuse_words_about_sessions(tally: Tally, folder: str) -> None:
-    """Words of the commands that stop a server or cut its sessions."""
-    stop, cut, silent = (f"{SOURCES}/{it}" for it in ("stop_server", "cut_sessions", "cut_silent"))
-    refused(tally, 2, "the words are PORT PROCESS SECONDS CUT_SECONDS", folder, stop, "1", "1", "1")
-    refused(tally, 2, "PORT is 1 to 65535", folder, stop, "0", "1", "1", "1")
-    refused(tally, 2, "PROCESS is a number", folder, stop, "1", "x", "1", "1")
-    refused(tally, 2, "the words are PORT PROCESS [SECONDS]", folder, cut, "1")
-    refused(tally, 2, "PORT is 1 to 65535", folder, cut, "65536", "1")
-    refused(tally, 2, "PROCESS is a number", folder, cut, "1", "")
-    refused(tally, 2, "SECONDS is 1 to 86400", folder, cut, "1", "1", "0")
-    refused(tally, 2, "the words are PORT SECONDS", folder, silent, "1")
-    refused(tally, 2, "PORT is 1 to 65535", folder, silent, "x", "1")
-    refused(tally, 2, "SECONDS is 0 to 86400", folder, silent, "1", "86401")
+def refuse_words_of_a_service(tally: Tally, folder: str, service: str) -> None:
+    """Words of the service, whose times need a unit, and whose numbers have ranges."""
+    refused(tally, 2, "'30' is no time", folder, service, "--delay", "30")
+    refused(tally, 2, "'30000000000' is no time", folder, service, "--delay", "30000000000")
+    refused(tally, 2, "not allowed with", folder, service, "--delay", "1s", "--rate", "1s")
+    refused(tally, 2, "0 is not from 1 to 65535", folder, service, "--port", "0")
+    refused(tally, 2, "17 is not from 1 to 16", folder, service, "--workers", "17")
+    refused(tally, 2, "2h is not from 1s to 1h", folder, service, "--stop-within", "2h")
+    refused(tally, 2, "2d is not from 1s to 1d", folder, service, "--silent", "2d")
+    refused(tally, 2, "0s is not from 1s to 30d", folder, service, "--every", "0s")
+    refused(tally, 2, "unrecognized arguments: --history", folder, service, "--history", "x")
+    refused(tally, 2, "no address", folder, service, "--http", "here")
 
 
 def refused(tally: Tally, wanted: int, why: str, folder: str, *words: str) -> None:

@@ -2,6 +2,7 @@
 from __future__ import annotations
 
 import unittest
+from typing import List, Tuple
 from unittest import mock
 
 from servicing import opening
@@ -26,11 +27,12 @@ class LeftTest(unittest.TestCase):
 
     def test_each_way_of_leaving(self) -> None:
         offers = "".join(f"1 {at} {at} offer {at} 5 {at} 5 1 p{at}\n" for at in range(10))
-        for act, gone in (
+        cases: List[Tuple[str, List[int]]] = [
             ("poll 3", [3]), ("take 4", [4]), ("pollfor 9 5 7", [7]), ("drain 5 0 1 2", [0, 1, 2]), ("drain 5", []),
             ("remove 6 yes", [6]), ("remove 77 no", []), ("clear", [*range(10)]), ("poll none", []),
             ("pollfor 9 5 none", []), ("peek 2", []), ("peek none", []), ("size 10", []),
-        ):
+        ]
+        for act, gone in cases:
             left = left_of(f"history 3\nopen 0 0 0\n{offers}1 20 20 {act}\nend 11\n")
             with self.subTest(act):
                 self.assertEqual([int(it) for it in left.elements], [it for it in range(10) if it not in gone])
