@@ -15,6 +15,8 @@ LOW, HALF = 0.9, 0.5  # shares of what a run has that are used
 UNANSWERED = 3.0  # seconds after which a free worker would have answered
 YOUNG = 60.0  # seconds that a run lasts before elements that were set aside end it
 SOON = 30_000_000_000  # nanoseconds
+SHORTLY = 2.0  # seconds
+LAST_PART = 60.0  # seconds of a run in which a good moment for its end is taken
 
 
 class Start(Enum):
@@ -59,6 +61,7 @@ class Seen:
     moment: Optional[int]
     aside: int
     first_aside: int  # a moment
+    leaving: Optional[float]  # seconds in which all clients will probably have left
 
 
 def why_to_end(seen: Seen) -> Optional[Reason]:
@@ -69,9 +72,19 @@ def why_to_end(seen: Seen) -> Optional[Reason]:
         return Reason.SESSIONS
     if seen.unanswered > UNANSWERED and seen.free_workers > 0:
         return Reason.SESSIONS  # they are used up: a worker that is free takes nobody
-    if seen.age >= seen.every:
+    if seen.age >= seen.every or (_is_almost_over(seen) and is_quiet(seen.leaving)):
         return Reason.TIME
     return Reason.ELEMENTS if _is_wanted_aside(seen) else None
+
+
+def is_quiet(leaving: Optional[float]) -> bool:
+    """Whether this is a good moment to serve no new clients: those that are served leave soon."""
+    return leaving is not None and leaving <= SHORTLY
+
+
+def _is_almost_over(seen: Seen) -> bool:
+    """Whether the run's time is so nearly over that a good moment is taken."""
+    return seen.age >= seen.every - min(LAST_PART, seen.every / 2)
 
 
 def _is_low(supply: Supply, ending: float) -> bool:

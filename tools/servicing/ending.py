@@ -4,6 +4,7 @@ from __future__ import annotations
 import time
 from typing import Dict, List, Tuple
 
+from servicing.deciding import is_quiet
 from servicing.durations import SECOND, text_of
 from servicing.keeping import KeeperLost, Keeping
 from servicing.saying import say
@@ -16,7 +17,7 @@ from servicing.visits import Visits
 from servicing.watch import Watch
 
 LOOK = 0.1  # seconds between two looks
-PATIENT = 10.0  # seconds for which a rollover waits for a moment without clients
+PATIENT = 10.0  # seconds for which a rollover waits for a moment at which clients are about to leave
 RESERVE = 64  # sessions that are left to clients meanwhile
 TELL, CUT = 10.0, 1.0  # seconds after which it is said again who is waited for, and after which is cut again
 MOST_NAMED = 5
@@ -56,14 +57,14 @@ class Ending:
             visits.stop()
 
     def _wait_for_a_quiet_moment(self) -> None:
-        """Waits for a moment without clients, which are served meanwhile, while most sessions are used up."""
+        """Waits until clients are about to leave, which are served meanwhile, while most sessions are used up."""
         sessions = self._watch.looks.sessions
         visits = Visits(self._settings.port, max(sessions.limit - sessions.used - RESERVE, 0))
         until = time.monotonic() + min(PATIENT, self._settings.every / SECOND / 10)
         try:
             while time.monotonic() < until and not self._signals.count and not self._server.has_ended:
                 self._watch.see(with_programs=False)
-                if visits.are_made and not self._watch.looks.connections:
+                if visits.are_made and is_quiet(self._watch.looks.leaving):
                     break
                 self._signals.wait(LOOK, self._server.process)
         finally:

@@ -4,7 +4,7 @@ from __future__ import annotations
 import time
 from collections import deque
 from dataclasses import dataclass
-from typing import Deque, List, Optional, Set, Tuple
+from typing import Deque, Dict, List, Optional, Set, Tuple
 
 from servicing.session import OwnSession, Told
 from servicing.sockets import Connection, Sockets
@@ -14,6 +14,7 @@ WINDOW, SHORTEST = 60.0, 5.0  # seconds over which a pace is measured
 BRIEF = 1_000  # milliseconds; a client from which something came since is active
 CLOSE = 50  # milliseconds between a request and its reply that do not tell which came first
 SILENT_FROM = 10.0  # seconds of silence that count
+MANY = 100  # sessions whose length is remembered
 
 ORDER = list(Doing)
 
@@ -94,6 +95,8 @@ class Looks:
         self._unread: Set[str] = set()  # the connections with a queue to the client at the last look
         self._seen: Set[str] = set()  # the connections that were served at the last look
         self._used_sessions, self._used_calls = 0, 0
+        self._since: Dict[str, float] = {}  # when each client that is served now was first seen so
+        self._lasted: Deque[float] = deque(maxlen=MANY)  # seconds that others were served, until they left
         self._sessions, self._calls = Pace(), Pace()
         self.offers, self.leaves = Pace(), Pace()
         self.clients: Optional[Clients] = None
@@ -110,12 +113,29 @@ class Looks:
         served = {it.key for it in sockets.connections if it.is_served}
         self._used_sessions += len(served - self._seen)
         self._seen = served
+        self._time_sessions({it.key for it in sockets.connections if it.is_served and it.port != own})
         self.connections = [it for it in sockets.connections if it.port != own]
         clients = [client_of(it, it.key in self._unread) for it in self.connections if not has_given_up(it)]
         self._unread = {it.key for it in sockets.connections if it.send_queue}
         clients.sort(key=lambda it: (ORDER.index(it.doing), -(it.seconds or 0)))
         self.clients = Clients(tuple(clients), self._limits.workers, SILENT_FROM)
         self._sessions.add(time.monotonic(), self._used_sessions)
+
+    def _time_sessions(self, served: Set[str]) -> None:
+        now = time.monotonic()
+        self._lasted.extend(now - self._since.pop(it) for it in [*self._since] if it not in served)
+        for it in served:
+            self._since.setdefault(it, now)
+
+    @property
+    def leaving(self) -> Optional[float]:
+        """In how many seconds all clients that are served now will have left, if they stay as long as the longest of
+        those that have left. None if nobody has left yet."""
+        if not self._since:
+            return 0.0
+        if not self._lasted:
+            return None
+        return max(max(self._lasted) - (time.monotonic() - max(self._since.values())), 0.0)
 
     def hear(self, told: Told) -> None:
         """Takes what the server told."""

@@ -297,7 +297,7 @@ class Service:
             ending=self._settings.stop_within / SECOND, calls=looks.calls, sessions=looks.sessions,
             is_full=own.is_full, unanswered=own.waits, free_workers=self._settings.workers - looks.served,
             elements=looks.queue.elements if looks.queue else None, moment=looks.moment, aside=record.aside,
-            first_aside=current.first_aside))
+            first_aside=current.first_aside, leaving=looks.leaving))
 
     def _cut_silent(self, watch: Watch) -> None:
         if self._settings.silent is None:

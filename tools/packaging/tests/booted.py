@@ -65,9 +65,9 @@ class Service:
         return self.machine.run("systemctl", "start", self.name)
 
     def has_client(self) -> bool:
-        """Waits until a client is served. Gives whether one is."""
-        for _ in range(100):
-            if "users:" in self.machine.run("ss", "-Htnp", f"src 127.0.0.1:{self.port}").said:
+        """Waits until a client is served, beside the service's own session. Gives whether one is."""
+        for _ in range(300):
+            if self.machine.run("ss", "-Htnp", f"src 127.0.0.1:{self.port}").said.count("users:") > 1:
                 return True
             time.sleep(0.1)
         return False
@@ -82,9 +82,19 @@ class Service:
         heard, self.heard = self.heard, self.machine.run("journalctl", "--output=cat", "-u", self.name).said
         return self.heard[len(heard) :]
 
-    def show(self, *names: str) -> str:
+    def journal_until(self, pattern: str) -> str:
+        """The same, once it has a line of this pattern, or when that takes too long."""
+        heard = ""
+        for _ in range(300):
+            heard += self.journal()
+            if re.search(pattern, heard):
+                break
+            time.sleep(0.1)
+        return heard
+
+    def show(self, name: str) -> str:
         """What systemd knows of it."""
-        return self.machine.run("systemctl", "show", "--value", "--property", ",".join(names), self.name).said.strip()
+        return self.machine.run("systemctl", "show", "--value", "--property", name, self.name).said.strip()
 
 
 def cuts_in(journal: str) -> int:
@@ -133,25 +143,18 @@ def try_kills(tally: Tally, service: Service) -> None:
     service.journal()
     with Session(service.port) as it:
         it.ask("OFFER 3600000000000 kept")
-        before = service.show("MainPID")
-        service.machine.run("kill", "-KILL", before)
-        for _ in range(100):
-            if service.show("MainPID", "SubState").split() not in ([before, "running"], ["0", "auto-restart"]):
-                break
-            time.sleep(0.1)
-        time.sleep(1)
+        service.machine.run("kill", "-KILL", service.show("MainPID"))
+        journal = service.journal_until(r" event=serving ")
         reply = it.ask("SIZE")
         it.ask("QUIT")
-    journal = service.journal()
     is_right = reply == "SIZE 2" and 'how="go on"' in journal and " event=lost-run " not in journal
     tally.count("a service that is killed under systemd", fault_unless(is_right, (reply, journal)))
     server = re.findall(r" event=serving .* process=(\d+)", journal)[-1:]
     service.machine.run("kill", "-KILL", *server)
-    time.sleep(1)
+    journal = service.journal_until(r" event=serving ")
     with Session(service.port) as it:
         reply = it.ask("SIZE")
         it.ask("QUIT")
-    journal = service.journal()
     is_right = reply == "SIZE 1" and journal.count(" event=lost-run ") == 1
     tally.count("a server that is killed under systemd", fault_unless(is_right, (reply, server, journal)))
     service.stop()

@@ -20,7 +20,7 @@ def supply(used: int, limit: int = 1000, pace: Optional[float] = None) -> Supply
 
 
 QUIET = Seen(age=100, every=3600, ending=60, calls=supply(0), sessions=supply(0), is_full=False, unanswered=0,
-             free_workers=16, elements=5, moment=10**12, aside=0, first_aside=0)
+             free_workers=16, elements=5, moment=10**12, aside=0, first_aside=0, leaving=None)
 
 
 class StartTest(unittest.TestCase):
@@ -54,6 +54,15 @@ class EndTest(unittest.TestCase):
     def test_it_ends_in_time(self) -> None:
         self.assertEqual(self.why(age=3600), Reason.TIME)
         self.assertIsNone(self.why(age=3599))
+
+    def test_a_good_moment_is_taken_in_the_last_minute(self) -> None:
+        for leaving in (0.0, 2.0):
+            self.assertEqual(self.why(age=3540, leaving=leaving), Reason.TIME)
+            self.assertIsNone(self.why(age=3539, leaving=leaving))
+        self.assertIsNone(self.why(age=3599, leaving=2.1))
+        self.assertIsNone(self.why(age=3599, leaving=None))
+        self.assertEqual(self.why(age=5, every=10, leaving=0.0), Reason.TIME)
+        self.assertIsNone(self.why(age=4.9, every=10, leaving=0.0))
 
     def test_calls_run_low(self) -> None:
         self.assertEqual(self.why(calls=supply(900)), Reason.CALLS)

@@ -87,7 +87,8 @@ class WatchedTest(ServingTest):
         self.assertIs(clients.all[0].doing, Doing.NOT_READING)
         self.assertGreater(clients.all[0].unread_by_client, 10_000)
         self.assertEqual({it.pid for it in clients.all}, {os.getpid()})
-        self.assertEqual(look_at(server.port).server and look_at(server.port).server.pid, server.process.pid)
+        found = look_at(server.port).server
+        self.assertEqual(found and found.pid, server.process.pid)
 
     def test_clients_that_wait_for_a_worker(self) -> None:
         server = self.serve("--workers", 2, "--sessions", 20)
@@ -216,6 +217,22 @@ class WatchedTest(ServingTest):
         client.hang_up()
         last = self.connect(server, "SIZE", "QUIT")
         self.assertEqual(last.heard(), "SIZE 0")
+
+    def test_when_clients_will_have_left(self) -> None:
+        """They are expected to stay as long as the longest of those that have left."""
+        server = self.serve("--workers", 4, "--sessions", 50)
+        seen = self.see(server, sessions=50)
+        self.assertEqual(seen.look().leaving, 0)
+        first = self.ask(server, "SIZE")
+        seen.look()
+        self.assertIsNone(seen.looks.leaving)
+        time.sleep(1.5)
+        first.hang_up()
+        seen.until(lambda it: it.leaving == 0)
+        self.ask(server, "SIZE")
+        leaving = seen.look().leaving
+        self.assertTrue(leaving is not None and 1 < leaving <= 5, leaving)
+        seen.until(lambda it: it.leaving == 0)
 
     def test_silent_clients(self) -> None:
         server = self.serve("--workers", 3, "--sessions", 10)
