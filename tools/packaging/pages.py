@@ -7,7 +7,7 @@ import re
 # They lie below the folder of documents as they lie below this repository's.
 PAGES = (
     "docs/OPERATING.md", "docs/PROTOCOL.md", "docs/HISTORY.md", "docs/DELAYQUEUE.md", "docs/SCALING.md",
-    "clients/python/README.md",
+    "clients/python/README.md", "redis/README.md",
 )
 
 LINK = re.compile(r"!?\[([^\]\n]*)\]\(([^)\s#]+)[^)\n]*\)")

@@ -30,9 +30,7 @@ COPIED = {
 BESIDE_PAGES = ("docs/*.png", "docs/*.svg", "examples/*", "clients/python/examples/*.py")
 
 # The tools that become commands, each with the folder of its modules, and what several of them import.
-COMMANDS = {
-    "service": "servicing", "report": "reporting", "verify": "verifying", "load": "loading", "export": "exporting",
-}
+COMMANDS = {"service": "servicing", "report": "reporting", "verify": "verifying", "load": "loading"}
 SHARED = ("common/__init__.py", "common/program.py", "common/words.py", "histories/*.py")
 
 
@@ -88,6 +86,7 @@ def lay_out_tools(root: str) -> None:
     for path in sorted(path for form in SHARED for path in glob.glob(f"{TOP}/tools/{form}")):
         write(root, f"{TOOLS}/{path[len(TOP) + len('/tools/') :]}", content_of(path))
     copy_modules(root, f"{TOP}/clients/python/src/rb_broker_client", f"{PYTHON}/rb_broker_client")
+    copy_modules(root, f"{TOP}/redis/src/rb_broker_redis", f"{PYTHON}/rb_broker_redis")
     # Where tools look for the client package, so that they find it whatever python3 is the first on the path.
     os.makedirs(f"{root}/usr/share/rb_broker/clients/python/src")
     os.symlink(f"../../../../../../{PYTHON}/rb_broker_client", f"{root}/{CLIENT}")

@@ -89,7 +89,7 @@ def check_changelog(tally: Tally, root: str, folder: str) -> None:
 
 
 def try_load(tally: Tally, root: str, folder: str) -> None:
-    """rb_broker_load puts load on a server; rb_broker_report sums up its history, and rb_broker_export reads it."""
+    """rb_broker_load puts load on a server, and rb_broker_report sums up its history."""
     with Serving(root, folder, {"RB_BROKER_OPTIONS": "--calls 10000"}) as service:
         words = ["--port", str(service.port), "--clients", "4", "--rate", "100", "--seconds", "1"]
         told = run(f"{root}/usr/bin/rb_broker_load", *words)
@@ -102,8 +102,6 @@ def try_load(tally: Tally, root: str, folder: str) -> None:
     told = run(f"{root}/usr/bin/rb_broker_report", f"{folder}/run-1.txt")
     is_right = told.status == 0 and calls != [] and f" {calls[0]} events, " in told.said
     tally.count("rb_broker_report", fault_unless(is_right, (stopped, told)))
-    told = run(f"{root}/usr/bin/rb_broker_export", f"{folder}/run-1.txt")
-    tally.count("rb_broker_export", fault_unless(told.status == 0 and not told.errors, told))
 
 
 def try_examples(tally: Tally, root: str, folder: str) -> None:
