@@ -177,7 +177,8 @@ function endOf(run) {
   const parts = [WHY[run.why]];
   if (run.closed !== null) {
     const most = run.held_by.slice(0, 2), more = run.held_by.length - most.length;
-    parts.push("new clients waited " + span(run.closed), ...most, ...(more > 0 ? [more + " more"] : []));
+    const by = most.length === 0 ? "" : ", held up by " + most.join(", ") + (more > 0 ? " and " + more + " more" : "");
+    parts.push("new clients waited " + span(run.closed) + by);
   }
   if (run.cut > 0) {
     parts.push(counted(run.cut, "session") + " cut");

@@ -147,7 +147,8 @@ def _before(told: Told) -> str:
     parts = [f"run {last['number']} {ENDS[last['why']]}"]
     if last["closed"] is not None:
         most, more = last["held_by"][:MOST_HELD_BY], len(last["held_by"]) - MOST_HELD_BY
-        parts += [f"new clients waited {_span(last['closed'])}", *most, *([f"{more} more"] if more > 0 else [])]
+        held = f", held up by {', '.join(most)}" + (f" and {more} more" if more > 0 else "") if most else ""
+        parts.append(f"new clients waited {_span(last['closed'])}{held}")
     if last["cut"]:
         parts.append(counted(last["cut"], "session") + " cut")
     return ", ".join(parts)

@@ -117,8 +117,9 @@ class ShownTest(ServedTest):
              "1,200", "report"],
             ["10", date(AT - 9000), "23.3 min", "lost: its server was killed; new clients waited 1.25 s", "900", "–",
              "–", ""],
-            ["9", date(AT - 90_000), "22.5 h", "few calls were left; new clients waited 61.5 s; client 41007 (python3"
-             " 4711): 60s; client 41008 (python3 4712): 2s; 1 more; 1 session cut", "0", "1,000,000", "900", "report"]])
+            ["9", date(AT - 90_000), "22.5 h", "few calls were left; new clients waited 61.5 s, held up by client 41007"
+             " (python3 4711): 60s, client 41008 (python3 4712): 2s and 1 more; 1 session cut", "0", "1,000,000", "900",
+             "report"]])
         self.assertEqual(self.browser.value(rows("losses")), [
             ["10", date(AT - 9000), "23.3 min",
              "all that happened in it; the next run began again with the 900 elements of its opening"],

@@ -19,7 +19,7 @@ from common.testing import RoomTest
 from servicing.pages import Pages
 from servicing.state import Board, Client, Clients, Doing, Head, Queue, State
 from servicing.status_view import frame, show
-from servicing.tests.states import AT, LONG, SETTINGS, first_state, state, troubled_state
+from servicing.tests.states import AT, HELD, LONG, SETTINGS, first_state, state, troubled_state
 from servicing.tests.terminal import Terminal
 from servicing.told import told
 
@@ -82,6 +82,11 @@ class ScreenTest(unittest.TestCase):
             " in memory (since 2026-11-26 06:53:20)",
             "! it waits: a-program-of-a-long-name 4000000 at port 42000"])
         self.assertIn(f"(id 1099511627775, attempt 1000, {LONG}) is 24.0 h late, as it was 30.0 s ago", "".join(lines))
+
+    def test_who_held_up_a_run(self) -> None:
+        says = ("before     run 9 ended when few calls were left, new clients waited 61.5 s, held up by client 41007"
+                " (python3 4711): 60s, client 41008 (python3 4712): 2s and 1 more, 1 session cut")
+        self.assertIn(says, plain(shown(state(runs=(HELD,)), 250, 40)))
 
     def test_it_is_drawn_over_the_one_before(self) -> None:
         text = shown(state(), 120, 40)
