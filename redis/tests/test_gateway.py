@@ -179,7 +179,7 @@ class EndsTest(GatewayTest):
         self.assertEqual(self.queue().command("ZCARD", self.queue().gateways), 0)
 
     def test_a_gateway_that_dies_costs_its_jobs_an_attempt(self) -> None:
-        dying, other = self.serve("--lease", "1s"), self.serve("--lease", "1s", "--wait", "30s")
+        dying, other = self.serve("--lease", "3s"), self.serve("--lease", "3s", "--wait", "30s")
         with dying.talker() as one, dying.talker() as two, other.talker() as heir:
             for talker in (one, two):
                 talker.ask("OFFER 0 a")
@@ -190,7 +190,7 @@ class EndsTest(GatewayTest):
         self.assertEqual(self.queue().command("ZCARD", self.queue().gateways), 1)
 
     def test_a_late_lease_is_told_by_the_next_done(self) -> None:
-        late, other = self.serve("--lease", "1s"), self.serve("--lease", "1s", "--wait", "30s")
+        late, other = self.serve("--lease", "3s"), self.serve("--lease", "3s", "--wait", "30s")
         with late.talker() as one, other.talker() as heir:
             one.ask("OFFER 0 a")
             one.ask("TAKE")

@@ -92,6 +92,23 @@ class FaultyRedisTest(GatewayTest):
         with served.talker() as other:
             self.assertEqual(other.ask("TAKE").split()[3], "2")
 
+    def test_nothing_is_fetched_for_a_client_that_left_while_the_redis_was_away(self) -> None:
+        for words in ((), ("--shards", 2)):
+            served = self.serve(*words)
+            with served.talker() as leaving, served.talker() as other:
+                other.ask("OFFER 0 a")
+                leaving.ask("SIZE")
+                self.node.kill()
+                self.assertTrue(other.is_silent(0.5))
+                leaving.send("SIZE\nPOLL\n")
+                self.assertTrue(leaving.is_silent(0.2))
+                leaving.reset()
+                self.assertTrue(other.is_silent(0.2))
+                self.node.start()
+                time.sleep(1)
+                self.assertEqual(other.ask("POLL").split()[3], "1")
+                other.ask("CLEAR")
+
     def test_functions_that_are_gone_are_loaded_again(self) -> None:
         served = self.serve()
         with served.talker() as talker:

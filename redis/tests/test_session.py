@@ -7,7 +7,7 @@ from typing import Optional
 
 from rb_broker_redis.calls import Answered
 from rb_broker_redis.limits import SECOND
-from rb_broker_redis.session import MOST_AT_ONCE, MOST_WAITING_LINES, Session
+from rb_broker_redis.session import MOST_AT_ONCE, MOST_WAITING_LINES, SECONDS_BETWEEN_ENDS, Session
 from rb_broker_redis.waits import Waits
 
 LATER = b"LATER - 100 100\n"
@@ -22,6 +22,9 @@ class FakeCalls:
 
     def submit(self, calls: "list[bytes]", answered: Answered) -> None:
         self.submitted.append((calls, answered))
+
+    def withhold(self, answered: Answered) -> None:
+        self.withheld = answered
 
     def take(self) -> "list[bytes]":
         """What was submitted first, which is then to be answered."""
@@ -46,6 +49,12 @@ class FakeTransport:
 
     def resume_reading(self) -> None:
         self.is_reading = True
+
+    def get_extra_info(self, name: str) -> "Optional[FakeTransport]":
+        return self if name == "socket" else None
+
+    def setsockopt(self, *_: int) -> None:
+        """It is its own socket."""
 
 
 class FakeGateway:
@@ -237,6 +246,7 @@ class SessionTest(unittest.IsolatedAsyncioTestCase):
         self.session.data_received(b"TAKE\n")
         self.assert_calls(b"7 TAKE")
         self.session.connection_lost(None)
+        self.assertEqual(self.gateway.calls.withheld, self.gateway.calls.answered)
         self.assert_idle()
         self.answer(b"ITEM 0 50 1 a\n")
         self.assert_sent(b"")
@@ -250,6 +260,7 @@ class SessionTest(unittest.IsolatedAsyncioTestCase):
         self.assertTrue(self.transport.is_closed)
         self.assert_calls(b"7 END")
         self.gateway.calls.answered(None)
+        await asyncio.sleep(2 * SECONDS_BETWEEN_ENDS)
         self.assert_calls(b"7 END")  # until it is certain
         self.answer(b"ENDED 0\n")
         self.assertEqual(self.gateway.lost, 0)

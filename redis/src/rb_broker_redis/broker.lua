@@ -44,7 +44,7 @@
 --   rb_spare MOMENT GATEWAY LEASE CALL ..         the same for a Redis that is full: what needs room is 'ERR 7 memory'
 --   rb_renew GATEWAY LEASE                        renews the lease, and ends up to 1,000 jobs of a gateway whose lease
 --       is over. -> how many jobs; call again until it is 0
---   rb_leave GATEWAY                              the gateway's sessions have ended, and it leaves
+--   rb_leave GATEWAY                              the gateway leaves, unless sessions of it still hold jobs
 --   rb_cut CUT COUNT                              takes COUNT lines off the front of history, if CUT lines were taken
 --       before, and the opening with them. -> how many were taken in all, which the caller compares
 --   rb_load TOKEN INDEX LINE ..                   gives an unused queue the 'keep' lines that follow INDEX others, in
@@ -488,7 +488,11 @@ local function renew(keys, args)
     return #members
 end
 
-local function leave(keys, args) return redis.call('ZREM', keys[7], args[1]) end
+local function leave(keys, args)
+    local first, above = seats_of(args[1])
+    if redis.call('ZLEXCOUNT', keys[3], '[' .. first .. ':', '(' .. above .. ':') > 0 then return 0 end
+    return redis.call('ZREM', keys[7], args[1])
+end
 
 local function cut(keys, args)
     local taken = redis.call('HGET', keys[4], 'cut')

@@ -18,6 +18,8 @@ Answered = Callable[[Optional["list[bytes]"]], None]
 SEATS_OF_A_GATEWAY = 10**9
 """broker.lua has the same number."""
 
+FETCHES = (b"POLL", b"TAKE", b"POLLFOR", b"DRAIN")
+
 MOST_IN_FLIGHT = 1
 """How many commands are under way at once. While they are, further calls are gathered."""
 
@@ -27,6 +29,12 @@ SECONDS_BETWEEN_TRIES = 0.05
 LATER = {"LOADING", "BUSY", "TRYAGAIN", "ASK", "CLUSTERDOWN", "NOREPLICAS", "MISCONF", "LOADING_QUEUE"}
 # The same, but another node has to be asked.
 ELSEWHERE = {"MOVED", "READONLY", "MASTERDOWN", "UNBLOCKED"}
+
+
+def without_fetch(call: bytes) -> bytes:
+    """The call, or one that fetches nothing in its place."""
+    seat, word, *_ = call.split(b" ")
+    return seat + b" WAIT" if word in FETCHES else call
 
 
 class Batch:
@@ -49,6 +57,14 @@ class Batch:
         start = 0
         for answered, count in self.parts:
             answered(replies[start:start + count])
+            start += count
+
+    def withhold(self, answered: Answered) -> None:
+        """Fetches nothing for this one. Its calls that would are answered LATER."""
+        start = 0
+        for its_answered, count in self.parts:
+            if its_answered == answered:
+                self.calls[start:start + count] = map(without_fetch, self.calls[start:start + count])
             start += count
 
     def doubt(self) -> None:
@@ -104,6 +120,11 @@ class Calls:
         batch.parts.append((answered, len(calls)))
         if not self._is_scheduled:
             self._schedule()
+
+    def withhold(self, answered: Answered) -> None:
+        """Who submitted has left: what it has not been sent for yet fetches nothing for it."""
+        for batch in (self._batch, *self._again):
+            batch.withhold(answered)
 
     def is_late(self) -> bool:
         """Whether the Redis has not answered in time."""

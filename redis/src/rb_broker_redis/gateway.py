@@ -2,6 +2,7 @@
 from __future__ import annotations
 
 import asyncio
+import logging
 import ssl
 from dataclasses import dataclass, field
 from typing import Optional, Union
@@ -15,6 +16,8 @@ from .sharded_calls import ShardedCalls
 from .shards import shard_names
 from .upkeep import Upkeep
 from .waits import Waits
+
+LOG = logging.getLogger(__name__)
 
 SECONDS_TO_END = 10.0
 """How long sessions may take to end in good order. What is left then is closed, and ends with the gateway's lease."""
@@ -89,7 +92,7 @@ class Gateway:
             try:
                 await asyncio.wait_for(self._all_ended.wait(), SECONDS_TO_END)
             except asyncio.TimeoutError:
-                pass
+                LOG.warning("%d sessions did not end, and will when the lease is over", len(self._sessions))
         for upkeep in self._upkeeps:
             await upkeep.stop()
         return self._count, self._lost

@@ -2,6 +2,7 @@
 from __future__ import annotations
 
 import asyncio
+import socket
 from collections import deque
 from typing import TYPE_CHECKING, Optional, cast
 
@@ -18,6 +19,14 @@ MOST_AT_ONCE = 256
 
 MOST_WAITING_LINES = 1_024
 """A client that has sent this many lines ahead is not read from until they are carried out."""
+
+SECONDS_BETWEEN_ENDS = 0.1
+
+KEPT_ALIVE = (
+    ((socket.SOL_SOCKET, socket.SO_KEEPALIVE), 1), ((socket.IPPROTO_TCP, socket.TCP_KEEPIDLE), 60),
+    ((socket.IPPROTO_TCP, socket.TCP_KEEPINTVL), 15), ((socket.IPPROTO_TCP, socket.TCP_KEEPCNT), 4),
+)
+"""The session of a client whose machine has vanished ends after two minutes."""
 
 BYE = b"BYE\n"
 NO_WAIT = b"POLLFOR 0"
@@ -53,6 +62,8 @@ class Session(asyncio.Protocol):
 
     def connection_made(self, transport: asyncio.BaseTransport) -> None:
         self._transport = cast(asyncio.Transport, transport)
+        for option, value in KEPT_ALIVE:
+            transport.get_extra_info("socket").setsockopt(*option, value)
         self._seat = self._gateway.begin(self)
 
     def data_received(self, data: bytes) -> None:
@@ -73,14 +84,17 @@ class Session(asyncio.Protocol):
             self._gateway.waits.give_up(self._wait)
         elif not self._is_busy:
             self._go_on()
-        return True  # replies are still sent
+        # Replies are still sent. TLS has no such half of a connection.
+        return self._transport.get_extra_info("sslcontext") is None
 
     def connection_lost(self, fault: Optional[Exception]) -> None:
         self._is_gone = self._is_at_end = True
         self._lines.clear()
         if self._wait:
             self._gateway.waits.give_up(self._wait)
-        elif not self._is_busy:
+        elif self._is_busy:
+            self._gateway.calls.withhold(self._answered)
+        else:
             self._end()
 
     def pause_writing(self) -> None:
@@ -212,7 +226,8 @@ class Session(asyncio.Protocol):
 
     def _ended(self, replies: Optional[list[bytes]]) -> None:
         if replies is None:  # a seat's end may be made twice
-            self._gateway.calls.submit([self._seat + b"END"], self._ended)
+            end = [self._seat + b"END"]
+            asyncio.get_running_loop().call_later(SECONDS_BETWEEN_ENDS, self._gateway.calls.submit, end, self._ended)
             return
         self._transport.close()
         self._gateway.end(self, int(replies[0].split()[1]))

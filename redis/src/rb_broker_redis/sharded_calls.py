@@ -28,13 +28,25 @@ class ShardedCalls:
         self._rendezvous = Rendezvous(list(names))
         self._held: dict[bytes, set[bytes]] = {}
         """The ids that each session holds, or that it held before its gateway's lease was over."""
+        self._runs: dict[Answered, _Run] = {}
         self.note: Callable[[Later, int], None] = lambda later, queue: None
         """Gets when the earliest element of a queue expires, on behalf of a call that will wait."""
 
     def submit(self, calls: list[bytes], answered: Answered) -> None:
         """Makes these calls of one session, one after the other."""
         seat = calls[0].partition(b" ")[0]
-        _Run(self, seat, [call.partition(b" ")[2] for call in calls], answered).go_on()
+        self._runs[answered] = _Run(self, seat, [call.partition(b" ")[2] for call in calls], answered)
+        self._runs[answered].go_on()
+
+    def withhold(self, answered: Answered) -> None:
+        """Who submitted has left: nothing more is fetched for it."""
+        if answered in self._runs:
+            self._runs[answered].has_left = True
+
+    def answer(self, answered: Answered, replies: Optional[list[bytes]]) -> None:
+        """All is answered that was submitted."""
+        del self._runs[answered]
+        answered(replies)
 
     def seat_of(self, session: int) -> bytes:
         """What a session is called here. At each queue it has a seat of its own."""
@@ -82,11 +94,13 @@ class _Run:
         self._calls, self._seat, self._answered = calls, seat, answered
         self._requests = deque(requests)
         self._replies: list[bytes] = []
+        self.has_left = False
+        """Nobody gets the replies any more."""
 
     def go_on(self) -> None:
         """Makes the next calls."""
         if not self._requests:
-            self._answered(self._replies)
+            self._calls.answer(self._answered, self._replies)
             return
         word = self._requests[0].partition(b" ")[0]
         if word in BY_PAYLOAD or word in BY_ID:
@@ -201,7 +215,7 @@ class _Run:
             replies[queue] = its_replies or []
             if len(replies) == len(by_queue):
                 if is_in_doubt:
-                    self._answered(None)
+                    self._calls.answer(self._answered, None)
                 else:
                     told(replies)
 
@@ -238,7 +252,7 @@ class _Fetch:
         self._laters = self._run.laters_of(replies)
         dues = [(it.head, queue) for queue, it in enumerate(self._laters) if it.head is not None and it.head <= it.now]
         self._queues = [queue for _, queue in sorted(dues)]
-        if self._word == b"WAIT":
+        if self._word == b"WAIT" or self._run.has_left:
             self._wait()
         elif not self._queues and self._word in (b"POLL", b"DRAIN"):
             self._queues = [0]  # it is a call of one queue all the same
