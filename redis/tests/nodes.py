@@ -17,7 +17,7 @@ import redis
 
 HOST = "127.0.0.1"
 PORTS = range(26_000, 27_000)  # a node of a Cluster also has the port that is 10,000 above its own
-PATIENCE = 60  # seconds that anything may take
+PATIENCE = 180  # seconds that anything may take, on a busy machine
 
 ALWAYS = ("--appendonly", "yes", "--appendfsync", "always")
 EVERYSEC = ("--appendonly", "yes", "--appendfsync", "everysec")

@@ -25,7 +25,7 @@ from gateways import POLICY, Gateway
 from nodes import ALWAYS, Node, Process, Replicas, Sentinels, wait_until
 from rb_broker_redis.archive_folder import ArchiveFolder
 
-JOBS = int(os.environ.get("RB_BROKER_JOBS", 1_500))
+JOBS = int(os.environ.get("RB_BROKER_JOBS", 1_000))
 PROGRAM = os.environ["RB_BROKER_PROGRAM"]
 TOP = Path(__file__).resolve().parents[2]
 PATIENCE = 600 + JOBS / 10  # seconds until all jobs are done

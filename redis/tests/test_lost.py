@@ -5,6 +5,7 @@ played as well: what was not synced is cut off the node's file.
 """
 from __future__ import annotations
 
+import os
 import random
 import shutil
 import subprocess
@@ -19,7 +20,7 @@ from gateways import Gateway
 from nodes import ALWAYS, EVERYSEC, FORGETFUL, PATIENCE, Node, Replicas, Sentinels, wait_until
 from recorded_session import Broken, Notes, RecordedSession
 
-ROUNDS = 3
+ROUNDS = int(os.environ.get("RB_BROKER_ROUNDS", 1))
 PRODUCERS = 4
 SECONDS = 2.0  # before the kill
 QUEUE = "jobs"

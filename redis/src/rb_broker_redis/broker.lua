@@ -42,7 +42,7 @@
 --   rb_calls MOMENT GATEWAY LEASE CALL ..         makes the calls, one after the other, in one step.
 --       MOMENT is '' for the node's TIME, or 20 digits. GATEWAY is '' where none is to be joined. -> a reply for each
 --   rb_spare MOMENT GATEWAY LEASE CALL ..         the same for a Redis that is full: what needs room is 'ERR 7 memory'
---   rb_renew GATEWAY LEASE                        renews the lease, and ends up to 1,000 jobs of a gateway whose lease
+--   rb_renew GATEWAY LEASE [ONLY]                 renews the lease, and ends up to 1,000 jobs of a gateway whose lease
 --       is over. -> how many jobs; call again until it is 0
 --   rb_leave GATEWAY                              the gateway leaves, unless sessions of it still hold jobs
 --   rb_cut CUT COUNT                              takes COUNT lines off the front of history, if CUT lines were taken
@@ -468,9 +468,10 @@ local function seats_of(gateway)
 end
 
 local function renew(keys, args)
-    local gateway, lease = unpack(args)
+    local gateway, lease, only_own = unpack(args)
     local now = microseconds()
     redis.call('ZADD', keys[7], whole(now + tonumber(lease)), gateway)
+    if only_own then return 0 end
     local late = redis.call('ZRANGEBYSCORE', keys[7], '-inf', whole(now), 'LIMIT', 0, 1)[1]
     if not late then return 0 end
     local queue, fault = open(keys, '')

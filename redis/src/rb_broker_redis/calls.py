@@ -139,7 +139,7 @@ class Calls:
     def _flush(self) -> None:
         self._is_scheduled = False
         link = self._link
-        if not link or len(self._flying) >= MOST_IN_FLIGHT:
+        if not link or link.is_closed or len(self._flying) >= MOST_IN_FLIGHT:
             return
         if self._again:
             batch = self._again.pop(0)

@@ -54,6 +54,11 @@ class Link(asyncio.Protocol):
             raise answer
         return answer
 
+    @property
+    def is_closed(self) -> bool:
+        """Whether nothing can be sent any more."""
+        return self._transport.is_closing()
+
     def close(self) -> None:
         """Closes the connection at once. `lost` follows."""
         self._transport.abort()

@@ -3,6 +3,7 @@ from __future__ import annotations
 
 import asyncio
 import logging
+import time
 from typing import Any, Awaitable, Callable, Optional, TypeVar
 from uuid import uuid4
 
@@ -38,6 +39,7 @@ class Upkeep:
         self._heard, self._may_have_missed, self._queue_is_gone = heard, may_have_missed, queue_is_gone
         self._keys = keys_of(queue)
         self._link: Optional[Link] = None
+        self._linked_at = time.monotonic()
         self._is_joined = False
         self._tasks: list[asyncio.Task[None]] = []
         calls.queue_is_gone = self._join_anew
@@ -123,7 +125,7 @@ class Upkeep:
 
     async def _keep_link(self, link: Link, lost: asyncio.Event) -> None:
         while True:
-            self._link = link
+            self._link, self._linked_at = link, time.monotonic()
             self._calls.use(link)
             self._may_have_missed()
             await lost.wait()
@@ -170,12 +172,16 @@ class Upkeep:
         while True:
             await asyncio.sleep(self._lease / 3e6)
             try:
-                while self._link and await self._call(self._link, "rb_renew", self._gateway, self._lease):
+                while self._link and await self._call(self._link, "rb_renew", self._gateway, self._lease, *self._only()):
                     LOG.warning("a gateway's lease is over: its sessions have ended, and their jobs come back")
             except OSError:
                 self._close_link()
             except ErrorAnswer as fault:
                 LOG.warning("the lease is not renewed: %s", fault)
+
+    def _only(self) -> list[str]:
+        """Lets the call renew its own lease only, while others may not have found the Redis again."""
+        return [] if time.monotonic() - self._linked_at > self._lease / 1e6 else ["own"]
 
     async def _watch(self) -> None:
         """Gives a Redis up that doesn't answer."""
