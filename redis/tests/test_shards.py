@@ -15,6 +15,14 @@ class RendezvousTest(unittest.TestCase):
         self.assertEqual(Rendezvous(["a", "b"]).shard_of(b"letter-17"), 1)
         self.assertEqual(Rendezvous(["b", "a"]).shard_of(b"letter-17"), 0)
 
+    def test_payloads_whose_sums_were_made_by_hand(self) -> None:
+        # By `printf 'NAME\nPAYLOAD' | sha256sum`: the names whose sums are the greatest for these payloads.
+        two = {"ann": "b", "bob": "a", "letter-17": "b", "letter-18": "a"}
+        three = {"letter-17": "b", "letter-18": "a", "letter-23": "a", "letter-25": "c", "": "c"}
+        for names, expected in ((["a", "b"], two), (["a", "b", "c"], three), (["c", "b", "a"], three)):
+            for payload, name in expected.items():
+                self.assertEqual(names[Rendezvous(names).shard_of(payload.encode())], name, payload)
+
     def test_each_shard_has_its_share(self) -> None:
         shards = Rendezvous(shard_names("jobs", 4))
         counts = [0] * 4

@@ -16,7 +16,6 @@ from .errors import (
     NotOfferedError, NumberRefusedError, OutOfMemoryError, PayloadRefusedError, RangeRefusedError, RefusedError,
     StoppedError, SyntaxRefusedError, UnknownReplyError,
 )
-from .fleet import Fleet, FleetProducer, FleetWorker, Server
 from .handlers import AsyncHandler, Handler, OnDead
 from .job import Again, Dead, Job, Offered, Verdict
 from .limits import GREATEST_NUMBER, LONGEST_PAYLOAD, MOST_HELD
@@ -31,10 +30,9 @@ __version__ = "2.0.0"
 
 __all__ = [
     "Again", "AsyncBroker", "AsyncHandler", "AsyncHeldJob", "AsyncProducer", "AsyncWorker", "Broker", "BrokerError",
-    "Dead", "DeadLetters", "DisconnectedError", "Duration", "Fleet", "FleetProducer", "FleetWorker", "FullError",
-    "GREATEST_NUMBER", "Handler", "HeldJob", "HeldTooManyError", "InDoubtError", "Job", "LONGEST_PAYLOAD",
-    "LineRefusedError", "MOST_HELD", "NotHeldError", "NotOfferedError", "NumberRefusedError", "Offered", "OnDead",
-    "OutOfMemoryError", "Pauses", "PayloadRefusedError", "Producer", "RangeRefusedError", "RecordTarget",
-    "RefusedError", "Report", "Request", "Server", "StoppedError", "SyntaxRefusedError", "UnknownReplyError",
-    "Verdict", "Worker", "__version__",
+    "Dead", "DeadLetters", "DisconnectedError", "Duration", "FullError", "GREATEST_NUMBER", "Handler", "HeldJob",
+    "HeldTooManyError", "InDoubtError", "Job", "LONGEST_PAYLOAD", "LineRefusedError", "MOST_HELD", "NotHeldError",
+    "NotOfferedError", "NumberRefusedError", "Offered", "OnDead", "OutOfMemoryError", "Pauses",
+    "PayloadRefusedError", "Producer", "RangeRefusedError", "RecordTarget", "RefusedError", "Report", "Request",
+    "StoppedError", "SyntaxRefusedError", "UnknownReplyError", "Verdict", "Worker", "__version__",
 ]
