@@ -29,8 +29,8 @@ public final class Letters {
         int port = Integer.parseInt(words[0]);
         try (RemoteDelayQueue queue = RemoteDelayQueue.builder(port, Acknowledge.BY_CALL)
                 .patience(Duration.ofSeconds(3)).build()) {
-            queue.offer(new Job(0, TimeUnit.SECONDS, "to-ann"));
-            queue.offer(new Job(1, TimeUnit.SECONDS, "to-bob"));
+            queue.offer(new Job("to-ann", 0, TimeUnit.SECONDS));
+            queue.offer(new Job("to-bob", 1, TimeUnit.SECONDS));
             int delivered = 0;
             while (delivered < 2) {
                 Job job = queue.take();

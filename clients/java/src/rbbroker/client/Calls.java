@@ -8,6 +8,7 @@ import java.util.ArrayList;
 import java.util.Collection;
 import java.util.List;
 import java.util.function.Function;
+import java.util.function.Supplier;
 
 /**
  * Makes the calls of a queue: on some session, again if that is safe, and with the jobs that they give acknowledged as
@@ -21,8 +22,12 @@ final class Calls {
     /** The least time from one wait to the next, at a server that gives waits up. */
     private static final long LEAST_WAIT = MILLISECONDS.toNanos(20);
 
+    /** What is offered and removed at once, to be told the server's moment, and a delay of 146 years for that. */
+    private static final String PROBE = "rbbroker.client-asks-for-the-moment";
+    private static final long LONGEST_DELAY = Long.MAX_VALUE / 2;
+
     private final Options options;
-    private final ServerClock clock = new ServerClock();
+    private final Runs runs;
     private final SessionPool pool;
 
     /** What one wait brought: a job, or nothing; and whether it lasted to the end of the time that is left. */
@@ -33,7 +38,8 @@ final class Calls {
 
     Calls(Options options) {
         this.options = options;
-        pool = new SessionPool(options, clock);
+        runs = new Runs(options.address());
+        pool = new SessionPool(options, runs);
     }
 
     /** Offers a job, which has an id and an expiry then. */
@@ -43,9 +49,9 @@ final class Calls {
             long delay = deadline - System.nanoTime();
             // A job that is overdue keeps its place before those that are less so. That takes the server's clock, as
             // this session told it: by another server's clock the job might come late.
-            boolean isPlaced = delay < 0 && session.hasToldMoment;
-            job.isOffered(isPlaced ? session.ask(Request.offerAt(clock.momentOf(deadline), job.payload()))
-                : offerIn(session, Math.max(0, delay), job), clock);
+            boolean isPlaced = delay < 0 && session.contact().isTold();
+            job.isOffered(isPlaced ? session.ask(Request.offerAt(runs.clock().momentOf(deadline), job.payload()))
+                : offerIn(session, Math.max(0, delay), job.payload()), session.contact());
             return null;
         });
     }
@@ -62,8 +68,32 @@ final class Calls {
 
     /** The head of the queue, or null if the queue is empty. */
     Job peek() {
-        Element element = look(Request.peek());
-        return element == null ? null : new Job(element, clock, false);
+        return make(SessionPool.Use.CALL, true, session -> {
+            Element element = session.look(Request.peek());
+            return element == null ? null : new Job(element, session.contact(), false);
+        });
+    }
+
+    /** Takes the job of this id out of the queue, if a server has it that surely continues the run of that contact. */
+    boolean remove(long id, Contact contact) {
+        return make(() -> pool.lend(contact), SessionPool.Use.CALL, false,
+            session -> hasRunOf(contact, session) && session.ask(Request.remove(id)));
+    }
+
+    private boolean hasRunOf(Contact contact, Session session) {
+        if (session.contact() == contact) {
+            return true;
+        }
+        if (!session.contact().isTold()) {
+            Replies.Placed probe = offerIn(session, LONGEST_DELAY, PROBE);
+            session.ask(Request.remove(probe.id()));
+        }
+        boolean isKnown = runs.isKnownToContinue(session.contact(), contact);
+        if (!isKnown) {
+            LOG.log(Level.WARNING, "a job is not removed: the server at {0} may have lost the run that has it",
+                options.address());
+        }
+        return isKnown;
     }
 
     /** Takes a job that has expired, or gives null if there is none. */
@@ -92,9 +122,12 @@ final class Calls {
                     return unlessClosed(waited.job);
                 }
                 tries.succeed();
-            } catch (UnknownReplyException fault) {
-                throw fault;
-            } catch (FullException | NoMemoryException | ServerLostException fault) {
+            } catch (FullException | NoMemoryException fault) {
+                tries.pauseAfter(fault);
+            } catch (ServerLostException fault) {
+                if (!fault.mayPass()) {
+                    throw fault;
+                }
                 tries.pauseAfter(fault);
             }
         }
@@ -122,10 +155,15 @@ final class Calls {
     }
 
     private <T> T make(SessionPool.Use use, boolean mayRepeat, Function<Session, T> exchange) {
+        return make(() -> pool.lend(use), use, mayRepeat, exchange);
+    }
+
+    private <T> T make(Supplier<Session> lender, SessionPool.Use use, boolean mayRepeat,
+            Function<Session, T> exchange) {
         Tries tries = new Tries(options.patience());
         while (true) {
             try {
-                Session session = pool.lend(use);
+                Session session = lender.get();
                 try {
                     return exchange.apply(session);
                 } finally {
@@ -133,10 +171,8 @@ final class Calls {
                 }
             } catch (FullException | NoMemoryException fault) {
                 tries.pauseUnlessInterrupted(fault);
-            } catch (UnknownReplyException fault) {
-                throw fault; // what answers wrongly will do so again
             } catch (ServerLostException fault) {
-                if (fault.isInDoubt() && !mayRepeat) {
+                if (!fault.mayPass() || fault.isInDoubt() && !mayRepeat) {
                     throw fault;
                 }
                 tries.pauseUnlessInterrupted(fault);
@@ -144,11 +180,12 @@ final class Calls {
         }
     }
 
-    private Replies.Placed offerIn(Session session, long delay, Job job) {
+    /** Makes an offer, whose reply tells the server's moment. */
+    private Replies.Placed offerIn(Session session, long delay, String payload) {
         long sent = System.nanoTime();
-        Replies.Placed placed = session.ask(Request.offer(delay, job.payload()));
-        clock.learn(placed.expiry() - delay, sent, System.nanoTime());
-        session.hasToldMoment = true;
+        Replies.Placed placed = session.ask(Request.offer(delay, payload));
+        Contact.Told told = new Contact.Told(placed.id(), placed.expiry() - delay);
+        runs.tell(session.contact(), told, sent, System.nanoTime());
         return placed;
     }
 
@@ -183,8 +220,7 @@ final class Calls {
 
     /** The job that a session was given. */
     private Job taken(Session session, Element element) {
-        clock.hasReached(element.expiry(), System.nanoTime());
-        Job job = new Job(element, clock, true);
+        Job job = given(session, element);
         if (options.acknowledge() == Acknowledge.BY_CALL) {
             return job.heldBy(new HeldJob(pool, session, element.id()));
         }
@@ -212,10 +248,14 @@ final class Calls {
     }
 
     private Job drained(Session session, Element element) {
-        clock.hasReached(element.expiry(), System.nanoTime());
         boolean isHeld = options.acknowledge() == Acknowledge.BY_CALL;
-        return new Job(element, clock, true)
+        return given(session, element)
             .heldBy(isHeld ? new HeldJob(pool, session, element.id()) : Holding.ACKNOWLEDGED);
+    }
+
+    private Job given(Session session, Element element) {
+        runs.clock().hasReached(element.expiry(), System.nanoTime());
+        return new Job(element, session.contact(), true);
     }
 
     /** Acknowledges the drained jobs that the collection has, if that is due, and fails the others: they come back. */

@@ -3,16 +3,15 @@ package rbbroker.client;
 import java.io.Closeable;
 import java.io.EOFException;
 import java.io.IOException;
-import java.net.ConnectException;
 import java.net.InetSocketAddress;
 import java.net.ProtocolException;
 import java.net.SocketTimeoutException;
-import java.net.StandardSocketOptions;
 import java.net.UnknownHostException;
 import java.nio.ByteBuffer;
+import java.nio.channels.ReadableByteChannel;
+import java.nio.channels.SelectableChannel;
 import java.nio.channels.SelectionKey;
 import java.nio.channels.Selector;
-import java.nio.channels.SocketChannel;
 import java.nio.charset.StandardCharsets;
 
 /**
@@ -21,66 +20,35 @@ import java.nio.charset.StandardCharsets;
  * <p>An interrupt breaks no wait off here and closes nothing, so that no reply is lost: what waits goes on, and the
  * thread is interrupted afterwards. Deadlines are those of {@link System#nanoTime}.
  */
-final class Connection implements Closeable {
-    private final SocketChannel channel;
+abstract class Connection implements Closeable {
+    private final ReadableByteChannel source;
     private final Selector selector;
     private final SelectionKey key;
     /** What was received and not read yet, from the buffer's position to its limit. */
     private final ByteBuffer received = ByteBuffer.allocate(8_192).limit(0);
 
-    private Connection(SocketChannel channel, Selector selector) throws IOException {
-        this.channel = channel;
-        this.selector = selector;
-        channel.configureBlocking(false);
-        key = channel.register(selector, SelectionKey.OP_CONNECT);
+    /** A connection over which bytes come from this channel. */
+    <C extends SelectableChannel & ReadableByteChannel> Connection(C source) throws IOException {
+        this.source = source;
+        source.configureBlocking(false);
+        selector = Selector.open();
+        key = source.register(selector, 0);
     }
 
     /** Begins to connect. */
-    static Connection to(String host, int port) throws IOException {
-        InetSocketAddress address = new InetSocketAddress(host, port);
+    static Connection to(Options options) throws IOException {
+        InetSocketAddress address = new InetSocketAddress(options.host(), options.port());
         if (address.isUnresolved()) {
-            throw new UnknownHostException(host);
+            throw new UnknownHostException(options.host());
         }
-        SocketChannel channel = SocketChannel.open();
-        Selector selector = null;
-        boolean isBegun = false;
-        try {
-            selector = Selector.open();
-            Connection connection = new Connection(channel, selector);
-            channel.connect(address);
-            isBegun = true;
-            return connection;
-        } finally {
-            if (!isBegun) {
-                close(channel, selector);
-            }
-        }
+        return options.tls() == null ? PlainConnection.to(address) : TlsConnection.to(address, options);
     }
 
     /** Waits until it is connected. Gives whether it is. */
-    boolean awaitConnected(long nanos) throws IOException {
-        if (!channel.isConnected() && !await(SelectionKey.OP_CONNECT, System.nanoTime() + nanos)) {
-            return false;
-        }
-        channel.finishConnect();
-        if (channel.getLocalAddress().equals(channel.getRemoteAddress())) {
-            // Nobody listens, and the system gave this side the very port that it looks for: it found itself. To stay
-            // connected would keep the port from the next server.
-            throw new ConnectException("Connection refused");
-        }
-        channel.setOption(StandardSocketOptions.TCP_NODELAY, true);
-        return true;
-    }
+    abstract boolean awaitConnected(long nanos) throws IOException;
 
     /** Sends all of a text, which is small beside the buffers of a connection. */
-    void send(String text, long deadline) throws IOException {
-        ByteBuffer rest = StandardCharsets.US_ASCII.encode(text);
-        while (rest.hasRemaining()) {
-            if (channel.write(rest) == 0 && !await(SelectionKey.OP_WRITE, deadline)) {
-                throw new SocketTimeoutException("the server reads no more");
-            }
-        }
-    }
+    abstract void send(String text, long deadline) throws IOException;
 
     /** Waits until something is received. Gives whether anything is. */
     boolean awaitInput(long nanos) throws IOException {
@@ -112,16 +80,23 @@ final class Connection implements Closeable {
 
     @Override
     public void close() {
-        close(channel, selector);
+        closeAll(source, selector);
     }
 
-    /** Closes both, of which the selector may be null. */
-    private static void close(SocketChannel channel, Selector selector) {
-        try (channel; selector) {
-            return;
-        } catch (IOException ignored) {
-            // there is nothing left that could be lost
+    /** Closes these, of which each may be null. */
+    static void closeAll(Closeable... open) {
+        for (Closeable it : open) {
+            try (it) {
+                continue;
+            } catch (IOException ignored) {
+                // there is nothing left that could be lost
+            }
         }
+    }
+
+    /** Why nothing more comes. */
+    IOException end() {
+        return new EOFException("the server closed the connection");
     }
 
     /** A whole line of what was received, or null if there is none. */
@@ -149,18 +124,18 @@ final class Connection implements Closeable {
         received.compact();
         int count;
         try {
-            count = received.hasRemaining() ? channel.read(received) : 0;
+            count = received.hasRemaining() ? source.read(received) : 0;
         } finally {
             received.flip();
         }
         if (count < 0) {
-            throw new EOFException("the server closed the connection");
+            throw end();
         }
         return count > 0;
     }
 
     /** Waits for the channel. Gives whether it is ready, or the deadline came first. */
-    private boolean await(int operation, long deadline) throws IOException {
+    final boolean await(int operation, long deadline) throws IOException {
         boolean wasInterrupted = false;
         key.interestOps(operation);
         try {

@@ -9,7 +9,7 @@ import java.util.concurrent.TimeUnit;
 /**
  * An element of a {@link RemoteDelayQueue}: a payload and the delay after which it may be taken.
  *
- * <p>A caller makes a job and offers it. From then on the job has the {@link #id} and the {@link #expiry} that the
+ * <p>A caller makes a job and offers it. From then on the job has the {@link #id} and the {@link #expiryNanos expiry} that the
  * server gave it. What a queue gives back is another object, since a payload is all that travels: it is
  * {@linkplain #equals equal} to the one that was offered, not the same. If the queue was told to
  * {@linkplain Acknowledge#BY_CALL acknowledge by call}, a job that was taken has to be answered, by {@link #done} or
@@ -28,9 +28,9 @@ public final class Job implements Delayed {
     private volatile Holding holding;
 
     /** Where a server's queue has a job, or had it before it was given. */
-    private record Place(ServerClock clock, long id, long expiry, int attempt, boolean hasExpired) {
+    private record Place(Contact contact, long id, long expiry, int attempt, boolean hasExpired) {
         long delay() {
-            long delay = clock.until(expiry);
+            long delay = contact.clock().until(expiry);
             return hasExpired ? Math.min(0, delay) : delay;
         }
     }
@@ -38,24 +38,24 @@ public final class Job implements Delayed {
     /**
      * Makes a job that may be taken once a delay has passed, counted from now.
      *
+     * @param payload 1 to 64 characters of printable ASCII, none of which is a space
      * @param delay how long; zero or less means at once
      * @param unit the unit of the delay
-     * @param payload 1 to 64 characters of printable ASCII, none of which is a space
      * @throws IllegalArgumentException if the payload is anything else
      */
-    public Job(long delay, TimeUnit unit, String payload) {
+    public Job(String payload, long delay, TimeUnit unit) {
         this(payload, System.nanoTime() + Math.max(LONGEST_AGO, unit.toNanos(delay)));
     }
 
     /**
      * Makes a job that may be taken once a delay has passed, counted from now.
      *
-     * @param delay how long; zero or less means at once. One of more than 292 years counts as 292 years
      * @param payload 1 to 64 characters of printable ASCII, none of which is a space
+     * @param delay how long; zero or less means at once. One of more than 292 years counts as 292 years
      * @throws IllegalArgumentException if the payload is anything else
      */
-    public Job(Duration delay, String payload) {
-        this(NANOSECONDS.convert(delay), NANOSECONDS, payload);
+    public Job(String payload, Duration delay) {
+        this(payload, NANOSECONDS.convert(delay), NANOSECONDS);
     }
 
     /** Makes a job that expires at this time of {@link System#nanoTime}. */
@@ -68,10 +68,10 @@ public final class Job implements Delayed {
     }
 
     /** Makes a job that a server's queue has shown, or has given. */
-    Job(Element element, ServerClock clock, boolean hasExpired) {
+    Job(Element element, Contact contact, boolean hasExpired) {
         payload = element.payload();
         deadline = 0;
-        place = new Place(clock, element.id(), element.expiry(), element.attempt(), hasExpired);
+        place = new Place(contact, element.id(), element.expiry(), element.attempt(), hasExpired);
     }
 
     /**
@@ -95,12 +95,12 @@ public final class Job implements Delayed {
     }
 
     /**
-     * When the job expires by the server's clock, which counts nanoseconds from 0 on.
+     * When the job expires, in nanoseconds of the server's clock, which counts from 0 on.
      *
      * @return an unsigned number of 64 bits, as {@link Long#toUnsignedString(long)} reads it
      * @throws IllegalStateException if the job has not been offered
      */
-    public long expiry() {
+    public long expiryNanos() {
         return offeredPlace().expiry;
     }
 
@@ -121,7 +121,7 @@ public final class Job implements Delayed {
      * server, unless the server has been replaced since the last offer.
      *
      * <p>A queue that has neither offered nor taken a job knows no clock yet. The delay of a job that it shows is then
-     * all of its {@link #expiry}, which is the most that it can be. A delay of more than 292 years, which other clients
+     * all of its {@link #expiryNanos}, which is the most that it can be. A delay of more than 292 years, which other clients
      * can offer, is {@link Long#MAX_VALUE} nanoseconds.
      */
     @Override
@@ -144,7 +144,7 @@ public final class Job implements Delayed {
             long now = System.nanoTime();
             return Long.compare(deadline - now, that.deadline - now);
         }
-        if (here != null && there != null && here.clock == there.clock) {
+        if (here != null && there != null && here.contact.clock() == there.contact.clock()) {
             return Long.compareUnsigned(here.expiry, there.expiry);
         }
         return Long.compare(delay(), that.delay());
@@ -207,8 +207,8 @@ public final class Job implements Delayed {
     }
 
     /** A server's queue has accepted it. */
-    void isOffered(Replies.Placed placed, ServerClock clock) {
-        place = new Place(clock, placed.id(), placed.expiry(), 1, false);
+    void isOffered(Replies.Placed placed, Contact contact) {
+        place = new Place(contact, placed.id(), placed.expiry(), 1, false);
     }
 
     /** It was taken, and this answers it. */
@@ -217,10 +217,10 @@ public final class Job implements Delayed {
         return this;
     }
 
-    /** The id at the server, or null if it was not offered. */
-    Long idOrNull() {
+    /** Takes it out of the queue of these calls. Gives whether it was there. */
+    boolean remove(Calls calls) {
         Place here = place;
-        return here == null ? null : here.id;
+        return here != null && calls.remove(here.id, here.contact);
     }
 
     /** When it expires by {@link System#nanoTime}. */

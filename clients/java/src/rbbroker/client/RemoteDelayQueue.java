@@ -12,6 +12,7 @@ import java.util.function.Consumer;
 import java.util.function.IntFunction;
 import java.util.function.Predicate;
 import java.util.stream.Stream;
+import javax.net.ssl.SSLSocketFactory;
 
 /**
  * The queue of an {@code rb_broker serve}, as a {@link BlockingQueue} that behaves as
@@ -82,6 +83,7 @@ public final class RemoteDelayQueue extends AbstractQueue<Job> implements Blocki
         private final int port;
         private final Acknowledge acknowledge;
         private String host = "127.0.0.1";
+        private SSLSocketFactory tls;
         private int waiters = 4;
         private Duration longestWait = Duration.ofMillis(250);
         private Duration longestSession = Duration.ofSeconds(30);
@@ -103,6 +105,20 @@ public final class RemoteDelayQueue extends AbstractQueue<Job> implements Blocki
          */
         public Builder host(String name) {
             host = Objects.requireNonNull(name);
+            return this;
+        }
+
+        /**
+         * Connects by TLS, for a server behind stunnel or a proxy like it. The other side's certificate must be
+         * for the {@linkplain #host host}, and of an authority that the factory trusts. A certificate that one side
+         * does not accept is a {@link TlsException}.
+         *
+         * @param factory what makes the connections, such as that of an {@link javax.net.ssl.SSLContext}; it has this
+         *        side's certificate if the other side wants one
+         * @return this builder
+         */
+        public Builder tls(SSLSocketFactory factory) {
+            tls = Objects.requireNonNull(factory);
             return this;
         }
 
@@ -168,7 +184,7 @@ public final class RemoteDelayQueue extends AbstractQueue<Job> implements Blocki
         }
 
         private Options options() {
-            return new Options(host, port, acknowledge, waiters, nanos(longestWait), nanos(longestSession),
+            return new Options(host, port, tls, acknowledge, waiters, nanos(longestWait), nanos(longestSession),
                 nanos(patience));
         }
 
@@ -317,8 +333,7 @@ public final class RemoteDelayQueue extends AbstractQueue<Job> implements Blocki
      */
     @Override
     public boolean remove(Object job) {
-        Long id = job instanceof Job it ? it.idOrNull() : null;
-        return id != null && calls.change(Request.remove(id));
+        return job instanceof Job it && it.remove(calls);
     }
 
     /**

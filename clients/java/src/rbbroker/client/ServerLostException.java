@@ -1,5 +1,7 @@
 package rbbroker.client;
 
+import java.io.IOException;
+
 /**
  * There is no server, it serves nobody else at the moment, or it was lost before it answered.
  *
@@ -23,6 +25,17 @@ public class ServerLostException extends BrokerException {
     ServerLostException(String text, boolean isInDoubt, Throwable cause) {
         super(text + (isInDoubt ? "; the call is in doubt" : ""), cause);
         this.isInDoubt = isInDoubt;
+    }
+
+    /** The fault of a connection. */
+    static ServerLostException of(String text, boolean isInDoubt, IOException cause) {
+        return TlsException.isOf(cause) ? new TlsException(text, isInDoubt, cause)
+            : new ServerLostException(text, isInDoubt, cause);
+    }
+
+    /** Whether the same call may succeed later. */
+    boolean mayPass() {
+        return true;
     }
 
     /**

@@ -1,9 +1,11 @@
 package rbbroker.client;
 
 import java.io.IOException;
+import java.lang.System.Logger.Level;
 import java.net.ProtocolException;
 import java.net.SocketTimeoutException;
 import java.util.List;
+import java.util.Locale;
 import java.util.Set;
 import java.util.concurrent.ConcurrentHashMap;
 import java.util.concurrent.TimeUnit;
@@ -16,17 +18,26 @@ import java.util.function.BooleanSupplier;
  * this session; before that nothing is asked, and so nothing is in doubt.
  */
 final class Session {
+    private static final System.Logger LOG = System.getLogger("rbbroker.client");
     /** How long a thread that may be interrupted waits at a time before it looks. */
     private static final long LOOK = TimeUnit.MILLISECONDS.toNanos(50);
     /** How long the reply to {@code QUIT} is waited for, whatever the patience is. */
     private static final long FAREWELL = TimeUnit.SECONDS.toNanos(2);
 
+    /** How long a session lasts at a server that has no worker left: then others wait for one. */
+    private static final long LONGEST_TURN = TimeUnit.SECONDS.toNanos(3);
+    /** How long a session waits for a worker if there is none left. A {@link #LONG_WAIT} is worth a line in the log. */
+    private static final long WAIT = TimeUnit.MILLISECONDS.toNanos(250);
+    private static final long LONG_WAIT = TimeUnit.SECONDS.toNanos(2);
+    /** How long a session that has lasted long enough takes no jobs, so that it ends with those that it holds. */
+    private static final long LAST_JOBS = TimeUnit.SECONDS.toNanos(5);
+
     private final Options options;
     private final Connection connection;
+    private final Contact contact;
     private final long begun = System.nanoTime();
+    private volatile long longest;
     private final Set<Long> held = ConcurrentHashMap.newKeySet();
-    /** Whether the reply to an offer on this session told the moment. */
-    boolean hasToldMoment;
     private volatile boolean isFull;
     private volatile boolean isClosed;
 
@@ -38,29 +49,35 @@ final class Session {
     /** The thread that last took jobs on it. */
     long taker;
 
-    private Session(Options options, Connection connection) {
+    /** The session over a connection on which it was served after this time. */
+    private Session(Options options, Connection connection, Contact contact, long waited) {
         this.options = options;
         this.connection = connection;
+        this.contact = contact;
+        longest = options.longestSession();
+        if (waited >= WAIT) {
+            makeWay();
+        }
     }
 
     /**
      * Connects, and waits until the session is served, or is no longer wanted. If it is interrupted then, nothing has
      * been asked.
      */
-    static Session open(Options options, boolean mayInterrupt, BooleanSupplier isWanted) throws InterruptedException {
+    static Session open(Options options, Runs runs, boolean mayInterrupt, BooleanSupplier isWanted)
+            throws InterruptedException {
         Connection connection = null;
         boolean isServed = false;
         try {
-            connection = Connection.to(options.host(), options.port());
-            Session session = new Session(options, connection);
-            session.awaitService(mayInterrupt, isWanted);
+            connection = Connection.to(options);
+            long waited = awaitService(connection, options, mayInterrupt, isWanted);
             isServed = true;
-            return session;
+            return new Session(options, connection, runs.begin(), waited);
         } catch (ProtocolException fault) {
             String text = options.address() + " is no broker: it sent " + fault.getMessage();
             throw new UnknownReplyException(text, false, fault);
         } catch (IOException fault) {
-            throw new ServerLostException("no server at " + options.address() + ": " + textOf(fault), false, fault);
+            throw ServerLostException.of("no server at " + options.address() + ": " + textOf(fault), false, fault);
         } finally {
             if (connection != null && !isServed) {
                 connection.close();
@@ -110,9 +127,11 @@ final class Session {
     void leave() {
         try {
             if (!isClosed) {
-                long deadline = System.nanoTime() + Math.min(FAREWELL, options.patience());
+                long sent = System.nanoTime();
+                long deadline = sent + Math.min(FAREWELL, options.patience());
                 connection.send("QUIT\n", deadline);
                 Request.quit().reader().read(() -> connection.receiveLine(deadline));
+                contact.answered(sent);
             }
         } catch (IOException | RefusedException ignored) {
             // it has ended in another way
@@ -140,9 +159,33 @@ final class Session {
         return isClosed;
     }
 
+    /** How long it is to last. */
+    long longest() {
+        return longest;
+    }
+
+    /** It lasts no longer than a turn, since others wait for a worker of the server. */
+    void makeWay() {
+        longest = Math.min(longest, LONGEST_TURN);
+    }
+
     /** Whether it is to be left as soon as it holds no job. */
     boolean isToBeLeft() {
-        return isFull || System.nanoTime() - begun >= options.longestSession();
+        return isFull || System.nanoTime() - begun >= longest;
+    }
+
+    /**
+     * Whether it is to be left, and ends with the jobs that it holds. If they keep it for long, it takes others again,
+     * and then none again.
+     */
+    boolean isLeaving() {
+        long over = System.nanoTime() - begun - longest;
+        return over >= 0 && !held.isEmpty() && over / LAST_JOBS % 2 == 0;
+    }
+
+    /** What it shows of its server. */
+    Contact contact() {
+        return contact;
     }
 
     /** The ids of the jobs that it holds. Other threads may look at them. */
@@ -150,17 +193,30 @@ final class Session {
         return held;
     }
 
-    private void awaitService(boolean mayInterrupt, BooleanSupplier isWanted) throws IOException, InterruptedException {
-        long deadline = System.nanoTime() + options.patience();
+    /** Waits until the server has answered a request that costs nothing. Gives how long that took. */
+    private static long awaitService(Connection connection, Options options, boolean mayInterrupt,
+            BooleanSupplier isWanted) throws IOException, InterruptedException {
+        long begun = System.nanoTime();
+        long deadline = begun + options.patience();
         Request<Void> greeting = Request.greeting();
         while (!connection.awaitConnected(LOOK)) {
             goOn(deadline, mayInterrupt, isWanted, "it does not accept the connection");
         }
         connection.send(greeting.line() + "\n", deadline);
         while (!connection.awaitInput(LOOK)) {
-            goOn(deadline, mayInterrupt, isWanted, "all its workers are busy");
+            goOn(deadline, mayInterrupt, isWanted, "all its workers are busy, since " + secondsSince(begun));
         }
         greeting.reader().read(() -> connection.receiveLine(deadline));
+        long waited = System.nanoTime() - begun;
+        if (waited >= LONG_WAIT) {
+            LOG.log(Level.WARNING, "waited {0} for a worker of the server at {1}", secondsSince(begun),
+                options.address());
+        }
+        return waited;
+    }
+
+    private static String secondsSince(long begun) {
+        return String.format(Locale.ROOT, "%.1f s", (System.nanoTime() - begun) / 1e9);
     }
 
     private static void goOn(long deadline, boolean mayInterrupt, BooleanSupplier isWanted, String why)
@@ -174,7 +230,8 @@ final class Session {
     }
 
     private <T> T ask(Request<T> request, long wait, boolean mayChange) {
-        long deadline = System.nanoTime() + options.patience() + wait;
+        long sent = System.nanoTime();
+        long deadline = sent + options.patience() + wait;
         boolean isAnswered = false;
         try {
             connection.send(request.line() + "\n", deadline);
@@ -190,9 +247,11 @@ final class Session {
             throw new UnknownReplyException(text, mayChange, fault);
         } catch (IOException fault) {
             String text = "the server at " + options.address() + " was lost after " + request.line();
-            throw new ServerLostException(text + ": " + textOf(fault), mayChange, fault);
+            throw ServerLostException.of(text + ": " + textOf(fault), mayChange, fault);
         } finally {
-            if (!isAnswered) {
+            if (isAnswered) {
+                contact.answered(sent);
+            } else {
                 close(); // which line answers which request is no longer known
             }
         }

@@ -1,5 +1,6 @@
 package rbbroker.client;
 
+import java.lang.System.Logger.Level;
 import java.util.ArrayList;
 import java.util.Comparator;
 import java.util.List;
@@ -33,8 +34,12 @@ final class SessionPool {
         WAIT
     }
 
+    private static final System.Logger LOG = System.getLogger("rbbroker.client");
+    /** How long a session that is to end may be kept by jobs before that is worth a line in the log. */
+    private static final long KEPT_LONG = TimeUnit.MINUTES.toNanos(1);
+
     private final Options options;
-    private final ServerClock clock;
+    private final Runs runs;
     private final ReentrantLock lock = new ReentrantLock();
     private final Condition changed = lock.newCondition();
     private final List<Session> sessions = new ArrayList<>();
@@ -49,9 +54,9 @@ final class SessionPool {
     private long crowdedSince;
     private boolean isClosed;
 
-    SessionPool(Options options, ServerClock clock) {
+    SessionPool(Options options, Runs runs) {
         this.options = options;
-        this.clock = clock;
+        this.runs = runs;
         timer = new ScheduledThreadPoolExecutor(1, work -> {
             Thread thread = new Thread(work, "rbbroker-sessions-" + options.port());
             thread.setDaemon(true);
@@ -88,15 +93,30 @@ final class SessionPool {
         return find(Use.WAIT, nanos, true);
     }
 
+    /** Lends the session that shows its server so, if it goes on, or otherwise another one, for a call. */
+    Session lend(Contact contact) {
+        lock.lock();
+        try {
+            Session session = sessions.stream().filter(it -> it.contact() == contact).findFirst().orElse(null);
+            if (session != null) {
+                await(session);
+                if (session.isLost()) {
+                    forgetLost(session);
+                } else if (!isClosed) {
+                    return lent(session, Use.CALL);
+                }
+            }
+        } finally {
+            lock.unlock();
+        }
+        return lend(Use.CALL);
+    }
+
     /** Lends this session, to answer a job that it holds. */
     void lendToAnswer(Session session, long id) {
         lock.lock();
         try {
-            session.answering++;
-            while (session.isLent && !session.isClosed()) {
-                changed.awaitUninterruptibly();
-            }
-            session.answering--;
+            await(session);
             if (!session.held().contains(id)) {
                 changed.signalAll();
                 throw new NotHeldException("the job has been answered");
@@ -110,6 +130,15 @@ final class SessionPool {
         } finally {
             lock.unlock();
         }
+    }
+
+    /** Waits until nobody uses this session. Who waits for it comes before others. */
+    private void await(Session session) {
+        session.answering++;
+        while (session.isLent && !session.isClosed()) {
+            changed.awaitUninterruptibly();
+        }
+        session.answering--;
     }
 
     /** The borrower needs the session no longer. If it is to be left, this leaves it. */
@@ -238,7 +267,7 @@ final class SessionPool {
         }
         // A thread takes its jobs on one session if it can: so none of them waits for another thread to be answered.
         long thread = Thread.currentThread().getId();
-        Session session = first(it -> it.taker == thread && it.held().size() < Limits.MOST_HELD);
+        Session session = first(it -> it.taker == thread && it.held().size() < Limits.MOST_HELD && !it.isLeaving());
         session = session == null ? first(it -> it.held().isEmpty()) : session;
         return session != null || mayOpen(use) ? session : fewestHeld();
     }
@@ -249,15 +278,18 @@ final class SessionPool {
 
     private Session fewestHeld() {
         Comparator<Session> byHeld = Comparator.comparingInt(it -> it.held().size());
-        return sessions.stream().filter(SessionPool::isFree).min(byHeld).orElse(null);
+        return sessions.stream().filter(it -> isFree(it) && !it.isLeaving()).min(byHeld).orElse(null);
     }
 
     private static boolean isFree(Session session) {
         return !session.isLent && session.answering == 0;
     }
 
+    /** Whether there is a place for a further session. One that is leaving keeps no place, if that is not many. */
     private boolean mayOpen(Use use) {
-        return sessions.size() + opening < options.sessions() && (use != Use.WAIT || waiting < options.waiters())
+        int leaving = (int) sessions.stream().filter(Session::isLeaving).count();
+        int staying = sessions.size() - Math.min(leaving, options.sessions());
+        return staying + opening < options.sessions() && (use != Use.WAIT || waiting < options.waiters())
             && (sessions.isEmpty() || !isCrowded());
     }
 
@@ -271,12 +303,10 @@ final class SessionPool {
         long begun = System.nanoTime();
         Session session = null;
         try {
-            session = Session.open(options, mayInterrupt, () -> isWanted(begun));
+            session = Session.open(options, runs, mayInterrupt, () -> isWanted(begun));
             return session;
-        } catch (UnknownReplyException fault) {
-            throw fault;
         } catch (ServerLostException fault) {
-            if (!makesDo()) {
+            if (!fault.mayPass() || !makesDo()) {
                 throw fault;
             }
             return null;
@@ -304,6 +334,10 @@ final class SessionPool {
             }
             hasBeenCrowded = true;
             crowdedSince = System.nanoTime();
+            sessions.forEach(it -> {
+                it.makeWay();
+                watch(it);
+            });
             return true;
         } finally {
             lock.unlock();
@@ -319,8 +353,9 @@ final class SessionPool {
             if (session != null) {
                 sessions.add(lent(session, use));
                 watch(session);
+                timer.schedule(() -> warnIfKept(session), session.longest() + KEPT_LONG, TimeUnit.NANOSECONDS);
             } else if (sessions.isEmpty()) {
-                clock.forget();
+                runs.clock().forget();
             }
             changed.signalAll();
         } finally {
@@ -331,7 +366,7 @@ final class SessionPool {
     /** Has the timer look after a session when it has lasted long enough. */
     private void watch(Session session) {
         if (!isClosed) {
-            timer.schedule(() -> leaveIfIdle(session), options.longestSession(), TimeUnit.NANOSECONDS);
+            timer.schedule(() -> leaveIfIdle(session), session.longest(), TimeUnit.NANOSECONDS);
         }
     }
 
@@ -348,10 +383,17 @@ final class SessionPool {
         giveBack(session);
     }
 
+    private static void warnIfKept(Session session) {
+        if (!session.isClosed() && !session.held().isEmpty()) {
+            LOG.log(Level.WARNING, "a session should have ended a minute ago, and jobs that are not answered keep it: {0}",
+                session.held());
+        }
+    }
+
     /** A session has ended that was not left. So its server may have ended, and the next one has another clock. */
     private void forgetLost(Session session) {
         sessions.remove(session);
-        clock.forget();
+        runs.clock().forget();
         changed.signalAll();
     }
 

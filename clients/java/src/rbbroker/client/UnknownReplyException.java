@@ -9,4 +9,9 @@ public final class UnknownReplyException extends ServerLostException {
     UnknownReplyException(String text, boolean isInDoubt, Throwable cause) {
         super(text, isInDoubt, cause);
     }
+
+    @Override
+    boolean mayPass() {
+        return false;
+    }
 }

@@ -7,7 +7,7 @@
  *
  * <pre>{@code
  * try (RemoteDelayQueue queue = new RemoteDelayQueue(7011, Acknowledge.BY_CALL)) {
- *     queue.offer(new Job(5, TimeUnit.SECONDS, "letter-17"));
+ *     queue.offer(new Job("letter-17", 5, TimeUnit.SECONDS));
  *     while (true) {
  *         Job job = queue.take();
  *         try {

@@ -67,7 +67,7 @@ public abstract class DelayQueueBehaviour {
     }
 
     static Job in(long millis, String payload) {
-        return new Job(millis, MILLISECONDS, payload);
+        return new Job(payload, millis, MILLISECONDS);
     }
 
     /** Takes an element. Gives its payload. */
@@ -229,7 +229,7 @@ public abstract class DelayQueueBehaviour {
 
     @Test
     public void theGreatestDelayIsAnElementThatStays() {
-        queue.add(new Job(Long.MAX_VALUE, NANOSECONDS, "never"));
+        queue.add(new Job("never", Long.MAX_VALUE, NANOSECONDS));
         assertNull(queue.poll());
         assertTrue(queue.peek().getDelay(SECONDS) > 9_000_000_000L);
         assertEquals(1, queue.size());

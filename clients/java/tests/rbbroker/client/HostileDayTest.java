@@ -44,11 +44,12 @@ public class HostileDayTest {
     private static final Object[] POLICY = {"--delay", 2_000_000, "--attempts", 1_000};
 
     @Rule
-    public final Timeout timeout = new Timeout(20, MINUTES);
+    public final Timeout timeout = new Timeout(20 + JOBS / 500, MINUTES);
     @Rule
     public final TemporaryFolder folder = new TemporaryFolder();
 
     private final List<Path> histories = new ArrayList<>();
+    private final List<Path> records = new ArrayList<>();
     private final List<WorkerProcess> workers = new CopyOnWriteArrayList<>();
     private final List<Path> logs = new CopyOnWriteArrayList<>();
     private final List<Path> killed = new CopyOnWriteArrayList<>();
@@ -57,6 +58,7 @@ public class HostileDayTest {
     private volatile boolean isOver;
     private int lost;
     private Server server;
+    private RecordingProxy proxy;
 
     @After
     public void killAll() throws Exception {
@@ -67,13 +69,16 @@ public class HostileDayTest {
         if (server != null) {
             server.kill();
         }
+        if (proxy != null) {
+            proxy.close();
+        }
     }
 
     @Test
     public void eachJobIsDoneOnceOrNamed() throws Exception {
         begin(1_000_000);
-        List<Nuisance> nuisances = List.of(new Nuisance(server.port(), true), new Nuisance(server.port(), true),
-            new Nuisance(server.port(), false), new Nuisance(server.port(), false));
+        List<Nuisance> nuisances = List.of(new Nuisance(proxy.port(), true), new Nuisance(proxy.port(), true),
+            new Nuisance(proxy.port(), false), new Nuisance(proxy.port(), false));
         nuisances.forEach(Nuisance::start);
         for (int it = 0; it < WORKERS; it++) {
             startWorker();
@@ -106,13 +111,17 @@ public class HostileDayTest {
     /** Starts the first server or the next, with room for this many calls. */
     private void begin(int calls) throws Exception {
         Path history = folder.getRoot().toPath().resolve("history-" + histories.size());
+        records.add(folder.getRoot().toPath().resolve("record-" + histories.size()));
         List<Object> options = new ArrayList<>(List.of(POLICY));
         options.addAll(List.of("--workers", 16, "--sessions", SESSIONS, "--calls", calls, "--turns", 50));
         options.addAll(List.of("--history", history));
         if (histories.isEmpty()) {
             server = Server.start(options.toArray());
+            proxy = new RecordingProxy(server.port());
+            proxy.recordTo(records.get(0));
         } else {
             options.addAll(List.of("--from", histories.get(histories.size() - 1)));
+            proxy.recordTo(records.get(records.size() - 1)); // before a session can begin
             server = Server.startAt(server.port(), options.toArray());
         }
         histories.add(history);
@@ -136,7 +145,7 @@ public class HostileDayTest {
         Path log = folder.getRoot().toPath().resolve("worker-" + logs.size());
         Files.createFile(log);
         logs.add(log);
-        workers.add(new WorkerProcess(server.port(), log));
+        workers.add(new WorkerProcess(proxy.port(), log));
     }
 
     /** Kills one worker after the other, each once it has work. */
@@ -157,12 +166,12 @@ public class HostileDayTest {
 
     /** Offers all jobs, at about 400 a second. One that is in doubt is not offered again. */
     private void produce() {
-        try (RemoteDelayQueue queue = RemoteDelayQueue.builder(server.port(), Acknowledge.BY_CALL).waiters(1)
+        try (RemoteDelayQueue queue = RemoteDelayQueue.builder(proxy.port(), Acknowledge.BY_CALL).waiters(1)
                 .longestSession(Duration.ofSeconds(1)).patience(Duration.ofMinutes(2)).build()) {
             for (int number = 0; number < JOBS; number++) {
                 String payload = String.valueOf(number);
                 try {
-                    queue.offer(new Job(ThreadLocalRandom.current().nextInt(-5, 500), MILLISECONDS, payload));
+                    queue.offer(new Job(payload, ThreadLocalRandom.current().nextInt(-5, 500), MILLISECONDS));
                     offered.incrementAndGet();
                 } catch (ServerLostException fault) {
                     assertTrue(fault.getMessage(), fault.isInDoubt());
@@ -198,14 +207,17 @@ public class HostileDayTest {
     }
 
     private String ask(String request) throws Exception {
-        try (Socket socket = server.connect()) {
+        try (Socket socket = new Socket("127.0.0.1", proxy.port())) {
             socket.getOutputStream().write((request + "\nQUIT\n").getBytes());
             return new String(socket.getInputStream().readAllBytes()).lines().findFirst().orElseThrow();
         }
     }
 
-    /** Each job was done once, or is named. */
+    /** Each job was done once, or is named, and the histories are those of what the clients were told. */
     private void check(int nuisances) throws Exception {
+        for (int it = 0; it < histories.size(); it++) {
+            assertEquals("0 faults", Server.verify(histories.get(it), records.get(it)));
+        }
         History history = new History(histories);
         Map<String, List<Integer>> tookAndKilled = noted("took", killed);
         Map<String, List<Integer>> done = noted("done", logs);

@@ -19,31 +19,31 @@ import org.junit.Test;
 /** Jobs by themselves, and as a server's queue places them. */
 public class JobTest {
     private static Job shown(long id, long expiry, int attempt, ServerClock clock) {
-        return new Job(new Element(id, expiry, attempt, "a"), clock, false);
+        return new Job(new Element(id, expiry, attempt, "a"), new Contact(clock, null), false);
     }
 
     @Test
     public void payloadsAreOneTo64PrintableCharacters() {
         for (String payload : List.of("a", "!", "~", "x".repeat(64), "{\"key\":1}")) {
-            assertEquals(payload, new Job(0, SECONDS, payload).payload());
+            assertEquals(payload, new Job(payload, 0, SECONDS).payload());
         }
         for (String payload : List.of("", " ", "a b", "a\n", "a\r", "\u00e9", "\u007f", "\u0000", "x".repeat(65))) {
-            assertThrows(payload, IllegalArgumentException.class, () -> new Job(0, SECONDS, payload));
+            assertThrows(payload, IllegalArgumentException.class, () -> new Job(payload, 0, SECONDS));
         }
-        assertThrows(NullPointerException.class, () -> new Job(0, SECONDS, null));
-        assertThrows(NullPointerException.class, () -> new Job(0, null, "a"));
-        assertThrows(NullPointerException.class, () -> new Job(null, "a"));
+        assertThrows(NullPointerException.class, () -> new Job(null, 0, SECONDS));
+        assertThrows(NullPointerException.class, () -> new Job("a", 0, null));
+        assertThrows(NullPointerException.class, () -> new Job("a", null));
     }
 
     @Test
     public void aJobThatIsNotOffered() {
-        Job job = new Job(Duration.ofSeconds(100), "a");
+        Job job = new Job("a", Duration.ofSeconds(100));
         assertEquals(1, job.attempt());
         assertThrows(IllegalStateException.class, job::id);
-        assertThrows(IllegalStateException.class, job::expiry);
+        assertThrows(IllegalStateException.class, job::expiryNanos);
         assertEquals("job a, not offered", job.toString());
         assertEquals(job, job);
-        assertNotEquals(job, new Job(Duration.ofSeconds(100), "a"));
+        assertNotEquals(job, new Job("a", Duration.ofSeconds(100)));
         long delay = job.getDelay(NANOSECONDS);
         assertTrue(delay > SECONDS.toNanos(60) && delay <= SECONDS.toNanos(100));
         assertTrue(job.getDelay(SECONDS) <= 100);
@@ -51,15 +51,15 @@ public class JobTest {
 
     @Test
     public void theGreatestAndTheLeastDelay() {
-        Job never = new Job(Long.MAX_VALUE, DAYS, "never");
-        Job longAgo = new Job(Long.MIN_VALUE, DAYS, "ago");
+        Job never = new Job("never", Long.MAX_VALUE, DAYS);
+        Job longAgo = new Job("ago", Long.MIN_VALUE, DAYS);
         assertTrue(never.getDelay(NANOSECONDS) > Long.MAX_VALUE - SECONDS.toNanos(60));
         assertTrue(longAgo.getDelay(NANOSECONDS) < Long.MIN_VALUE / 2 + 1);
         assertTrue(longAgo.compareTo(never) < 0);
         assertTrue(never.compareTo(longAgo) > 0);
-        assertTrue(never.compareTo(new Job(0, SECONDS, "now")) > 0);
-        assertTrue(longAgo.compareTo(new Job(0, SECONDS, "now")) < 0);
-        assertTrue(new Job(Duration.ofSeconds(Long.MAX_VALUE), "a").getDelay(DAYS) > 100_000);
+        assertTrue(never.compareTo(new Job("now", 0, SECONDS)) > 0);
+        assertTrue(longAgo.compareTo(new Job("now", 0, SECONDS)) < 0);
+        assertTrue(new Job("a", Duration.ofSeconds(Long.MAX_VALUE)).getDelay(DAYS) > 100_000);
     }
 
     @Test
@@ -86,9 +86,9 @@ public class JobTest {
                 return Long.compare(getDelay(NANOSECONDS), it.getDelay(NANOSECONDS));
             }
         };
-        assertTrue(new Job(10, SECONDS, "a").compareTo(other) < 0);
-        assertTrue(new Job(90, SECONDS, "a").compareTo(other) > 0);
-        assertTrue(new Job(10, SECONDS, "a").compareTo(shown(0, SECONDS.toNanos(60), 1, new ServerClock())) < 0);
+        assertTrue(new Job("a", 10, SECONDS).compareTo(other) < 0);
+        assertTrue(new Job("a", 90, SECONDS).compareTo(other) > 0);
+        assertTrue(new Job("a", 10, SECONDS).compareTo(shown(0, SECONDS.toNanos(60), 1, new ServerClock())) < 0);
     }
 
     @Test
@@ -100,7 +100,7 @@ public class JobTest {
         assertNotEquals(job, shown(3, 5, 1, clock));
         assertNotEquals(job, shown(4, 6, 1, clock));
         assertNotEquals(job, shown(4, 5, 2, clock));
-        assertNotEquals(job, new Job(new Element(4, 5, 1, "b"), clock, false));
+        assertNotEquals(job, new Job(new Element(4, 5, 1, "b"), new Contact(clock, null), false));
         assertFalse(job.equals("a"));
         assertEquals("job a, id 4, attempt 1", job.toString());
         assertEquals("job a, id 18446744073709551615, attempt 2", shown(-1, 5, 2, clock).toString());

@@ -110,6 +110,16 @@ final class ScriptedServer implements AutoCloseable {
             return this;
         }
 
+        /** Accepts an offer, as a server whose clock is this far ahead of {@link System#nanoTime} does. */
+        Talk accept(long id, long ahead) throws IOException {
+            String line = lines.readLine();
+            if (line == null || !line.startsWith("OFFER ")) {
+                throw new AssertionError("heard " + line + " in place of an offer");
+            }
+            long expiry = System.nanoTime() + ahead + Long.parseLong(line.split(" ")[1]);
+            return say("OFFERED " + id + " " + Long.toUnsignedString(expiry));
+        }
+
         /** Expects that the client hangs up and says nothing more. */
         void hearNothing() {
             String line;
@@ -120,6 +130,13 @@ final class ScriptedServer implements AutoCloseable {
             }
             if (line != null) {
                 throw new AssertionError("heard " + line + " in place of the end");
+            }
+        }
+
+        /** Reads whatever else the client says, until it hangs up. */
+        void hearAll() throws IOException {
+            while (lines.readLine() != null) {
+                continue;
             }
         }
 

@@ -32,7 +32,7 @@ public class ScriptedTest {
     }
 
     private static Job due(String payload) {
-        return new Job(0, SECONDS, payload);
+        return new Job(payload, 0, SECONDS);
     }
 
     private interface Play {
@@ -326,7 +326,7 @@ public class ScriptedTest {
             assertEquals(Integer.MAX_VALUE, queue.size());
             assertEquals(Integer.MAX_VALUE, queue.size());
             Job head = queue.peek();
-            assertEquals("18446744073709551615", Long.toUnsignedString(head.expiry()));
+            assertEquals("18446744073709551615", Long.toUnsignedString(head.expiryNanos()));
             assertEquals(Long.MAX_VALUE, head.getDelay(java.util.concurrent.TimeUnit.NANOSECONDS));
             assertTrue(queue.remove(head));
         }, talk -> talk.greet().hear("SIZE").say("SIZE 2147483648").hear("SIZE").say("SIZE 18446744073709551615")

@@ -75,7 +75,7 @@ public class ServedTest {
     }
 
     private static Job due(String payload) {
-        return new Job(0, SECONDS, payload);
+        return new Job(payload, 0, SECONDS);
     }
 
     private <T> FutureTask<T> start(Callable<T> work) {
@@ -241,7 +241,7 @@ public class ServedTest {
             socket.getOutputStream().write(offers.getBytes(US_ASCII));
             assertEquals("OFFERED 0 18446744073709551615", lines.readLine());
             assertEquals("OFFERED 1 9223372036854775808", lines.readLine());
-            queue.offer(new Job(600, SECONDS, "soon"));
+            queue.offer(new Job("soon", 600, SECONDS));
             Job soon = queue.peek();
             assertTrue(soon.getDelay(SECONDS) > 500);
             assertTrue(queue.remove(soon));
@@ -262,10 +262,10 @@ public class ServedTest {
         serve(2, 2);
         try (RemoteDelayQueue other = byCall(); RemoteDelayQueue queue = byCall()) {
             Thread.sleep(500);
-            Job offered = new Job(10, SECONDS, "a");
+            Job offered = new Job("a", 10, SECONDS);
             other.offer(offered);
             assertTrue(queue.peek().getDelay(NANOSECONDS) > SECONDS.toNanos(10)); // all of its expiry
-            queue.offer(new Job(20, SECONDS, "b"));
+            queue.offer(new Job("b", 20, SECONDS));
             long known = offered.getDelay(NANOSECONDS);
             long told = queue.peek().getDelay(NANOSECONDS);
             assertTrue(known + " and " + told, Math.abs(known - told) < MILLISECONDS.toNanos(200));
@@ -344,7 +344,7 @@ public class ServedTest {
         FutureTask<Job> taken = start(queue::take);
         Thread.sleep(300);
         long begun = System.nanoTime();
-        queue.offer(new Job(60, SECONDS, "late"));
+        queue.offer(new Job("late", 60, SECONDS));
         assertEquals(1, queue.size());
         assertTrue(System.nanoTime() - begun < SECONDS.toNanos(5));
         queue.offer(due("a"));
@@ -472,9 +472,9 @@ public class ServedTest {
     public void whatOneServerLeftTheNextOneGives() throws Exception {
         serve(2, 5, "--calls", 3);
         RemoteDelayQueue queue = opened(builder(Acknowledge.BY_CALL).longestSession(Duration.ofMillis(200)));
-        queue.addAll(List.of(due("a"), new Job(1, SECONDS, "b")));
+        queue.addAll(List.of(due("a"), new Job("b", 1, SECONDS)));
         queue.take().done();
-        FutureTask<Boolean> offered = start(() -> queue.offer(new Job(3, SECONDS, "c")));
+        FutureTask<Boolean> offered = start(() -> queue.offer(new Job("c", 3, SECONDS)));
         Thread.sleep(200);
         assertFalse(offered.isDone());
         server.useUp();
@@ -520,5 +520,81 @@ public class ServedTest {
         open.add(next);
         queue.offer(due("a"));
         assertEquals("a", taken.get(30, SECONDS));
+    }
+
+    // Runs that are lost or go on.
+
+    @Test
+    public void aJobOfALostRunIsNotTakenForAnothersJob() throws Exception {
+        serve(2, 50);
+        try (RemoteDelayQueue queue = byCall(); RemoteDelayQueue stranger = byCall()) {
+            Job job = new Job("mine", 600, SECONDS);
+            queue.offer(job);
+            assertEquals(1, queue.size());
+            server.kill();
+            open.add(Server.startAt(server.port(), "--sessions", 50));
+            Job other = new Job("a-strangers", 600, SECONDS);
+            stranger.offer(other);
+            assertEquals(job.id(), other.id());
+            assertFalse(queue.remove(job));
+            assertEquals("a-strangers", queue.peek().payload());
+            assertTrue(stranger.remove(other));
+            assertEquals(0, queue.size());
+        }
+    }
+
+    @Test
+    public void aJobIsRemovedThoughItsSessionHasEnded() throws Exception {
+        serve(2, 50);
+        RemoteDelayQueue queue = opened(builder(Acknowledge.ON_TAKE).longestSession(Duration.ofMillis(400)));
+        Job job = new Job("a", 600, SECONDS);
+        queue.offer(job);
+        Thread.sleep(1_500);
+        assertTrue(queue.remove(job));
+        assertFalse(queue.remove(job));
+        assertEquals(0, queue.size());
+    }
+
+    @Test
+    public void aJobIsRemovedByAnotherQueue() throws Exception {
+        serve(2, 50);
+        RemoteDelayQueue queue = opened(builder(Acknowledge.ON_TAKE).longestSession(Duration.ofMillis(400)));
+        Job job = new Job("a", 600, SECONDS);
+        queue.offer(job);
+        Thread.sleep(1_500);
+        assertTrue(byCall().remove(job));
+        assertEquals(0, queue.size());
+    }
+
+    @Test
+    public void aJobIsRemovedThoughItsServerWasReplaced() throws Exception {
+        serve(2, 50);
+        RemoteDelayQueue queue = opened(builder(Acknowledge.ON_TAKE).longestSession(Duration.ofSeconds(8)));
+        Job job = new Job("a", 600, SECONDS);
+        queue.offer(job);
+        for (int it = 0; it < 7; it++) { // so the moment goes on, from which the next server does
+            assertEquals(1, queue.size());
+            Thread.sleep(1_000);
+        }
+        server.useUp();
+        assertEnded(0);
+        Server next = Server.startAt(server.port(), "--sessions", 50, "--from", history("history"));
+        open.add(next);
+        assertTrue(queue.remove(job));
+    }
+
+    @Test
+    public void aJobThatWasShownIsRemovedWhileOthersWait() throws Exception {
+        serve(4, 50);
+        RemoteDelayQueue other = byCall();
+        RemoteDelayQueue queue = opened(builder(Acknowledge.BY_CALL).waiters(2));
+        other.offer(new Job("a", 600, SECONDS));
+        start(() -> queue.poll(3, SECONDS));
+        start(() -> queue.poll(3, SECONDS));
+        Thread.sleep(300);
+        for (int it = 0; it < 20; it++) {
+            assertTrue(queue.remove(queue.peek()));
+            other.offer(new Job("a", 600, SECONDS));
+        }
     }
 }

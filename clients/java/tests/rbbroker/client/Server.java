@@ -106,6 +106,16 @@ final class Server implements AutoCloseable {
         return said;
     }
 
+    /** What tools/verify says at last of a history and the record of all its clients. */
+    static String verify(Path history, Path record) throws Exception {
+        List<String> words = List.of(System.getProperty("rbbroker.verify"), history.toString(), record.toString(),
+            "--all");
+        Process process = new ProcessBuilder(words).redirectErrorStream(true).start();
+        String said = new String(process.getInputStream().readAllBytes()).strip();
+        assertEquals(said, 0, process.waitFor());
+        return said.substring(said.lastIndexOf('\n') + 1);
+    }
+
     private static Process run(String command, List<?> first, Object... rest) throws IOException {
         List<String> words = new ArrayList<>(List.of(PROGRAM, command));
         first.forEach(it -> words.add(it.toString()));

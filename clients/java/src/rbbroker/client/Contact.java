@@ -1,0 +1,99 @@
+package rbbroker.client;
+
+import java.util.concurrent.atomic.AtomicBoolean;
+
+/**
+ * What one session shows of its server: since when and until when it was surely there, and how far its clock is ahead
+ * of {@link System#nanoTime}.
+ *
+ * <p>Times are of {@link System#nanoTime}. They and moments go round at 64 bits, so differences are compared and not
+ * numbers. A job that one queue offered may be removed by another, so any thread may read a contact.
+ */
+final class Contact {
+    /** The clocks of two machines drift by a nanosecond in this many, at the most. */
+    private static final int DRIFT = 4_096;
+
+    private final ServerClock clock;
+    private final Told before;
+    private final long since = System.nanoTime();
+    private volatile long until = since;
+    private volatile boolean isTold;
+    private volatile long least;
+    private volatile long most;
+    private volatile AtomicBoolean isLost;
+    private volatile Contact continuedBy;
+
+    /** An id that a server gave, and its moment then. Both are unsigned. */
+    record Told(long id, long moment) {
+        /** Whether the server that tells this lost the run in which the other was told before. */
+        boolean isBehind(Told other) {
+            return Long.compareUnsigned(id, other.id) <= 0 || Long.compareUnsigned(moment, other.moment) < 0;
+        }
+    }
+
+    /** A server has just answered in a session for the first time. The last that was told before is this, or null. */
+    Contact(ServerClock clock, Told before) {
+        this.clock = clock;
+        this.before = before;
+    }
+
+    ServerClock clock() {
+        return clock;
+    }
+
+    Told before() {
+        return before;
+    }
+
+    /** A request that was sent at this time was answered. */
+    void answered(long sent) {
+        until = sent;
+    }
+
+    /** Whether the server's moment was told. */
+    boolean isTold() {
+        return isTold;
+    }
+
+    /** The server has told its moment for the first time, in a run of which this says whether it was lost. */
+    void isIn(AtomicBoolean run) {
+        isLost = run;
+    }
+
+    /** The server's clock read {@code moment} at some time between these two. */
+    void learn(long moment, long sent, long received) {
+        least = isTold && least - (moment - received) > 0 ? least : moment - received;
+        most = isTold && most - (moment - sent) < 0 ? most : moment - sent;
+        isTold = true;
+    }
+
+    /**
+     * Whether the server here surely has all that the server of an earlier contact had: it is the same one, or
+     * continues its run.
+     *
+     * <p>If that run had been lost, the clock here would be behind by at least the time for which the lost server was
+     * there: a run that takes its place goes on at the moment at which it began, or an earlier one. So the run was not
+     * lost if the clocks differ by less than the earlier contact lasted. A service that counts the time between its
+     * runs gives no id again, not even one of a run that was lost.
+     */
+    boolean continues(Contact earlier) {
+        long lasted = earlier.until - earlier.since - Math.max(0, since - earlier.until) / DRIFT;
+        return isTold && earlier.isTold && !earlier.isLost.get() && earlier.most - least < lasted
+            && least - earlier.most < lasted;
+    }
+
+    /** The server of a later contact has all that the one here had. */
+    void isContinuedBy(Contact later) {
+        continuedBy = later;
+    }
+
+    /** The last contact of which that is known, from one to the next. */
+    Contact last() {
+        Contact last = this;
+        while (last.continuedBy != null) {
+            last = last.continuedBy;
+        }
+        continuedBy = last == this ? null : last;
+        return last;
+    }
+}

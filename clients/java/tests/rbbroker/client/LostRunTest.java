@@ -1,0 +1,114 @@
+package rbbroker.client;
+
+import static java.util.concurrent.TimeUnit.HOURS;
+import static java.util.concurrent.TimeUnit.MILLISECONDS;
+import static java.util.concurrent.TimeUnit.MINUTES;
+import static java.util.concurrent.TimeUnit.SECONDS;
+import static org.junit.Assert.assertEquals;
+import static org.junit.Assert.assertFalse;
+import static org.junit.Assert.assertTrue;
+
+import java.util.List;
+import java.util.Map;
+import java.util.function.LongSupplier;
+import java.util.logging.Level;
+import org.junit.Rule;
+import org.junit.Test;
+import org.junit.rules.Timeout;
+
+/** Ids of a run that may be lost: which server they are used at. */
+public class LostRunTest {
+    /** How far the first server's clock is ahead of this machine's. */
+    private static final long AHEAD = HOURS.toNanos(1) - System.nanoTime();
+
+    @Rule
+    public final Timeout timeout = Timeout.seconds(60);
+
+    /** For how long the first server was there, as far as its client knows. */
+    private volatile long lasted;
+
+    /** A server that accepts a job as element 5, counts once, and is lost. */
+    private void playFirst(ScriptedServer.Talk talk) throws Exception {
+        long begun = System.nanoTime();
+        talk.greet().accept(5, AHEAD).hear("SIZE");
+        lasted = System.nanoTime() - begun;
+        talk.say("SIZE 1");
+    }
+
+    /**
+     * Whether the job is removed at a second server, whose clock is behind the first one's, and which gives this id to
+     * what is offered to learn of that.
+     */
+    private boolean removed(long id, LongSupplier behind, ScriptedServer.Script rest) throws Exception {
+        ScriptedServer.Script second = talk -> {
+            talk.greet().accept(id, AHEAD - behind.getAsLong()).hear("REMOVE " + id).say("REMOVED yes");
+            rest.play(talk);
+        };
+        try (ScriptedServer server = new ScriptedServer(this::playFirst, second)) {
+            boolean isRemoved = isRemoved(server.port());
+            server.finish();
+            return isRemoved;
+        }
+    }
+
+    private static boolean isRemoved(int port) throws Exception {
+        try (RemoteDelayQueue queue = RemoteDelayQueue.builder(port, Acknowledge.BY_CALL).build()) {
+            Job job = new Job("a", 600, SECONDS);
+            queue.offer(job);
+            assertEquals(5, job.id());
+            Thread.sleep(400); // so long the server was there, as far as the queue knows
+            assertEquals(1, queue.size());
+            Thread.sleep(800);
+            return queue.remove(job);
+        }
+    }
+
+    private boolean isAsked(long id, LongSupplier behind) throws Exception {
+        ScriptedServer.Script asked = talk -> talk.hear("REMOVE 5").say("REMOVED yes").hearFarewell();
+        return removed(id, behind, asked);
+    }
+
+    private boolean isNotAsked(long id, LongSupplier behind) throws Exception {
+        return !removed(id, behind, ScriptedServer.Talk::hearFarewell);
+    }
+
+    @Test
+    public void theSameServerIsAskedForTheJob() throws Exception {
+        assertTrue(isAsked(6, () -> 0));
+        assertFalse(removed(6, () -> 0, talk -> talk.hear("REMOVE 5").say("REMOVED no").hearFarewell()));
+    }
+
+    @Test
+    public void aServerThatContinuesTheRunIsAskedForTheJob() throws Exception {
+        assertTrue(isAsked(6, () -> lasted / 4));
+    }
+
+    @Test
+    public void aServerThatMayHaveLostTheRunIsNotAsked() throws Exception {
+        // Neither its ids nor its moments have gone back, but it may have begun where the first one did.
+        try (Log log = new Log()) {
+            assertTrue(isNotAsked(50, () -> lasted + MILLISECONDS.toNanos(400)));
+            assertEquals(List.of(), log.lines(Level.SEVERE));
+            assertEquals(1, log.lines(Level.WARNING).size());
+        }
+    }
+
+    @Test
+    public void aServerOfAnotherSeriesIsNotAsked() throws Exception {
+        assertTrue(isNotAsked(50, () -> -MINUTES.toNanos(10)));
+    }
+
+    @Test
+    public void aRunThatIsLostIsReported() throws Exception {
+        Map<Long, Long> signs = Map.of(5L, 0L, 3L, 0L, 50L, MINUTES.toNanos(30));
+        for (Map.Entry<Long, Long> sign : signs.entrySet()) {
+            try (Log log = new Log()) {
+                assertTrue(isNotAsked(sign.getKey(), sign::getValue));
+                assertEquals(1, log.lines(Level.SEVERE).size());
+                String line = log.lines(Level.SEVERE).get(0);
+                assertTrue(line, line.matches("the server at 127.0.0.1:\\d+ has lost a run: it gave the id \\d+ at the "
+                    + "moment \\d+, after the id 5 at \\d+\\. Jobs .*"));
+            }
+        }
+    }
+}
