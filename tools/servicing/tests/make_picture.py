@@ -24,7 +24,7 @@ TOOLS = os.path.dirname(os.path.dirname(os.path.dirname(os.path.realpath(__file_
 sys.path[:0] = [TOOLS, f"{os.path.dirname(TOOLS)}/clients/python/src"]
 
 from common.program import TOP, test_with  # noqa: E402
-from rb_broker_client import BrokerError, Item, Producer, Worker  # noqa: E402
+from rb_broker_client import BrokerError, Job, Producer, Worker  # noqa: E402
 from reporting.tests.browser import Browser  # noqa: E402
 from servicing.status_view import state_in  # noqa: E402
 from servicing.tests.process import Service  # noqa: E402
@@ -51,7 +51,7 @@ class Scene:
             except (OSError, EOFError, BrokerError):
                 time.sleep(1)
 
-    def _deliver(self, job: Item) -> None:
+    def _deliver(self, job: Job) -> None:
         time.sleep(self._chance.random() / 40)
         if self._chance.random() < 0.1:
             raise RuntimeError("it fails")
@@ -60,7 +60,7 @@ class Scene:
         with Producer(self._port) as producer:
             for number in range(10**6):
                 for _ in range(self._chance.randrange(20)):
-                    producer.offer(self._chance.choice((0, 0, 2, 8)) * 10**9, f"letter-{number}")
+                    producer.offer(f"letter-{number}", delay=self._chance.choice((0, 0, 2, 8)))
                 time.sleep(0.2)
 
     def _say_nothing(self) -> None:

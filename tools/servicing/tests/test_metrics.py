@@ -5,9 +5,10 @@ import dataclasses
 import re
 import shutil
 import subprocess
-import unittest
 from typing import Any, Dict
 
+from common.program import TOP
+from common.testing import RoomTest
 from servicing.metrics import metrics
 from servicing.state import Alert, Queue, State
 from servicing.tests.states import AT, first_state, state, troubled_state
@@ -15,14 +16,14 @@ from servicing.tests.states import AT, first_state, state, troubled_state
 PROMTOOL = shutil.which("promtool")
 
 
-def promtool(what: str, given: str) -> "tuple[int, str]":
+def promtool(what: str, given: str, *paths: str) -> "tuple[int, str]":
     """What promtool says of something that it checks."""
-    words = [str(PROMTOOL), "check", what]
+    words = [str(PROMTOOL), "check", what, *paths]
     ran = subprocess.run(words, input=given, capture_output=True, encoding="utf-8", check=False)
     return ran.returncode, ran.stdout + ran.stderr
 
 
-class MetricsTest(unittest.TestCase):
+class MetricsTest(RoomTest):
     def told(self, state: State, is_healthy: bool = True) -> Dict[str, float]:
         """The metrics of a text, which promtool takes if it is there."""
         text = metrics(state, is_healthy)
@@ -80,6 +81,20 @@ class MetricsTest(unittest.TestCase):
     def test_counters_end_in_total_and_gauges_do_not(self) -> None:
         for kind, name in re.findall(r"^# TYPE (\w+) (\w+)$", metrics(troubled_state(), True), re.M):
             self.assertEqual(name == "counter", kind.endswith("_total"), kind)
+
+    def test_the_alerts_of_the_page(self) -> None:
+        """Each metric that an alert of docs/OPERATING.md names is one that is told."""
+        with open(f"{TOP}/docs/OPERATING.md", encoding="utf-8") as file:
+            rules = re.search(r"^    groups:\n(?:    .*\n|\n)+", file.read(), re.M)
+        assert rules is not None
+        text = re.sub(r"^    ", "", rules[0], flags=re.M)
+        named = set(re.findall(r"\brb_broker_\w+", text))
+        told = set(re.findall(r"^# TYPE (\w+) ", metrics(troubled_state(), True), re.M))
+        self.assertTrue(named and named <= told, named - told)
+        if not PROMTOOL:
+            self.skipTest("there is no promtool")
+        status, said = promtool("rules", "", self.file("rules.yml", text))
+        self.assertEqual(status, 0, said)
 
     def test_that_promtool_has_checked_the_metrics(self) -> None:
         """It does so wherever metrics are told here; this test says whether it is there."""
