@@ -31,7 +31,7 @@ use crate::row::Line;
 use crate::subject::{FromSetUp, Subject, refuse_set_up, words_in};
 use rb_delayed::{Element, Payload};
 use rb_protocol::{
-    ErrorWord, LINE_FEED, LineFault, LineReply, MOST_LINE_BYTES, MOST_REPLY_BYTES, REPLY_ROOM,
+    ErrWord, LINE_FEED, LineFault, LineReply, MOST_LINE_BYTES, MOST_REPLY_BYTES, REPLY_ROOM,
     Request, SPACE, cut_word, read_request, write_reply,
 };
 use std::alloc::{AllocError, Global};
@@ -251,7 +251,7 @@ fn reply_alone(word: &str) -> Result<LineReply, Flaw> {
 fn reply_of_one(word: &str, value: &str) -> Result<LineReply, Flaw> {
     match word {
         "removed" => Ok(LineReply::Removed(yes_or_no(value)?)),
-        "error" => Ok(LineReply::Error(error_of(value)?)),
+        "error" => Ok(LineReply::Err(error_of(value)?)),
         _ => Ok(Numbered::of(word)?.reply(number(value)? as u64)),
     }
 }
@@ -273,17 +273,17 @@ fn reply_of_two(word: &str, id: &str, expiry: &str) -> Result<LineReply, Flaw> {
     }
 }
 
-fn error_of(word: &str) -> Result<ErrorWord, Flaw> {
+fn error_of(word: &str) -> Result<ErrWord, Flaw> {
     match word {
-        "syntax" => Ok(ErrorWord::Syntax),
-        "number" => Ok(ErrorWord::Number),
-        "range" => Ok(ErrorWord::Range),
-        "payload" => Ok(ErrorWord::Payload),
-        "not-held" => Ok(ErrorWord::NotHeld),
-        "full" => Ok(ErrorWord::Full),
-        "memory" => Ok(ErrorWord::Memory),
-        "line" => Ok(ErrorWord::Line),
-        "held" => Ok(ErrorWord::Held),
+        "syntax" => Ok(ErrWord::Syntax),
+        "number" => Ok(ErrWord::Number),
+        "range" => Ok(ErrWord::Range),
+        "payload" => Ok(ErrWord::Payload),
+        "not-held" => Ok(ErrWord::NotHeld),
+        "full" => Ok(ErrWord::Full),
+        "memory" => Ok(ErrWord::Memory),
+        "line" => Ok(ErrWord::Line),
+        "held" => Ok(ErrWord::Held),
         _ => Err(Flaw::Command),
     }
 }

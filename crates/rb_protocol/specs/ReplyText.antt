@@ -3,20 +3,20 @@ use Rattle.std.specs.Prelude.{ℕ, List, [], ◌∷◌, ◌++◌, codes, decimal
 use Rattle.rb_delayed.specs.declared.element.Element.{Element}
 use Rattle.rb_protocol.specs.Line.{spaced}
 use Rattle.rb_protocol.specs.declared.format.TheConstants.{LINE_FEED}
-use Rattle.rb_protocol.specs.declared.error_word.ErrorWord.{ErrorWord}
-use Rattle.rb_protocol.specs.declared.error_word.ErrorWord.TheVariants.{Syntax, Number, Range, Payload}
-use Rattle.rb_protocol.specs.declared.error_word.ErrorWord.TheVariants.{NotHeld, Full, Memory, Line, Held}
+use Rattle.rb_protocol.specs.declared.err_word.ErrWord.{ErrWord}
+use Rattle.rb_protocol.specs.declared.err_word.ErrWord.TheVariants.{Syntax, Number, Range, Payload}
+use Rattle.rb_protocol.specs.declared.err_word.ErrWord.TheVariants.{NotHeld, Full, Memory, Line, Held}
 use Rattle.rb_protocol.specs.declared.line_reply.LineReply.{LineReply}
 use Rattle.rb_protocol.specs.declared.line_reply.LineReply.TheVariants.{Offered, Item, Head, Nothing, Removed}
 use Rattle.rb_protocol.specs.declared.line_reply.LineReply.TheVariants.{Drained, Cleared, Size, Done, Again, Dead}
-use Rattle.rb_protocol.specs.declared.line_reply.LineReply.TheVariants.{Now, Stopped, Bye, Error}
+use Rattle.rb_protocol.specs.declared.line_reply.LineReply.TheVariants.{Now, Stopped, Bye, Err}
 
 -- what is shown of an element
 abbrev pub element_words : Element → List (List ℕ)
 element_words e = decimal e.id ∷ decimal e.expiry ∷ decimal e.attempt ∷ e.payload ∷ []
 
 -- the number of an error, and its word
-abbrev pub error_words : ErrorWord → List (List ℕ)
+abbrev pub error_words : ErrWord → List (List ℕ)
 error_words Syntax = codes "1" ∷ codes "syntax" ∷ []
 error_words Number = codes "2" ∷ codes "number" ∷ []
 error_words Range = codes "3" ∷ codes "range" ∷ []
@@ -43,7 +43,7 @@ reply_words (Dead id) = codes "DEAD" ∷ decimal id ∷ []
 reply_words (Now moment) = codes "NOW" ∷ decimal moment ∷ []
 reply_words Stopped = codes "STOPPED" ∷ []
 reply_words Bye = codes "BYE" ∷ []
-reply_words (Error word) = codes "ERR" ∷ error_words word
+reply_words (Err word) = codes "ERR" ∷ error_words word
 
 -- the line, with its line feed
 abbrev pub text_of : LineReply → List ℕ

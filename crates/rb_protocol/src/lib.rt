@@ -6,7 +6,7 @@
 //! none if the text has `REPLY_ROOM` bytes of free capacity.
 #![tactic(auto)]
 
-mod error_word;
+mod err_word;
 mod format;
 mod keywords;
 mod laws;
@@ -22,7 +22,7 @@ mod request;
 mod send;
 mod writing;
 
-pub use error_word::ErrorWord;
+pub use err_word::ErrWord;
 pub use format::{CARRIAGE_RETURN, LINE_FEED, SPACE};
 pub use laws::limits_have_their_values;
 pub use limited_reader::LimitedReader;

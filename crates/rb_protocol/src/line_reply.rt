@@ -4,7 +4,7 @@ ghost use Rattle.rb_protocol.specs.Line.{spaced};
 ghost use Rattle.rb_protocol.specs.declared.format.TheConstants.{LINE_FEED};
 ghost use Rattle.rb_protocol.specs.ReplyText.{text_of, reply_words, element_words, error_words};
 
-use crate::error_word::ErrorWord;
+use crate::err_word::ErrWord;
 use crate::format::SPACE;
 use crate::reply_line::{MOST_DIGITS, ReplyLine};
 use rb_delayed::Element;
@@ -48,7 +48,7 @@ pub enum LineReply {
     /// The session ends.
     Bye,
     /// The request was refused.
-    Error(ErrorWord),
+    Err(ErrWord),
 }
 
 impl LineReply {
@@ -100,7 +100,7 @@ fn put_words(line: &mut ReplyLine, reply: &LineReply)
         LineReply::Now(moment) => put_number(line, b"NOW ", *moment),
         LineReply::Stopped => line.put(b"STOPPED"),
         LineReply::Bye => line.put(b"BYE"),
-        LineReply::Error(word) => line.put(error_text(*word)),
+        LineReply::Err(word) => line.put(error_text(*word)),
     }
 }
 
@@ -146,19 +146,19 @@ fn put_number(line: &mut ReplyLine, front: &[u8], number: u64)
 }
 
 // The line of an error, without its end.
-fn error_text(word: ErrorWord) -> &'static [u8]
+fn error_text(word: ErrWord) -> &'static [u8]
     ensures text { result.now ≡ spaced (codes "ERR" ∷ error_words word) }
     ensures short { length result.now ≤ 14 }
 {
     match word {
-        ErrorWord::Syntax => b"ERR 1 syntax",
-        ErrorWord::Number => b"ERR 2 number",
-        ErrorWord::Range => b"ERR 3 range",
-        ErrorWord::Payload => b"ERR 4 payload",
-        ErrorWord::NotHeld => b"ERR 5 not-held",
-        ErrorWord::Full => b"ERR 6 full",
-        ErrorWord::Memory => b"ERR 7 memory",
-        ErrorWord::Line => b"ERR 8 line",
-        ErrorWord::Held => b"ERR 9 held",
+        ErrWord::Syntax => b"ERR 1 syntax",
+        ErrWord::Number => b"ERR 2 number",
+        ErrWord::Range => b"ERR 3 range",
+        ErrWord::Payload => b"ERR 4 payload",
+        ErrWord::NotHeld => b"ERR 5 not-held",
+        ErrWord::Full => b"ERR 6 full",
+        ErrWord::Memory => b"ERR 7 memory",
+        ErrWord::Line => b"ERR 8 line",
+        ErrWord::Held => b"ERR 9 held",
     }
 }

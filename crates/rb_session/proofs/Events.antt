@@ -28,7 +28,7 @@ use Rattle.rb_protocol.specs.declared.request.Request.TheVariants as requests
 use Rattle.rb_protocol.specs.declared.line_fault.LineFault.{LineFault}
 use Rattle.rb_protocol.specs.declared.line_reply.LineReply.{LineReply}
 use Rattle.rb_protocol.specs.declared.line_reply.LineReply.TheVariants as lines
-use Rattle.rb_protocol.specs.declared.error_word.ErrorWord.TheVariants as words
+use Rattle.rb_protocol.specs.declared.err_word.ErrWord.TheVariants as words
 use Rattle.rb_session.specs.Held.{place_of}
 use Rattle.rb_session.specs.Closing.{Closes}
 use Rattle.rb_session.specs.Session.{Turn, Serves}
@@ -56,7 +56,7 @@ fault_tells_none Memory = tt
 fault_tells_none Stopped = tt
 
 -- a next attempt that is refused has the line of the desk's fault
-refused_line : (fault : CallFault) → lines.Error (refusal_word fault) ≡ fault_line (fault_of fault)
+refused_line : (fault : CallFault) → lines.Err (refusal_word fault) ≡ fault_line (fault_of fault)
 refused_line refusals.Full = refl
 refused_line refusals.Memory = refl
 
@@ -140,7 +140,7 @@ module _ {S : Type 0} (rules : DeskRules S) where
   fetch request ask asked tells stands old new handed replies =
       of_bool (nat_lt (length old.held) MOST_HELD) _ _ _
       (call request ask asked tells stands old new handed replies)
-      (alone (Ok request) (lines.Error words.Held) tt stands old new replies)
+      (alone (Ok request) (lines.Err words.Held) tt stands old new replies)
 
   failure : (id : ℕ) (old new : Point S) (now place : ℕ) (replies : List LineReply)
       → IsFailure rules old now place replies new → Way (Ok (requests.Fail id)) replies old.desk new.desk
@@ -182,7 +182,7 @@ module _ {S : Type 0} (rules : DeskRules S) where
       of_bool (nat_le (now + delay) GREATEST_MOMENT) _ _ _
       (λ offers. call (requests.Offer delay payload) (asks.Offer offers.0) (now + delay, offers.1) (λ reply. refl)
       (λ moment. refl) old new now replies offers.2)
-      (alone (Ok (requests.Offer delay payload)) (lines.Error words.Range) tt (λ moment. refl) old new replies)
+      (alone (Ok (requests.Offer delay payload)) (lines.Err words.Range) tt (λ moment. refl) old new replies)
   served (requests.OfferAt expiry payload) old new now replies =
       λ offers. call (requests.OfferAt expiry payload) (asks.Offer offers.0) offers.1 (λ reply. refl)
       (λ moment. refl) old new now replies offers.2
@@ -206,7 +206,7 @@ module _ {S : Type 0} (rules : DeskRules S) where
       (λ moment. refl) old new now replies
   served (requests.Done id) old new now replies =
       of_place (place_of old.held id) _ _ _
-      (alone (Ok (requests.Done id)) (lines.Error words.NotHeld) tt (λ moment. refl) old new replies)
+      (alone (Ok (requests.Done id)) (lines.Err words.NotHeld) tt (λ moment. refl) old new replies)
       (λ place done. inl (record {
         line = lines.Done id;
         is = done.0;
@@ -217,7 +217,7 @@ module _ {S : Type 0} (rules : DeskRules S) where
       }))
   served (requests.Fail id) old new now replies =
       of_place (place_of old.held id) _ _ _
-      (alone (Ok (requests.Fail id)) (lines.Error words.NotHeld) tt (λ moment. refl) old new replies)
+      (alone (Ok (requests.Fail id)) (lines.Err words.NotHeld) tt (λ moment. refl) old new replies)
       (λ place. failure id old new now place replies)
   served (requests.At moment) old new now replies =
       λ setting. inr (inr (record {
@@ -232,7 +232,7 @@ module _ {S : Type 0} (rules : DeskRules S) where
 
   pub way_of : (reading : Result Request LineFault) (old new : Point S) (replies : List LineReply)
       → IsTurn rules old reading replies new → Way reading replies old.desk new.desk
-  way_of (Err fault) old new replies = alone (Err fault) (lines.Error (word_for fault)) tt
+  way_of (Err fault) old new replies = alone (Err fault) (lines.Err (word_for fault)) tt
       (λ moment. refl) old new replies
   way_of (Ok request) old new replies = λ turn. served request old new turn.0 replies turn.2
 

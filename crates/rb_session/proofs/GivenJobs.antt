@@ -27,7 +27,7 @@ use Rattle.rb_protocol.specs.declared.request.Request.TheVariants as requests
 use Rattle.rb_protocol.specs.declared.line_fault.LineFault.{LineFault}
 use Rattle.rb_protocol.specs.declared.line_reply.LineReply.{LineReply}
 use Rattle.rb_protocol.specs.declared.line_reply.LineReply.TheVariants as lines
-use Rattle.rb_protocol.specs.declared.error_word.ErrorWord.TheVariants as words
+use Rattle.rb_protocol.specs.declared.err_word.ErrWord.TheVariants as words
 use Rattle.rb_session.specs.Held.{place_of, AreGiven, AreNew, AreHeldOnce}
 use Rattle.rb_session.specs.Session.{Turn, Serves}
 use Rattle.rb_session.specs.Turn.{Point, IsTurn, IsServed, IsCall, IsFetch, IsFailure, AnswersAlone, fetched_by}
@@ -170,7 +170,7 @@ module _ {S : Type 0} (rules : DeskRules S) (Holds : S → List Element → Type
       → IsFetch rules.Steps old handed ask replies new → Holds new.desk new.held
   fetch ask old new handed replies holds =
       of_bool (nat_lt (length old.held) MOST_HELD) _ _ _
-      (call ask old new handed replies holds) (alone (lines.Error words.Held) old new replies holds)
+      (call ask old new handed replies holds) (alone (lines.Err words.Held) old new replies holds)
 
   failure : (old new : Point S) (now place : ℕ) (replies : List LineReply) → Holds old.desk old.held
       → IsFailure rules old now place replies new → Holds new.desk new.held
@@ -190,7 +190,7 @@ module _ {S : Type 0} (rules : DeskRules S) (Holds : S → List Element → Type
   served (requests.Offer delay payload) old new now replies holds =
       of_bool (nat_le (now + delay) GREATEST_MOMENT) _ _ _
       (λ offers. call (asks.Offer offers.0) old new now replies holds offers.2)
-      (alone (lines.Error words.Range) old new replies holds)
+      (alone (lines.Err words.Range) old new replies holds)
   served (requests.OfferAt expiry payload) old new now replies holds =
       λ offers. call (asks.Offer offers.0) old new now replies holds offers.2
   served requests.Poll old new now replies holds = fetch asks.Poll old new now replies holds
@@ -205,11 +205,11 @@ module _ {S : Type 0} (rules : DeskRules S) (Holds : S → List Element → Type
   served requests.Size old new now replies holds = call asks.Size old new now replies holds
   served (requests.Done id) old new now replies holds =
       of_place (place_of old.held id) _ _ _
-      (alone (lines.Error words.NotHeld) old new replies holds)
+      (alone (lines.Err words.NotHeld) old new replies holds)
       (λ place done. subst (Holds new.desk) (sym done.2)
       (removes new.desk old.held place (subst (λ (s : S). Holds s old.held) (sym done.1) holds)))
   served (requests.Fail id) old new now replies holds =
-      of_place (place_of old.held id) _ _ _ (alone (lines.Error words.NotHeld) old new replies holds)
+      of_place (place_of old.held id) _ _ _ (alone (lines.Err words.NotHeld) old new replies holds)
       (λ place. failure old new now place replies holds)
   served (requests.At moment) old new now replies holds =
       λ setting. subst (Holds new.desk) (sym setting.3)
@@ -218,7 +218,7 @@ module _ {S : Type 0} (rules : DeskRules S) (Holds : S → List Element → Type
 
   of_turn : (reading : Result Request LineFault) (old new : Point S) (replies : List LineReply)
       → IsTurn rules old reading replies new → Holds old.desk old.held → Holds new.desk new.held
-  of_turn (Err fault) old new replies turn holds = alone (lines.Error (word_for fault)) old new replies holds turn
+  of_turn (Err fault) old new replies turn holds = alone (lines.Err (word_for fault)) old new replies holds turn
   of_turn (Ok request) old new replies turn holds = served request old new turn.0 replies holds turn.2
 
 module _ {S : Type 0} (rules : DeskRules S) (mine : S → List Made)

@@ -24,7 +24,7 @@ use Rattle.rb_retry.specs.declared.policy.Policy.{Policy}
 use Rattle.rb_retry.specs.declared.verdict.Verdict.{Verdict}
 use Rattle.rb_retry.specs.declared.verdict.Verdict.TheVariants.{Again, Dead}
 use Rattle.rb_protocol.specs.ReplyText.{text_of}
-use Rattle.rb_protocol.specs.declared.error_word.ErrorWord.TheVariants as words
+use Rattle.rb_protocol.specs.declared.err_word.ErrWord.TheVariants as words
 use Rattle.rb_protocol.specs.declared.format.TheConstants.{LINE_FEED}
 use Rattle.rb_protocol.specs.declared.line_fault.LineFault.{LineFault}
 use Rattle.rb_protocol.specs.declared.line_fault.LineFault.TheVariants.{Line}
@@ -189,13 +189,13 @@ module _ {S : Type 0} (rules : DeskRules S) where
     path_rest from to came turns [] serves split no_line over =
         path_quiet from to came turns [] [] [] serves split tt refl refl
     path_rest from to came turns (byte ∷ rest) serves split no_line over =
-        let turn : Turn = record { raw = byte ∷ rest; reading = Err Line; replies = lines.Error words.Line ∷ [] } in
-        path_quiet from to came turns (turn ∷ []) (byte ∷ rest) (text_of (lines.Error words.Line)) serves split
+        let turn : Turn = record { raw = byte ∷ rest; reading = Err Line; replies = lines.Err words.Line ∷ [] } in
+        path_quiet from to came turns (turn ∷ []) (byte ∷ rest) (text_of (lines.Err words.Line)) serves split
         (inr (over, refl, omega arith, no_line, refl, refl))
-        (answers_one turn ∙ texts_one (lines.Error words.Line)) (
+        (answers_one turn ∙ texts_one (lines.Err words.Line)) (
           to.desk,
           inl (record {
-            line = lines.Error words.Line;
+            line = lines.Err words.Line;
             is = refl;
             none = tt;
             same = refl;

@@ -7,7 +7,7 @@ use Rattle.rb_protocol.specs.ReplyText.{text_of}
 use Rattle.rb_protocol.specs.declared.format.TheConstants.{LINE_FEED}
 use Rattle.rb_protocol.specs.declared.line_fault.LineFault.TheVariants.{Line}
 use Rattle.rb_protocol.specs.declared.line_reply.LineReply.TheVariants as lines
-use Rattle.rb_protocol.specs.declared.error_word.ErrorWord.TheVariants as words
+use Rattle.rb_protocol.specs.declared.err_word.ErrWord.TheVariants as words
 use Rattle.rb_protocol.specs.Line.{HasNoLineFeed}
 use Rattle.rb_session.specs.Rules.{SessionRules, session_rules}
 use Rattle.rb_session.specs.Turn.{Point}
@@ -60,15 +60,15 @@ module _ {S : Type 0} (desk : DeskRules S) (HadGot : List ℕ → Type 0) (from 
     reading = Err Line;
     begins = inr (over, some, no_feed, refl);
     last_waits = λ waits. absurd waits;
-    replies = lines.Error words.Line ∷ [];
+    replies = lines.Err words.Line ∷ [];
     turn = (refl, refl);
     first = more;
     unsent = unsent;
-    parts = append-nil (text_of (lines.Error words.Line)) ∙ sym (rest_is start.unserved some) ∙ parts;
+    parts = append-nil (text_of (lines.Err words.Line)) ∙ sym (rest_is start.unserved some) ∙ parts;
     answers = ap (λ t. t ++ more) start.answers;
   })
     where
-      rest_is : (rest : List ℕ) → 0 < length rest → rest_text rest ≡ text_of (lines.Error words.Line)
+      rest_is : (rest : List ℕ) → 0 < length rest → rest_text rest ≡ text_of (lines.Err words.Line)
       rest_is [] some = absurd (omega arith)
       rest_is (byte ∷ rest) some = refl
   ran_end HoldsBack Over over no_feed stops.Quit more ends = absurd ends

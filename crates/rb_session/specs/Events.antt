@@ -45,7 +45,7 @@ TellsOf _ reply replies = replies ≡ lines_for (Ok reply)
 
 -- the line tells of no event
 abbrev pub TellsOfNone : LineReply → Type 0
-TellsOfNone (lines.Error word) = Unit {0}
+TellsOfNone (lines.Err word) = Unit {0}
 TellsOfNone lines.Stopped = Unit {0}
 TellsOfNone (lines.Now moment) = Unit {0}
 TellsOfNone (lines.Done id) = Unit {0}

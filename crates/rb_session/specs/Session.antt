@@ -9,7 +9,7 @@ use Rattle.rb_protocol.specs.declared.request.Request.TheVariants.{Quit}
 use Rattle.rb_protocol.specs.declared.line_fault.LineFault.{LineFault}
 use Rattle.rb_protocol.specs.declared.line_reply.LineReply.{LineReply}
 use Rattle.rb_protocol.specs.declared.line_reply.LineReply.TheVariants as lines
-use Rattle.rb_protocol.specs.declared.error_word.ErrorWord.TheVariants as words
+use Rattle.rb_protocol.specs.declared.err_word.ErrWord.TheVariants as words
 use Rattle.rb_protocol.specs.Line.{HasNoLineFeed}
 use Rattle.rb_session.specs.Lines.{line_of}
 use Rattle.rb_protocol.specs.declared.limits.TheConstants.{BUFFER_BYTES}
@@ -44,7 +44,7 @@ IsLine raw reading = HasNoLineFeed raw × IsReading (line_of raw) reading
 -- what the bytes behind the last line feed get: one line, where there are any
 abbrev pub rest_text : List ℕ → List ℕ
 rest_text [] = []
-rest_text (byte ∷ rest) = text_of (lines.Error words.Line)
+rest_text (byte ∷ rest) = text_of (lines.Err words.Line)
 
 module _ {S : Type 0} (rules : DeskRules S) where
   -- These lines are served one after the other. None of them ends the session.

@@ -23,13 +23,13 @@ use Rattle.rb_protocol.specs.declared.line_fault.LineFault.{LineFault}
 use Rattle.rb_protocol.specs.declared.line_fault.LineFault.TheVariants as faults
 use Rattle.rb_protocol.specs.declared.line_reply.LineReply.{LineReply}
 use Rattle.rb_protocol.specs.declared.line_reply.LineReply.TheVariants as lines
-use Rattle.rb_protocol.specs.declared.error_word.ErrorWord.{ErrorWord}
-use Rattle.rb_protocol.specs.declared.error_word.ErrorWord.TheVariants as words
+use Rattle.rb_protocol.specs.declared.err_word.ErrWord.{ErrWord}
+use Rattle.rb_protocol.specs.declared.err_word.ErrWord.TheVariants as words
 use Rattle.rb_session.specs.Held.{place_of}
 use Rattle.rb_session.specs.declared.held_jobs.TheConstants.{MOST_HELD}
 
 -- the word for a line that is no request
-abbrev pub word_for : LineFault → ErrorWord
+abbrev pub word_for : LineFault → ErrWord
 word_for faults.Line = words.Line
 word_for faults.Syntax = words.Syntax
 word_for faults.Number = words.Number
@@ -37,8 +37,8 @@ word_for faults.Payload = words.Payload
 
 -- the line for a fault of the desk
 abbrev pub fault_line : DeskFault → LineReply
-fault_line Full = lines.Error words.Full
-fault_line Memory = lines.Error words.Memory
+fault_line Full = lines.Err words.Full
+fault_line Memory = lines.Err words.Memory
 fault_line Stopped = lines.Stopped
 
 -- the first line for a reply: a drain's items come behind it
@@ -67,10 +67,10 @@ lines_for (Err fault) = fault_line fault ∷ []
 -- the line for a moment that was set, or for a clock that can't be set
 abbrev pub moment_line : Option ℕ → LineReply
 moment_line (Some moment) = lines.Now moment
-moment_line None = lines.Error words.Syntax
+moment_line None = lines.Err words.Syntax
 
 -- the word for a next attempt that was refused
-abbrev pub refusal_word : CallFault → ErrorWord
+abbrev pub refusal_word : CallFault → ErrWord
 refusal_word refusals.Full = words.Full
 refusal_word refusals.Memory = words.Memory
 
@@ -78,7 +78,7 @@ refusal_word refusals.Memory = words.Memory
 abbrev pub verdict_line : Result Verdict (Element × CallFault) → LineReply
 verdict_line (Ok (Again again)) = lines.Again again.id again.expiry
 verdict_line (Ok (Dead dead)) = lines.Dead dead.id
-verdict_line (Err (back, fault)) = lines.Error (refusal_word fault)
+verdict_line (Err (back, fault)) = lines.Err (refusal_word fault)
 
 -- what is held after the element at this place failed: not that one, unless its next attempt was refused
 abbrev pub held_after : Result Verdict (Element × CallFault) → List Element → ℕ → List Element
@@ -133,7 +133,7 @@ module _ {S : Type 0} (Steps : S → ℕ → Ask → Result Reply DeskFault → 
   abbrev pub IsFetch : Point S → ℕ → Ask → List LineReply → Point S → Type 0
   IsFetch old handed ask replies new = MatchBool (nat_lt (length old.held) MOST_HELD)
       (IsCall old handed ask replies new)
-      (AnswersAlone (lines.Error words.Held) old replies new)
+      (AnswersAlone (lines.Err words.Held) old replies new)
 
 module _ {S : Type 0} (rules : DeskRules S) where
   -- the job at this place fails
@@ -150,7 +150,7 @@ module _ {S : Type 0} (rules : DeskRules S) where
   IsServed old now (requests.Offer delay payload) replies new = MatchBool (nat_le (now + delay) GREATEST_MOMENT)
       ((draft : Draft) × IsFirstDraft draft (now + delay) payload
       × IsCall rules.Steps old now (asks.Offer draft) replies new)
-      (AnswersAlone (lines.Error words.Range) old replies new)
+      (AnswersAlone (lines.Err words.Range) old replies new)
   IsServed old now (requests.OfferAt expiry payload) replies new =
       (draft : Draft) × IsFirstDraft draft expiry payload
       × IsCall rules.Steps old now (asks.Offer draft) replies new
@@ -165,15 +165,15 @@ module _ {S : Type 0} (rules : DeskRules S) where
   IsServed old now requests.Clear replies new = IsCall rules.Steps old now asks.Clear replies new
   IsServed old now requests.Size replies new = IsCall rules.Steps old now asks.Size replies new
   IsServed old now (requests.Done id) replies new = MatchOption (place_of old.held id)
-      (AnswersAlone (lines.Error words.NotHeld) old replies new)
+      (AnswersAlone (lines.Err words.NotHeld) old replies new)
       (λ place. IsDone old id place replies new)
   IsServed old now (requests.Fail id) replies new = MatchOption (place_of old.held id)
-      (AnswersAlone (lines.Error words.NotHeld) old replies new)
+      (AnswersAlone (lines.Err words.NotHeld) old replies new)
       (λ place. IsFailure old now place replies new)
   IsServed old now (requests.At moment) replies new = IsSetting rules.Sets old moment replies new
   IsServed old now requests.Quit replies new = AnswersAlone lines.Bye old replies new
 
   -- What a line gets, by what it is read as.
   abbrev pub IsTurn : Point S → Result Request LineFault → List LineReply → Point S → Type 0
-  IsTurn old (Err fault) replies new = AnswersAlone (lines.Error (word_for fault)) old replies new
+  IsTurn old (Err fault) replies new = AnswersAlone (lines.Err (word_for fault)) old replies new
   IsTurn old (Ok request) replies new = (now : ℕ) × rules.gives old.desk now × IsServed old now request replies new

@@ -10,7 +10,7 @@ use crate::fetches::{drain_jobs, poll_job, poll_job_for, take_job};
 use crate::held_job_ends::{fail_job, finish_job};
 use crate::held_jobs::HeldJobs;
 use crate::outlet::Outlet;
-use rb_protocol::{ErrorWord, LineFault, LineReply, Request};
+use rb_protocol::{ErrWord, LineFault, LineReply, Request};
 use rb_queue::Ask;
 use rb_retry::{Desk, Policy};
 
@@ -37,7 +37,7 @@ pub(crate) fn answer<O: Outlet, D: Desk>(
             let now = desk.now();
             serve(desk, held, policy, now, request)
         }
-        Err(fault) => LineReply::Error(word_for(fault)),
+        Err(fault) => LineReply::Err(word_for(fault)),
     }
 }
 
@@ -79,18 +79,18 @@ fn set_moment<D: Desk>(desk: &mut D, moment: u64) -> LineReply
 {
     match desk.set(moment) {
         Some(now) => LineReply::Now(now),
-        None => LineReply::Error(ErrorWord::Syntax),
+        None => LineReply::Err(ErrWord::Syntax),
     }
 }
 
 // The word for a line that is no request.
-fn word_for(fault: LineFault) -> ErrorWord
+fn word_for(fault: LineFault) -> ErrWord
     ensures { result ≡ word_for fault }
 {
     match fault {
-        LineFault::Line => ErrorWord::Line,
-        LineFault::Syntax => ErrorWord::Syntax,
-        LineFault::Number => ErrorWord::Number,
-        LineFault::Payload => ErrorWord::Payload,
+        LineFault::Line => ErrWord::Line,
+        LineFault::Syntax => ErrWord::Syntax,
+        LineFault::Number => ErrWord::Number,
+        LineFault::Payload => ErrWord::Payload,
     }
 }

@@ -5,12 +5,12 @@ ghost use Rattle.rb_queue.specs.declared.draft.Draft.{Draft};
 ghost use Rattle.rb_queue.specs.declared.reply.Reply.{Reply};
 ghost use Rattle.rb_retry.specs.declared.desk_fault.DeskFault.{DeskFault};
 ghost use Rattle.rb_protocol.specs.declared.line_reply.LineReply.TheVariants as lines;
-ghost use Rattle.rb_protocol.specs.declared.error_word.ErrorWord.TheVariants as words;
+ghost use Rattle.rb_protocol.specs.declared.err_word.ErrWord.TheVariants as words;
 ghost use Rattle.rb_session.specs.Turn.{IsFirstDraft, fault_line, reply_line};
 ghost use Rattle.rb_session.specs.Progress.{answer_line};
 
 use rb_delayed::{Payload, add_delay};
-use rb_protocol::{ErrorWord, LineReply};
+use rb_protocol::{ErrWord, LineReply};
 use rb_queue::{Ask, Draft, Reply};
 use rb_retry::{Desk, DeskFault};
 
@@ -33,12 +33,12 @@ pub(crate) fn offer<D: Desk>(desk: &mut D, now: u64, delay: u64, payload: Payloa
         × (answer : Result Reply DeskFault)
         × D.Steps (D.state desk.old) now (asks.Offer draft) answer (D.state desk.new)
         × (result ≡ answer_line answer))
-        ((result ≡ lines.Error words.Range) × (D.state desk.new ≡ D.state desk.old)) }
+        ((result ≡ lines.Err words.Range) × (D.state desk.new ≡ D.state desk.old)) }
     ensures name { D.name (D.state desk.new) ≡ D.name (D.state desk.old) }
 {
     match add_delay(now, delay) {
         Some(expiry) => offer_at(desk, now, expiry, payload),
-        None => LineReply::Error(ErrorWord::Range),
+        None => LineReply::Err(ErrWord::Range),
     }
 }
 
@@ -58,8 +58,8 @@ pub(crate) fn fault_line(fault: DeskFault) -> LineReply
     ensures { result ≡ fault_line fault }
 {
     match fault {
-        DeskFault::Full => LineReply::Error(ErrorWord::Full),
-        DeskFault::Memory => LineReply::Error(ErrorWord::Memory),
+        DeskFault::Full => LineReply::Err(ErrWord::Full),
+        DeskFault::Memory => LineReply::Err(ErrWord::Memory),
         DeskFault::Stopped => LineReply::Stopped,
     }
 }

@@ -8,7 +8,7 @@ ghost use Rattle.rb_session.specs.declared.held_jobs.TheConstants.{MOST_HELD};
 
 use crate::calls::fault_line;
 use crate::held_jobs::HeldJobs;
-use rb_protocol::{ErrorWord, LineReply};
+use rb_protocol::{ErrWord, LineReply};
 use rb_retry::{Desk, DeskFault, Job, poll, poll_for, take};
 
 /// Fetches the head, if there is one now and room for it.
@@ -20,7 +20,7 @@ pub(crate) fn poll_job<D: Desk>(desk: &mut D, held: &mut HeldJobs, now: u64) -> 
     ensures name { D.name (D.state desk.new) ≡ D.name (D.state desk.old) }
 {
     if held.free() == 0 {
-        return LineReply::Error(ErrorWord::Held);
+        return LineReply::Err(ErrWord::Held);
     }
     let fetched = poll(desk, now);
     hold(held, fetched)
@@ -40,7 +40,7 @@ pub(crate) fn poll_job_for<D: Desk>(
     ensures name { D.name (D.state desk.new) ≡ D.name (D.state desk.old) }
 {
     if held.free() == 0 {
-        return LineReply::Error(ErrorWord::Held);
+        return LineReply::Err(ErrWord::Held);
     }
     let fetched = poll_for(desk, now, timeout);
     hold(held, fetched)
@@ -55,7 +55,7 @@ pub(crate) fn take_job<D: Desk>(desk: &mut D, held: &mut HeldJobs) -> LineReply
     ensures name { D.name (D.state desk.new) ≡ D.name (D.state desk.old) }
 {
     if held.free() == 0 {
-        return LineReply::Error(ErrorWord::Held);
+        return LineReply::Err(ErrWord::Held);
     }
     let fetched = take(desk).map(Some);
     hold(held, fetched)

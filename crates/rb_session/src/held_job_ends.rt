@@ -1,7 +1,7 @@
 ghost use Rattle.std.specs.Prelude.{◌≡◌, ◌∷◌, [], MatchOption, remove};
 ghost use Rattle.rb_retry.specs.DeskRules.{desk_rules};
 ghost use Rattle.rb_protocol.specs.declared.line_reply.LineReply.TheVariants as lines;
-ghost use Rattle.rb_protocol.specs.declared.error_word.ErrorWord.TheVariants as words;
+ghost use Rattle.rb_protocol.specs.declared.err_word.ErrWord.TheVariants as words;
 ghost use Rattle.rb_session.specs.Held.{place_of};
 ghost use Rattle.rb_session.specs.Turn.{point, refusal_word, AnswersAlone, IsFailure};
 ghost use Rattle.rb_session.specs.Closing.{Closes};
@@ -9,13 +9,13 @@ ghost use Rattle.rb_session.specs.Progress.{replies_of};
 
 use crate::held_jobs::HeldJobs;
 use rb_kept::CallFault;
-use rb_protocol::{ErrorWord, LineReply};
+use rb_protocol::{ErrWord, LineReply};
 use rb_retry::{Desk, Policy, Verdict, done, fail};
 
 /// The job of this id is done, if it is held.
 pub(crate) fn finish_job(held: &mut HeldJobs, id: u64) -> LineReply
     ensures { MatchOption (place_of held.old id)
-        ((result ≡ lines.Error words.NotHeld) × (held.new ≡ held.old))
+        ((result ≡ lines.Err words.NotHeld) × (held.new ≡ held.old))
         (λ place. (result ≡ lines.Done id) × (held.new ≡ remove held.old place)) }
 {
     match held.take_out(id) {
@@ -23,7 +23,7 @@ pub(crate) fn finish_job(held: &mut HeldJobs, id: u64) -> LineReply
             done(job);
             LineReply::Done(id)
         }
-        None => LineReply::Error(ErrorWord::NotHeld),
+        None => LineReply::Err(ErrWord::NotHeld),
     }
 }
 
@@ -37,14 +37,14 @@ pub(crate) fn fail_job<D: Desk>(
     id: u64,
 ) -> LineReply
     ensures failed { MatchOption (place_of held.old id)
-        (AnswersAlone (lines.Error words.NotHeld)
+        (AnswersAlone (lines.Err words.NotHeld)
         (point (D.state desk.old) held.old) (replies_of result held.new) (point (D.state desk.new) held.new))
         (λ place. IsFailure (desk_rules D.Desk policy.now) (point (D.state desk.old) held.old) now place
         (replies_of result held.new) (point (D.state desk.new) held.new)) }
     ensures name { D.name (D.state desk.new) ≡ D.name (D.state desk.old) }
 {
     let Some(failed) = held.fail(desk, policy, now, id) else {
-        return LineReply::Error(ErrorWord::NotHeld);
+        return LineReply::Err(ErrWord::NotHeld);
     };
     match failed {
         Ok(Verdict::Again(again)) => LineReply::Again {
@@ -52,17 +52,17 @@ pub(crate) fn fail_job<D: Desk>(
             expiry: again.expiry,
         },
         Ok(Verdict::Dead(dead)) => LineReply::Dead(dead.id),
-        Err(fault) => LineReply::Error(refusal_word(fault)),
+        Err(fault) => LineReply::Err(refusal_word(fault)),
     }
 }
 
 // The word for a next attempt that was refused.
-fn refusal_word(fault: CallFault) -> ErrorWord
+fn refusal_word(fault: CallFault) -> ErrWord
     ensures { result ≡ refusal_word fault }
 {
     match fault {
-        CallFault::Full => ErrorWord::Full,
-        CallFault::Memory => ErrorWord::Memory,
+        CallFault::Full => ErrWord::Full,
+        CallFault::Memory => ErrWord::Memory,
     }
 }
 

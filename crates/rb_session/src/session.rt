@@ -15,7 +15,7 @@ use crate::line_buffer::LineBuffer;
 use crate::outlet::Outlet;
 use crate::replies::send_replies;
 use crate::stop::Stop;
-use rb_protocol::{ErrorWord, LimitedReader, LineFault, LineReply, Request, WriteFault};
+use rb_protocol::{ErrWord, LimitedReader, LineFault, LineReply, Request, WriteFault};
 use rb_retry::{Desk, Policy};
 use std::alloc::{AllocError, Global};
 use std::io::{ErrorKind, Read};
@@ -181,7 +181,7 @@ fn finish<O: Outlet>(buffer: &LineBuffer, outlet: &mut O, held: &HeldJobs) -> St
     ensures becomes { O.Becomes outlet.old outlet.new }
 {
     if buffer.has_rest() {
-        let error = LineReply::Error(ErrorWord::Line);
+        let error = LineReply::Err(ErrWord::Line);
         if send_replies(outlet, &error, held).is_err() {
             return Stop::Write;
         }

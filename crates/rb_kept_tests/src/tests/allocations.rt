@@ -9,7 +9,7 @@ use rb_delayed::{Delayed, Element, Payload, add_capped, add_delay, is_expired};
 use rb_kept::{CallFault, Kept, Outcome};
 use rb_ledger::{Books, Tally};
 use rb_pairing::PairingTimer;
-use rb_protocol::{ErrorWord, LineReply, read_request, write_reply};
+use rb_protocol::{ErrWord, LineReply, read_request, write_reply};
 use rb_queue::{Act, Ask, DelayQueue, Draft, Items, Opening, Reply};
 use rb_replay::{History, read_history};
 use rb_timer::{ListTimer, Timer};
@@ -305,7 +305,7 @@ fn reply_round(rt: &impl Abort, text: &mut Vec<u8>) -> u64 {
         LineReply::Now(expiry),
         LineReply::Stopped,
         LineReply::Bye,
-        LineReply::Error(ErrorWord::NotHeld),
+        LineReply::Err(ErrWord::NotHeld),
     ] {
         text.clear();
         let answer = write_reply(reply, text);

@@ -3,7 +3,7 @@ use Rattle.std.proofs.Common.{◌≡◌, ℕ, List, [], ◌∷◌, Option, Some,
 use Rattle.std.specs.Prelude.{MatchOption}
 use Rattle.rb_delayed.specs.declared.element.Element.{Element}
 use Rattle.rb_kept.specs.declared.fault.CallFault.{CallFault}
-use Rattle.rb_protocol.specs.declared.error_word.ErrorWord.{ErrorWord}
+use Rattle.rb_protocol.specs.declared.err_word.ErrWord.{ErrWord}
 use Rattle.rb_protocol.specs.declared.line_reply.LineReply.{LineReply}
 use Rattle.rb_protocol.specs.declared.line_reply.LineReply.TheVariants as lines
 use Rattle.rb_retry.specs.DeskRules.{DeskRules, desk_rules}
@@ -17,7 +17,7 @@ use Rattle.rb_session.proofs.held_job_ends.fail_job.Goals as goal
 abbrev told_line : Result Verdict CallFault → LineReply
 told_line (Ok (Again again)) = lines.Again again.id again.expiry
 told_line (Ok (Dead dead)) = lines.Dead dead.id
-told_line (Err fault) = lines.Error (refusal_word fault)
+told_line (Err fault) = lines.Err (refusal_word fault)
 
 line_told : (result : Result Verdict (Element × CallFault)) → told_line (told result) ≡ verdict_line result
 line_told (Ok (Again again)) = refl
@@ -63,5 +63,5 @@ pub returns-in-Err-clause-failed : goal.returns-in-Err-clause-failed
 returns-in-Err-clause-failed g c =
     failed_at (desk_rules g.D.Desk c.args.policy.now) c.args.held.now c.fail.new.self c.args.now
     (g.D.Desk.state c.args.desk.now) (g.D.Desk.state c.fail.new.desk) _ _ c.in-Some.failed _
-    (ap (λ (word : ErrorWord). replies_of (lines.Error word) c.fail.new.self) c.refusal_word.ensures
+    (ap (λ (word : ErrWord). replies_of (lines.Err word) c.fail.new.self) c.refusal_word.ensures
     ∙ sym (ap (λ (v : Result Verdict CallFault). told_line v ∷ []) c.in-Err.is)) c.in-Some.ensures.failed

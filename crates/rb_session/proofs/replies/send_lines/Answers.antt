@@ -28,7 +28,7 @@ rest_of (lines.Dead id) held = ([], refl)
 rest_of (lines.Now moment) held = ([], refl)
 rest_of lines.Stopped held = ([], refl)
 rest_of lines.Bye held = ([], refl)
-rest_of (lines.Error word) held = ([], refl)
+rest_of (lines.Err word) held = ([], refl)
 
 pub returns-in_err-send_reply-clause-sent : goal.returns-in_err-send_reply-clause-sent
 returns-in_err-send_reply-clause-sent g c =

@@ -3,15 +3,15 @@ use Rattle.std.proofs.Common.{◌≡◌, ℕ, ◌<◌, List, [], ◌∷◌, sym,
 use Rattle.std.proofs.lemmas.List.{append-nil}
 use Rattle.rb_protocol.specs.ReplyText.{text_of}
 use Rattle.rb_protocol.specs.declared.line_reply.LineReply.TheVariants as lines
-use Rattle.rb_protocol.specs.declared.error_word.ErrorWord.TheVariants as words
+use Rattle.rb_protocol.specs.declared.err_word.ErrWord.TheVariants as words
 use Rattle.rb_session.specs.Session.{texts_of, rest_text}
 use Rattle.rb_protocol.proofs.Sending.{sends_failed, sends_done}
 use Rattle.rb_session.proofs.session.finish.Goals as goal
 
 -- bytes behind the last line feed get one line
-rest_is : (rest : List ℕ) → 0 < length rest → texts_of (lines.Error words.Line ∷ []) ≡ rest_text rest
+rest_is : (rest : List ℕ) → 0 < length rest → texts_of (lines.Err words.Line ∷ []) ≡ rest_text rest
 rest_is [] some = absurd (omega arith)
-rest_is (byte ∷ rest) some = append-nil (text_of (lines.Error words.Line))
+rest_is (byte ∷ rest) some = append-nil (text_of (lines.Err words.Line))
 
 pub returns-then-is_err-clause-ends : goal.returns-then-is_err-clause-ends
 returns-then-is_err-clause-ends g c bytes unserved =

@@ -1,6 +1,6 @@
 /// Why a request was refused.
 #[derive(Clone, Copy, Debug, PartialEq, Eq)]
-pub enum ErrorWord {
+pub enum ErrWord {
     /// The words, their number or the spaces between them are not those of a request.
     Syntax,
     /// A word in the place of a number is not a number.
