@@ -34,15 +34,15 @@ pub record IsNext (names after : ℕ) (log : Log) (next : Stage) : Type 0 where
   pub old : (n : ℕ) → n < names → times_in n (drawn next) ≡ 0
   pub below : (n : ℕ) → after ≤ n → times_in n (drawn next) ≡ 0
   pub there : IsThere next
-  pub stage : ((n : ℕ) → names ≤ n → events_of log.history n ≡ []) → AtStage log after names next
+  pub stage : ((n : ℕ) → names ≤ n → events_of log.history n ≡ []) → AtStage log after after next
 
 -- the view of the seat that holds the lock
 abbrev pub before : Seen → List Event → ℕ → View
 before pass found names = holder_of (idle pass) found names
 
 -- and once it has given it back
-abbrev pub after_it : Seen → List Event → ℕ → List Event → Stage → View
-after_it pass found names new next = caught_up (before pass found names) new next
+abbrev pub after_it : Seen → List Event → ℕ → ℕ → List Event → Stage → View
+after_it pass found names after new next = record (caught_up (before pass found names) new next) { noted = after }
 
 module _ {T : Type 0} (pass : Seen) (found new : Log) (names after : ℕ) (next : Stage)
     (capacity : new.capacity ≡ pass.capacity) (opening : new.opening ≡ pass.opening)
@@ -128,7 +128,7 @@ module _ {T : Type 0} (pass : Seen) (found new : Log) (names after : ℕ) (next 
   names_is = own.stage.1
 
   -- the view of the seat itself fits
-  own_fits : Fits new after (after_it pass found.history names new.history next)
+  own_fits : Fits new after (after_it pass found.history names after new.history next)
   own_fits =
       let folded_none : times_in pass.name (names_of pass.folded) ≡ 0 =
       omega (arith, law.once pass.name, total_at (weight pass.name) s.views id (before pass found.history names) at, bit_same pass.name, times_in-append pass.name (names_of pass.folded) []) in
@@ -140,30 +140,30 @@ module _ {T : Type 0} (pass : Seen) (found new : Log) (names after : ℕ) (next 
           record { begins = prefix_self new.history; known = refl; all = refl },
           records_stay pass.name law.log.history new.history grown_now pass.folded folded_none own.records.1,
         );
-        noted = goes.more;
+        noted = omega arith;
         stage = (goes.stage (λ n above. strangers_stay n (subst (λ (m : ℕ). m ≤ n) names_is above)));
       }
 
   -- how often a name stands in the view now
-  weighs : (n : ℕ) → weight n (after_it pass found.history names new.history next) ≡ weight n (before pass found.history names) + times_in n (drawn next)
+  weighs : (n : ℕ) → weight n (after_it pass found.history names after new.history next) ≡ weight n (before pass found.history names) + times_in n (drawn next)
   weighs n = omega (arith, times_in-append n (names_of pass.folded) [], times_in-append n (names_of pass.folded) (drawn next))
 
-  now_total : (n : ℕ) → total (weight n) (set s.views id (after_it pass found.history names new.history next)) ≡ total (weight n) s.views + times_in n (drawn next)
-  now_total n = omega (arith, total_set (weight n) s.views id (before pass found.history names) (after_it pass found.history names new.history next) at, weighs n)
+  now_total : (n : ℕ) → total (weight n) (set s.views id (after_it pass found.history names after new.history next)) ≡ total (weight n) s.views + times_in n (drawn next)
+  now_total n = omega (arith, total_set (weight n) s.views id (before pass found.history names) (after_it pass found.history names after new.history next) at, weighs n)
 
-  now_held : total holders (set s.views id (after_it pass found.history names new.history next)) ≡ 0
-  now_held = omega (arith, total_set holders s.views id (before pass found.history names) (after_it pass found.history names new.history next) at, is_out.one, goes.free)
+  now_held : total holders (set s.views id (after_it pass found.history names after new.history next)) ≡ 0
+  now_held = omega (arith, total_set holders s.views id (before pass found.history names) (after_it pass found.history names after new.history next) at, is_out.one, goes.free)
 
-  now_once : (n : ℕ) → total (weight n) (set s.views id (after_it pass found.history names new.history next)) ≤ 1
+  now_once : (n : ℕ) → total (weight n) (set s.views id (after_it pass found.history names after new.history next)) ≤ 1
   now_once n = dite (dec_le names n)
       (λ above. omega (arith, now_total n, law.below n (subst (λ (m : ℕ). m ≤ n) names_is above), goes.once n))
       (λ below. omega (arith, now_total n, law.once n, goes.old n (lt_of_not-le below)))
 
-  now_below : (n : ℕ) → after ≤ n → total (weight n) (set s.views id (after_it pass found.history names new.history next)) ≡ 0
+  now_below : (n : ℕ) → after ≤ n → total (weight n) (set s.views id (after_it pass found.history names after new.history next)) ≡ 0
   now_below n above = omega (arith, now_total n, law.below n, goes.below n above, goes.more, names_is)
 
   -- the rule holds again
-  pub given : Locked (stepped s 0 0 id ((0, Some (pair_of new after)) ∷ []) (after_it pass found.history names new.history next) gives)
+  pub given : Locked (stepped s 0 0 id ((0, Some (pair_of new after)) ∷ []) (after_it pass found.history names after new.history next) gives)
   given = record {
     log = new;
     names = after;
@@ -173,8 +173,8 @@ module _ {T : Type 0} (pass : Seen) (found new : Log) (names after : ℕ) (next 
       homes = ap (λ (hs : List (maybe.Option (Option (Pair T)))). slice_set hs 0 (some (Some (pair_of new after)))) is_out.homes;
       nobody = now_held;
     });
-    fits = λ by u there. ⊎_elim (λ (here : (by ≡ id) × (after_it pass found.history names new.history next ≡ u)). subst (Fits new after) here.1 own_fits)
-        (λ (else : (by ≢ id) × (get_elem? s.views by ≡ some u)). fits_stay by u else.0 else.1) (at_set s.views id by (after_it pass found.history names new.history next) u there);
+    fits = λ by u there. ⊎_elim (λ (here : (by ≡ id) × (after_it pass found.history names after new.history next ≡ u)). subst (Fits new after) here.1 own_fits)
+        (λ (else : (by ≢ id) × (get_elem? s.views by ≡ some u)). fits_stay by u else.0 else.1) (at_set s.views id by (after_it pass found.history names after new.history next) u there);
     once = now_once;
     below = now_below;
     not_given = λ n above. strangers_stay n (omega (arith, goes.more, names_is, above));
@@ -212,7 +212,7 @@ pub gives_lock : {T : Type 0} (slots id : ℕ) (pass : Seen) (found new : Log) (
     → Allows (Locked {T = T}) slots id (before pass found.history names, (0, Some (pair_of new names)) ∷ []) 0 (λ _. 0)
     (gave {T = T} (step 0 0 0 0 none) (before pass found.history names, (0, Some (pair_of new names)) ∷ []))
 gives_lock slots id pass found new names capacity opening grown few s law many at small = (
-  after_it pass found.history names new.history Idle,
+  after_it pass found.history names names new.history Idle,
   gives,
   tt,
   given pass found new names names Idle capacity opening grown (next_idle names new few) s law id at,
@@ -224,7 +224,7 @@ pub draws_name : {T : Type 0} (slots id : ℕ) (pass : Seen) (found : Log) (name
     → Allows (Locked {T = T}) slots id (before pass found.history names, (0, Some (pair_of found (names + 1))) ∷ []) 0 (λ _. 0)
     (drew {T = T} (step 0 0 0 0 none) (before pass found.history names, (0, Some (pair_of found (names + 1))) ∷ []))
 draws_name slots id pass found names capacity opening few s law many at small = (
-  after_it pass found.history names found.history (Drew names),
+  after_it pass found.history names (names + 1) found.history (Drew names),
   gives,
   tt,
   given pass found found names (names + 1) (Drew names) capacity opening (grown_none pass.name found.history) (next_drew names found few) s law id at,

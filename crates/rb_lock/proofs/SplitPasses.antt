@@ -3,12 +3,11 @@ use Rattle.std.proofs.Common.{◌≡◌, ℕ, ◌+◌, ◌<◌, [], ◌∷◌, a
 use Rattle.std.specs.Prelude.{Option, Some, None}
 use Rattle.atomic_table.specs.Table.{Splits}
 use Rattle.rb_lock.specs.Passes.{Seen}
-use Rattle.rb_lock.specs.Views.{idle, holder_of, caught_up, rested, cut_off}
+use Rattle.rb_lock.specs.Views.{idle, holder_of, has_drawn, rested, cut_off}
 use Rattle.rb_lock.specs.Rule.{pair_of, Locked}
 use Rattle.rb_lock.specs.LockSteps.{LockSeat, Noted, TakesLock, MayGive, MayDraw, NamesIn, in_hand}
 use Rattle.rb_lock.specs.declared.pair.Pair.{Pair}
 use Rattle.rb_lock.specs.declared.pair.TheConstants.{MOST_NAMES}
-use Rattle.rb_lock.specs.declared.stage.Stage.TheVariants.{Drew}
 use Rattle.rb_lock.proofs.LongerHistories.{grown_none}
 use Rattle.rb_lock.proofs.Sharings.{drawing, cuts}
 use Rattle.rb_lock.proofs.RestingPasses.{learned, found_pair}
@@ -70,11 +69,11 @@ module _ {T : Type 0} (pass : Seen) (seat0 seat1 seat2 : LockSeat T) (rest : sea
     }
 
     -- the seat has drawn the name
-    module _ (seat3 : LockSeat T) (drew : seat3 ≡ (caught_up seat2.0 (in_hand seat2.1) (Drew seat2.0.noted), [])) where
-      drawn_is : seat3 ≡ (drawing (learned pass got.names got.log.history) got.names, [])
-      drawn_is = drew ∙ ap (λ (m : LockSeat T). (caught_up m.0 (in_hand m.1) (Drew m.0.noted), [])) some_is
+    module _ (seat3 : LockSeat T) (drew : seat3 ≡ (has_drawn seat2.0 (in_hand seat2.1), [])) where
+      drawn_is : seat3 ≡ (drawing (learned pass (got.names + 1) got.log.history) got.names, [])
+      drawn_is = drew ∙ ap (λ (m : LockSeat T). (has_drawn m.0 (in_hand m.1), [])) some_is
 
       pub may_cut : (id : ℕ) → Splits (Locked {T = T}) id seat3.0 (rested seat3.0) (cut_off seat3.0)
       may_cut id =
           subst (λ (m : LockSeat T). Splits (Locked {T = T}) id m.0 (rested m.0) (cut_off m.0)) (sym drawn_is)
-          (cuts id (learned pass got.names got.log.history) got.names)
+          (cuts id (learned pass (got.names + 1) got.log.history) got.names)

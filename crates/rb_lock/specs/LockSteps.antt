@@ -15,7 +15,7 @@ use Rattle.rb_kept.specs.declared.tries.Try.{Try}
 use Rattle.rb_kept.specs.declared.outcome.Outcome.{Outcome}
 use Rattle.rb_kept.specs.declared.fault.CallFault.{CallFault}
 use Rattle.rb_lock.specs.Passes.{Seen, IsSoundPass, tally_of}
-use Rattle.rb_lock.specs.Views.{weight, idle, pass_of, holder_of, caught_up, rested, longer}
+use Rattle.rb_lock.specs.Views.{weight, idle, pass_of, holder_of, caught_up, has_drawn, rested, longer}
 use Rattle.rb_lock.specs.Rule.{Fits, pair_of}
 use Rattle.rb_lock.specs.declared.pair.Pair.{Pair}
 use Rattle.rb_lock.specs.declared.pair.TheConstants.{MOST_NAMES}
@@ -88,9 +88,9 @@ module _ {T : Type 0} where
   abbrev pub gave : Step (Option (Pair T)) → LockSeat T → ℕ → LockSeat T → Type 0
   gave step before found after = after ≡ (caught_up before.0 (in_hand before.1) Idle, rest before.1)
 
-  -- the same, and the seat has drawn the name that it noted
+  -- the same, and the seat has drawn the next name
   abbrev pub drew : Step (Option (Pair T)) → LockSeat T → ℕ → LockSeat T → Type 0
-  drew step before found after = after ≡ (caught_up before.0 (in_hand before.1) (Drew before.0.noted), rest before.1)
+  drew step before found after = after ≡ (has_drawn before.0 (in_hand before.1), rest before.1)
 
   -- the word was read, and the seat has learned how the two lists compare
   abbrev pub learned : Step (Option (Pair T)) → LockSeat T → ℕ → LockSeat T → Type 0

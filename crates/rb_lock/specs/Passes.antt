@@ -24,7 +24,7 @@ pub record Seen : Type 0 where
   pub name : ℕ
   pub capacity : ℕ
   pub opening : Opening
-  -- how many names had been given when it last took the lock
+  -- how many names had been given when it last took the lock, its own draw among them
   pub noted : ℕ
   -- the history, as far as it has seen it
   pub seen : List Event
@@ -116,9 +116,9 @@ first_pass table start = record {
   folded = [];
 }
 
--- a pass split off: it has seen the same, under the name that was next, and made no call
-abbrev pub split_from : Seen → Seen
-split_from pass = record pass { name = pass.noted; mine = []; folded = [] }
+-- a pass split off under this name: it has seen the same, and made no call
+abbrev pub split_from : Seen → ℕ → Seen
+split_from pass name = record pass { name = name; mine = []; folded = [] }
 
 -- a pass with another folded into it: the other's record and those folded into that follow its own
 abbrev pub folded_with : Seen → Seen → Seen

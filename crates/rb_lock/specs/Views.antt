@@ -101,6 +101,10 @@ holder_of v found names = record v { noted = names; stage = Holds found }
 abbrev pub caught_up : View → List Event → Stage → View
 caught_up v history next = record v { seen = history; mine = events_of history v.name; stage = next }
 
+-- the same, and the next name is drawn: it is given from now on
+abbrev pub has_drawn : View → List Event → View
+has_drawn v history = record (caught_up v history (Drew v.noted)) { noted = v.noted + 1 }
+
 -- the seat is about to do nothing
 abbrev pub rested : View → View
 rested v = record v { stage = Idle }

@@ -3,8 +3,8 @@ ghost use Rattle.std.specs.Prelude.{◌≡◌, ◌≤◌, [], ◌∷◌, Some, N
 ghost use Rattle.rb_queue.specs.History.{IsLegal};
 ghost use Rattle.rb_lock.specs.LockSteps.{HasOneWord, AtRest, TakesLock, MayGive, MayDraw};
 ghost use Rattle.rb_lock.specs.LockSteps.{ActsIn, ActsOn, NamesIn, NamesOn, HasLearned, in_hand};
-ghost use Rattle.rb_lock.specs.Views.{caught_up};
-ghost use Rattle.rb_lock.specs.declared.stage.Stage.TheVariants.{Idle, Drew};
+ghost use Rattle.rb_lock.specs.Views.{caught_up, has_drawn};
+ghost use Rattle.rb_lock.specs.declared.stage.Stage.TheVariants.{Idle};
 
 use crate::pair::Pair;
 use crate::rule::{LockTable, PassSeat};
@@ -98,7 +98,7 @@ pub(crate) fn give_and_draw<T: Timer>(table: &LockTable<T>, seat: &mut PassSeat<
     requires table { seat.old.table_id ≡ table.now.table_id }
     requires holds { MayDraw seat.old.me }
     ensures table { seat.new.table_id ≡ seat.old.table_id }
-    ensures drawn { seat.new.me ≡ (caught_up seat.old.me.0 (in_hand seat.old.me.1) (Drew seat.old.me.0.noted), []) }
+    ensures drawn { seat.new.me ≡ (has_drawn seat.old.me.0 (in_hand seat.old.me.1), []) }
 {
     let found = table.swap::<Draw>(seat, 0, FREE);
     wake(table, found);

@@ -88,15 +88,17 @@ impl<T: Timer> Shared<T> {
     /// pass calls, and takes no memory.
     ///
     /// The new pass has seen what this one has, and has made no call. Its name is below 65,536, and none
-    /// of those that this pass knew to be given. The fault is `Names`, only if all 65,536 names are given.
+    /// of those that this pass knew to be given; this pass now knows it to be given. The fault is `Names`,
+    /// only if all 65,536 names are given.
     /// Either way this pass may have seen more of the history than before.
     pub fn split<R: Wait>(&self, rt: &R, pass: &mut Pass<T>) -> Result<Pass<T>, SplitFault>
         requires pass { pass.old.table ≡ self.now }
         ensures learns { Learns pass.old pass.new }
         ensures mine { pass.new.mine ≡ pass.old.mine }
-        ensures child { IfOk result (λ child. child ≡ split_from pass.new) }
+        ensures child { IfOk result (λ child. child ≡ split_from pass.new child.name) }
         ensures unheard { IfOk result (λ child. events_of child.seen child.name ≡ []) }
         ensures later { IfOk result (λ child. pass.old.noted ≤ child.name) }
+        ensures noted { IfOk result (λ child. child.name < pass.new.noted) }
         ensures few { IfOk result (λ child. child.name < MOST_NAMES) }
         ensures names { OnErr result (pass.new.noted ≡ MOST_NAMES) }
     {

@@ -9,7 +9,7 @@ pub(crate) struct View {
     pub(crate) live: bool,
     pub(crate) capacity: u64,
     pub(crate) opening: Opening,
-    /// How many names had been given when the lock was last taken.
+    /// How many names had been given when the lock was last taken, this seat's own draw among them.
     pub(crate) noted: u64,
     pub(crate) name: u64,
     pub(crate) seen: LinkedList<Event>,
