@@ -1,5 +1,5 @@
 -- What a try to make a call may give, from one log to the next.
-use Rattle.std.specs.Prelude.{◌≡◌, ℕ, ◌<◌, max, List, [], ◌∷◌, Option, Some, Result, Ok, Err}
+use Rattle.std.specs.Prelude.{◌≡◌, ℕ, ◌<◌, max, List, [], ◌∷◌, ◌++◌, Option, Some, Result, Ok, Err}
 use Rattle.rb_queue.specs.Bag.{NoneExpired}
 use Rattle.rb_queue.specs.Head.{IsNextExpiry}
 use Rattle.rb_queue.specs.Draft.{IsDrafted}
@@ -49,8 +49,8 @@ pub record Records (old : Log) (try : Try) (answer : Reply) (event : Event) : Ty
   pub seat : event.seat ≡ try.seat
   pub asked : event.asked ≡ try.asked
   pub act : IsActOf try.ask event.act
-  pub legal : IsLegal old.opening (with_event old event).history
-  pub reply : reply_of old.opening (with_event old event).history ≡ Some answer
+  pub legal : IsLegal old.opening (old.history ++ event ∷ [])
+  pub reply : reply_of old.opening (old.history ++ event ∷ []) ≡ Some answer
 
 -- the try finds nothing that is expired, would wait, and learns the least expiry
 pub record Waits (old : Log) (try : Try) (expiry : Option ℕ) : Type 0 where

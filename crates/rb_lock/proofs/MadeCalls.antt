@@ -78,8 +78,8 @@ no_more pass log new more adds same mine =
 -- how a step of the log that was found answers the pass
 answered_by : (pass : Seen) (try : Try) (step : Result Outcome CallFault) (names : ℕ) (log new : Log) (more : List Event) → log ≡ log_at pass log.history → StepsTo log try step new
     → new ≡ with_events log more → events_of new.history pass.name ≡ pass.mine ++ more → IsPrefix pass.seen log.history
-    → tally_of (learned pass names new.history) ≡ share_with (tally_of pass) more → Answered pass (learned pass names new.history) try step
-answered_by pass try (Ok (Done reply)) names log new more ours (room, (event, is, records)) adds mine begins tally =
+    → Answered pass (learned pass names new.history) try step
+answered_by pass try (Ok (Done reply)) names log new more ours (room, (event, is, records)) adds mine begins =
     let one : more ≡ event ∷ [] = append_same log.history more (event ∷ []) (ap (λ (l : Log). l.history) (sym adds ∙ is)) in
     record {
       before = log.history;
@@ -89,15 +89,14 @@ answered_by pass try (Ok (Done reply)) names log new more ours (room, (event, is
       seen = ap (λ (l : Log). l.history) is;
       mine = mine ∙ ap (λ (es : List Event). pass.mine ++ es) one;
       records = subst (λ (l : Log). Records l try reply event) ours records;
-      tally = tally ∙ ap (λ (es : List Event). share_with (tally_of pass) es) one;
     }
-answered_by pass try (Ok (Later next)) names log new more ours (room, (waits, is)) adds mine begins tally =
+answered_by pass try (Ok (Later next)) names log new more ours (room, (waits, is)) adds mine begins =
     let now : log ≡ log_at pass new.history = ours ∙ ap (λ (l : Log). log_at pass l.history) (sym is) in
     (no_more pass log new more adds is mine, subst HasRoom now room, subst (λ (l : Log). Waits l try next) now waits)
-answered_by pass try (Err Full) names log new more ours (full, is) adds mine begins tally =
+answered_by pass try (Err Full) names log new more ours (full, is) adds mine begins =
     let now : log ≡ log_at pass new.history = ours ∙ ap (λ (l : Log). log_at pass l.history) (sym is) in
     (no_more pass log new more adds is mine, subst IsFull now full)
-answered_by pass try (Err Memory) names log new more ours (room, takes, is) adds mine begins tally =
+answered_by pass try (Err Memory) names log new more ours (room, takes, is) adds mine begins =
     let now : log ≡ log_at pass new.history = ours ∙ ap (λ (l : Log). log_at pass l.history) (sym is) in
     (no_more pass log new more adds is mine, subst HasRoom now room, takes)
 
@@ -161,7 +160,7 @@ module _ (pass : Seen) (try : Try) (step : Result Outcome CallFault) (share shar
   counted was = made.grows.share ∙ ap (λ (t : Totals). share_with t made.grows.more) was ∙ more_counted
 
   pub answered : Answered pass (learned pass names new.history) try step
-  answered = answered_by pass try step names log new made.grows.more found_log made.steps made.grows.log mine_more made.found.fits.begins (sym more_counted)
+  answered = answered_by pass try step names log new made.grows.more found_log made.steps made.grows.log mine_more made.found.fits.begins
 
 -- a pass at rest took the lock, and called the queue in its hand under its own name
 pub record CallsInHand {T : Type 0} (pass : Seen) (try : Try) (step : Result Outcome CallFault) (share share' : Totals) (seat0 seat1 seat2 : LockSeat T) : Type 0 where
