@@ -16,4 +16,5 @@ pub use fault::{CallFault, NewFault};
 pub use kept::{Kept, MOST_CALLS};
 pub use laws::most_calls_has_its_value;
 pub use outcome::{Outcome, Step};
+pub use rb_queue::Audit;
 pub use tries::Try;
