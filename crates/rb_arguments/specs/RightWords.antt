@@ -1,9 +1,9 @@
 -- Which words of a command line are right, and why words are refused.
-use Rattle.std.specs.Prelude.{◌≡◌, ◌⊎◌, true, false, List, Some}
+use Rattle.std.specs.Prelude.{◌≡◌, ◌⊎◌, true, false, List, Some, Contains, codes, take}
 use Rattle.std.specs.Borrow.{Bor}
 use Rattle.clap.specs.Words.{Row, Text, subcommand_of, takes}
 use Rattle.clap.specs.declared.error.kind.ErrorKind.{ErrorKind}
-use Rattle.clap.specs.declared.error.kind.ErrorKind.TheVariants.{OutOfMemory}
+use Rattle.clap.specs.declared.error.kind.ErrorKind.TheVariants.{DisplayHelp, DisplayVersion, OutOfMemory}
 use Rattle.rb_arguments.specs.Arguments.{AreTimerNames}
 use Rattle.rb_arguments.specs.CommandLine.{names_both, program}
 use Rattle.rb_arguments.specs.RightValues.{AreRightFor}
@@ -29,3 +29,15 @@ pub record AreWrongWords (words : List Text) : Type 0 where
 -- words are refused because memory ran out, or because they are wrong
 abbrev pub IsRefusal : List Text → ErrorKind → Type 0
 IsRefusal words kind = (kind ≡ OutOfMemory) ⊎ AreWrongWords words
+
+-- a word that asks for help, as clap reads words: `help`, `--help`, or options of one letter of which `h` is the first
+abbrev pub IsHelp : Text → Type 0
+IsHelp word = (word ≡ codes "help") ⊎ ((word ≡ codes "--help") ⊎ (take 2 word ≡ codes "-h"))
+
+-- a word among these asks for help
+abbrev pub AskForHelp : List Text → Type 0
+AskForHelp words = (word : Text) × Contains words word × IsHelp word
+
+-- what is shown is no mistake, and the program ends with status 0
+abbrev pub ShowsHelp : ErrorKind → Type 0
+ShowsHelp kind = (kind ≡ DisplayHelp) ⊎ (kind ≡ DisplayVersion)

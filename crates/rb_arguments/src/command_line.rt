@@ -1,4 +1,4 @@
-ghost use Rattle.std.specs.Prelude.{◌≡◌, ℕ, List, IfOk, IfErr, IfNone, IfSome, IsSome, Some, false, map};
+ghost use Rattle.std.specs.Prelude.{◌≡◌, ℕ, List, IfOk, IfErr, IfNone, IfSome, IsSome, IsTrue, Some, false, map};
 ghost use Rattle.std.specs.Borrow.{Bor};
 ghost use Rattle.clap.specs.Words.{Row, Text, app_of, kind_of, rule_of, subcommand_rows_of, with_rule};
 ghost use Rattle.clap.specs.declared.builder.command.Command.TheViews.{out-Command};
@@ -9,7 +9,7 @@ ghost use Rattle.rb_arguments.specs.CommandLine.{script_command, serve_command, 
 ghost use Rattle.rb_arguments.specs.CommandLine.{with_queue, with_run};
 ghost use Rattle.rb_arguments.specs.Ranges.{AreInRange};
 ghost use Rattle.rb_arguments.specs.RightValues.{AreRightFor};
-ghost use Rattle.rb_arguments.specs.RightWords.{AreWrongWords, IsRefusal};
+ghost use Rattle.rb_arguments.specs.RightWords.{AreWrongWords, AskForHelp, IsHelp, IsRefusal, ShowsHelp};
 
 use crate::arguments::{
     attempts_option, calls_option, chains_flag, delay_option, file_argument, from_option,
@@ -22,17 +22,21 @@ use clap::error::ErrorKind;
 use clap::{Arg, ArgMatches, Command, Error};
 use std::alloc::{AllocError, Global};
 
+// What is wrong with words that clap takes.
+const UNKNOWN: &str = "the command or a value of its options is not known";
+
 /// What the words of a command line ask for. The first word is the program's own name.
 ///
 /// `clap` reads the words. They are refused if `clap` refuses them, if they give both a delay and a rate, or if
-/// a value is out of its range. The error has the text for the user and the exit code: 0 for help that was asked
-/// for, 2 for any other. If memory runs out, its kind is `OutOfMemory`.
+/// a value is out of its range. The error has the text for the user and the exit code: 0 for help, which is shown
+/// only if a word asks for it, 2 for any other. If memory runs out, its kind is `OutOfMemory`.
 ///
 /// Refused words are read twice, the second time for the text.
 pub fn read_words(alloc: Global, words: &[&str]) -> Result<Words, Error>
     ensures in_range { IfOk result AreInRange }
     ensures given { IfOk result (Asks (map (λ word. word.now) words.now)) }
     ensures taken { IfErr result (λ fault. IsRefusal (map (λ word. word.now) words.now) (kind_of fault)) }
+    ensures help { IfErr result (λ fault. ShowsHelp (kind_of fault) → AskForHelp (map (λ word. word.now) words.now)) }
 {
     match asked_if_right(alloc, words)? {
         Some(asked) => Ok(asked),
@@ -68,21 +72,49 @@ fn asked_in(alloc: Global, matches: &ArgMatches<'_>) -> Result<Option<Words>, Al
     }
 }
 
-// The error for words that are refused, with clap's own text. It is that of a command whose delay and rate
+// The error for words that are refused. It shows help only if a word asks for it.
+fn refusal(alloc: Global, words: &[&str]) -> Result<Error, AllocError>
+    ensures help { IfOk result (λ fault. ShowsHelp (kind_of fault) → AskForHelp (map (λ word. word.now) words.now)) }
+{
+    let fault = fault_of(alloc, words)?;
+    if fault.use_stderr() || ask_for_help(words) {
+        return Ok(fault);
+    }
+    let mut command = program(alloc)?;
+    command.error(ErrorKind::InvalidValue, UNKNOWN)
+}
+
+// What is wrong with words that are refused, in clap's own text. It is that of a command whose delay and rate
 // conflict. `read_words` reads words without that rule, since clap's contracts say which words a command takes
 // only if none of its options has a rule on another.
-fn refusal(alloc: Global, words: &[&str]) -> Result<Error, AllocError> {
+fn fault_of(alloc: Global, words: &[&str]) -> Result<Error, AllocError> {
     let script = with_conflict(script_command(alloc)?)?;
     let replay = with_conflict(replay_command(alloc)?)?;
     let serve = with_conflict(serve_command(alloc)?)?;
     let mut command = with_subcommands(alloc, script, replay, serve)?;
     match command.try_get_matches_from_mut(words) {
         Err(fault) => Ok(fault),
-        Ok(_) => command.error(
-            ErrorKind::InvalidValue,
-            "the command or a value of its options is not known",
-        ),
+        Ok(_) => command.error(ErrorKind::InvalidValue, UNKNOWN),
     }
+}
+
+// Whether a word asks for help.
+fn ask_for_help(words: &[&str]) -> bool
+    ensures { IsTrue result → AskForHelp (map (λ word. word.now) words.now) }
+{
+    for word in words {
+        if is_help(word) {
+            return true;
+        }
+    }
+    false
+}
+
+// Whether this word asks for help, as clap reads words.
+fn is_help(word: &str) -> bool
+    ensures { IsTrue result → IsHelp word.now }
+{
+    word == "help" || word == "--help" || word.as_bytes().starts_with(b"-h")
 }
 
 // The command whose delay and rate conflict. An option that is changed moves behind all others, so the last
