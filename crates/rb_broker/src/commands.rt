@@ -1,6 +1,7 @@
 use crate::files::{check_output, device_for, make_room_for, text_of};
 use rb_arguments::{ReplayOptions, ScriptOptions, ServeOptions, ServerRunOptions};
 use rb_ending::BrokerFault;
+use rb_protocol::LimitedReader;
 use rb_queue::Opening;
 use rb_runs::{opening_in, over_timer, run_replay, run_script_gathered};
 use rb_serving::{
@@ -28,14 +29,16 @@ pub fn script(
     let opening = opening_behind(rt, from)?;
     check_output(rt, history)?;
     let mut device = device_for(rt, history)?;
+    let mut input = rt.stdin();
     run_script_gathered(
         rt.alloc(),
         options,
         opening,
-        &mut rt.stdin(),
+        &mut LimitedReader::new(&mut input),
         &mut rt.stdout(),
         device.as_mut(),
     )
+    .result()
 }
 
 /// Checks the history in a file, prints the line about it, and returns the exit status.
@@ -92,7 +95,7 @@ fn serve_over<T: Timer + Send, R: Threads + Wait + time::Clock + Sync>(
     let alloc = rt.alloc();
     let clock = ServeClock::new(handle, opening.last_at);
     let report: ServeReport<T> = serve_door_gathered(handle, alloc, door, &clock, run, opening)?;
-    end_server(alloc, &report, &mut rt.stdout(), history.as_mut())
+    end_server(alloc, &report, &mut rt.stdout(), history.as_mut()).result()
 }
 
 // The opening of a run: the one that the history in a file leads to, or if none is named the empty one.

@@ -8,6 +8,7 @@ use crate::source::Source;
 use crate::timers::{TIMERS, timer_name};
 use rb_arguments::{ScriptOptions, TimerKind, Words, read_words};
 use rb_ending::BrokerFault;
+use rb_protocol::LimitedReader;
 use rb_queue::Opening;
 use rb_runs::{opening_in, run_script_gathered};
 use rb_session::Ended;
@@ -149,7 +150,8 @@ fn ended(
     recorder: Option<&mut Sink>,
 ) -> Result<Ended, BrokerFault> {
     let opening = opening_of(alloc, case)?;
-    run_script_gathered(alloc, options, opening, reader, writer, recorder)
+    let mut reader = LimitedReader::new(reader);
+    run_script_gathered(alloc, options, opening, &mut reader, writer, recorder).result()
 }
 
 fn source_of(case: &Case, reads: Reads) -> Source<'_> {

@@ -2,15 +2,16 @@
 use Rattle.std.proofs.Common.{◌≡◌, ℕ, List, [], ◌++◌, Option, sym, ap, ◌∙◌}
 use Rattle.rb_queue.specs.declared.event.Event.{Event}
 use Rattle.rb_retry.specs.KeptSteps.{KeptState}
-use Rattle.rb_retry.specs.Made.{Made}
-use Rattle.rb_session.specs.Events.{made_events, latest}
+use Rattle.rb_retry.specs.Made.{Made, made_after}
+use Rattle.rb_session.specs.Events.{made_in, latest}
 use Rattle.rb_session.proofs.RunEvents.{grows_so, records_by_run}
 use Rattle.rb_runs.specs.ScriptEvents.{RecordsByScript}
 
 -- what an empty history grows by is all of it
 grown_from_none : (from to : KeptState) (made : List Made) → from.log.history ≡ []
-    → to.log.history ≡ from.log.history ++ made_events made → to.log.history ≡ made_events made
-grown_from_none from to made none grows = grows ∙ ap (λ (events : List Event). events ++ made_events made) none
+    → made_in to.log ≡ made_in from.log ++ made → made_in to.log ≡ made
+grown_from_none from to made none grows =
+    grows ∙ ap (λ (events : List Event). made_after from.log.opening [] events ++ made) none
 
 pub records_by_script : {W : Type 0} (sends : W → Option (List ℕ)) → RecordsByScript sends
 records_by_script sends got policy calls delivery rest opening served to ran =

@@ -7,7 +7,6 @@ use Rattle.rb_kept.specs.Log.{Log}
 use Rattle.rb_retry.specs.KeptSteps.{KeptState}
 use Rattle.rb_session.specs.Delivered.{RanDelivered}
 use Rattle.rb_session.specs.Rules.{SessionRules}
-use Rattle.rb_session.specs.Served.{Served}
 use Rattle.rb_session.specs.declared.delivery.Delivery.{Delivery}
 use Rattle.rb_session.specs.declared.delivery.Delivery.TheVariants.{AtOnce, Gathered}
 use Rattle.rb_session.specs.declared.ended.Ended.{Ended}

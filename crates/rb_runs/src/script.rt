@@ -1,5 +1,8 @@
+ghost use Rattle.std.specs.Prelude.{◌≡◌, ◌≤◌, ℕ, Err};
 ghost use Rattle.std.specs.Io.KnownBytes.{IsAtEnd};
 ghost use Rattle.rb_session.specs.Exchange.{Exchanges};
+ghost use Rattle.rb_session.specs.Reasons.{IsReason};
+ghost use Rattle.rb_session.specs.declared.session_fault.SessionFault.TheVariants.{ReadTurns};
 ghost use Rattle.rb_session.specs.declared.delivery.Delivery.TheVariants.{AtOnce, Gathered};
 ghost use Rattle.rb_session.specs.declared.hands_on.HandsOn.TheVariants.{BeforeReads};
 ghost use Rattle.rb_ending.specs.Recording.{lent, given_back};
@@ -9,6 +12,7 @@ use crate::script_report::ScriptReport;
 use crate::script_run::{run_recorded, run_unrecorded};
 use rb_arguments::ScriptOptions;
 use rb_ending::BrokerFault;
+use rb_protocol::LimitedReader;
 use rb_queue::Opening;
 use rb_session::{Delivery, Ended, HandsOn};
 use std::alloc::Global;
@@ -23,7 +27,7 @@ use std::io::{Read, Write};
 /// then returned; but not after `Memory`, since nothing was read. Other faults are those of the
 /// session, `WriteHistory` if the device failed, and `Memory` if there is not enough for the
 /// history's text. `run_script_delivered` also tells what became of the history after a session's
-/// fault.
+/// fault, and over its reader why the session ended.
 pub fn run_script<R: Read, W: Write, H: Write>(
     alloc: Global,
     options: &ScriptOptions,
@@ -38,6 +42,8 @@ pub fn run_script<R: Read, W: Write, H: Write>(
         (IsAtEnd (R.remaining reader.new)) came sent result
         (device_of H.contents (lent history.entry) (given_back history.exit))) }
 {
+    let mut limited = LimitedReader::new(reader);
+    let reader = &mut limited;
     let delivery = Delivery::AtOnce;
     match history {
         Some(device) => {
@@ -47,8 +53,8 @@ pub fn run_script<R: Read, W: Write, H: Write>(
     }
 }
 
-/// Runs a script like `run_script`, but gathers its replies: the writer gets them before each read
-/// and at the end, with one write for many of them.
+/// Runs a script like `run_script_delivered`, and gathers its replies: the writer gets them before each
+/// read and at the end, with one write for many of them.
 ///
 /// A write that fails may lose the replies to lines that were served, at most 64 KiB of them. All
 /// those lines are in the history.
@@ -56,43 +62,55 @@ pub fn run_script_gathered<R: Read, W: Write, H: Write>(
     alloc: Global,
     options: &ScriptOptions,
     opening: Opening,
-    reader: &mut R,
+    reader: &mut LimitedReader<'_, R>,
     writer: &mut W,
     history: Option<&mut H>,
-) -> Result<Ended, BrokerFault>
-    ensures { Exchanges
-        (R.remaining reader.old) (R.remaining reader.new) (W.contents writer.old) (W.contents writer.new) (λ came sent.
-        EndsScript (script_terms W.contents (W.contents writer.old)
+) -> ScriptReport
+    ensures ran { Exchanges
+        (R.remaining reader.old.inner.now) (R.remaining reader.new.inner.now)
+        (W.contents writer.old) (W.contents writer.new) (λ came sent.
+        RanScript (script_terms W.contents (W.contents writer.old)
         options.now.policy options.now.calls (Gathered BeforeReads) opening)
-        (IsAtEnd (R.remaining reader.new)) came sent result
+        (IsAtEnd (R.remaining reader.new.inner.now)) came sent result
         (device_of H.contents (lent history.entry) (given_back history.exit))) }
+    ensures used_up { (lost : ℕ) → result.session ≡ Err (ReadTurns lost) → reader.new.left ≡ 0 }
+    ensures reason { IsReason reader.old.state reader.new.state result.session }
+    ensures counted { reader.new.left ≤ reader.old.left }
+    ensures same_reference { reader.new.inner.ghost_name ≡ reader.old.inner.ghost_name }
 {
-    let delivery = Delivery::Gathered(HandsOn::BeforeReads);
+    let gathered = Delivery::Gathered(HandsOn::BeforeReads);
     match history {
-        Some(device) => {
-            run_recorded(alloc, options, delivery, opening, reader, writer, device).result()
-        }
-        None => run_unrecorded(alloc, options, delivery, opening, reader, writer).result(),
+        Some(device) => run_recorded(alloc, options, gathered, opening, reader, writer, device),
+        None => run_unrecorded(alloc, options, gathered, opening, reader, writer),
     }
 }
 
 /// Runs a script like `run_script`, with its replies written when `delivery` says so, and tells how
 /// its session ended and what became of its history, each by itself.
+///
+/// The reader counts its reads. `EndOfInput` means that the last of them met the end of the input, `Read`
+/// that it failed, and `ReadTurns` that there is none left; a session that ends otherwise has had no read
+/// that failed.
 pub fn run_script_delivered<R: Read, W: Write, H: Write>(
     alloc: Global,
     options: &ScriptOptions,
     delivery: Delivery,
     opening: Opening,
-    reader: &mut R,
+    reader: &mut LimitedReader<'_, R>,
     writer: &mut W,
     history: Option<&mut H>,
 ) -> ScriptReport
-    ensures { Exchanges
-        (R.remaining reader.old) (R.remaining reader.new) (W.contents writer.old) (W.contents writer.new) (λ came sent.
+    ensures ran { Exchanges
+        (R.remaining reader.old.inner.now) (R.remaining reader.new.inner.now)
+        (W.contents writer.old) (W.contents writer.new) (λ came sent.
         RanScript (script_terms W.contents (W.contents writer.old)
         options.now.policy options.now.calls delivery opening)
-        (IsAtEnd (R.remaining reader.new)) came sent result
+        (IsAtEnd (R.remaining reader.new.inner.now)) came sent result
         (device_of H.contents (lent history.entry) (given_back history.exit))) }
+    ensures used_up { (lost : ℕ) → result.session ≡ Err (ReadTurns lost) → reader.new.left ≡ 0 }
+    ensures reason { IsReason reader.old.state reader.new.state result.session }
+    ensures counted { reader.new.left ≤ reader.old.left }
+    ensures same_reference { reader.new.inner.ghost_name ≡ reader.old.inner.ghost_name }
 {
     match history {
         Some(device) => run_recorded(alloc, options, delivery, opening, reader, writer, device),

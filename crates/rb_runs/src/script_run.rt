@@ -1,7 +1,9 @@
-ghost use Rattle.std.specs.Prelude.{◌≤◌};
+ghost use Rattle.std.specs.Prelude.{◌≡◌, ◌≤◌, ℕ, Err, IfOk, OnErr};
 ghost use Rattle.std.specs.Io.KnownBytes.{IsAtEnd};
 ghost use Rattle.rb_kept.specs.declared.kept.TheConstants.{MOST_CALLS};
 ghost use Rattle.rb_session.specs.Exchange.{Exchanges};
+ghost use Rattle.rb_session.specs.Reasons.{IsReason};
+ghost use Rattle.rb_session.specs.declared.session_fault.SessionFault.TheVariants.{ReadTurns};
 ghost use Rattle.rb_runs.specs.Script.{IsRecording, RanScript, script_terms, device_of};
 ghost use Rattle.rb_runs.specs.ScriptRun.{RanOver, RanUnrecorded};
 
@@ -11,9 +13,10 @@ use crate::script_report::ScriptReport;
 use rb_arguments::ScriptOptions;
 use rb_ending::write_recording;
 use rb_kept::Kept;
+use rb_protocol::LimitedReader;
 use rb_queue::Opening;
 use rb_retry::{KeptDesk, Policy};
-use rb_session::{Delivery, Ended, SessionFault, run_delivered};
+use rb_session::{Delivery, Ended, SessionFault, run_limited};
 use rb_timer::Timer;
 use std::alloc::{AllocError, Global};
 use std::io::{Read, Write};
@@ -24,16 +27,20 @@ pub(crate) fn run_recorded<R: Read, W: Write, H: Write>(
     options: &ScriptOptions,
     delivery: Delivery,
     opening: Opening,
-    reader: &mut R,
+    reader: &mut LimitedReader<'_, R>,
     writer: &mut W,
     device: &mut H,
 ) -> ScriptReport
-    ensures { Exchanges
-        (R.remaining reader.old) (R.remaining reader.new) (W.contents writer.old) (W.contents writer.new) (λ came sent.
+    ensures ran { Exchanges
+        (R.remaining reader.old.inner.now) (R.remaining reader.new.inner.now) (W.contents writer.old) (W.contents writer.new) (λ came sent.
         RanScript (script_terms W.contents (W.contents writer.old)
         options.now.policy options.now.calls delivery opening)
-        (IsAtEnd (R.remaining reader.new)) came sent result
+        (IsAtEnd (R.remaining reader.new.inner.now)) came sent result
         (device_of H.contents (Some device.old) (Some device.new))) }
+    ensures used_up { (lost : ℕ) → result.session ≡ Err (ReadTurns lost) → reader.new.left ≡ 0 }
+    ensures reason { IsReason reader.old.state reader.new.state result.session }
+    ensures counted { reader.new.left ≤ reader.old.left }
+    ensures same_reference { reader.new.inner.ghost_name ≡ reader.old.inner.ghost_name }
 {
     let calls = options.calls;
     let policy = &options.policy;
@@ -51,14 +58,18 @@ pub(crate) fn run_unrecorded<R: Read, W: Write>(
     options: &ScriptOptions,
     delivery: Delivery,
     opening: Opening,
-    reader: &mut R,
+    reader: &mut LimitedReader<'_, R>,
     writer: &mut W,
 ) -> ScriptReport
-    ensures { Exchanges
-        (R.remaining reader.old) (R.remaining reader.new) (W.contents writer.old) (W.contents writer.new) (λ came sent.
+    ensures ran { Exchanges
+        (R.remaining reader.old.inner.now) (R.remaining reader.new.inner.now) (W.contents writer.old) (W.contents writer.new) (λ came sent.
         RanUnrecorded
         (script_terms W.contents (W.contents writer.old) options.now.policy options.now.calls delivery opening)
-        (IsAtEnd (R.remaining reader.new)) came sent result) }
+        (IsAtEnd (R.remaining reader.new.inner.now)) came sent result) }
+    ensures used_up { (lost : ℕ) → result.session ≡ Err (ReadTurns lost) → reader.new.left ≡ 0 }
+    ensures reason { IsReason reader.old.state reader.new.state result.session }
+    ensures counted { reader.new.left ≤ reader.old.left }
+    ensures same_reference { reader.new.inner.ghost_name ≡ reader.old.inner.ghost_name }
 {
     let calls = options.calls;
     let policy = &options.policy;
@@ -74,17 +85,21 @@ fn recorded_over<T: Timer, R: Read, W: Write, H: Write>(
     policy: &Policy,
     delivery: Delivery,
     opening: Opening,
-    reader: &mut R,
+    reader: &mut LimitedReader<'_, R>,
     writer: &mut W,
     device: &mut H,
 ) -> ScriptReport
     requires from_one { 1 ≤ calls }
     requires in_range { calls ≤ MOST_CALLS }
-    ensures { Exchanges
-        (R.remaining reader.old) (R.remaining reader.new) (W.contents writer.old) (W.contents writer.new) (λ came sent.
+    ensures ran { Exchanges
+        (R.remaining reader.old.inner.now) (R.remaining reader.new.inner.now) (W.contents writer.old) (W.contents writer.new) (λ came sent.
         RanScript (script_terms W.contents (W.contents writer.old) policy.now calls delivery opening)
-        (IsAtEnd (R.remaining reader.new)) came sent result
+        (IsAtEnd (R.remaining reader.new.inner.now)) came sent result
         (device_of H.contents (Some device.old) (Some device.new))) }
+    ensures used_up { (lost : ℕ) → result.session ≡ Err (ReadTurns lost) → reader.new.left ≡ 0 }
+    ensures reason { IsReason reader.old.state reader.new.state result.session }
+    ensures counted { reader.new.left ≤ reader.old.left }
+    ensures same_reference { reader.new.inner.ghost_name ≡ reader.old.inner.ghost_name }
 {
     let Ok((kept, session)) = run_over::<T, R, W>(
         alloc, calls, policy, delivery, opening, reader, writer,
@@ -104,15 +119,19 @@ fn unrecorded_over<T: Timer, R: Read, W: Write>(
     policy: &Policy,
     delivery: Delivery,
     opening: Opening,
-    reader: &mut R,
+    reader: &mut LimitedReader<'_, R>,
     writer: &mut W,
 ) -> ScriptReport
     requires from_one { 1 ≤ calls }
     requires in_range { calls ≤ MOST_CALLS }
-    ensures { Exchanges
-        (R.remaining reader.old) (R.remaining reader.new) (W.contents writer.old) (W.contents writer.new) (λ came sent.
+    ensures ran { Exchanges
+        (R.remaining reader.old.inner.now) (R.remaining reader.new.inner.now) (W.contents writer.old) (W.contents writer.new) (λ came sent.
         RanUnrecorded (script_terms W.contents (W.contents writer.old) policy.now calls delivery opening)
-        (IsAtEnd (R.remaining reader.new)) came sent result) }
+        (IsAtEnd (R.remaining reader.new.inner.now)) came sent result) }
+    ensures used_up { (lost : ℕ) → result.session ≡ Err (ReadTurns lost) → reader.new.left ≡ 0 }
+    ensures reason { IsReason reader.old.state reader.new.state result.session }
+    ensures counted { reader.new.left ≤ reader.old.left }
+    ensures same_reference { reader.new.inner.ghost_name ≡ reader.old.inner.ghost_name }
 {
     let recording = Recording::NotAsked;
     let Ok((_, session)) = run_over::<T, R, W>(
@@ -134,22 +153,27 @@ fn run_over<T: Timer, R: Read, W: Write>(
     policy: &Policy,
     delivery: Delivery,
     opening: Opening,
-    reader: &mut R,
+    reader: &mut LimitedReader<'_, R>,
     writer: &mut W,
 ) -> Result<(Kept<T>, Result<Ended, SessionFault>), AllocError>
     requires from_one { 1 ≤ calls }
     requires in_range { calls ≤ MOST_CALLS }
-    ensures { Exchanges
-        (R.remaining reader.old) (R.remaining reader.new) (W.contents writer.old) (W.contents writer.new) (λ came sent.
+    ensures ran { Exchanges
+        (R.remaining reader.old.inner.now) (R.remaining reader.new.inner.now) (W.contents writer.old) (W.contents writer.new) (λ came sent.
         RanOver (script_terms W.contents (W.contents writer.old) policy.now calls delivery opening)
-        (IsAtEnd (R.remaining reader.new)) came sent result) }
+        (IsAtEnd (R.remaining reader.new.inner.now)) came sent result) }
+    ensures used_up { IfOk result (λ ran. (lost : ℕ) → ran.1 ≡ Err (ReadTurns lost) → reader.new.left ≡ 0) }
+    ensures reason { IfOk result (λ ran. IsReason reader.old.state reader.new.state ran.1) }
+    ensures unread { OnErr result (reader.new.state ≡ reader.old.state) }
+    ensures counted { reader.new.left ≤ reader.old.left }
+    ensures same_reference { reader.new.inner.ghost_name ≡ reader.old.inner.ghost_name }
 {
     // The number of calls is in range, so only memory can be missing.
     let Ok((mut kept, mut tally)) = Kept::<T>::new_from(alloc, calls, opening) else {
         return Err(AllocError);
     };
     let mut desk = KeptDesk::new(&mut kept, &mut tally);
-    let ended = run_delivered(alloc, reader, writer, &mut desk, policy, delivery);
+    let ended = run_limited(alloc, reader, writer, &mut desk, policy, delivery);
     Ok((kept, ended))
 }
 

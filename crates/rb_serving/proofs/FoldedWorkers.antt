@@ -7,7 +7,8 @@ use Rattle.rb_lock.specs.declared.pass_record.PassRecord.{PassRecord}
 use Rattle.rb_serving.specs.Terms.{Terms}
 use Rattle.rb_serving.specs.Serving.{FoldsWorkers, IsWorkerResult}
 use Rattle.rb_serving.specs.VisitCounts.{no_visit, both_counts}
-use Rattle.rb_serving.specs.Visits.{IsWorker, all_visits, counts_of}
+use Rattle.rb_queue.specs.declared.opening.Opening.{Opening}
+use Rattle.rb_serving.specs.Visits.{IsWorker, AreWorkers, all_visits, counts_of}
 use Rattle.rb_serving.specs.declared.visit_counts.VisitCounts.{VisitCounts}
 use Rattle.rb_serving.proofs.ServedVisits.{counts_both, all_visits-more, workers_more}
 
@@ -30,16 +31,24 @@ module _ {I O G C : Type 0} (terms : Terms I O G C) where
   -- one worker more is folded in last
   pub folds_one_more : (count : ℕ) (old cut rest done new : Seen) (counts more : VisitCounts) → 0 < count
       → Learns old cut → cut.mine ≡ old.mine → FoldsWorkers terms (count - 1) cut rest more
-      → IsWorkerResult terms (count - 1) done counts → new ≡ folded_with rest done
+      → IsWorkerResult terms (count - 1) done counts → done.capacity ≡ cut.capacity → done.opening ≡ cut.opening
+      → new ≡ folded_with rest done
       → FoldsWorkers terms count old new (both_counts more counts)
-  folds_one_more count old cut rest done new counts more some learns mine others worked is =
+  folds_one_more count old cut rest done new counts more some learns mine others worked capacity opening is =
       let last : List PassRecord = record_of done ∷ [] in
       let last_is : count - 1 ≡ 0 + length others.records = omega (arith, others.many) in record {
         records = others.records ++ last;
         many = omega (arith, some, others.many, length-append others.records last);
         visits = others.visits ++ worked.visits ∷ [];
-        served = workers_more terms 0 others.visits others.records worked.visits done others.served
-            (subst (λ worker. IsWorker terms worker worked.visits done) last_is worked.works);
+        served = workers_more terms old.capacity old.opening 0 others.visits others.records worked.visits done
+            (subst (λ (room : ℕ). AreWorkers terms room old.opening 0 others.visits others.records) learns.capacity
+            (subst (λ (begun : Opening). AreWorkers terms cut.capacity begun 0 others.visits others.records) learns.opening
+            others.served))
+            (record {
+              works = subst (λ worker. IsWorker terms worker worked.visits done) last_is worked.works;
+              capacity = capacity ∙ learns.capacity;
+              opening = opening ∙ learns.opening;
+            });
         counted = ap₂ both_counts others.counted worked.counted ∙ counts_both (all_visits others.visits) worked.visits
             ∙ ap counts_of (sym (all_visits-more others.visits worked.visits));
         folded = ap (λ (pass : Seen). pass.folded) is

@@ -1,11 +1,13 @@
 -- Each event of a gathered history is of one of the records, by its name.
-use Rattle.std.proofs.Common.{◌≡◌, ◌≢◌, ℕ, zero, suc, ◌<◌, ◌==◌, Bool, true, false, cond, List, [], ◌∷◌, length, refl, sym, ap, subst, ◌∙◌, arith, eq-eqb, ne_eqb, Contains, sum_by}
+use Rattle.std.proofs.Common.{◌≡◌, ◌≢◌, ℕ, zero, suc, ◌<◌, ◌==◌, Bool, true, false, cond, List, [], ◌∷◌, ◌++◌, filter, length, refl, sym, ap, subst, ◌∙◌, arith, eq-eqb, ne_eqb, Contains, sum_by}
 use Rattle.std.proofs.lemmas.List.Elements.{Contains-append_right}
 use Rattle.std.proofs.lemmas.List.Sums.{sum_by-cons, sum_by-append, get_or-le-sum_by, length-filter}
 use mathlib.Core.Logic.{dite}
 use native.Mathlib.Decide.{ℕ_discrete}
 use Rattle.rb_queue.specs.Counts.{events_of}
 use Rattle.rb_queue.specs.declared.event.Event.{Event}
+use Rattle.rb_queue.specs.declared.opening.Opening.{Opening}
+use Rattle.rb_retry.specs.Made.{Made, made_after}
 use Rattle.rb_lock.specs.Records.{times_in, names_of, calls_of, AreDifferent, AreRecords, IsRecord}
 use Rattle.rb_lock.specs.declared.pass_record.PassRecord.{PassRecord}
 use Rattle.rb_lock.proofs.CountedCalls.{same_weight}
@@ -100,16 +102,28 @@ contained number (first ∷ numbers) some =
     (λ (apart : first ≢ number).
     Contains-append_right (first ∷ []) numbers number (contained number numbers (omega (arith, some, bit_apart first number apart))))
 
--- a longer history keeps the events of a seat
-kept_on : (own : Bool) (first : Event) (events : List Event) (event : Event) → Contains events event → Contains (cond own (first ∷ events) events) event
-kept_on true first events event has = Contains-append_right (first ∷ []) events event has
-kept_on false first events event has = has
+-- a longer list keeps what was chosen of it
+kept_on : {A : Type 0} (chosen : Bool) (first : A) (rest : List A) (one : A) → Contains rest one → Contains (cond chosen (first ∷ rest) rest) one
+kept_on true first rest one has = Contains-append_right (first ∷ []) rest one has
+kept_on false first rest one has = has
 
--- an event of a history is one of its seat's
-pub of_its_seat : (history : List Event) (event : Event) → Contains history event → Contains (events_of history event.seat) event
-of_its_seat [] event (place, within, at) = absurd (omega (arith, within))
-of_its_seat (first ∷ history) event (zero, within, at) =
-    subst (λ (own : Bool). Contains (cond own (first ∷ events_of history event.seat) (events_of history event.seat)) event)
-    (sym (eq-eqb first.seat event.seat (ap (λ (one : Event). one.seat) at))) (0, omega arith, at)
-of_its_seat (first ∷ history) event (suc place, within, at) =
-    kept_on (first.seat == event.seat) first (events_of history event.seat) event (of_its_seat history event (place, omega (arith, within), at))
+-- what a history made is also what the event's seat made
+pub of_its_seat : (all : List Made) (one : Made) → Contains all one
+    → Contains (filter (λ (made : Made). made.event.seat == one.event.seat) all) one
+of_its_seat [] one (place, within, at) = absurd (omega (arith, within))
+of_its_seat (first ∷ all) one (zero, within, at) =
+    let own : List Made = filter (λ (made : Made). made.event.seat == one.event.seat) all in
+    subst (λ (chosen : Bool). Contains (cond chosen (first ∷ own) own) one)
+    (sym (eq-eqb first.event.seat one.event.seat (ap (λ (made : Made). made.event.seat) at))) (0, omega arith, at)
+of_its_seat (first ∷ all) one (suc place, within, at) =
+    kept_on (first.event.seat == one.event.seat) first (filter (λ (made : Made). made.event.seat == one.event.seat) all) one
+    (of_its_seat all one (place, omega (arith, within), at))
+
+-- the event of what a history made is one of its events
+pub of_history : (opening : Opening) (before events : List Event) (one : Made) → Contains (made_after opening before events) one
+    → Contains events one.event
+of_history opening before [] one (place, within, at) = absurd (omega (arith, within))
+of_history opening before (event ∷ events) one (zero, within, at) = (0, omega arith, ap (λ (made : Made). made.event) at)
+of_history opening before (event ∷ events) one (suc place, within, at) =
+    Contains-append_right (event ∷ []) events one.event
+    (of_history opening (before ++ event ∷ []) events one (place, omega (arith, within), at))

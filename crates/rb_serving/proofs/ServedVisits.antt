@@ -4,6 +4,7 @@ use Rattle.std.proofs.Common.{ap, ap₂, ◌∙◌, arith, length, length-append
 use Rattle.std.proofs.lemmas.List.{append-nil}
 use Rattle.rb_ledger.specs.Totals.{capped_sum}
 use Rattle.rb_ledger.specs.declared.totals.TheConstants.{GREATEST_COUNT}
+use Rattle.rb_queue.specs.declared.opening.Opening.{Opening}
 use Rattle.rb_lock.specs.Passes.{Seen, record_of}
 use Rattle.rb_lock.specs.declared.pass_record.PassRecord.{PassRecord}
 use Rattle.rb_session.specs.Served.{Served}
@@ -12,7 +13,7 @@ use Rattle.rb_session.specs.declared.session_fault.SessionFault.{SessionFault}
 use Rattle.rb_serving.specs.Terms.{Terms}
 use Rattle.rb_serving.specs.VisitCounts.{both_counts, ended_visit, refused_visit, lost_in, faults_in}
 use Rattle.rb_serving.specs.Serving.{WorksOff}
-use Rattle.rb_serving.specs.Visits.{RanVisit, AreVisits, IsVisit, IsWorker, AreWorkers}
+use Rattle.rb_serving.specs.Visits.{LeftVisit, AreVisits, IsVisit, IsWorkerOf, AreWorkers}
 use Rattle.rb_serving.specs.Visits.{all_visits, counts_of, faults_of, lost_of, number_of}
 use Rattle.rb_serving.specs.declared.visit.Visit.{Visit}
 use Rattle.rb_serving.specs.declared.visit_counts.VisitCounts.{VisitCounts}
@@ -116,17 +117,17 @@ module _ {I O G C : Type 0} (terms : Terms I O G C) (worker : ℕ) where
 
 module _ {I O G C : Type 0} (terms : Terms I O G C) where
   -- one worker more
-  pub workers_more : (from : ℕ) (visits : List (List (Option Served))) (records : List PassRecord)
-      (own : List (Option Served)) (pass : Seen) → AreWorkers terms from visits records
-      → IsWorker terms (from + length records) own pass
-      → AreWorkers terms from (visits ++ own ∷ []) (records ++ record_of pass ∷ [])
-  workers_more from [] [] own pass are last =
-      ((pass, subst (λ worker. IsWorker terms worker own pass) (none_yet from) last, refl), tt)
-  workers_more from [] (one ∷ records) own pass are last = absurd are
-  workers_more from (first ∷ visits) [] own pass are last = absurd are
-  workers_more from (first ∷ visits) (one ∷ records) own pass (is, are) last =
-      let next = subst (λ worker. IsWorker terms worker own pass) (later from records) last in
-      (is, workers_more (from + 1) visits records own pass are next)
+  pub workers_more : (room : ℕ) (begun : Opening) (from : ℕ) (visits : List (List (Option Served))) (records : List PassRecord)
+      (own : List (Option Served)) (pass : Seen) → AreWorkers terms room begun from visits records
+      → IsWorkerOf terms room begun (from + length records) own pass
+      → AreWorkers terms room begun from (visits ++ own ∷ []) (records ++ record_of pass ∷ [])
+  workers_more room begun from [] [] own pass are last =
+      ((pass, subst (λ worker. IsWorkerOf terms room begun worker own pass) (none_yet from) last, refl), tt)
+  workers_more room begun from [] (one ∷ records) own pass are last = absurd are
+  workers_more room begun from (first ∷ visits) [] own pass are last = absurd are
+  workers_more room begun from (first ∷ visits) (one ∷ records) own pass (is, are) last =
+      let next = subst (λ worker. IsWorkerOf terms room begun worker own pass) (later from records) last in
+      (is, workers_more room begun (from + 1) visits records own pass are next)
 
   -- What a worker has done so far: its pass served these visits, and they are counted.
   pub record HasServed (worker : ℕ) (old new : Seen) (counts : VisitCounts) : Type 0 where
@@ -166,18 +167,20 @@ module _ {I O G C : Type 0} (terms : Terms I O G C) where
 
     -- one visit more was served, and is counted
     pub works_served : (old mid new : Seen) (counts more next : VisitCounts) (ended : Result Ended SessionFault)
-        (visit left : Visit I O G) → HasServed worker old mid counts
+        (visit : Visit I O G) → HasServed worker old mid counts
         → terms.lets_in (record { worker = worker; earlier = counts.sessions }) visit
-        → ((served : Served) × (served.ended ≡ ended) × RanVisit terms visit left mid served new)
+        → ((served : Served) × (served.ended ≡ ended)
+        × LeftVisit terms (record { worker = worker; earlier = counts.sessions }) visit mid served new)
         → more ≡ ended_visit ended → next ≡ both_counts counts more → HasServed worker old new next
-    works_served old mid new counts more next ended visit left works let_in (served, how, ran) ends is = record {
+    works_served old mid new counts more next ended visit works let_in (served, how, leaves) ends is = record {
       visits = works.visits ++ Some served ∷ [];
       served = visits_served terms worker 0 old mid new works.visits served works.served (record {
         visit = visit;
         let_in = subst (λ count. terms.lets_in (number_of worker count) visit) (from_none (length works.visits))
             (subst (λ number. terms.lets_in number visit) (next_number old mid counts works) let_in);
-        left = left;
-        ran = ran;
+        leaves = subst (λ count. LeftVisit terms (number_of worker count) visit mid served new)
+            (from_none (length works.visits))
+            (subst (λ number. LeftVisit terms number visit mid served new) (next_number old mid counts works) leaves);
       });
       counted =
           is ∙ ap₂ both_counts works.counted (ends ∙ ap ended_visit (sym how)) ∙ counts_served works.visits served;

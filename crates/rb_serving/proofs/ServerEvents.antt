@@ -1,6 +1,6 @@
--- The calls of each worker are those of its visits, and the history that is gathered has no other.
-use Rattle.std.proofs.Common.{◌≡◌, ◌≢◌, ℕ, ◌+◌, ◌<◌, List, [], ◌∷◌, ◌++◌, Option, None, Some, refl, sym, ap, subst, ◌∙◌, inl, inr, arith, Contains}
-use Rattle.std.proofs.lemmas.List.{append_cancel_left}
+-- The calls of each worker are those of its visits, each with its reply, and the history that is gathered has no other.
+use Rattle.std.proofs.Common.{◌≡◌, ◌≢◌, ℕ, ◌+◌, ◌<◌, List, [], ◌∷◌, ◌++◌, length, Option, None, Some, refl, sym, ap, ap₂, subst, ◌∙◌, inl, inr, arith, Contains}
+use Rattle.std.proofs.lemmas.List.{append_cancel_left, nil_from_length}
 use Rattle.std.proofs.lemmas.List.Elements.{Contains-append_left, Contains-append_right, Contains-append_cases}
 use Rattle.std.specs.Prelude.{◌⊎◌}
 use Rattle.std.specs.List.{AllZip}
@@ -8,130 +8,153 @@ use mathlib.Core.Logic.{dite}
 use native.Mathlib.Decide.{ℕ_discrete}
 use Rattle.rb_queue.specs.Counts.{events_of}
 use Rattle.rb_queue.specs.declared.event.Event.{Event}
+use Rattle.rb_queue.specs.declared.opening.Opening.{Opening}
 use Rattle.rb_lock.specs.Passes.{Seen, record_of}
 use Rattle.rb_lock.specs.Records.{AreRecords, IsRecord, names_of, times_in}
 use Rattle.rb_lock.specs.declared.pass_record.PassRecord.{PassRecord}
 use Rattle.rb_lock.proofs.Sums.{bit_apart}
-use Rattle.rb_retry.specs.Made.{Made}
+use Rattle.rb_retry.specs.Made.{Made, made_after, made_by}
+use Rattle.rb_shared_desk.specs.SharedLaws.{counted, length_own, made_by-none}
 use Rattle.rb_session.specs.Served.{Served}
-use Rattle.rb_session.specs.Events.{made_events}
 use Rattle.rb_session.proofs.RunEvents.{grows_so}
 use Rattle.rb_serving.specs.Terms.{Terms}
 use Rattle.rb_serving.specs.ServerEvents.{GathersSessions, GrowsByVisits, IsOfOne, MadeByVisit}
-use Rattle.rb_serving.specs.Visits.{AreVisits, AreWorkers, IsWorker, all_visits}
-use Rattle.rb_serving.proofs.GatheredNames.{contained, named_behind, of_its_seat}
+use Rattle.rb_serving.specs.VisitEvents.{made_of}
+use Rattle.rb_serving.specs.Visits.{AreVisits, AreWorkers, IsWorkerOf, all_visits}
+use Rattle.rb_serving.proofs.GatheredNames.{contained, named_behind, of_history, of_its_seat}
 use Rattle.rb_serving.proofs.VisitEvents.{calls_by_visit}
+
+-- a pass that has seen no event of its name has made nothing
+made_none : (pass : Seen) → events_of pass.seen pass.name ≡ [] → made_of pass ≡ []
+made_none pass unheard =
+    nil_from_length (made_of pass) (length_own pass.name pass.opening [] pass.seen ∙ ap length unheard)
+
+-- what the history has of a record's name is what had been seen of it
+seen_all : (begun : Opening) (history : List Event) (one : PassRecord) → IsRecord history one
+    → made_by one.name begun history ≡ made_by one.name begun one.seen
+seen_all begun history one known =
+    let more : List Event = known.begins.0 in
+    let whole : length (events_of (one.seen ++ more) one.name) ≡ length one.mine =
+    ap (λ (events : List Event). length (events_of events one.name)) known.begins.1 ∙ ap length known.all in
+    let none : length (events_of more one.name) ≡ 0 =
+    omega (arith, counted one.name one.seen more, whole, ap length known.known) in
+    ap (made_by one.name begun) (sym known.begins.1) ∙ made_by-none one.name begun one.seen more none
 
 module _ {I O G C : Type 0} (terms : Terms I O G C) where
   -- the calls of a pass that served visits grow by theirs
   grows_by_visits : (worker earlier : ℕ) (old new : Seen) (visits : List (Option Served))
-      → AreVisits terms worker earlier old visits new → GrowsByVisits old.mine visits new.mine
-  grows_by_visits worker earlier old new [] same = ap (λ (pass : Seen). pass.mine) same
+      → AreVisits terms worker earlier old visits new → GrowsByVisits (made_of old) visits (made_of new)
+  grows_by_visits worker earlier old new [] same = ap made_of same
   grows_by_visits worker earlier old new (None ∷ visits) (away, are) = grows_by_visits worker (earlier + 1) old new visits are
   grows_by_visits worker earlier old new (Some served ∷ visits) (between, is, are) = (
-    between.mine,
-    (terms.remaining is.left.reader, calls_by_visit terms is.visit is.left old between served is.ran),
+    made_of between,
+    (
+      terms.remaining is.leaves.reader.inner.now,
+      calls_by_visit terms is.visit is.leaves.reader is.leaves.writer old between served is.leaves.ran,
+    ),
     grows_by_visits worker (earlier + 1) between new visits are,
   )
 
   -- a worker had made no call before, and its calls are all that the history has of it
-  of_worker : (history : List Event) (worker : ℕ) (own : List (Option Served)) (pass : Seen) (one : PassRecord)
-      → IsWorker terms worker own pass → one ≡ record_of pass → IsRecord history one → GrowsByVisits [] own (events_of history one.name)
-  of_worker history worker own pass one works is known =
-      subst (λ (after : List Event). GrowsByVisits [] own after) (ap (λ (entry : PassRecord). entry.mine) (sym is) ∙ sym known.all)
-      (subst (λ (before : List Event). GrowsByVisits before own pass.mine) works.idle
+  of_worker : (room : ℕ) (begun : Opening) (history : List Event) (worker : ℕ) (own : List (Option Served)) (pass : Seen) (one : PassRecord)
+      → IsWorkerOf terms room begun worker own pass → one ≡ record_of pass → IsRecord history one
+      → GrowsByVisits [] own (made_by one.name begun history)
+  of_worker room begun history worker own pass one of_run is known =
+      let works = of_run.works in
+      let same : made_of pass ≡ made_by one.name begun history =
+      ap (λ (opening : Opening). made_by pass.name opening pass.seen) of_run.opening
+      ∙ ap (λ (entry : PassRecord). made_by entry.name begun entry.seen) (sym is)
+      ∙ sym (seen_all begun history one known) in
+      subst (λ (after : List Made). GrowsByVisits [] own after) same
+      (subst (λ (before : List Made). GrowsByVisits before own (made_of pass)) (made_none works.first works.unheard)
       (grows_by_visits worker 0 works.first pass own works.served))
 
-  of_workers : (history : List Event) (worker : ℕ) (visits : List (List (Option Served))) (records : List PassRecord)
-      → AreWorkers terms worker visits records → AreRecords history records
-      → AllZip (λ (name : ℕ) (own : List (Option Served)). GrowsByVisits [] own (events_of history name)) (names_of records) visits
-  of_workers history worker [] [] are known = tt
-  of_workers history worker [] (one ∷ records) are known = absurd are
-  of_workers history worker (own ∷ visits) [] are known = absurd are
-  of_workers history worker (own ∷ visits) (one ∷ records) (is, are) (first, rest) = (
-    of_worker history worker own is.0 one is.1 is.2 first,
-    of_workers history (worker + 1) visits records are rest,
+  of_workers : (room : ℕ) (begun : Opening) (history : List Event) (worker : ℕ) (visits : List (List (Option Served))) (records : List PassRecord)
+      → AreWorkers terms room begun worker visits records → AreRecords history records
+      → AllZip (λ (name : ℕ) (own : List (Option Served)). GrowsByVisits [] own (made_by name begun history)) (names_of records) visits
+  of_workers room begun history worker [] [] are known = tt
+  of_workers room begun history worker [] (one ∷ records) are known = absurd are
+  of_workers room begun history worker (own ∷ visits) [] are known = absurd are
+  of_workers room begun history worker (own ∷ visits) (one ∷ records) (is, are) (first, rest) = (
+    of_worker room begun history worker own is.0 one is.1 is.2 first,
+    of_workers room begun history (worker + 1) visits records are rest,
   )
 
--- an event that is of some visits is of them and of others
-of_front : (event : Event) (visits others : List (Option Served)) → IsOfOne event visits → IsOfOne event (visits ++ others)
-of_front event visits others (served, among, made) = (served, Contains-append_left visits others (Some served) among, made)
+-- what is of some visits is of them and of others
+of_front : (one : Made) (visits others : List (Option Served)) → IsOfOne one visits → IsOfOne one (visits ++ others)
+of_front one visits others (served, among, made) = (served, Contains-append_left visits others (Some served) among, made)
 
-of_back : (event : Event) (others visits : List (Option Served)) → IsOfOne event visits → IsOfOne event (others ++ visits)
-of_back event others visits (served, among, made) = (served, Contains-append_right others visits (Some served) among, made)
+of_back : (one : Made) (others visits : List (Option Served)) → IsOfOne one visits → IsOfOne one (others ++ visits)
+of_back one others visits (served, among, made) = (served, Contains-append_right others visits (Some served) among, made)
 
--- what calls grew by is what was made
-same_made : (before after : List Event) (one other : List Made) → after ≡ before ++ made_events one → after ≡ before ++ made_events other
-    → made_events one ≡ made_events other
-same_made before after one other first second = append_cancel_left before (made_events one) (made_events other) (sym first ∙ second)
-
--- an event that calls grew to by one visit stood there before, or the visit made it
-of_visit : (event : Event) (before after : List Event) (served : Served) → MadeByVisit served (λ made. after ≡ before ++ made_events made)
-    → Contains after event → Contains before event ⊎ MadeByVisit served (λ made. Contains (made_events made) event)
-of_visit event before after served (rest, run) has =
-    elim (Contains-append_cases before (made_events (run.by_lines ++ run.by_closing)) event
-    (subst (λ (events : List Event). Contains events event) run.grows has)) [
+-- what stands behind a visit stood there before, or the visit made it
+of_visit : (one : Made) (before after : List Made) (served : Served) → MadeByVisit served (λ made. after ≡ before ++ made)
+    → Contains after one → Contains before one ⊎ MadeByVisit served (λ made. Contains made one)
+of_visit one before after served (rest, run) has =
+    let all : List Made = run.by_lines ++ run.by_closing in
+    elim (Contains-append_cases before all one (subst (λ (mades : List Made). Contains mades one) run.grows has)) [
       | inl old ↦ inl old
       | inr made ↦
           inr (
             rest,
-            (grows_so (λ all grows. subst (λ (events : List Event). Contains events event)
-                (same_made before after (run.by_lines ++ run.by_closing) all run.grows grows) made) run).0,
+            (grows_so (λ other grows. subst (λ (mades : List Made). Contains mades one)
+                (append_cancel_left before all other (sym run.grows ∙ grows)) made) run).0,
           )
     ]
 
 -- and by more of them
-of_visits : (event : Event) (before after : List Event) (visits : List (Option Served)) → GrowsByVisits before visits after
-    → Contains after event → Contains before event ⊎ IsOfOne event visits
-of_visits event before after [] same has = inl (subst (λ (events : List Event). Contains events event) same has)
-of_visits event before after (None ∷ visits) grows has =
-    elim (of_visits event before after visits grows has) [
+of_visits : (one : Made) (before after : List Made) (visits : List (Option Served)) → GrowsByVisits before visits after
+    → Contains after one → Contains before one ⊎ IsOfOne one visits
+of_visits one before after [] same has = inl (subst (λ (mades : List Made). Contains mades one) same has)
+of_visits one before after (None ∷ visits) grows has =
+    elim (of_visits one before after visits grows has) [
       | inl old ↦ inl old
-      | inr later ↦ inr (of_back event (None ∷ []) visits later)
+      | inr later ↦ inr (of_back one (None ∷ []) visits later)
     ]
-of_visits event before after (Some served ∷ visits) (between, made, grows) has =
-    elim (of_visits event between after visits grows has) [
-      | inl here ↦ elim (of_visit event before between served made here) [
+of_visits one before after (Some served ∷ visits) (between, made, grows) has =
+    elim (of_visits one between after visits grows has) [
+      | inl here ↦ elim (of_visit one before between served made here) [
         | inl old ↦ inl old
         | inr first ↦ inr (served, (0, omega arith, refl), first)
       ]
-      | inr later ↦ inr (of_back event (Some served ∷ []) visits later)
+      | inr later ↦ inr (of_back one (Some served ∷ []) visits later)
     ]
 
--- an event of one worker is of one of its visits
-of_own : (event : Event) (own : List (Option Served)) (events : List Event) → GrowsByVisits [] own events → Contains events event → IsOfOne event own
-of_own event own events grows has =
-    elim (of_visits event [] events own grows has) [
+-- what one worker made is of one of its visits
+of_own : (one : Made) (own : List (Option Served)) (mades : List Made) → GrowsByVisits [] own mades → Contains mades one → IsOfOne one own
+of_own one own mades grows has =
+    elim (of_visits one [] mades own grows has) [
       | inl none ↦ absurd (omega (arith, none.1))
-      | inr one ↦ one
+      | inr of ↦ of
     ]
 
--- an event with the name of a worker is of one of the visits
-of_names : (history : List Event) (event : Event) (names : List ℕ) (visits : List (List (Option Served)))
-    → AllZip (λ (name : ℕ) (own : List (Option Served)). GrowsByVisits [] own (events_of history name)) names visits
-    → Contains history event → 0 < times_in event.seat names → IsOfOne event (all_visits visits)
-of_names history event [] [] zip has some = absurd (omega (arith, some))
-of_names history event [] (own ∷ visits) zip has some = absurd zip
-of_names history event (name ∷ names) [] zip has some = absurd zip
-of_names history event (name ∷ names) (own ∷ visits) (first, rest) has some =
-    dite (ℕ_discrete name event.seat)
-    (λ (is : name ≡ event.seat).
-    of_front event own (all_visits visits) (of_own event own (events_of history name) first
-    (subst (λ (seat : ℕ). Contains (events_of history seat) event) (sym is) (of_its_seat history event has))))
-    (λ (apart : name ≢ event.seat).
-    of_back event own (all_visits visits)
-    (of_names history event names visits rest has (omega (arith, some, bit_apart name event.seat apart))))
+-- what has the name of a worker is of one of the visits
+of_names : (begun : Opening) (history : List Event) (one : Made) (names : List ℕ) (visits : List (List (Option Served)))
+    → AllZip (λ (name : ℕ) (own : List (Option Served)). GrowsByVisits [] own (made_by name begun history)) names visits
+    → Contains (made_after begun [] history) one → 0 < times_in one.event.seat names → IsOfOne one (all_visits visits)
+of_names begun history one [] [] zip has some = absurd (omega (arith, some))
+of_names begun history one [] (own ∷ visits) zip has some = absurd zip
+of_names begun history one (name ∷ names) [] zip has some = absurd zip
+of_names begun history one (name ∷ names) (own ∷ visits) (first, rest) has some =
+    dite (ℕ_discrete name one.event.seat)
+    (λ (is : name ≡ one.event.seat).
+    of_front one own (all_visits visits) (of_own one own (made_by name begun history) first
+    (subst (λ (seat : ℕ). Contains (made_by seat begun history) one) (sym is) (of_its_seat (made_after begun [] history) one has))))
+    (λ (apart : name ≢ one.event.seat).
+    of_back one own (all_visits visits)
+    (of_names begun history one names visits rest has (omega (arith, some, bit_apart name one.event.seat apart))))
 
 module _ {I O G C : Type 0} (terms : Terms I O G C) {T : Type 0} where
   pub gathers_sessions : GathersSessions terms T
   gathers_sessions begun options report run =
       let history = report.kept.history in
       let holds = run.holds in
-      let workers = of_workers terms history 0 run.visits run.records run.served holds.are_records.1 in
+      let workers = of_workers terms options.calls begun history 0 run.visits run.records run.served holds.are_records.1 in
       let among = named_behind history run.first run.records holds.are_records holds.different holds.all run.idle in record {
         names = names_of run.records;
         different = λ number. omega (arith, holds.different number);
         workers = workers;
         no_other = λ event has. contained event.seat (names_of run.records) (among event has);
-        each = λ event has. of_names history event (names_of run.records) run.visits workers has (among event has);
+        each = λ made has. of_names begun history made (names_of run.records) run.visits workers has
+            (among made.event (of_history begun [] history made has));
       }

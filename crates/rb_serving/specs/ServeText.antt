@@ -33,17 +33,3 @@ Prints (Err fault) got text got' =
 abbrev pub first_fault : Result (Unit {0}) HistoryFault → Result (Unit {0}) BrokerFault → Result (Unit {0}) BrokerFault
 first_fault (Ok done) printed = printed
 first_fault (Err fault) printed = Err (fault_of_history fault)
-
--- The report was printed. The fault of the history is answered, if there is one, and otherwise that of printing.
-pub record PrintsAfter (wrote : Result (Unit {0}) HistoryFault)
-    (PrintsReport : Result (Unit {0}) BrokerFault → Type 0) (result : Result (Unit {0}) BrokerFault) : Type 0 where
-  pub printed : Result (Unit {0}) BrokerFault
-  pub prints : PrintsReport printed
-  pub answers : result ≡ first_fault wrote printed
-
--- The history was written, if there is a device for it, and the report printed, whatever came of that.
-pub record EndsServer (Records : Result (Unit {0}) HistoryFault → Type 0)
-    (PrintsReport : Result (Unit {0}) BrokerFault → Type 0) (result : Result (Unit {0}) BrokerFault) : Type 0 where
-  pub wrote : Result (Unit {0}) HistoryFault
-  pub records : Records wrote
-  pub ends : PrintsAfter wrote PrintsReport result

@@ -2,12 +2,10 @@
 use Rattle.std.specs.Prelude.{◌≡◌, ℕ, List, [], ◌∷◌, ◌++◌, Contains, Option, None, Some}
 use Rattle.std.specs.List.{AllZip}
 use Rattle.std.specs.Io.KnownBytes.{IsAtEnd}
-use Rattle.rb_queue.specs.Counts.{events_of}
 use Rattle.rb_queue.specs.declared.event.Event.{Event}
 use Rattle.rb_queue.specs.declared.opening.Opening.{Opening}
 use Rattle.rb_lock.specs.Records.{AreDifferent}
-use Rattle.rb_retry.specs.Made.{Made}
-use Rattle.rb_session.specs.Events.{made_events}
+use Rattle.rb_retry.specs.Made.{Made, made_after, made_by}
 use Rattle.rb_session.specs.RunEvents.{MadeByRun}
 use Rattle.rb_session.specs.Served.{Served}
 use Rattle.rb_arguments.specs.declared.server_run_options.ServerRunOptions.{ServerRunOptions}
@@ -22,31 +20,31 @@ MadeByVisit served Holds =
     (rest : Option (List ℕ)) × MadeByRun (IsAtEnd rest) served Holds
 
 -- the calls grew from these to those by what the first of these visits made, then by what the next made, and so on
-abbrev pub GrowsByVisits : List Event → List (Option Served) → List Event → Type 0
+abbrev pub GrowsByVisits : List Made → List (Option Served) → List Made → Type 0
 GrowsByVisits before [] after = after ≡ before
 GrowsByVisits before (None ∷ visits) after = GrowsByVisits before visits after
 GrowsByVisits before (Some served ∷ visits) after =
-    (between : List Event) × MadeByVisit served (λ made. between ≡ before ++ made_events made)
+    (between : List Made) × MadeByVisit served (λ made. between ≡ before ++ made)
     × GrowsByVisits between visits after
 
--- the event is one that the session of one of these visits made
-abbrev pub IsOfOne : Event → List (Option Served) → Type 0
-IsOfOne event visits =
-    (served : Served) × Contains visits (Some served) × MadeByVisit served (λ made. Contains (made_events made) event)
+-- the session of one of these visits made this event, with this reply
+abbrev pub IsOfOne : Made → List (Option Served) → Type 0
+IsOfOne one visits =
+    (served : Served) × Contains visits (Some served) × MadeByVisit served (λ made. Contains made one)
 
--- Each worker has a name of its own, and its events in the history are those of the visits that it served, one after
--- the other. No event has another name, so each is one that a session made.
-pub record IsOfSessions (history : List Event) (visits : List (List (Option Served))) : Type 0 where
+-- Each worker has a name of its own, and its events in the history, each with its reply, are those of the visits that
+-- it served, one after the other. No event has another name, so each is one that a session made.
+pub record IsOfSessions (begun : Opening) (history : List Event) (visits : List (List (Option Served))) : Type 0 where
   pub names : List ℕ
   pub different : AreDifferent names
   pub workers :
-      AllZip (λ (name : ℕ) (own : List (Option Served)). GrowsByVisits [] own (events_of history name)) names visits
+      AllZip (λ (name : ℕ) (own : List (Option Served)). GrowsByVisits [] own (made_by name begun history)) names visits
   pub no_other : (event : Event) → Contains history event → Contains names event.seat
-  pub each : (event : Event) → Contains history event → IsOfOne event (all_visits visits)
+  pub each : (made : Made) → Contains (made_after begun [] history) made → IsOfOne made (all_visits visits)
 
 module _ {I O G C : Type 0} (terms : Terms I O G C) where
   -- the law of servers: the history that a server gives back is that of the sessions of its visits
   abbrev pub GathersSessions : Type 0 → Type 0
   GathersSessions T =
       (begun : Opening) (options : ServerRunOptions) (report : ServeReport T)
-      → (run : IsServersRun terms begun options report) → IsOfSessions report.kept.history run.visits
+      → (run : IsServersRun terms begun options report) → IsOfSessions begun report.kept.history run.visits

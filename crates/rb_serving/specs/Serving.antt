@@ -20,6 +20,8 @@ pub record IsWorked (old new : Seen) : Type 0 where
   pub table : new.table ≡ old.table
   pub name : new.name ≡ old.name
   pub folded : new.folded ≡ old.folded
+  pub capacity : new.capacity ≡ old.capacity
+  pub opening : new.opening ≡ old.opening
 
 -- The sharing ended. The report has the pass's queue, with exactly the calls of the pass and of those that were
 -- folded into it, the audit of its history, and the counts of the visits.
@@ -52,7 +54,7 @@ module _ {I O G C : Type 0} (terms : Terms I O G C) where
     pub records : List PassRecord
     pub many : length records ≡ workers
     pub visits : List (List (Option Served))
-    pub served : AreWorkers terms 0 visits records
+    pub served : AreWorkers terms old.capacity old.opening 0 visits records
     pub counted : counts ≡ counts_of (all_visits visits)
     pub folded : new.folded ≡ old.folded ++ records
     pub table : new.table ≡ old.table
@@ -75,7 +77,7 @@ module _ {I O G C : Type 0} (terms : Terms I O G C) where
     pub many : length records ≡ options.workers
     pub holds : HasCallsOf report.kept (first ∷ records)
     pub visits : List (List (Option Served))
-    pub served : AreWorkers terms 0 visits records
+    pub served : AreWorkers terms options.calls begun 0 visits records
     pub counted : counts_in report ≡ counts_of (all_visits visits)
 
 -- the faults that may end a server

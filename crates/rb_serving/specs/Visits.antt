@@ -1,7 +1,11 @@
 -- What became of those who came to a door, and of the pass of the worker that served them.
-use Rattle.std.specs.Prelude.{◌≡◌, ℕ, ◌+◌, min, List, [], ◌∷◌, ◌++◌, length, Option, None, Some}
+use Rattle.std.specs.Prelude.{◌≡◌, ℕ, ◌+◌, min, List, [], ◌∷◌, ◌++◌, length, Option, None, Some, Err}
 use Rattle.std.specs.Io.KnownBytes.{Appends, Consumes, IsAtEnd}
+use Rattle.rb_protocol.specs.declared.limited_reader.LimitedReader.{LimitedReader}
+use Rattle.rb_protocol.specs.declared.reader_state.ReaderState.TheVariants.{Open}
 use Rattle.rb_ledger.specs.declared.totals.TheConstants.{GREATEST_COUNT}
+use Rattle.rb_queue.specs.Counts.{events_of}
+use Rattle.rb_queue.specs.declared.opening.Opening.{Opening}
 use Rattle.rb_lock.specs.Passes.{Seen, record_of}
 use Rattle.rb_lock.specs.declared.pass_record.PassRecord.{PassRecord}
 use Rattle.rb_shared_desk.specs.WaitRules.{WaitRules}
@@ -11,6 +15,8 @@ use Rattle.rb_retry.specs.declared.policy.Policy.{Policy}
 use Rattle.rb_session.specs.Rules.{SessionRules, session_rules, HadGotBehind}
 use Rattle.rb_session.specs.Served.{Served}
 use Rattle.rb_session.specs.Delivered.{RanDelivered}
+use Rattle.rb_session.specs.Reasons.{IsReason}
+use Rattle.rb_session.specs.declared.session_fault.SessionFault.TheVariants.{ReadTurns}
 use Rattle.rb_serving.specs.Terms.{Terms}
 use Rattle.rb_serving.specs.VisitCounts.{lost_in, faults_in}
 use Rattle.rb_serving.specs.declared.visit.Visit.{Visit}
@@ -80,22 +86,34 @@ module _ {I O G C : Type 0} (terms : Terms I O G C) where
       RanDelivered (visit_rules writer) terms.rules.delivery Over from served to
 
   -- The session of this visit was run at a new desk of the pass. What came was read from the visit's reader, what
-  -- was sent went to its writer, and its gate could end the waits. `left` has what is left of the two.
-  pub record RanVisit (visit left : Visit I O G) (old : Seen) (served : Served) (new : Seen) : Type 0 where
-    pub consumed : Consumes (terms.remaining visit.reader) (terms.remaining left.reader) served.came
-    pub appended : Appends (terms.contents visit.writer) (terms.contents left.writer) served.sent
+  -- was sent went to its writer, and its gate could end the waits. `reader` and `writer` are what is left of the two.
+  -- The input ended only if the last read met its end, a read failed exactly if the session says so, and it gave
+  -- reading up only when all reads had been made.
+  pub record RanVisit (visit : Visit I O G) (reader : LimitedReader I) (writer : O) (old : Seen) (served : Served)
+      (new : Seen) : Type 0 where
+    pub consumed : Consumes (terms.remaining visit.reader) (terms.remaining reader.inner.now) served.came
+    pub appended : Appends (terms.contents visit.writer) (terms.contents writer) served.sent
     pub from : SharedState C G
     pub begun : IsDeskOf terms.rules.clock visit.gate old from
     pub to : SharedState C G
-    pub ran : RanSession visit.writer (IsAtEnd (terms.remaining left.reader)) from served to
+    pub ran : RanSession visit.writer (IsAtEnd (terms.remaining reader.inner.now)) from served to
     pub seen : to.pass ≡ new
+    pub reason : IsReason Open reader.state served.ended
+    pub used_up : (lost : ℕ) → served.ended ≡ Err (ReadTurns lost) → reader.left ≡ 0
+
+  -- The session of this visit was run, and the door got back what is left of it.
+  pub record LeftVisit (number : VisitNumber) (visit : Visit I O G) (old : Seen) (served : Served) (new : Seen)
+      : Type 0 where
+    pub reader : LimitedReader I
+    pub writer : O
+    pub left : terms.has_left number reader writer
+    pub ran : RanVisit visit reader writer old served new
 
   -- A visitor was let in under this number, and the session of this visit was run.
   pub record IsVisit (number : VisitNumber) (old : Seen) (served : Served) (new : Seen) : Type 0 where
     pub visit : Visit I O G
     pub let_in : terms.lets_in number visit
-    pub left : Visit I O G
-    pub ran : RanVisit visit left old served new
+    pub leaves : LeftVisit number visit old served new
 
   -- After `earlier` visits the worker asked for these, each under a number of its own. Its pass served those who were
   -- let in, one after the other, and did nothing else.
@@ -107,16 +125,26 @@ module _ {I O G C : Type 0} (terms : Terms I O G C) where
       (between : Seen) × IsVisit (number_of worker earlier) old served between
       × AreVisits worker (earlier + 1) between visits new
 
-  -- A worker's pass: it had made no call, and served these visits, behind which the door had no more.
+  -- A worker's pass: it had made no call, had seen none under its name, and served these visits, behind which the door
+  -- had no more.
   pub record IsWorker (worker : ℕ) (visits : List (Option Served)) (pass : Seen) : Type 0 where
     pub first : Seen
     pub idle : first.mine ≡ []
+    pub unheard : events_of first.seen first.name ≡ []
     pub served : AreVisits worker 0 first visits pass
     pub no_more : terms.has_no_more (number_of worker (length visits))
 
-  -- each record is that of a worker that served these visits, from this worker on
-  abbrev pub AreWorkers : ℕ → List (List (Option Served)) → List PassRecord → Type 0
-  AreWorkers worker [] [] = Unit {0}
-  AreWorkers worker (visits ∷ others) (one ∷ records) =
-      ((pass : Seen) × IsWorker worker visits pass × (one ≡ record_of pass)) × AreWorkers (worker + 1) others records
-  AreWorkers _ _ _ = ⊥
+  -- The pass is of the run that begins with this opening and has room for so many calls, and is a worker's that served
+  -- these visits.
+  pub record IsWorkerOf (room : ℕ) (begun : Opening) (worker : ℕ) (visits : List (Option Served)) (pass : Seen) : Type 0 where
+    pub works : IsWorker worker visits pass
+    pub capacity : pass.capacity ≡ room
+    pub opening : pass.opening ≡ begun
+
+  -- each record is that of a worker of this run that served these visits, from this worker on
+  abbrev pub AreWorkers : ℕ → Opening → ℕ → List (List (Option Served)) → List PassRecord → Type 0
+  AreWorkers room begun worker [] [] = Unit {0}
+  AreWorkers room begun worker (visits ∷ others) (one ∷ records) =
+      ((pass : Seen) × IsWorkerOf room begun worker visits pass × (one ≡ record_of pass))
+      × AreWorkers room begun (worker + 1) others records
+  AreWorkers _ _ _ _ _ = ⊥

@@ -24,7 +24,7 @@ pub use door::{Door, DoorFault};
 pub use event_laws::{calls_of_visit, history_of_server};
 pub use laws::pause_has_its_value;
 pub use serve_clock::ServeClock;
-pub use serve_end::end_server;
+pub use serve_end::{ServerEnd, end_server};
 pub use serve_report::ServeReport;
 pub use serve_text::print_listening;
 pub use server::{serve_door, serve_door_gathered};

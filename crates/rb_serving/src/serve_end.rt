@@ -1,5 +1,6 @@
+ghost use Rattle.std.specs.Prelude.{◌≡◌};
 ghost use Rattle.rb_ending.specs.Recording.{RecordsRun, lent, given_back};
-ghost use Rattle.rb_serving.specs.ServeText.{EndsServer, Prints, PrintsAfter, report_text};
+ghost use Rattle.rb_serving.specs.ServeText.{Prints, first_fault, report_text};
 
 use crate::serve_report::ServeReport;
 use crate::serve_text::print_report;
@@ -9,45 +10,57 @@ use rb_timer::Timer;
 use std::alloc::Global;
 use std::io::Write;
 
+/// What became of a server's history and of its report.
+#[derive(Clone, Copy, Debug, PartialEq, Eq)]
+pub struct ServerEnd {
+    /// Whether the history was written. If there was no device for it, there was nothing to write.
+    pub recorded: Result<(), HistoryFault>,
+    /// Whether the counts were printed.
+    pub printed: Result<(), BrokerFault>,
+}
+
+impl ServerEnd {
+    /// How the server ended: with the history's fault, if there is one, and otherwise with that of printing.
+    pub fn result(&self) -> Result<(), BrokerFault>
+        ensures { result ≡ first_fault self.now.recorded self.now.printed }
+    {
+        match self.recorded {
+            Ok(()) => self.printed,
+            Err(fault) => Err(BrokerFault::from(fault)),
+        }
+    }
+}
+
 /// Writes the history of a server's run, if there is a device for it, and then prints the counts of
-/// the run.
-///
-/// They are printed even if the history could not be written, which is then the fault that is
-/// returned.
+/// the run, also if the history could not be written.
 pub fn end_server<T: Timer, W: Write, H: Write>(
     alloc: Global,
     report: &ServeReport<T>,
     writer: &mut W,
     history: Option<&mut H>,
-) -> Result<(), BrokerFault>
-    ensures { EndsServer
-        (λ wrote. RecordsRun H.contents report.now.kept wrote (lent history.entry) (given_back history.exit))
-        (λ printed. Prints printed (W.contents writer.old) (report_text report.now) (W.contents writer.new))
-        result }
+) -> ServerEnd
+    ensures recorded { RecordsRun H.contents report.now.kept result.recorded (lent history.entry) (given_back history.exit) }
+    ensures printed { Prints result.printed (W.contents writer.old) (report_text report.now) (W.contents writer.new) }
 {
     match history {
         Some(device) => {
             let recorded = write_recording(alloc, &report.kept, device);
-            print_after(alloc, report, writer, recorded)
+            ended(alloc, report, writer, recorded)
         }
-        None => print_after(alloc, report, writer, Ok(())),
+        None => ended(alloc, report, writer, Ok(())),
     }
 }
 
 // Prints the counts of a run whose history was written like this.
-fn print_after<T: Timer, W: Write>(
+fn ended<T: Timer, W: Write>(
     alloc: Global,
     report: &ServeReport<T>,
     writer: &mut W,
     recorded: Result<(), HistoryFault>,
-) -> Result<(), BrokerFault>
-    ensures { PrintsAfter recorded
-        (λ printed. Prints printed (W.contents writer.old) (report_text report.now) (W.contents writer.new))
-        result }
+) -> ServerEnd
+    ensures recorded { result.recorded ≡ recorded }
+    ensures printed { Prints result.printed (W.contents writer.old) (report_text report.now) (W.contents writer.new) }
 {
     let printed = print_report(alloc, writer, report);
-    match recorded {
-        Ok(()) => printed,
-        Err(fault) => Err(BrokerFault::from(fault)),
-    }
+    ServerEnd { recorded, printed }
 }

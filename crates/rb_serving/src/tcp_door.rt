@@ -4,6 +4,7 @@ use crate::door::{Door, DoorFault};
 use crate::visit::Visit;
 use crate::visit_number::VisitNumber;
 use rb_blocking::TurnGate;
+use rb_protocol::LimitedReader;
 use std::fmt::{self, Debug, Formatter};
 use std::net::{TcpListener, TcpStream};
 use std::sync::Wait;
@@ -102,6 +103,8 @@ impl Door for TcpDoor {
 
     ghost has_no_more = { λ door number. Unit {0} };
 
+    ghost has_left = { λ door number reader writer. Unit {0} };
+
     fn next<R: Wait + time::Clock>(
         &self,
         rt: &R,
@@ -110,6 +113,16 @@ impl Door for TcpDoor {
         let asked = self.asked.fetch_add(1, Ordering::SeqCst);
         self.answer(rt, asked)
     }
+
+    // The connection closes when the last of its two streams is dropped.
+    fn leave(
+        &self,
+        _number: VisitNumber,
+        _reader: &LimitedReader<'_, TcpStream>,
+        _writer: TcpStream,
+    )
+        ensures { Unit {0} }
+    {}
 }
 
 // What a worker is told of a client that came: never that no more will come.

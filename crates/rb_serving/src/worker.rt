@@ -1,7 +1,7 @@
 ghost use Rattle.std.specs.Prelude.{◌≡◌};
 ghost use Rattle.rb_serving.specs.Serving.{IsWorked, WorksOff};
 ghost use Rattle.rb_serving.specs.Terms.{service_terms};
-ghost use Rattle.rb_serving.specs.Visits.{RanVisit};
+ghost use Rattle.rb_serving.specs.Visits.{LeftVisit};
 ghost use Rattle.rb_session.specs.Served.{Served};
 
 use crate::door::{Door, DoorFault};
@@ -11,7 +11,8 @@ use crate::visit_counts::VisitCounts;
 use crate::visit_number::VisitNumber;
 use rb_blocking::Clock;
 use rb_lock::Pass;
-use rb_session::{Ended, SessionFault, run_delivered};
+use rb_protocol::LimitedReader;
+use rb_session::{Ended, SessionFault, run_limited};
 use rb_shared_desk::SharedDesk;
 use rb_timer::Timer;
 use std::sync::Wait;
@@ -43,7 +44,7 @@ pub(crate) fn work<T: Timer, D: Door, C: Clock, R: Wait + time::Clock>(
             None => break,
             Some(Err(DoorFault)) => VisitCounts::of_refusal(),
             Some(Ok(visit)) => {
-                let (ended, _, _) = serve_visit(rt, service, &mut pass, visit);
+                let ended = serve_visit(rt, service, &mut pass, number, visit);
                 VisitCounts::of_session(&ended)
             }
         };
@@ -53,24 +54,26 @@ pub(crate) fn work<T: Timer, D: Door, C: Clock, R: Wait + time::Clock>(
 }
 
 // Serves a visit to its end: one session at a desk of the pass, whose waits the visit's gate may end.
-// The reader and the writer come back with how it ended: what was sent went to this writer.
+// The door gets back the reader and the writer, so what was sent went to this writer, and nothing more.
 fn serve_visit<T: Timer, D: Door, C: Clock, R: Wait + time::Clock>(
     rt: &R,
     service: &Service<'_, T, D, C>,
     pass: &mut Pass<T>,
+    number: VisitNumber,
     visit: Visit<D::Reader, D::Writer, D::Gate>,
-) -> (Result<Ended, SessionFault>, D::Reader, D::Writer)
+) -> Result<Ended, SessionFault>
     requires pass { pass.old.table ≡ service.now.shared.now }
     ensures worked { IsWorked pass.old pass.new }
-    ensures ran { (served : Served) × (served.ended ≡ result.0) × RanVisit
+    ensures ran { (served : Served) × (served.ended ≡ result) × LeftVisit
         (service_terms D.Door D.Reader.Read D.Writer.Write D.Gate.Gate C.Clock service.now)
-        visit (record visit { reader = result.1; writer = result.2 }) pass.old served pass.new }
+        number visit pass.old served pass.new }
 {
     let Visit {
         mut reader,
         mut writer,
         mut gate,
     } = visit;
+    let mut limited = LimitedReader::new(&mut reader);
     let mut desk = SharedDesk::new(
         rt,
         service.shared,
@@ -79,13 +82,14 @@ fn serve_visit<T: Timer, D: Door, C: Clock, R: Wait + time::Clock>(
         &mut gate,
         service.bell,
     );
-    let ended = run_delivered(
+    let ended = run_limited(
         service.alloc,
-        &mut reader,
+        &mut limited,
         &mut writer,
         &mut desk,
         service.policy,
         service.delivery,
     );
-    (ended, reader, writer)
+    service.door.leave(number, &limited, writer);
+    ended
 }

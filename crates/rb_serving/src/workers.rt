@@ -1,4 +1,5 @@
 ghost use Rattle.std.specs.Prelude.{◌≡◌, [], IfOk, IfErr};
+ghost use Rattle.rb_queue.specs.Counts.{events_of};
 ghost use Rattle.rb_serving.specs.Serving.{FoldsWorkers, IsWorkerResult};
 ghost use Rattle.rb_serving.specs.Terms.{service_terms};
 ghost use Rattle.rb_ending.specs.declared.broker_fault.BrokerFault.TheVariants.{Worker};
@@ -11,6 +12,7 @@ use rb_blocking::Clock;
 use rb_ending::BrokerFault;
 use rb_lock::Pass;
 use rb_timer::Timer;
+use std::snapshot::Snapshot;
 use std::sync::Wait;
 use std::thread::{Promise, PromisedHandle, Scope, Threads};
 use std::{thread, time};
@@ -21,10 +23,13 @@ use std::{thread, time};
 struct OfWorker<'a, T: Timer, D: Door, C: Clock> {
     service: &'a Service<'a, T, D, C>,
     worker: u64,
+    // The pass that it was given.
+    start: Snapshot<Pass<T>>,
 }
 
 impl<'a, T: Timer, D: Door, C: Clock> Promise<(Pass<T>, VisitCounts)> for OfWorker<'a, T, D, C> {
-    ghost kept_by = { λ promise worked. (worked.0.table ≡ promise.service.now.shared.now) × IsWorkerResult
+    ghost kept_by = { λ promise worked. (worked.0.table ≡ promise.service.now.shared.now)
+        × (worked.0.capacity ≡ promise.start.value.capacity) × (worked.0.opening ≡ promise.start.value.opening) × IsWorkerResult
         (service_terms D.Door D.Reader.Read D.Writer.Write D.Gate.Gate C.Clock promise.service.now)
         promise.worker worked.0 worked.1 };
 }
@@ -116,15 +121,24 @@ fn start<
     requires pass { pass.table ≡ service.now.shared.now }
     requires alone { pass.folded ≡ [] }
     requires idle { pass.mine ≡ [] }
+    requires unheard { events_of pass.seen pass.name ≡ [] }
     ensures service { IfOk result (λ started. started.promise.service.now ≡ service.now) }
     ensures worker { IfOk result (λ started. started.promise.worker ≡ worker) }
+    ensures start { IfOk result (λ started. started.promise.start.value ≡ pass) }
     ensures fault { IfErr result (λ fault. fault ≡ Worker) }
 {
+    let start = Snapshot::of(&pass);
     match scope.spawn_with(
-        OfWorker { service, worker },
+        OfWorker {
+            service,
+            worker,
+            start,
+        },
         move || -> (Pass<T>, VisitCounts)
-            requires { (pass.table ≡ service.now.shared.now) × (pass.folded ≡ []) × (pass.mine ≡ []) }
-            ensures { (result.0.table ≡ service.entry.now.shared.now) × IsWorkerResult
+            requires { (pass.table ≡ service.now.shared.now) × (pass.folded ≡ []) × (pass.mine ≡ [])
+                × (events_of pass.seen pass.name ≡ []) }
+            ensures { (result.0.table ≡ service.entry.now.shared.now)
+                × (result.0.capacity ≡ pass.capacity) × (result.0.opening ≡ pass.opening) × IsWorkerResult
                 (service_terms D.Door D.Reader.Read D.Writer.Write D.Gate.Gate C.Clock service.entry.now)
                 worker result.0 result.1 }
         { work(rt, service, worker, pass) },

@@ -1,11 +1,8 @@
 -- At a kept desk the history grows by what a session makes, and the clock stands at the latest moment that was set.
 use Rattle.std.proofs.Common.{◌≡◌, ℕ, List, [], ◌∷◌, ◌++◌, Option, Result, Ok, Err, refl, sym, ap, ◌∙◌, inl, inr, arith}
-use Rattle.std.proofs.lemmas.List.{map-append}
 use Rattle.rb_queue.specs.declared.ask.Ask.{Ask}
-use Rattle.rb_queue.specs.declared.event.Event.{Event}
-use Rattle.rb_queue.specs.declared.opening.Opening.{Opening}
 use Rattle.rb_queue.specs.declared.reply.Reply.{Reply}
-use Rattle.rb_retry.specs.Made.{Made, made_after}
+use Rattle.rb_retry.specs.Made.{Made}
 use Rattle.rb_retry.specs.KeptSteps.{KeptState, KeptSteps, SetsKept, made_at}
 use Rattle.rb_retry.specs.KeptLaws.{kept_makes, kept_refuses}
 use Rattle.rb_retry.specs.declared.desk_fault.DeskFault.{DeskFault}
@@ -23,7 +20,7 @@ use Rattle.rb_protocol.specs.declared.line_reply.LineReply.{LineReply}
 use Rattle.rb_session.specs.Turn.{Point}
 use Rattle.rb_session.specs.Session.{Turn, Serves}
 use Rattle.rb_session.specs.Closing.{Closes}
-use Rattle.rb_session.specs.Events.{moment_after, latest, made_events, RecordsByLines, RecordsByClosing}
+use Rattle.rb_session.specs.Events.{moment_after, latest, RecordsByLines, RecordsByClosing}
 use Rattle.rb_session.proofs.Events.{Way, way_of, makes_by_lines, makes_by_closing}
 
 -- the desk as if it had been made before the first event
@@ -40,12 +37,6 @@ steps_whole old new handed ask result steps = record {
   counts = steps.counts;
   stays = ap whole steps.stays;
 }
-
--- the events of what was made are the events that it was made of
-events_in : (opening : Opening) (before events : List Event) → made_events (made_after opening before events) ≡ events
-events_in opening before [] = refl
-events_in opening before (event ∷ events) = ap (λ (rest : List Event). event ∷ rest)
-    (events_in opening (before ++ event ∷ []) events)
 
 abbrev pub kept_gives : KeptState → ℕ → Type 0
 kept_gives state moment = moment ≡ state.moment
@@ -69,14 +60,6 @@ pub stays_whole : (old new : KeptState) (moment : ℕ) (result : Option ℕ) →
     → whole_mine new ≡ whole_mine old
 stays_whole old new moment result sets = ap whole_mine sets.1
 
--- what was made makes the history grow
-pub history_grows : (from to : KeptState) (made : List Made) → whole_mine to ≡ whole_mine from ++ made
-    → to.log.history ≡ from.log.history ++ made_events made
-history_grows from to made is =
-    sym (events_in to.log.opening [] to.log.history) ∙ ap made_events is
-    ∙ map-append (λ (m : Made). m.event) (whole_mine from) made
-    ∙ ap (λ (events : List Event). events ++ made_events made) (events_in from.log.opening [] from.log.history)
-
 -- the moment after one line
 pub moment_of : (policy : Policy) (reading : Result Request LineFault) (replies : List LineReply) (old new : KeptState)
     → Way (kept_rules policy) reading replies old new → new.moment ≡ moment_after old.moment reading
@@ -99,7 +82,7 @@ pub records_by_lines : RecordsByLines kept_rules
 records_by_lines policy from to turns serves =
     let made = makes_by_lines (kept_rules policy) whole_mine makes_whole refuses_whole stays_whole from to turns
     serves in
-    (made.0, history_grows from.desk to.desk made.0 made.1, made.2, latest_moment policy from to turns serves)
+    (made.0, made.1, made.2, latest_moment policy from to turns serves)
 
 -- no failure sets the clock
 same_moment : (policy : Policy) (element : Element) (now : ℕ) (old new : KeptState)
@@ -121,4 +104,4 @@ pub records_by_closing : RecordsByClosing kept_rules
 records_by_closing policy from to held lost closes =
     let made =
     makes_by_closing (kept_rules policy) whole_mine makes_whole refuses_whole stays_whole from to held lost closes in
-    (made.0, history_grows from to made.0 made.1, made.2, closing_moment policy from to held lost closes)
+    (made.0, made.1, made.2, closing_moment policy from to held lost closes)

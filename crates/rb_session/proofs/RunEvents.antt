@@ -42,7 +42,7 @@ use Rattle.rb_session.specs.Closing.{Closes}
 use Rattle.rb_session.specs.Ran.{BeginsWith, BreaksOff, FailsToWrite, RanUntil}
 use Rattle.rb_session.specs.Gathered.{FailsToSend, LosesReplies, RanGatheredUntil, ServesSome}
 use Rattle.rb_session.specs.Delivered.{RanDelivered, gathering_rules}
-use Rattle.rb_session.specs.Events.{AreOfLines, AreOfClosing, made_events, latest}
+use Rattle.rb_session.specs.Events.{AreOfLines, AreOfClosing, latest}
 use Rattle.rb_session.specs.RunEvents.{AreSomeOf, StandFirst, SendsAll, MadeByRun, RecordsByRun, handed_by, handed_out}
 use Rattle.rb_session.specs.declared.delivery.Delivery.{Delivery}
 use Rattle.rb_session.specs.declared.delivery.Delivery.TheVariants.{AtOnce, Gathered}
@@ -53,7 +53,7 @@ use Rattle.rb_session.specs.declared.session_fault.SessionFault.TheVariants as f
 use Rattle.rb_session.proofs.HandedOut.{holds_lines, holds_turn, some_all, some_both, some_more, some_trans}
 use Rattle.rb_session.proofs.Events.{Way, way_of, of_way, makes_by_closing}
 use Rattle.rb_session.proofs.KeptEvents.{whole_mine, makes_whole, refuses_whole, stays_whole}
-use Rattle.rb_session.proofs.KeptEvents.{history_grows, moment_of, closing_moment}
+use Rattle.rb_session.proofs.KeptEvents.{moment_of, closing_moment}
 
 -- the answers to some lines and to more
 answers_append : (turns more : List Turn) → answers_of (turns ++ more) ≡ answers_of turns ++ answers_of more
@@ -467,12 +467,11 @@ pub records_by_run : {W : Type 0} (contents : W → Option (List ℕ)) → Recor
 records_by_run contents policy got delivery rest from to served ran =
     let desk = kept_rules policy in
     let run = ends_of (session_rules desk (HadGotBehind contents got)) delivery (IsAtEnd rest) from to served ran in
-    let made = made_by_ends desk whole_mine makes_whole refuses_whole stays_whole (IsAtEnd rest) from to served run in
-    let so = grows_so (λ events is. history_grows from to events is) made.0 in (
-      so.0,
+    let made = made_by_ends desk whole_mine makes_whole refuses_whole stays_whole (IsAtEnd rest) from to served run in (
+      made.0,
       closing_moment policy run.last.desk to run.last.held run.lost run.closes
           ∙ ways_moment policy from run.last.desk run.path.lines run.path.ways
-          ∙ ap (latest from.moment) (sym (so.1 ∙ made.1)),
+          ∙ ap (latest from.moment) (sym made.1),
       closes_opening policy run.last.desk to run.last.held run.lost run.closes
           ∙ ways_opening policy from run.last.desk run.path.lines run.path.ways,
     )

@@ -1,13 +1,13 @@
 -- Which events a session makes at its desk: at most one for each line, and each has the reply that the line got.
-use Rattle.std.specs.Prelude.{◌≡◌, ℕ, ◌+◌, ◌≤◌, ◌⊎◌, max, List, [], ◌∷◌, ◌++◌, map, Option, Some, Result, Ok}
+use Rattle.std.specs.Prelude.{◌≡◌, ℕ, ◌+◌, ◌≤◌, ◌⊎◌, max, List, [], ◌∷◌, ◌++◌, Option, Some, Result, Ok}
 use Rattle.rb_delayed.specs.declared.element.Element.{Element}
 use Rattle.rb_queue.specs.declared.ask.Ask.{Ask}
 use Rattle.rb_queue.specs.declared.ask.Ask.TheVariants as asks
-use Rattle.rb_queue.specs.declared.event.Event.{Event}
 use Rattle.rb_queue.specs.declared.reply.Reply.{Reply}
 use Rattle.rb_queue.specs.declared.reply.Reply.TheVariants.{Offered}
+use Rattle.rb_kept.specs.Log.{Log}
 use Rattle.rb_kept.specs.Tries.{IsActOf}
-use Rattle.rb_retry.specs.Made.{Made}
+use Rattle.rb_retry.specs.Made.{Made, made_after}
 use Rattle.rb_retry.specs.KeptSteps.{KeptState}
 use Rattle.rb_retry.specs.DeskRules.{DeskRules, desk_rules}
 use Rattle.rb_retry.specs.declared.desk.Desk as Desk
@@ -120,17 +120,18 @@ module _ {D : Type 0} (words : Desk.Ghosts D) where
       (policy : Policy) (from to : Point words.State) (turns : List Turn) → from.held ≡ []
       → Serves (desk_rules words policy) from turns to → AreHeldOnce to.held
 
--- the events of what was made
-abbrev pub made_events : List Made → List Event
-made_events mades = map (λ (made : Made). made.event) mades
+-- the events of a log's history, each with its reply
+abbrev pub made_in : Log → List Made
+made_in log = made_after log.opening [] log.history
 
 -- at a desk over a kept queue, by its rules under each policy
 module _ (rules : Policy → DeskRules KeptState) where
-  -- the law of lines: the history grows by what they made, and the clock stands at the latest moment
+  -- the law of lines: the history grows by what they made, each event with its reply, and the clock stands at the latest
+  -- moment
   abbrev pub RecordsByLines : Type 0
   RecordsByLines =
       (policy : Policy) (from to : Point KeptState) (turns : List Turn) → Serves (rules policy) from turns to
-      → (made : List Made) × (to.desk.log.history ≡ from.desk.log.history ++ made_events made)
+      → (made : List Made) × (made_in to.desk.log ≡ made_in from.desk.log ++ made)
       × AreOfLines turns made × (to.desk.moment ≡ latest from.desk.moment turns)
 
   -- the law of jobs that are held at the end
@@ -138,5 +139,5 @@ module _ (rules : Policy → DeskRules KeptState) where
   RecordsByClosing =
       (policy : Policy) (from to : KeptState) (held : List Element) (lost : ℕ)
       → Closes (rules policy) from held lost to
-      → (made : List Made) × (to.log.history ≡ from.log.history ++ made_events made)
+      → (made : List Made) × (made_in to.log ≡ made_in from.log ++ made)
       × AreOfClosing held made × (to.moment ≡ from.moment)

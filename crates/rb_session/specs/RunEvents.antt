@@ -16,7 +16,7 @@ use Rattle.rb_session.specs.Rules.{session_rules, HadGotBehind}
 use Rattle.rb_session.specs.Served.{Served}
 use Rattle.rb_session.specs.Session.{Turn, IsLine, answers_of}
 use Rattle.rb_session.specs.Delivered.{RanDelivered}
-use Rattle.rb_session.specs.Events.{AreOfLines, AreOfClosing, made_events, latest}
+use Rattle.rb_session.specs.Events.{AreOfLines, AreOfClosing, made_in, latest}
 use Rattle.rb_session.specs.declared.delivery.Delivery.{Delivery}
 use Rattle.rb_session.specs.declared.ended.Ended.{Ended}
 use Rattle.rb_session.specs.declared.session_fault.SessionFault.{SessionFault}
@@ -82,13 +82,13 @@ MakesByRun words contents =
     (IsAtEnd rest) from served to
     → MadeByRun (IsAtEnd rest) served (λ made. words.mine to ≡ words.mine from ++ made)
 
--- the law of runs at a desk over a kept queue, by its rules under each policy: the history grows by just the events of
--- what the run made, the clock stands at the latest moment, and what the log began with stays
+-- the law of runs at a desk over a kept queue, by its rules under each policy: the history grows by just what the run
+-- made, each event with its reply, the clock stands at the latest moment, and what the log began with stays
 abbrev pub RecordsByRun : {W : Type 0} → (Policy → DeskRules KeptState) → (W → Option (List ℕ)) → Type 0
 RecordsByRun rules contents =
     (policy : Policy) (got : Option (List ℕ)) (delivery : Delivery) (rest : Option (List ℕ))
     (from to : KeptState) (served : Served)
     → RanDelivered (session_rules (rules policy) (HadGotBehind contents got)) delivery
     (IsAtEnd rest) from served to
-    → (run : MadeByRun (IsAtEnd rest) served (λ made. to.log.history ≡ from.log.history ++ made_events made))
+    → (run : MadeByRun (IsAtEnd rest) served (λ made. made_in to.log ≡ made_in from.log ++ made))
     × (to.moment ≡ latest from.moment run.lines) × (to.log.opening ≡ from.log.opening)

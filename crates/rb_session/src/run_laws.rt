@@ -12,8 +12,8 @@ pub fn events_of_run<D: Desk, W: Write>()
     ensures { MakesByRun D.Desk W.contents }
 {}
 
-/// The history of a kept queue grows by just these events in a run of a session at its desk. The
-/// desk's moment is then the latest of its moment before and of those that the served `AT` lines
+/// The history of a kept queue grows by just these events, each with the reply that the line got, in a run of a
+/// session at its desk. The desk's moment is then the latest of its moment before and of those that the served `AT` lines
 /// named.
 pub fn history_of_run<'a, T: Timer + 'a, W: Write>()
     ensures { RecordsByRun (desk_rules ⟦<KeptDesk<'a, T> as Desk>⟧) W.contents }

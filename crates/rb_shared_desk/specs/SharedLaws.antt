@@ -53,7 +53,7 @@ module _ (seat : ℕ) (opening : Opening) where
       (made_after opening [] events) (made_after opening events more)
 
   -- events of other seats add nothing to what the seat made
-  made_by-none : (events more : List Event) → length (events_of more seat) ≡ 0
+  pub made_by-none : (events more : List Event) → length (events_of more seat) ≡ 0
       → made_by seat opening (events ++ more) ≡ made_by seat opening events
   made_by-none events more none =
       made_by-more events more
@@ -71,7 +71,7 @@ module _ (seat : ℕ) (opening : Opening) where
       (eq-eqb event.seat seat is)
 
 -- the events of the seat in a history, and those that follow
-counted : (seat : ℕ) (events more : List Event)
+pub counted : (seat : ℕ) (events more : List Event)
     → length (events_of (events ++ more) seat) ≡ length (events_of events seat) + length (events_of more seat)
 counted seat events more =
     ap length (filter-append (λ (event : Event). event.seat == seat) events more)

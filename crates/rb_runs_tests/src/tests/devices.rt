@@ -2,6 +2,7 @@ ghost use Rattle.std.specs.Prelude.{◌≤◌, length, IfOk};
 
 use rb_arguments::{ScriptOptions, TimerKind};
 use rb_ending::BrokerFault;
+use rb_protocol::LimitedReader;
 use rb_queue::Opening;
 use rb_retry::Policy;
 use rb_runs::{run_script, run_script_gathered};
@@ -339,15 +340,16 @@ pub fn recorded(
     let (mut source, mut sink) = (source, sink);
     let options = options(rt, timer, calls);
     let opening = Opening::empty(alloc);
-    let ended = run_script_gathered(
+    let mut reader = LimitedReader::new(&mut source);
+    let report = run_script_gathered(
         alloc,
         &options,
         opening,
-        &mut source,
+        &mut reader,
         &mut sink,
         history.as_mut(),
     );
-    outcome_of(ended, source, sink)
+    outcome_of(report.result(), source, sink)
 }
 
 /// Runs a script of at most 100 calls from the empty opening, and writes each reply at once. Writes

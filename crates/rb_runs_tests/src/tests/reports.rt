@@ -3,6 +3,7 @@
 use crate::tests::devices::{End, Fault, Sink, Source, expect, expect_bytes, options};
 use rb_arguments::TimerKind;
 use rb_history::HistoryFault;
+use rb_protocol::LimitedReader;
 use rb_queue::Opening;
 use rb_runs::{Recording, ScriptReport, run_script_delivered};
 use rb_session::{Delivery, Ended, HandsOn, SessionFault};
@@ -31,7 +32,7 @@ fn reported(
         &options(rt, TimerKind::Heap, 10),
         Delivery::Gathered(HandsOn::BeforeReads),
         Opening::empty(alloc),
-        &mut source,
+        &mut LimitedReader::new(&mut source),
         &mut sink,
         device.as_mut(),
     )

@@ -5,6 +5,7 @@ ghost use Rattle.std.specs.Prelude.{◌≡◌, ◌≤◌, ◌↔◌, ◌<◌, tr
 use rb_arguments::ServerRunOptions;
 use rb_blocking::{Clock, Gate};
 use rb_ending::{BrokerFault, audit_line};
+use rb_protocol::LimitedReader;
 use rb_queue::{Audit, Opening};
 use rb_replay::check;
 use rb_retry::Policy;
@@ -207,6 +208,8 @@ impl<'a, R: Wait + time::Clock + Sync> Door for PlannedDoor<'a, R> {
 
     ghost has_no_more = { λ door number. Unit {0} };
 
+    ghost has_left = { λ door number reader writer. Unit {0} };
+
     fn next<H: Wait + time::Clock>(
         &self,
         _rt: &H,
@@ -226,6 +229,15 @@ impl<'a, R: Wait + time::Clock + Sync> Door for PlannedDoor<'a, R> {
             gate: NotedGate { turns: plan.turns },
         }))
     }
+
+    fn leave(
+        &self,
+        _number: VisitNumber,
+        _reader: &LimitedReader<'_, Sender<'a, R>>,
+        _writer: Receiver<'a, R>,
+    )
+        ensures { Unit {0} }
+    {}
 }
 
 /// Returns the options of a server with room for 100 calls and three attempts per job.

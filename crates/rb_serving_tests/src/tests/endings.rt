@@ -105,7 +105,7 @@ fn expect_end(rt: &impl Abort, alloc: Global, end: &End) {
     let report = report(rt, alloc);
     let mut writer = device_failing(alloc, end.writer_fails_at);
     let mut device = Some(device_failing(alloc, end.device_fails_at));
-    let outcome = end_server(alloc, &report, &mut writer, device.as_mut());
+    let outcome = end_server(alloc, &report, &mut writer, device.as_mut()).result();
     expect_outcome(rt, outcome, end.outcome);
     expect_bytes(rt, &writer.bytes, end.text);
     expect_held(rt, &device, end.history);
@@ -137,7 +137,7 @@ fn expect_end_without_history(rt: &impl Abort, alloc: Global) {
     let report = report(rt, alloc);
     let mut writer = device_failing(alloc, None);
     let mut none: Option<Held> = None;
-    let outcome = end_server(alloc, &report, &mut writer, none.as_mut());
+    let outcome = end_server(alloc, &report, &mut writer, none.as_mut()).result();
     expect_outcome(rt, outcome, Ok(()));
     expect_bytes(rt, &writer.bytes, TEXT);
     expect(rt, none.is_none());

@@ -231,7 +231,7 @@ fn ended_into(
     mut printed: Vec<u8>,
     mut history: Option<Vec<u8>>,
 ) -> End {
-    let outcome = end_server(alloc, report, &mut printed, history.as_mut());
+    let outcome = end_server(alloc, report, &mut printed, history.as_mut()).result();
     End {
         outcome,
         printed,

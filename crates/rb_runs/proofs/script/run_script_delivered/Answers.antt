@@ -2,12 +2,12 @@
 use Rattle.rb_runs.proofs.ScriptRuns.{unrecorded}
 use Rattle.rb_runs.proofs.script.run_script_delivered.Goals as goal
 
-pub returns-in-Some : goal.returns-in-Some
-returns-in-Some g c = rw c.in-Some.is c.run_recorded.ensures
+pub returns-in-Some-clause-ran : goal.returns-in-Some-clause-ran
+returns-in-Some-clause-ran g c = rw c.in-Some.is c.run_recorded.ensures.ran
 
-pub returns-in-None : goal.returns-in-None
-returns-in-None g c =
-    let ran = c.run_unrecorded.ensures in
+pub returns-in-None-clause-ran : goal.returns-in-None-clause-ran
+returns-in-None-clause-ran g c =
+    let ran = c.run_unrecorded.ensures.ran in
     rw c.in-None.is (record {
       came = ran.came;
       sent = ran.sent;

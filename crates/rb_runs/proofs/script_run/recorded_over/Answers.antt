@@ -6,10 +6,10 @@ use Rattle.rb_runs.specs.ScriptRun.{RanOver}
 use Rattle.rb_runs.proofs.ScriptRuns.{recorded_behind, recorded_unbegun}
 use Rattle.rb_runs.proofs.script_run.recorded_over.Goals as goal
 
-pub returns-in_default : goal.returns-in_default
-returns-in_default g c =
-    let ran = c.run_over.ensures in
-    let over = IsAtEnd (g.R.Read.remaining c.run_over.new.reader) in
+pub returns-in_default-clause-ran : goal.returns-in_default-clause-ran
+returns-in_default-clause-ran g c =
+    let ran = c.run_over.ensures.ran in
+    let over = IsAtEnd (g.R.Read.remaining c.run_over.new.reader.inner.now) in
     let terms = script_terms g.W.Write.contents (g.W.Write.contents c.args.writer.now) c.args.policy.now c.args.calls c.args.delivery c.args.opening in record {
       came = ran.came;
       sent = ran.sent;
@@ -19,10 +19,10 @@ returns-in_default g c =
           (subst (λ r. RanOver terms over ran.came ran.sent r) c.in_default.is ran.holds);
     }
 
-pub returns : goal.returns
-returns g c =
-    let ran = c.run_over.ensures in
-    let over = IsAtEnd (g.R.Read.remaining c.run_over.new.reader) in
+pub returns-clause-ran : goal.returns-clause-ran
+returns-clause-ran g c =
+    let ran = c.run_over.ensures.ran in
+    let over = IsAtEnd (g.R.Read.remaining c.run_over.new.reader.inner.now) in
     let terms = script_terms g.W.Write.contents (g.W.Write.contents c.args.writer.now) c.args.policy.now c.args.calls c.args.delivery c.args.opening in
     let did = subst (λ r. RanOver terms over ran.came ran.sent r) c.in-Ok.is ran.holds in record {
       came = ran.came;

@@ -5,11 +5,11 @@ use Rattle.rb_runs.specs.Script.{IsFresh, IsNew}
 use Rattle.rb_runs.proofs.ScriptRuns.{desk_over}
 use Rattle.rb_runs.proofs.script_run.run_over.Goals as goal
 
-pub returns : goal.returns
-returns g c =
+pub returns-clause-ran : goal.returns-clause-ran
+returns-clause-ran g c =
     let made = c.in-Ok.ensures in
-    let did = c.run_delivered-ended.ensures.ran in
-    let same = c.run_delivered-ended.ensures.name ∙ ap (λ (state : KeptState). state.name) c.new-desk.ensures.state in
+    let did = c.run_limited-ended.ensures.ran in
+    let same = c.run_limited-ended.ensures.name ∙ ap (λ (state : KeptState). state.name) c.new-desk.ensures.state in
     let fresh : IsFresh c.in-Ok.kept c.args.opening c.args.calls = record { opening_is = made.opening; history = made.history; capacity = made.capacity } in record {
       came = did.came;
       sent = did.sent;

@@ -1,11 +1,9 @@
--- With a device the history was written to it, and without one nothing was to be written. Then the counts were printed.
-use Rattle.std.proofs.Common.{Ok, refl}
+-- With a device the history was written to it, and without one nothing was to be written.
+use Rattle.std.proofs.Common.{refl}
 use Rattle.rb_serving.proofs.serve_end.end_server.Goals as goal
 
-pub returns-in-Some : goal.returns-in-Some
-returns-in-Some g c = rw c.in-Some.is
-    (record { wrote = c.write_recording-recorded.result; records = c.write_recording-recorded.ensures; ends = c.print_after.ensures })
+pub returns-in-Some-clause-recorded : goal.returns-in-Some-clause-recorded
+returns-in-Some-clause-recorded g c = rw c.in-Some.is (rw c.ended.ensures.recorded c.write_recording-recorded.ensures)
 
-pub returns-in-None : goal.returns-in-None
-returns-in-None g c = rw c.in-None.is
-    (record { wrote = Ok tt; records = refl; ends = c.print_after-in-None.ensures })
+pub returns-in-None-clause-recorded : goal.returns-in-None-clause-recorded
+returns-in-None-clause-recorded g c = rw c.in-None.is (rw c.ended-in-None.ensures.recorded refl)

@@ -16,6 +16,8 @@ loop-preserved g c = record {
               table = worked.table ∙ before.table;
               name = worked.name ∙ before.name;
               folded = worked.folded ∙ before.folded;
+              capacity = worked.capacity ∙ before.capacity;
+              opening = worked.opening ∙ before.opening;
             })
       ];
   visits =
@@ -31,7 +33,7 @@ loop-preserved g c = record {
             let done = w.serve_visit-ended in
             rw w.pass-is
             (works_served terms worker c.args.pass c.loop.pass done.new.pass c.loop.counts c.match-this.visit
-            c.with-counts.result done.result.0 _ _ before
+            c.with-counts.result done.result _ before
             (let lets = c.next-in-loop.ensures.let_in in search rules) done.ensures.ran
             (w.visit-is ∙ w.of_session-visit.ensures) c.with-counts.ensures)
       ];

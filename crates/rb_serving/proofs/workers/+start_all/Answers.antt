@@ -1,5 +1,6 @@
 -- The last worker that ends is folded in behind the others, and its visits are counted with theirs.
-use Rattle.std.proofs.Common.{◌<◌, sym, subst, arith}
+use Rattle.std.proofs.Common.{◌<◌, ap, sym, subst, arith, ◌∙◌}
+use Rattle.rb_lock.specs.Passes.{Seen}
 use Rattle.std.proofs.lemmas.Bool.Decides.{nat_tests}
 use Rattle.rb_serving.specs.Serving.{FoldsWorkers, IsWorkerResult}
 use Rattle.rb_serving.specs.Terms.{service_terms}
@@ -14,10 +15,12 @@ returns-clause-folds g t c =
     let done = c.join-done.result in
     let promise = c.in_ok-worker.worker.promise in
     let started = c.in_ok-worker.ensures in
+    let given = started.start ∙ c.in-Ok.ensures.child in
     let as_promised =
-    subst (λ service. IsWorkerResult (terms service) promise.worker done.0 done.1) started.service c.join-done.ensures.1 in
+    subst (λ service. IsWorkerResult (terms service) promise.worker done.0 done.1) started.service c.join-done.ensures.3 in
     let worked = subst (λ worker. IsWorkerResult of worker done.0 done.1) started.worker as_promised in
     subst (FoldsWorkers of c.args.count c.args.pass c.fold.new.pass) (sym c.with.ensures)
     (folds_one_more of c.args.count c.args.pass c.split.new.pass c.in_ok-pass.pass done.0 c.fold.new.pass done.1
     c.in_ok-pass.more some c.in-Ok.ensures.learns c.in-Ok.ensures.mine c.in_ok-pass.ensures.folds worked
+    (c.join-done.ensures.1 ∙ ap (λ (pass : Seen). pass.capacity) given) (c.join-done.ensures.2 ∙ ap (λ (pass : Seen). pass.opening) given)
     c.fold.ensures)
