@@ -57,11 +57,13 @@ class Seen:
     is_full: bool
     unanswered: float  # seconds that the service's own session waits for a worker
     free_workers: int
+    waiting: int  # clients
     elements: Optional[int]
     moment: Optional[int]
     aside: int
     first_aside: int  # a moment
     leaving: Optional[float]  # seconds in which all clients will probably have left
+    is_prepared: bool  # whether most sessions are used up, so that an end takes no time
 
 
 def why_to_end(seen: Seen) -> Optional[Reason]:
@@ -72,19 +74,24 @@ def why_to_end(seen: Seen) -> Optional[Reason]:
         return Reason.SESSIONS
     if seen.unanswered > UNANSWERED and seen.free_workers > 0:
         return Reason.SESSIONS  # they are used up: a worker that is free takes nobody
-    if seen.age >= seen.every or (_is_almost_over(seen) and is_quiet(seen.leaving)):
+    if seen.age >= seen.every or (seen.is_prepared and (_is_quiet(seen.leaving) or _is_closed(seen))):
         return Reason.TIME
     return Reason.ELEMENTS if _is_wanted_aside(seen) else None
 
 
-def is_quiet(leaving: Optional[float]) -> bool:
+def is_to_prepare(age: float, every: float) -> bool:
+    """Whether a run's time is so nearly over that most sessions are used up, and a good moment for its end is taken."""
+    return age >= every - min(LAST_PART, every / 2)
+
+
+def _is_closed(seen: Seen) -> bool:
+    """Whether a client waits though a worker is free: the few sessions that were left are used up."""
+    return seen.waiting > 0 and seen.free_workers > 0
+
+
+def _is_quiet(leaving: Optional[float]) -> bool:
     """Whether this is a good moment to serve no new clients: those that are served leave soon."""
     return leaving is not None and leaving <= SHORTLY
-
-
-def _is_almost_over(seen: Seen) -> bool:
-    """Whether the run's time is so nearly over that a good moment is taken."""
-    return seen.age >= seen.every - min(LAST_PART, seen.every / 2)
 
 
 def _is_low(supply: Supply, ending: float) -> bool:

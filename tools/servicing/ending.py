@@ -4,7 +4,6 @@ from __future__ import annotations
 import time
 from typing import Dict, List, Tuple
 
-from servicing.deciding import is_quiet
 from servicing.durations import SECOND, text_of
 from servicing.keeping import KeeperLost, Keeping
 from servicing.saying import say
@@ -12,13 +11,10 @@ from servicing.server import Server
 from servicing.settings import Settings
 from servicing.showing import Showing
 from servicing.signals import Signals
-from servicing.state import Reason
 from servicing.visits import Visits
 from servicing.watch import Watch
 
 LOOK = 0.1  # seconds between two looks
-PATIENT = 10.0  # seconds for which a rollover waits for a moment at which clients are about to leave
-RESERVE = 64  # sessions that are left to clients meanwhile
 TELL, CUT = 10.0, 1.0  # seconds after which it is said again who is waited for, and after which is cut again
 MOST_NAMED = 5
 
@@ -31,9 +27,9 @@ class Ending:
     """The end of one run."""
 
     def __init__(self, settings: Settings, server: Server, watch: Watch, keeping: Keeping, signals: Signals,
-                 showing: Showing, why: Reason) -> None:
+                 showing: Showing) -> None:
         self._settings, self._server, self._watch = settings, server, watch
-        self._keeping, self._signals, self._showing, self._why = keeping, signals, showing, why
+        self._keeping, self._signals, self._showing = keeping, signals, showing
         self.closed = 0.0  # when new clients were served no longer, by the monotonic clock
         self.cut = 0
         self._cut_at, self._why_not = 0.0, ""
@@ -47,26 +43,10 @@ class Ending:
 
     def run(self) -> None:
         """Ends the run. Raises a `Stays` if an end was asked for that can't be had in time."""
-        if self._why is Reason.TIME:
-            self._wait_for_a_quiet_moment()
         self.closed = time.monotonic()
         visits = Visits(self._settings.port)
         try:
             self._wait_for_clients()
-        finally:
-            visits.stop()
-
-    def _wait_for_a_quiet_moment(self) -> None:
-        """Waits until clients are about to leave, which are served meanwhile, while most sessions are used up."""
-        sessions = self._watch.looks.sessions
-        visits = Visits(self._settings.port, max(sessions.limit - sessions.used - RESERVE, 0))
-        until = time.monotonic() + min(PATIENT, self._settings.every / SECOND / 10)
-        try:
-            while time.monotonic() < until and not self._signals.count and not self._server.has_ended:
-                self._watch.see(with_programs=False)
-                if visits.are_made and is_quiet(self._watch.looks.leaving):
-                    break
-                self._signals.wait(LOOK, self._server.process)
         finally:
             visits.stop()
 

@@ -105,7 +105,6 @@ class Looks:
         self.moment: Optional[int] = None
         self.began: Optional[int] = None  # when the server's clock began to go at the latest, by `clock.up_time`
         self.offered = self.left = 0  # elements of this run; a job that came back is offered again
-        self.visits = 0  # sessions that the service has used up
 
     def see(self, sockets: Sockets) -> None:
         """Takes what the system tells of the connections."""
@@ -157,7 +156,7 @@ class Looks:
 
     @property
     def sessions(self) -> Supply:
-        return Supply(self._used_sessions + self.visits, True, self._limits.sessions, self._sessions.a_second)
+        return Supply(self._used_sessions, True, self._limits.sessions, self._sessions.a_second)
 
     @property
     def calls(self) -> Supply:

@@ -9,7 +9,7 @@ from dataclasses import dataclass, replace
 from typing import Callable, List, Optional, Tuple, TypeVar
 
 from servicing.clock import read_clock
-from servicing.deciding import Seen, Start, how_to_start, why_to_end
+from servicing.deciding import Seen, Start, how_to_start, is_to_prepare, why_to_end
 from servicing.durations import SECOND, text_of
 from servicing.ending import Ending, Stays
 from servicing.folder import Folder, Unusable, opened
@@ -27,8 +27,10 @@ from servicing.settings import Settings
 from servicing.showing import Showing, lost_text
 from servicing.signals import Signals
 from servicing.state import Board, DiskFault, Phase, Reason, Run
+from servicing.visits import Visits
 from servicing.watch import LOOK, Watch
 
+RESERVE = 200  # sessions that are left to clients before a run ends
 AGAIN = 1.0  # seconds until something that failed is tried again
 POLL = 0.005  # seconds from one look whether a server listens to the next
 
@@ -47,10 +49,16 @@ class Current:
     server: Server
     watch: Watch
     first_aside: int  # the moment at which the first element aside expires
+    visits: Optional[Visits] = None  # which use up most sessions in the last part of the run
     why: Reason = Reason.UNKNOWN  # it ends
     closed: Optional[float] = None  # since when new clients are served no longer, by the monotonic clock
     held_by: Tuple[str, ...] = ()
     cut: int = 0
+
+    @property
+    def age(self) -> float:
+        """The seconds since it began."""
+        return time.time() - self.record.began.date / SECOND
 
 
 class Service:
@@ -274,9 +282,11 @@ class Service:
             if why is not None:
                 self._end(current, why)
                 return
+            self._prepare_end(current)
             self._cut_silent(watch)
             self._mind_the_keeper(server)
             self._signals.wait(LOOK, server.process)
+        self._stop_visits(current)
         watch.own.drop()
         current.closed = time.monotonic()
 
@@ -288,16 +298,28 @@ class Service:
             self._runs.see(record, record.moment, exactly)
             current.record = self._runs.records[record.number]
 
+    def _prepare_end(self, current: Current) -> None:
+        """In the last part of a run, uses up most of its sessions, so that its end takes no time."""
+        if current.visits is None and is_to_prepare(current.age, self._settings.every / SECOND):
+            sessions = current.watch.looks.sessions
+            current.visits = Visits(self._settings.port, max(sessions.limit - sessions.used - RESERVE, 0))
+
+    def _stop_visits(self, current: Current) -> None:
+        if current.visits is not None:
+            current.visits.stop()
+
     def _why_to_end(self, current: Current) -> Optional[Reason]:
         if self._signals.count:
             return Reason.ASKED
         looks, own, record = current.watch.looks, current.watch.own, current.record
         return why_to_end(Seen(
-            age=time.time() - record.began.date / SECOND, every=self._settings.every / SECOND,
+            age=current.age, every=self._settings.every / SECOND,
             ending=self._settings.stop_within / SECOND, calls=looks.calls, sessions=looks.sessions,
             is_full=own.is_full, unanswered=own.waits, free_workers=self._settings.workers - looks.served,
+            waiting=looks.waiting,
             elements=looks.queue.elements if looks.queue else None, moment=looks.moment, aside=record.aside,
-            first_aside=current.first_aside, leaving=looks.leaving))
+            first_aside=current.first_aside, leaving=looks.leaving,
+            is_prepared=current.visits is not None and current.visits.are_made))
 
     def _cut_silent(self, watch: Watch) -> None:
         if self._settings.silent is None:
@@ -323,7 +345,8 @@ class Service:
         if why is Reason.ASKED:
             notify(STOPPING=1)
         self._showing.enter(Phase.ENDING, why, clients=current.watch.looks.served)
-        ending = Ending(self._settings, current.server, current.watch, self._keeping, self._signals, self._showing, why)
+        self._stop_visits(current)
+        ending = Ending(self._settings, current.server, current.watch, self._keeping, self._signals, self._showing)
         try:
             ending.run()
         except Stays as fault:

@@ -5,7 +5,7 @@ import unittest
 from dataclasses import replace
 from typing import Optional
 
-from servicing.deciding import Seen, Start, how_to_start, runs_to_drop, why_to_end
+from servicing.deciding import Seen, Start, how_to_start, is_to_prepare, runs_to_drop, why_to_end
 from servicing.keeping import Held
 from servicing.record import End, record_in
 from servicing.settings import Keep
@@ -20,7 +20,7 @@ def supply(used: int, limit: int = 1000, pace: Optional[float] = None) -> Supply
 
 
 QUIET = Seen(age=100, every=3600, ending=60, calls=supply(0), sessions=supply(0), is_full=False, unanswered=0,
-             free_workers=16, elements=5, moment=10**12, aside=0, first_aside=0, leaving=None)
+             free_workers=16, waiting=0, elements=5, moment=10**12, aside=0, first_aside=0, leaving=None, is_prepared=False)
 
 
 class StartTest(unittest.TestCase):
@@ -57,12 +57,15 @@ class EndTest(unittest.TestCase):
 
     def test_a_good_moment_is_taken_in_the_last_minute(self) -> None:
         for leaving in (0.0, 2.0):
-            self.assertEqual(self.why(age=3540, leaving=leaving), Reason.TIME)
-            self.assertIsNone(self.why(age=3539, leaving=leaving))
-        self.assertIsNone(self.why(age=3599, leaving=2.1))
-        self.assertIsNone(self.why(age=3599, leaving=None))
-        self.assertEqual(self.why(age=5, every=10, leaving=0.0), Reason.TIME)
-        self.assertIsNone(self.why(age=4.9, every=10, leaving=0.0))
+            self.assertEqual(self.why(is_prepared=True, leaving=leaving), Reason.TIME)
+            self.assertIsNone(self.why(is_prepared=False, leaving=leaving))
+        self.assertIsNone(self.why(is_prepared=True, leaving=2.1))
+        self.assertIsNone(self.why(is_prepared=True, leaving=None))
+        self.assertEqual(self.why(is_prepared=True, waiting=1), Reason.TIME)  # the last sessions are used up
+        self.assertIsNone(self.why(is_prepared=True, waiting=1, free_workers=0))
+        self.assertIsNone(self.why(waiting=1))
+        self.assertEqual([is_to_prepare(age, 3600) for age in (3539, 3540)], [False, True])
+        self.assertEqual([is_to_prepare(age, 10) for age in (4.9, 5)], [False, True])
 
     def test_calls_run_low(self) -> None:
         self.assertEqual(self.why(calls=supply(900)), Reason.CALLS)
