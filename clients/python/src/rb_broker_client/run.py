@@ -2,7 +2,10 @@
 from __future__ import annotations
 
 import logging
-from typing import Dict
+from typing import Dict, Tuple
+
+SHARDS = 64
+"""A broker on Redis may have so many queues under one name. Its ids count by this number, from that of the queue."""
 
 _PIECE = 1_024  # ids of one number, of which each bit is an id
 
@@ -19,35 +22,51 @@ class Run:
         self._begin()
 
     def _begin(self) -> None:
-        self.last_id = -1
-        """The greatest id that was seen."""
+        self._offers: Dict[int, Tuple[int, int]] = {}  # of each queue: the last id of an offer, and its moment
         self._offered = 0  # offers of this client that were accepted
-        self._moment = 0  # the latest that was seen
-        self._given: Dict[int, int] = {}  # the ids of jobs that were given, each of which is given once
+        self._given, self._returned = _Once(), _Once()
+        self._greatest = -1  # the greatest id that was seen
 
     def offered(self, id: int, moment: int = 0) -> None:
         """An offer was accepted under this id, at this moment if that is known."""
-        if id <= self.last_id or moment and moment < self._moment:
+        last_id, last_moment = self._offers.get(id % SHARDS, (-1, 0))
+        if id <= last_id or moment and moment < last_moment:
             self._lost(f"it gave id {id} to a new job")
-        self.last_id, self._moment, self._offered = id, max(moment, self._moment), self._offered + 1
-
-    def came_back(self, id: int, above: int) -> None:
-        """A job that failed has this id, which is above all that were seen before it was told to fail."""
-        if id <= above:
-            self._lost(f"it gave id {id} to a job that failed")
-        self.last_id = max(id, self.last_id)
+            last_moment = 0
+        self._offers[id % SHARDS] = id, max(moment, last_moment)
+        self._offered += 1
+        self._greatest = max(id, self._greatest)
 
     def given(self, id: int) -> None:
-        """A job of this id was given."""
-        piece, bit = id // _PIECE, 1 << id % _PIECE
-        if self._given.get(piece, 0) & bit:
+        """A job of this id was given, as each is once."""
+        if not self._given.add(id):
             self._lost(f"it gave a job of id {id} for the second time")
-        self._given[piece] = self._given.get(piece, 0) | bit
-        self.last_id = max(id, self.last_id)
+            self._given.add(id)
+        self._greatest = max(id, self._greatest)
+
+    def came_back(self, id: int) -> None:
+        """A job that failed has this new id."""
+        if not self._returned.add(id):
+            self._lost(f"it gave id {id} to a second job that failed")
+            self._returned.add(id)
+        self._greatest = max(id, self._greatest)
 
     def _lost(self, sign: str) -> None:
         self._log.error(
             "the server at %s has lost its run: %s, and ids up to %d were known. What stood in its queue is gone, with "
             "what was not done of the %d jobs that this client had offered, and ids of that run name other jobs now",
-            self._place, sign, self.last_id, self._offered)
+            self._place, sign, self._greatest, self._offered)
         self._begin()
+
+
+class _Once:
+    """Ids that are seen once, in whatever order."""
+
+    def __init__(self) -> None:
+        self._pieces: Dict[int, int] = {}
+
+    def add(self, id: int) -> bool:
+        """Sees an id. Gives whether it was not seen before."""
+        seen, bit = self._pieces.get(id // _PIECE, 0), 1 << id % _PIECE
+        self._pieces[id // _PIECE] = seen | bit
+        return not seen & bit

@@ -190,11 +190,10 @@ class Work:
     def _fail(self, job: Job) -> None:
         """The job is to fail."""
         self._fails += 1
-        above = self._run.last_id  # that of the next attempt is above all that are known before it is asked for
         self._ended.append(Request.fail(job.id))
-        self._ending.append(lambda answer: self._failed(job, above, answer))
+        self._ending.append(lambda answer: self._failed(job, answer))
 
-    def _failed(self, job: Job, above: int, answer: Any) -> None:
+    def _failed(self, job: Job, answer: Any) -> None:
         """Takes the answer to a `FAIL`."""
         self._fails -= 1
         if isinstance(answer, OutOfMemoryError):
@@ -209,7 +208,7 @@ class Work:
             self.is_used_up = True
             log.error("job %s is lost: it failed in a full run", job.payload)
         elif isinstance(answer, Again):
-            self._run.came_back(answer.id, above)
+            self._run.came_back(answer.id)
             self._report.again += 1
         else:
             self._report.dead += 1

@@ -28,38 +28,45 @@ class RunTest(unittest.TestCase):
     def test_new_ids_rise(self):
         for id, moment in ((0, 5), (1, 5), (7, 0), (9, 6)):
             self.see(False, self.run_seen.offered, id, moment)
-        self.assertEqual(self.see(True, self.run_seen.offered, 9), (
-            "the server at a place has lost its run: it gave id 9 to a new job, and ids up to 9 were known. What stood "
+        self.assertEqual(self.see(True, self.run_seen.offered, 7), (
+            "the server at a place has lost its run: it gave id 7 to a new job, and ids up to 9 were known. What stood "
             "in its queue is gone, with what was not done of the 4 jobs that this client had offered, and ids of that "
             "run name other jobs now"))
-        self.see(False, self.run_seen.offered, 10)
+        self.see(False, self.run_seen.offered, 8)
+
+    def test_ids_and_clocks_of_several_queues_under_one_name(self):
+        """They are 64 times those of the queue, plus its number."""
+        for id, moment in ((64 * 9 + 3, 900), (64 * 2, 200), (64 * 2 + 1, 100), (64 * 10 + 3, 900), (64 * 3, 201)):
+            self.see(False, self.run_seen.offered, id, moment)
+        self.see(True, self.run_seen.offered, 64 * 2, 300)
 
     def test_the_clock_does_not_go_back(self):
         self.see(False, self.run_seen.offered, 3, 1_000)
-        self.see(True, self.run_seen.offered, 4, 999)
+        self.see(True, self.run_seen.offered, 3 + 64, 999)
 
     def test_after_a_loss_another_one_is_noticed(self):
         self.see(False, self.run_seen.offered, 5)
-        self.see(True, self.run_seen.offered, 0)
-        self.see(False, self.run_seen.offered, 1)
-        self.see(True, self.run_seen.offered, 1)
+        self.see(True, self.run_seen.offered, 5)
+        self.see(False, self.run_seen.offered, 6)
+        self.see(True, self.run_seen.offered, 6)
 
     def test_an_id_is_given_once(self):
         for id in (7, 0, 2**40, 5_000, 1):
             self.see(False, self.run_seen.given, id)
         self.see(True, self.run_seen.given, 5_000)
         self.see(False, self.run_seen.given, 7)
+        self.see(True, self.run_seen.given, 7)
 
     def test_a_job_that_comes_back_has_a_new_id(self):
         self.see(False, self.run_seen.given, 7)
-        self.see(False, self.run_seen.came_back, 8, 7)
-        self.see(True, self.run_seen.came_back, 8, 8)
+        self.see(False, self.run_seen.came_back, 8)
+        self.see(False, self.run_seen.came_back, 3)
+        self.see(True, self.run_seen.came_back, 8)
 
     def test_what_was_told_meanwhile_is_no_sign(self):
         """The session beside this one was given the job before this one read that it comes back."""
-        above = self.run_seen.last_id
         self.see(False, self.run_seen.given, 8)
-        self.see(False, self.run_seen.came_back, 8, above)
+        self.see(False, self.run_seen.came_back, 8)
 
 
 class LostCase:
@@ -104,11 +111,11 @@ class WorkerTest(LostCase, WorkerCase):
         self.assertIn("has lost its run: it gave a job of id 0 for the second time", record.getMessage())
 
     def test_a_job_that_comes_back_under_an_id_of_before(self):
-        first = [(POLL, "ITEM 7 0 1 a"), ("DONE 7", "DONE 7"), (POLL, HANGS_UP)]
-        worker = self.work(first, [(POLL, "ITEM 0 0 1 b"), ("FAIL 0", "AGAIN 1 5"), *self.last()])
+        first = [(POLL, "ITEM 0 0 1 b"), ("FAIL 0", "AGAIN 1 5"), (POLL, HANGS_UP)]
+        worker = self.work(first, [(POLL, "ITEM 7 0 1 b"), ("FAIL 7", "AGAIN 1 5"), *self.last()])
         with self.logged() as said:
-            self.assertEqual(worker.run(), Report(done=1, again=1))
-        self.assertIn("it gave id 1 to a job that failed", said.records[-1].getMessage())
+            self.assertEqual(worker.run(), Report(again=2))
+        self.assertIn("it gave id 1 to a second job that failed", said.records[-1].getMessage())
 
 
 class AsyncWorkerTest(from_threads.WorkerCase, WorkerTest):
