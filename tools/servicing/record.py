@@ -10,7 +10,7 @@ from servicing.state import PastRun, Reason
 
 
 # Nanoseconds in which a server begins to serve, and for each element of its opening.
-SLOWEST_START, SLOWEST_ELEMENT = 10_000_000_000, 20_000
+SLOWEST_START, SLOWEST_ELEMENT = 10_000_000_000, 100_000
 
 
 @dataclass(frozen=True)

@@ -184,6 +184,7 @@ class Service:
             record = replace(record, moment=opening.moment, began=now)
             server = self._started(record, opening)
             if server is not None:
+                record = replace(record, began=read_clock())  # its clock goes since about now; a look tells exactly
                 current = self._current(record, server, opening)
                 self._say_serving(current, is_new=True)
                 return current
