@@ -1,1 +1,1 @@
-"""The tests of examples/, whose programs are for users: tools/check_worker and tools/check_rollover run them."""
+"""The tests of examples/, whose programs are for users: tools/check_worker runs them."""
