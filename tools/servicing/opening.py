@@ -104,14 +104,8 @@ def left_in(file: BinaryIO, attempts: int = 0) -> Left:
     It takes a microsecond for each line, and clients wait for it. So nothing else is checked here. Raises a
     `ValueError`, an `IndexError` or a `KeyError` for another text.
     """
-    if file.readline() != b"history 3\n":
-        raise ValueError
-    next_id, moment, count = map(int, file.readline().split()[1:])
-    left = Left(next_id, moment, {})
+    left = _left_at_first(file)
     elements = left.elements
-    for _ in range(count):
-        _, id, words = file.readline()[:-1].split(b" ", 2)
-        elements[id] = words
     last = b" %d " % attempts
     words_of_event: List[bytes] = []
     probes: List[bytes] = []
@@ -140,6 +134,18 @@ def left_in(file: BinaryIO, attempts: int = 0) -> Left:
     for id in probes:  # a service that was killed may have left one
         elements.pop(id, None)
     left.probes = len(probes)
+    return left
+
+
+def _left_at_first(file: BinaryIO) -> Left:
+    """What is left before the first event."""
+    if file.readline() != b"history 3\n":
+        raise ValueError
+    next_id, moment, count = map(int, file.readline().split()[1:])
+    left = Left(next_id, moment, {})
+    for _ in range(count):
+        _, id, words = file.readline()[:-1].split(b" ", 2)
+        left.elements[id] = words
     return left
 
 
