@@ -1,7 +1,8 @@
 """A small server of HTTP on a thread of its own, which survives clients that are slow, wrong or hostile.
 
 Only GET and HEAD are answered, a request for each connection. A request has at most MOST_HEAD bytes and HEAD_SECONDS, a
-connection TALK_SECONDS, and of more than MOST_CONNECTIONS the oldest is cut. Nothing that a client sends is kept.
+connection TALK_SECONDS, and of more than MOST_CONNECTIONS the oldest is cut. More than MOST_A_SECOND answers wait for
+their turn. Nothing that a client sends is kept.
 """
 from __future__ import annotations
 
@@ -22,6 +23,7 @@ from servicing.address import Address
 
 MOST_HEAD = 8_192  # bytes of a request
 MOST_CONNECTIONS = 64
+MOST_A_SECOND = 50  # answers, so that who floods this with requests leaves the processor to the service
 PIECE = 65_536  # bytes that are handed on at a time, so that slow clients do not take much memory
 HEAD_SECONDS, TALK_SECONDS, LINGER_SECONDS = 5.0, 30.0, 1.0
 STOP_SECONDS, BEAT_SECONDS = 1.0, 1.0
@@ -87,6 +89,7 @@ class HttpServer:
         self._listening: List[Tuple[socket.socket, Optional[Address]]] = []  # no address for one of the file system
         self._path: Optional[str] = None
         self._talks: Dict["asyncio.Task[object]", None] = {}  # the open connections, the oldest first
+        self._turn = 0.0  # of the next answer, by the thread's clock
         self._thread: Optional[threading.Thread] = None
         self._end: Optional[Callable[[], object]] = None  # ends the thread, from any other
         self._has_begun = threading.Event()
@@ -207,7 +210,15 @@ class HttpServer:
         if request.method not in ("GET", "HEAD"):
             allowed = ("Allow", "GET, HEAD")
             return Answer.line(HTTPStatus.METHOD_NOT_ALLOWED, "only GET and HEAD are answered", allowed), True
+        await self._wait_for_turn()
         return self._answer_to(request.path), request.method == "GET"
+
+    async def _wait_for_turn(self) -> None:
+        """Waits, if as many answers as a second has were given in the last one."""
+        now = asyncio.get_running_loop().time()
+        self._turn = max(self._turn + 1 / MOST_A_SECOND, now - 1)
+        if self._turn > now:
+            await asyncio.sleep(self._turn - now)
 
     def _answer_to(self, path: str) -> Answer:
         try:

@@ -197,6 +197,18 @@ class HostileTest(HttpTest):
             client.join()
         self.assertEqual(found, [200] * 160)
 
+    def test_a_flood_of_requests(self) -> None:
+        """Each is answered in its turn, and then who comes is answered at once."""
+        self.limit("MOST_A_SECOND", 10)
+        began = time.monotonic()
+        for _ in range(25):
+            self.assertEqual(self.get("/")[0], 200)
+        self.assertTrue(1.4 < time.monotonic() - began, "ten at once, and ten a second")
+        time.sleep(1.1)
+        began = time.monotonic()
+        self.assertEqual(self.get("/")[0], 200)
+        self.assertLess(time.monotonic() - began, 1)
+
 
 class StartedTest(HttpTest):
     def test_it_stops_though_clients_stay(self) -> None:

@@ -20,7 +20,7 @@ from servicing.tests.states import AT, ENDED, LOST, first_state, state
 from servicing.told import told
 from servicing.trend import BETWEEN, SPAN, Trend
 
-PATIENCE = 30.0
+PATIENCE = 120.0  # for a report, which gives way to all other processes
 
 
 class SiteTest(RoomTest):
