@@ -9,6 +9,7 @@ from __future__ import annotations
 
 import os
 import random
+import re
 import signal
 import subprocess
 import sys
@@ -35,6 +36,9 @@ EACH = 2  # workers of each kind
 SERVING = (*POLICY, "--wait", "200ms", "--lease", "10s")
 CHAINS = ("--chains", "--delay", "20000000", "--attempts", "1000")
 QUEUE = "jobs"
+
+# Where a lease was over while its gateway lived, as on a machine without time for it, sessions lose their jobs early.
+OF_LATE = {"strange", "gap", "return"}
 
 
 class Day(unittest.TestCase):
@@ -133,8 +137,8 @@ class Day(unittest.TestCase):
         for it in histories:
             ran = subprocess.run([PROGRAM, "replay", str(it), *CHAINS], capture_output=True, text=True, check=False)
             self.assertEqual(ran.returncode, 0, f"{it}: {ran.stdout}{ran.stderr}")
-        self.assert_said("tools/report", *histories)
-        verified = self.assert_said("tools/verify", *histories, *[it for it in self.crew.records if it.exists()])
+        self.assertEqual(self.said("tools/report", *histories)[0], 0)
+        faults = self.faults_of(histories)
         jobs = attempts_in(histories)
         offered = set().union(*(it.offered() for it in self.producers))
         self.assertEqual(offered - jobs.keys(), set(), "offers were answered, and are in no history")
@@ -145,13 +149,13 @@ class Day(unittest.TestCase):
         day = sum_up(jobs, (note for it in self.crew.started for note in it.noted()))
         self.assertEqual(day.done_twice, [])
         self.assertEqual(day.done_once + len(day.in_doubt), day.jobs)
-        broken = sum(self.kills.values())
-        self.assertLessEqual(len(day.unseen), broken, day.unseen)
+        self.assertLessEqual(len(day.unseen), sum(self.kills.values()), day.unseen)
+        self.assertEqual({it for it, count in faults.items() if count} - (OF_LATE if day.late else set()), set(), faults)
         print(f"{self.id().rpartition('.')[2]}: {JOBS} jobs in {self.took:.0f} s; killed: "
               f"{', '.join(f'{it} {count}' for it, count in self.kills.items())}; {len(offered)} offers answered, "
               f"{day.jobs} made; {day.done_once} jobs done once, {len(day.done_twice)} twice, {len(day.in_doubt)} in "
               f"doubt, of which {len(day.unseen)} without a note; {day.handled_again} handled again, {day.late} answers "
-              f"too late; {len(histories)} histories accepted; {verified}", flush=True)
+              f"too late; {len(histories)} histories accepted; faults of tools/verify: {faults}", flush=True)
 
     def histories(self) -> list[Path]:
         folder = ArchiveFolder(self.archive)
@@ -160,12 +164,19 @@ class Day(unittest.TestCase):
         self.assertEqual([it.first for it in files], [0, *(it.end for it in files[:-1])])
         return [it.path for it in files]
 
-    def assert_said(self, tool: str, *words: Path) -> str:
-        """A tool ends well. The last line that it prints."""
-        ran = subprocess.run([sys.executable, "-B", str(TOP / tool), *map(str, words)], capture_output=True, text=True,
-                             check=False)
-        self.assertEqual(ran.returncode, 0, f"{tool}: {ran.stdout}{ran.stderr}")
-        return ran.stdout.splitlines()[-1]
+    def faults_of(self, histories: list[Path]) -> dict[str, int]:
+        """The number of faults of each kind that tools/verify finds."""
+        status, said = self.said("tools/verify", *histories, *[it for it in self.crew.records if it.exists()])
+        self.assertIn(status, (0, 1), said)
+        found = {kind: int(count) for kind, count in re.findall(r"^(\w+): +(\d+) faults?: ", said, re.MULTILINE)}
+        self.assertLessEqual({*OF_LATE, "changed", "missing", "twice", "order", "seat", "time"}, found.keys())
+        return found
+
+    def said(self, tool: str, *words: Path) -> tuple[int, str]:
+        """The status of a tool, and what it prints."""
+        ran = subprocess.run([sys.executable, "-B", str(TOP / tool), *map(str, words)], stdout=subprocess.PIPE,
+                             stderr=subprocess.STDOUT, text=True, check=False)
+        return ran.returncode, ran.stdout
 
 
 class OneNodeTest(Day):

@@ -74,7 +74,7 @@ class LostTest(unittest.TestCase):
 
     def tried(self, row: str, round_of: Callable[[Path], Lost]) -> Lost:
         """The sum of some rounds."""
-        rounds = [round_of(self.room / str(it)) for it in range(ROUNDS)]
+        rounds = [round_of(Path(tempfile.mkdtemp(dir=self.room))) for _ in range(ROUNDS)]
         total = Lost(sum(it.answered for it in rounds), sum(it.lost for it in rounds), max(it.seconds for it in rounds))
         print(f"lost: {row}: {total.lost} of {total.answered} answered offers in {ROUNDS} rounds, "
               f"the first {total.seconds:.2f} s before the end", flush=True)

@@ -157,8 +157,8 @@ class _Reader:
         self._seat_indexes: Dict[bytes, int] = {}
 
     def go_on(self, head: Head) -> None:
-        """Begins the next file."""
-        if (head.next_id, head.opened_at) != (self._next, self._last):
+        """Begins the next file. Ids and time may have gone on between the two, as between the runs of a service."""
+        if head.next_id < self._next or head.opened_at < self._last:
             raise Damaged(2, f"it opens with {head.next_id} {head.opened_at}, and the file before it ends with "
                              f"{self._next} {self._last}")
         self._next_id = head.next_id

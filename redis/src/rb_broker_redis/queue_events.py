@@ -1,7 +1,6 @@
 """The events of a queue, as the functions of broker.lua keep them until they are archived."""
 from __future__ import annotations
 
-
 from .archive import Conflict, Position
 from .history import FollowedQueue
 from .queue import Queue
@@ -48,7 +47,8 @@ class QueueEvents:
         lines = self._queue.command("LRANGE", self._queue.opening, 0, -1)
         if lines:
             return FollowedQueue.of_opening(lines)
-        return None if self._queue.command("HGET", self._queue.state, "cut") not in (None, b"0") else FollowedQueue()
+        is_first = self._queue.command("HGET", self._queue.state, "cut") in (None, b"0")
+        return FollowedQueue() if is_first else None
 
     def events(self, start: int, count: int) -> list[bytes]:
         """`count` events, from the one that has `start` others in front of it."""

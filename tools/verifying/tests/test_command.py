@@ -31,6 +31,9 @@ class CommandTest(RunTest):
             ["history 3", "open 3 60 2", "keep 1 60 1 60 1 y", "keep 2 65 0 10 2 x", *second, f"end {len(second)}", ""]))]
         ran, whole = self.verify(*parts, self.record, "--all"), self.verify(self.history, self.record, "--all")
         self.assertEqual((ran.returncode, ran.stderr, ran.stdout), (0, "", whole.stdout))
+        with open(parts[1], encoding="utf-8") as it:
+            behind = self.file("behind.txt", it.read().replace("open 3 60 2", "open 3 65 2"))
+        self.assertEqual(self.verify(parts[0], behind, self.record, "--all").stdout, whole.stdout)
         changed = self.file("changed.jsonl", record_of(lines()).replace("HEAD 2 65", "HEAD 2 66"))
         self.assertIn("changed", self.verify(*parts, changed).stdout)
         self.expect_refused(f"{parts[0]}: line 2: it opens with 0 0, and the file before it ends with 5 105",
