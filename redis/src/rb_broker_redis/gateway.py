@@ -93,9 +93,13 @@ class Gateway:
                 await asyncio.wait_for(self._all_ended.wait(), SECONDS_TO_END)
             except asyncio.TimeoutError:
                 LOG.warning("%d sessions did not end, and will when the lease is over", len(self._sessions))
+        await self.leave()
+        return self._count, self._lost
+
+    async def leave(self) -> None:
+        """Leaves the queues."""
         for upkeep in self._upkeeps:
             await upkeep.stop()
-        return self._count, self._lost
 
     def begin(self, session: Session) -> bytes:
         """A session begins. Returns what stands before each of its calls: its seat and a space."""

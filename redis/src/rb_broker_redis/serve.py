@@ -114,7 +114,11 @@ async def serve(asked: argparse.Namespace) -> int:
         loop.add_signal_handler(number, end_at_next, loop, stopped)
     gateway = Gateway(settings_of(asked))
     await gateway.join()
-    port = await listen(gateway, asked)
+    try:
+        port = await listen(gateway, asked)
+    except CannotListen:
+        await gateway.leave()
+        raise
     if asked.plain:
         logging.warning("PLAIN: whoever reaches %s:%d is let in, and reads what others send", asked.bind, port)
     print(f"listening {asked.bind}:{port}", flush=True)

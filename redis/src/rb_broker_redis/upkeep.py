@@ -67,6 +67,7 @@ class Upkeep:
         for task in self._tasks:
             task.cancel()
         await asyncio.gather(*self._tasks, return_exceptions=True)
+        self._close_link()
 
     async def _connect(self, lost: asyncio.Event) -> Link:
         host, port = await place_of(self._address, self._queue)
@@ -148,8 +149,11 @@ class Upkeep:
             lost = asyncio.Event()
             link = await self._until_done(lambda: self._subscribe(lost))
             self._may_have_missed()
-            while not lost.is_set():
-                await self._look_after(link, lost)
+            try:
+                while not lost.is_set():
+                    await self._look_after(link, lost)
+            finally:
+                link.close()
 
     async def _subscribe(self, lost: asyncio.Event) -> Link:
         lost.clear()
