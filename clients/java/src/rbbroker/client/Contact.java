@@ -1,5 +1,6 @@
 package rbbroker.client;
 
+import java.util.Map;
 import java.util.concurrent.atomic.AtomicBoolean;
 
 /**
@@ -14,7 +15,7 @@ final class Contact {
     private static final int DRIFT = 4_096;
 
     private final ServerClock clock;
-    private final Told before;
+    private final Map<Integer, Told> before;
     private final long since = System.nanoTime();
     private volatile long until = since;
     private volatile boolean isTold;
@@ -25,24 +26,37 @@ final class Contact {
 
     /** An id that a server gave, and its moment then. Both are unsigned. */
     record Told(long id, long moment) {
-        /** Whether the server that tells this lost the run in which the other was told before. */
+        /** A moment from this on is a date: that of a broker on a Redis. No server has run for 36 years. */
+        private static final long FIRST_DATE = 1L << 60;
+        /** So many queues such a broker may have under one name. Its ids count by this number, from the queue's. */
+        private static final long QUEUES = 64;
+        private static final int ONLY_QUEUE = -1;
+
+        /** The number of the queue, which has ids and a clock of its own. */
+        int queue() {
+            boolean isDate = Long.compareUnsigned(moment, FIRST_DATE) >= 0;
+            return isDate ? (int) Long.remainderUnsigned(id, QUEUES) : ONLY_QUEUE;
+        }
+
+        /** Whether the queue of which this is told lost the run in which the other was told of it before. */
         boolean isBehind(Told other) {
             return Long.compareUnsigned(id, other.id) <= 0 || Long.compareUnsigned(moment, other.moment) < 0;
         }
     }
 
-    /** A server has just answered in a session for the first time. The last that was told before is this, or null. */
-    Contact(ServerClock clock, Told before) {
+    /** A server has just answered in a session for the first time. Before that this was told last of its queues. */
+    Contact(ServerClock clock, Map<Integer, Told> before) {
         this.clock = clock;
-        this.before = before;
+        this.before = Map.copyOf(before);
     }
 
     ServerClock clock() {
         return clock;
     }
 
-    Told before() {
-        return before;
+    /** What was told of the same queue before the session began, or null. */
+    Told before(Told told) {
+        return before.get(told.queue());
     }
 
     /** A request that was sent at this time was answered. */

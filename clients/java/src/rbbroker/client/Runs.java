@@ -1,6 +1,8 @@
 package rbbroker.client;
 
 import java.lang.System.Logger.Level;
+import java.util.HashMap;
+import java.util.Map;
 import java.util.concurrent.atomic.AtomicBoolean;
 
 /**
@@ -19,8 +21,8 @@ final class Runs {
     private Contact latest;
     /** The one before, unless the latest is known to continue it. */
     private Contact previous;
-    /** The greatest id, with its moment. */
-    private Contact.Told greatest;
+    /** The greatest id of each queue, with its moment. */
+    private final Map<Integer, Contact.Told> greatest = new HashMap<>();
     /** Whether the run was seen to be lost: false, until another one takes its place. */
     private AtomicBoolean isLost = new AtomicBoolean();
 
@@ -41,7 +43,7 @@ final class Runs {
     synchronized void tell(Contact contact, Contact.Told told, long sent, long received) {
         clock.learn(told.moment(), sent, received);
         if (!contact.isTold()) {
-            noticeLoss(told, contact.before());
+            noticeLoss(told, contact.before(told));
             contact.isIn(isLost);
             previous = latest;
             latest = contact;
@@ -51,7 +53,7 @@ final class Runs {
             previous.isContinuedBy(contact);
             previous = null;
         }
-        greatest = greatest == null || !told.isBehind(greatest) ? told : greatest;
+        greatest.merge(told.queue(), told, (before, now) -> now.isBehind(before) ? before : now);
     }
 
     /** Whether the server of a contact surely has all that the one of an earlier contact had. */
@@ -62,10 +64,14 @@ final class Runs {
 
     /** Says so, once, if what a server tells first shows that it lost the run in which the other was told before. */
     private void noticeLoss(Contact.Told told, Contact.Told before) {
-        if (before == null || !told.isBehind(before) || greatest != before && greatest.isBehind(before)) {
+        if (before == null || !told.isBehind(before)) {
             return;
         }
-        greatest = null;
+        Contact.Told known = greatest.get(told.queue());
+        if (known != before && (known == null || known.isBehind(before))) {
+            return; // it was said when another session was told
+        }
+        greatest.clear();
         isLost.set(true);
         isLost = new AtomicBoolean();
         LOG.log(Level.ERROR, "the server at {0} has lost a run: it gave the id {1} at the moment {2}, after the id {3}"

@@ -27,7 +27,7 @@ final class Session {
     /** How long a session lasts at a server that has no worker left: then others wait for one. */
     private static final long LONGEST_TURN = TimeUnit.SECONDS.toNanos(3);
     /** How long a session waits for a worker if there is none left. A {@link #LONG_WAIT} is worth a line in the log. */
-    private static final long WAIT = TimeUnit.MILLISECONDS.toNanos(250);
+    private static final long WAIT = TimeUnit.SECONDS.toNanos(1);
     private static final long LONG_WAIT = TimeUnit.SECONDS.toNanos(2);
     /** How long a session that has lasted long enough takes no jobs, so that it ends with those that it holds. */
     private static final long LAST_JOBS = TimeUnit.SECONDS.toNanos(5);

@@ -12,6 +12,7 @@ import static org.junit.Assert.assertTrue;
 
 import java.time.Duration;
 import java.util.List;
+import java.util.Map;
 import java.util.concurrent.Delayed;
 import java.util.concurrent.TimeUnit;
 import org.junit.Test;
@@ -19,7 +20,7 @@ import org.junit.Test;
 /** Jobs by themselves, and as a server's queue places them. */
 public class JobTest {
     private static Job shown(long id, long expiry, int attempt, ServerClock clock) {
-        return new Job(new Element(id, expiry, attempt, "a"), new Contact(clock, null), false);
+        return new Job(new Element(id, expiry, attempt, "a"), new Contact(clock, Map.of()), false);
     }
 
     @Test
@@ -100,7 +101,7 @@ public class JobTest {
         assertNotEquals(job, shown(3, 5, 1, clock));
         assertNotEquals(job, shown(4, 6, 1, clock));
         assertNotEquals(job, shown(4, 5, 2, clock));
-        assertNotEquals(job, new Job(new Element(4, 5, 1, "b"), new Contact(clock, null), false));
+        assertNotEquals(job, new Job(new Element(4, 5, 1, "b"), new Contact(clock, Map.of()), false));
         assertFalse(job.equals("a"));
         assertEquals("job a, id 4, attempt 1", job.toString());
         assertEquals("job a, id 18446744073709551615, attempt 2", shown(-1, 5, 2, clock).toString());

@@ -111,4 +111,19 @@ public class LostRunTest {
             }
         }
     }
+
+    @Test
+    public void queuesUnderOneNameHaveIdsAndClocksOfTheirOwn() {
+        long date = 1_800_000_000_000_000_000L;
+        long now = System.nanoTime();
+        Runs runs = new Runs("a place");
+        try (Log log = new Log()) {
+            for (long[] it : new long[][] {{64 * 9 + 3, 900}, {64 * 2, 200}, {64 * 2 + 1, 100}, {64 * 10 + 3, 900}}) {
+                runs.tell(runs.begin(), new Contact.Told(it[0], date + it[1]), now, now);
+            }
+            assertEquals(List.of(), log.lines(Level.SEVERE));
+            runs.tell(runs.begin(), new Contact.Told(64 * 2, date + 300), now, now);
+            assertEquals(1, log.lines(Level.SEVERE).size());
+        }
+    }
 }
