@@ -26,7 +26,7 @@ MOST_CONNECTIONS = 64
 MOST_A_SECOND = 50  # answers, so that who floods this with requests leaves the processor to the service
 PIECE = 65_536  # bytes that are handed on at a time, so that slow clients do not take much memory
 HEAD_SECONDS, TALK_SECONDS, LINGER_SECONDS = 5.0, 30.0, 1.0
-STOP_SECONDS, BEAT_SECONDS = 1.0, 1.0
+STOP_SECONDS, BEAT_SECONDS = 5.0, 1.0
 
 Meeting = Callable[[asyncio.StreamReader, asyncio.StreamWriter], Awaitable[None]]
 

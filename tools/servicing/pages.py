@@ -2,7 +2,7 @@
 
     pages = Pages(board, port, folder, http)   # `http` is the `Address` of --http, or None
     warnings = pages.start()   # binds and returns; raises an OSError if the address can't be had
-    pages.stop()               # within about a second, whatever clients do; may be called twice, and without a start
+    pages.stop()               # within five seconds, whatever clients do; may be called twice, and without a start
 
 Those are all the calls that the service makes. It says each warning, a sentence, in a line of its own. Whatever clients
 send, or leave out, the service goes on: the thread takes what it shows from the board alone, and no exit waits for it.

@@ -19,7 +19,7 @@ from servicing.site import Site
 from servicing.state import Alert, Board, Client, Clients, Doing, Head, Phase, Queue, Reason, State, Traffic
 from servicing.tests.states import AT, ENDED, LONG, first_state, state, troubled_state
 
-PATIENCE, BEAT = 15.0, 0.02  # seconds
+PATIENCE, BEAT = 60.0, 0.02  # seconds
 WIDTHS, SCHEMES = (420, 1200), ("light", "dark")
 
 STATE, TITLE = "document.getElementById('state').textContent", "document.title"

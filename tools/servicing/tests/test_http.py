@@ -218,7 +218,7 @@ class StartedTest(HttpTest):
         time.sleep(0.1)
         began = time.monotonic()
         self.server.stop()
-        self.assertLess(time.monotonic() - began, 1)
+        self.assertLess(time.monotonic() - began, served.STOP_SECONDS)
         for connection in [*idle, reading]:
             self.assertLess(len(all_of(connection)), len(LONG))
         with self.assertRaises(ConnectionRefusedError):
@@ -253,7 +253,7 @@ class StartedTest(HttpTest):
             server.start()
             time.sleep(0.5)
             server.stop()
-        self.assertTrue(4 <= len(beats) <= 11, beats)
+        self.assertTrue(2 <= len(beats) <= 11, beats)
         seen = len(beats)
         time.sleep(0.2)
         self.assertEqual(len(beats), seen)
