@@ -163,7 +163,8 @@ class Run(NamedTuple):
 
 def read_text(path: Path) -> Run:
     """Reads a text whole, in any version, also one that gzip has compressed. Raises a `Damaged` that names the line."""
-    with gzip.GzipFile(path) if path.suffix == ".gz" else open(path, "rb") as file:
+    opened: BinaryIO | gzip.GzipFile = gzip.GzipFile(path) if path.suffix == ".gz" else open(path, "rb")
+    with opened as file:
         reader = _Reader(file)
         try:
             return reader.read()
