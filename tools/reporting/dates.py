@@ -10,7 +10,7 @@ from __future__ import annotations
 import re
 from bisect import bisect_left
 from datetime import datetime, timedelta, timezone
-from typing import NamedTuple, Sequence
+from typing import NamedTuple, Optional, Sequence
 
 from histories.history import History
 from reporting.units import SECOND
@@ -62,11 +62,13 @@ class Dates(NamedTuple):
     leaves_out: bool  # whether the time between two runs is missing from later dates
 
     @classmethod
-    def of(cls, history: History, began: Sequence[int]) -> Dates:
-        """The dates of a history whose runs began then: the first one, or each of them."""
+    def of(cls, history: History, began: Sequence[Optional[int]]) -> Dates:
+        """The dates of a history whose runs began then: the first one, or each of them. None stands for a run whose
+        moments are dates."""
         leaves_out = any(after.opened_at == history.end_of(run) for run, after in zip(history.runs, history.runs[1:]))
-        return cls([Part(run.opened_at, date - run.opened_at) for run, date in zip(history.runs, began)],
-                   leaves_out and len(began) < len(history.runs))
+        return cls([Part(run.opened_at, 0 if date is None else date - run.opened_at)
+                    for run, date in zip(history.runs, began)],
+                   leaves_out and len(began) < len(history.runs) and None not in began)
 
     def date(self, moment: int, run: int = 0) -> int:
         """The nanoseconds since 1970 of a moment of this run, from 1. Without a run, a moment at which one run ended

@@ -138,6 +138,9 @@ class SeriesTest(RunsTest):
 
 class DatesTest(RunsTest):
     def test_dates_of_a_run(self) -> None:
+        text = "history 3\nopen 0 1795680000000000000 0\n1 1795680060000000000 1795680060000000000 size 0\nend 1\n"
+        archived = self.file("archived.txt", text)
+        self.assertIn("from 2026-11-26 08:01:00", "\n".join(self.lines(archived, "--began", "dates")))
         lines = self.lines(self.paths[0], "--began", "2026-11-26T08:00:00Z")
         self.assertIn("from 2026-11-26 08:00:00.000 to 2026-11-26 08:00:00.000 UTC", lines)
 
