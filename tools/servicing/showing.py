@@ -18,6 +18,7 @@ from servicing.state import Settings as Shown
 MANY_ELEMENTS = 900_000
 MANY_IDS = 2**40 - 10**9
 DAY = 86_400
+MORE_TIME = 300_000_000  # microseconds that systemd is asked for while nothing is served
 
 
 class Showing:
@@ -88,7 +89,9 @@ class Showing:
             sessions=looks.sessions if looks else None, traffic=self._traffic(), runs=self._runs,
             lost_runs=self.lost_runs, alerts=self._alerts(), disk=self.disk)
         self._board.put(state)
-        notify(STATUS=status_line(state))
+        # An end takes as long as --stop-within says, and an opening of many elements its time.
+        longer = {} if self.phase is Phase.SERVING else {"EXTEND_TIMEOUT_USEC": MORE_TIME}
+        notify(STATUS=status_line(state), **longer)
 
     def _traffic(self) -> Traffic:
         looks = self.looks

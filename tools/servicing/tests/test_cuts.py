@@ -7,11 +7,12 @@ import socket
 import subprocess
 import sys
 import threading
+import time
 import unittest
 from contextlib import ExitStack
 
 from common.program import TOP
-from serving import HOST
+from serving import HOST, PATIENCE
 from serving.server import Server, free_port
 from serving.session import Session
 from serving.testing import ServingTest
@@ -94,7 +95,9 @@ class CutsTest(ServingTest):
         it.fill()
         cut_sessions(server.process.pid, [it.own_port])
         cut_sessions(server.process.pid, [it.own_port], [it.own_port])
-        self.assertEqual(self.client(server.port).ask("SIZE"), "SIZE 1")
+        last, until = self.client(server.port), time.monotonic() + PATIENCE
+        while last.ask("SIZE") != "SIZE 1":
+            self.assertLess(time.monotonic(), until, "the job of the session is not back")
 
     def test_a_process_that_has_ended(self) -> None:
         server = self.serve(*OPTIONS)
