@@ -64,9 +64,11 @@ class Upkeep:
                 await self._call(self._link, "rb_leave", self._gateway)
             except (OSError, ErrorAnswer):
                 pass  # the lease ends by itself
-        for task in self._tasks:
-            task.cancel()
-        await asyncio.gather(*self._tasks, return_exceptions=True)
+        # `wait_for` loses a cancellation that comes together with its result, so one may not be enough.
+        while running := [task for task in self._tasks if not task.done()]:
+            for task in running:
+                task.cancel()
+            await asyncio.wait(running, timeout=0.1)
         self._close_link()
 
     async def _connect(self, lost: asyncio.Event) -> Link:
