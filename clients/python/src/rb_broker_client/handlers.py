@@ -8,6 +8,7 @@ from collections import deque
 from dataclasses import dataclass
 from typing import Any, Awaitable, Callable, Deque, Optional, Set, Tuple
 
+from .blocking import TasksHere
 from .connection import Kind
 from .durations import Duration, seconds
 from .job import Job
@@ -62,8 +63,12 @@ class Handlers:
         self._tasks = kind.tasks(concurrency > 1 or timeout is not None, wakeup)
         self._running: Set[_Running] = set()
         self._ends: Deque[Tuple[_Running, bool]] = deque()  # each with whether its job is done
-        self.next_look = 0.0
-        """When one of them may have been running for too long."""
+        self._next_look: Optional[float] = None  # when one of them may have been running for too long
+
+    @property
+    def are_here(self) -> bool:
+        """Whether each runs in the thread that starts it."""
+        return isinstance(self._tasks, TasksHere)
 
     @property
     def running(self) -> int:
@@ -83,7 +88,7 @@ class Handlers:
         for job in work.given:
             running = _Running(work, job, time.monotonic())
             look = running.began + min(LONG, self._timeout or LONG)
-            self.next_look = min(self.next_look, look) if self._running else look
+            self._next_look = min(self._next_look or look, look)
             self._running.add(running)
             running.cancel = self._tasks.start(self._handle(running))
         work.given.clear()
@@ -100,8 +105,14 @@ class Handlers:
             self._running.discard(running)
             if not running.is_told:
                 running.work.ended(running.job, is_done)
-        if self._running and time.monotonic() >= self.next_look:
+        if not self._running:
+            self._next_look = None
+        elif self._next_look is not None and time.monotonic() >= self._next_look:
             self._look()
+
+    def pause(self) -> Optional[float]:
+        """Within how many seconds one of them may have been running for too long. None: never."""
+        return None if self._next_look is None else max(self._next_look - time.monotonic(), 0)
 
     def log_long(self) -> None:
         """Logs those that have been running for long, each once. Another thread may call it."""
@@ -127,7 +138,7 @@ class Handlers:
                 else:
                     looks.append(it.began + self._timeout)
             looks += [] if it.is_logged else [it.began + LONG]
-        self.next_look = min(looks, default=float("inf"))
+        self._next_look = min(looks, default=None)
 
     async def _handle(self, running: _Running) -> None:
         """Runs the handler, and notes whether the job is done."""

@@ -7,7 +7,7 @@ from typing import Dict, Tuple
 SHARDS = 64
 """A broker on Redis may have so many queues under one name. Its ids count by this number, from that of the queue."""
 
-_PIECE = 1_024  # ids of one number, of which each bit is an id
+_PIECE, _MOST_PIECES = 1_024, 4_096  # ids of one number, of which each bit is an id, and how many numbers are kept
 
 
 class Run:
@@ -60,7 +60,7 @@ class Run:
 
 
 class _Once:
-    """Ids that are seen once, in whatever order."""
+    """Ids that are seen once, in whatever order. Those that were seen long ago are forgotten."""
 
     def __init__(self) -> None:
         self._pieces: Dict[int, int] = {}
@@ -69,4 +69,6 @@ class _Once:
         """Sees an id. Gives whether it was not seen before."""
         seen, bit = self._pieces.get(id // _PIECE, 0), 1 << id % _PIECE
         self._pieces[id // _PIECE] = seen | bit
+        if len(self._pieces) > _MOST_PIECES:
+            del self._pieces[next(iter(self._pieces))]
         return not seen & bit

@@ -220,10 +220,10 @@ class BaseWorker(Generic[AnyHandler]):
         now = time.monotonic()
         times = [self._next_visit - now] if self._next_visit > now else []
         for visit in self._visits:
-            pause = None if visit.work is None else visit.work.pause()
-            times += [] if pause is None else [pause]
-            times += [visit.late - now] if visit.work is not None and visit.session.unanswered else []
-        times += [self._handlers.next_look - now] if self._handlers.running else []
+            if visit.work is not None:
+                times += [visit.late - now] if visit.session.unanswered else []
+                times += [it for it in [visit.work.pause()] if it is not None]
+        times += [it for it in [self._handlers.pause()] if it is not None]
         return max(min(times), 0) if times else None
 
 
@@ -253,7 +253,8 @@ class Worker(BaseWorker[Handler]):
             while not is_over.wait(handlers.LONG / 4):
                 self._handlers.log_long()
 
-        thread_of(watch, "rb_broker_client-watches")
+        if self._handlers.are_here:
+            thread_of(watch, "rb_broker_client-watches")
         try:
             return run(self._work())
         finally:

@@ -57,6 +57,13 @@ class RunTest(unittest.TestCase):
         self.see(False, self.run_seen.given, 7)
         self.see(True, self.run_seen.given, 7)
 
+    def test_what_was_seen_long_ago_is_forgotten(self):
+        """A worker of a broker that gives ids for years keeps few of them."""
+        for number in range(5_000):
+            self.run_seen.given(number * 1_024)
+        self.assertEqual(len(self.run_seen._given._pieces), 4_096)
+        self.see(True, self.run_seen.given, 4_999 * 1_024)
+
     def test_a_job_that_comes_back_has_a_new_id(self):
         self.see(False, self.run_seen.given, 7)
         self.see(False, self.run_seen.came_back, 8)

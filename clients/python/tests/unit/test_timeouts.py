@@ -89,6 +89,16 @@ class LongTest(WorkerCase):
         self.run_long((POLL, waited("ITEM 0 0 1 a")), (BRIEF, late), ("DONE 0", "DONE 0"), concurrency=2)
 
 
+    def test_nothing_else_is_to_be_waited_for(self):
+        """Both places are taken for long, both handlers are logged, and no answer is due."""
+        steps = [(POLL, waited("ITEM 0 0 1 a")), (BRIEF, waited("ITEM 1 0 1 c")), ("DONE 0", "DONE 0"),
+                 (BRIEF, self.stops("NONE")), ("DONE 1", "DONE 1"), GOODBYE]
+        worker = self.work(steps, handler=lambda job: time.sleep((3 + 2 * job.id) * LIMIT), concurrency=2, session=None)
+        with self.assertLogs("rb_broker_client", logging.WARNING) as said:
+            self.assertEqual(worker.run(), Report(done=2))
+        self.assertEqual(len(said.records), 2)
+
+
 class AsyncLongTest(from_threads.WorkerCase, LongTest):
     pass
 
