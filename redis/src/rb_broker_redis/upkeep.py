@@ -49,7 +49,12 @@ class Upkeep:
         """Connects, and joins the queue. Raises `OSError`, `ErrorAnswer`, `NewerLibrary`."""
         lost = asyncio.Event()
         link = await self._connect(lost)
-        await self._join(link)
+        try:
+            await self._join(link)
+        except BaseException:
+            link.close()
+            await lost.wait()
+            raise
         self._tasks = [
             asyncio.ensure_future(self._keep_link(link, lost)),
             asyncio.ensure_future(self._keep_subscribed()),
