@@ -2,12 +2,11 @@
 from __future__ import annotations
 
 import asyncio
-import inspect
 import socket
 import threading
 from concurrent.futures import Future
 from functools import partial
-from typing import Any, Callable, Coroutine, List, Optional, Set
+from typing import Any, Awaitable, Callable, Coroutine, List, Optional, Set
 
 Task = Coroutine[Any, Any, object]
 
@@ -195,7 +194,7 @@ class Looping:
     async def call(function: Callable[..., object], *words: object) -> None:
         """Calls a function of the caller's, which may be a coroutine function."""
         called = function(*words)
-        if inspect.isawaitable(called):
+        if isinstance(called, Awaitable):
             await called
 
     @staticmethod

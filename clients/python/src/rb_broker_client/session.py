@@ -69,7 +69,8 @@ class Session:
 
     def receive_ready(self) -> List[Any]:
         """Waits for nothing: the answers whose replies have come, each refusal in its place."""
-        self.connection.absorb()
+        if not self.connection.is_fed:
+            self.connection.absorb()
         try:
             answers = self._dialogue.complete_answers()
         except UnknownReplyError:

@@ -114,7 +114,7 @@ class WorkTest(ServedTest):
         loop = asyncio.get_running_loop()
         await loop.run_in_executor(None, first.use_up)
         ended = [await loop.run_in_executor(None, first.end)]
-        following = self.serve(*POLICY, "--workers", 3, "--sessions", 200, "--calls", 100_000, "--from",
+        following = self.serve(*POLICY, "--workers", 3, "--sessions", 2_000, "--calls", 100_000, "--from",
                                self.histories[0], "--history", self.histories[1], port=first.port)
         await producing
         await self.until(lambda: worker.report.done >= JOBS)
@@ -124,12 +124,12 @@ class WorkTest(ServedTest):
         return report, [*ended, await loop.run_in_executor(None, following.end)]
 
     def test_jobs_through_two_servers(self):
-        first = self.serve(*POLICY, "--workers", 3, "--sessions", 200, "--calls", 100_000, "--history",
+        first = self.serve(*POLICY, "--workers", 3, "--sessions", 2_000, "--calls", 100_000, "--history",
                            self.histories[0])
         report, ended = asyncio.run(self.work(first))
         self.assertEqual(report, Report(done=JOBS, again=JOBS // 5))
         for end, path in zip(ended, self.histories):
-            self.assert_lost_none(end, 200)
+            self.assert_lost_none(end, 2_000)
             self.assertEqual(self.assert_chained(path, *POLICY), end[1][1])
         history = History(*self.histories)
         self.assertEqual(sorted(it.id for it in self.handled), sorted(history.given))
