@@ -9,10 +9,10 @@ import java.util.concurrent.TimeUnit;
 /**
  * An element of a {@link RemoteDelayQueue}: a payload and the delay after which it may be taken.
  *
- * <p>A caller makes a job and offers it. From then on the job has the {@link #id} and the {@link #expiryNanos expiry} that the
- * server gave it. What a queue gives back is another object, since a payload is all that travels: it is
- * {@linkplain #equals equal} to the one that was offered, not the same. If the queue was told to
- * {@linkplain Acknowledge#BY_CALL acknowledge by call}, a job that was taken has to be answered, by {@link #done} or
+ * <p>A caller makes a job and offers it. From then on the job has the {@link #id} and the
+ * {@linkplain #expiryNanos expiry} that the server gave it. What a queue gives back is another object, since a payload
+ * is all that travels: it is {@linkplain #equals equal} to the one that was offered, not the same. If a queue was told
+ * to {@linkplain Acknowledge#BY_CALL acknowledge by call}, a job that was taken has to be answered, by {@link #done} or
  * {@link #fail}.
  *
  * <p>Jobs can be elements of {@link java.util.concurrent.DelayQueue} too. Any thread may use any job.
@@ -121,8 +121,8 @@ public final class Job implements Delayed {
      * server, unless the server has been replaced since the last offer.
      *
      * <p>A queue that has neither offered nor taken a job knows no clock yet. The delay of a job that it shows is then
-     * all of its {@link #expiryNanos}, which is the most that it can be. A delay of more than 292 years, which other clients
-     * can offer, is {@link Long#MAX_VALUE} nanoseconds.
+     * all of its {@link #expiryNanos}, which is the most that it can be. A delay of more than 292 years, which other
+     * clients can offer, is {@link Long#MAX_VALUE} nanoseconds.
      */
     @Override
     public long getDelay(TimeUnit unit) {

@@ -204,7 +204,7 @@ final class Session {
         }
         connection.send(greeting.line() + "\n", deadline);
         while (!connection.awaitInput(LOOK)) {
-            goOn(deadline, mayInterrupt, isWanted, "all its workers are busy, since " + secondsSince(begun));
+            goOn(deadline, mayInterrupt, isWanted, "all its workers are busy (waited " + secondsSince(begun) + ")");
         }
         greeting.reader().read(() -> connection.receiveLine(deadline));
         long waited = System.nanoTime() - begun;

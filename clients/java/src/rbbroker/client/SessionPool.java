@@ -385,7 +385,7 @@ final class SessionPool {
 
     private static void warnIfKept(Session session) {
         if (!session.isClosed() && !session.held().isEmpty()) {
-            LOG.log(Level.WARNING, "a session should have ended a minute ago, and jobs that are not answered keep it: {0}",
+            LOG.log(Level.WARNING, "a session should have ended a minute ago, and jobs without an answer keep it: {0}",
                 session.held());
         }
     }

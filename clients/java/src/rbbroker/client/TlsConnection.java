@@ -24,7 +24,7 @@ import javax.net.ssl.SSLSocket;
  */
 final class TlsConnection extends Connection {
     private static final byte[] MARK = {'+'};
-    /** How long after that the other side may still refuse a certificate. What is sent meanwhile may hide the reason. */
+    /** How long the other side may still refuse a certificate then. What is sent meanwhile may hide the reason. */
     private static final long REFUSAL = TimeUnit.MILLISECONDS.toNanos(20);
     /** How long a thread whose sending failed waits for the reason, which may be on its way. */
     private static final long REASON = TimeUnit.SECONDS.toMillis(1);
