@@ -9,7 +9,7 @@ from typing import BinaryIO, Iterator, Optional
 
 import redis
 
-from .history import Damaged, FollowedQueue, read_text
+from .history import GREATEST_ID, MOST_KEPT, Damaged, FollowedQueue, read_text
 from .limits import MOST_CALLS
 from .queue import Queue, connect
 from .script_session import Perform, ScriptSession
@@ -39,7 +39,7 @@ def add_to(commands: "argparse._SubParsersAction[Parser]") -> None:
     add = parser.add_argument
     add("--calls", type=whole(1, MOST_CALLS), default=10_000, metavar="N", help="calls of the run (default: 10000)")
     add("--history", metavar="FILE", help="where the history is written")
-    add("--from", dest="opening", metavar="FILE", help="a history, version 3, that the run continues")
+    add("--from", dest="opening", metavar="FILE", help="a legal history that the run continues")
     add("--timer", choices=("list", "heap", "pairing", "wheel"), help="taken, and without effect")
 
 
@@ -62,11 +62,14 @@ def opening_of(path: Optional[str]) -> FollowedQueue:
     if path is None:
         return FollowedQueue()
     try:
-        return read_text(Path(path)).queue
+        queue = read_text(Path(path)).queue
     except OSError:
         raise Ending(3, "cannot read history") from None
     except Damaged:
         raise Ending(1, "bad opening") from None
+    if queue.next_id > GREATEST_ID or len(queue.elements) > MOST_KEPT:
+        raise Ending(1, "bad opening")
+    return queue
 
 
 def run_script(asked: argparse.Namespace, opening: FollowedQueue) -> None:
