@@ -1,4 +1,1 @@
-"""The parts of tools/check_docs, each in the file of its name: links, clauses, uncited and picture.
-
-And drawing, by which tools/draw_request draws the picture.
-"""
+"""The parts of tools/check_docs, each in the file of its name: links, clauses, quotes, uncited and picture."""

@@ -1,4 +1,4 @@
-"""The tests of tools/check_docs and tools/draw_request, on pages and crates that they make.
+"""The tests of tools/check_docs, on pages and crates that they make.
 
     tools/run_tests documents
 """

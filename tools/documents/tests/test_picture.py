@@ -1,7 +1,5 @@
-"""A picture that is another one than the table's."""
+"""A picture that shows other hops than the table has."""
 from __future__ import annotations
-
-import re
 
 from documents.tests.support import DocumentsTest
 
@@ -20,7 +18,22 @@ PAGE = """# Architecture
 | 4 | `rb_lock/src/lock.rt` | This is no hop. |
 """
 
-ANOTHER = "docs/request.svg is not the picture of the table in docs/ARCHITECTURE.md; tools/draw_request draws it"
+PICTURE = """<svg>
+<text x="150" y="24" font-size="15">The crates</text>
+<text x="84" y="52">rb_session</text>
+<text x="216" y="52">rb_retry</text>
+<circle cx="84" cy="82" r="11"/>
+<text x="84" y="86" fill="white">1</text>
+<text x="84" y="105">session.rt</text>
+<text x="216" y="124">2</text>
+<text x="216" y="143">fail.rt</text>
+<text x="84" y="162">3</text>
+<text x="84" y="181">reply.rt</text>
+</svg>
+"""
+
+SECOND = "docs/request.svg does not show hop 2 rb_retry fail.rt of docs/ARCHITECTURE.md"
+THIRD = "docs/request.svg does not show hop 3 rb_session reply.rt of docs/ARCHITECTURE.md"
 
 
 class Picture(DocumentsTest):
@@ -29,39 +42,39 @@ class Picture(DocumentsTest):
     def setUp(self) -> None:
         super().setUp()
         self.write("docs/ARCHITECTURE.md", PAGE)
-        self.draw()
+        self.write("docs/request.svg", PICTURE)
 
-    def draw(self) -> None:
-        ran = self.run_tool("draw_request")
-        self.assertEqual((0, "", ""), (ran.returncode, ran.stdout, ran.stderr))
-
-    def words_drawn(self) -> list[str]:
-        drawn = (self.top / "docs" / "request.svg").read_text(encoding="utf-8")
-        return re.findall(r"<text [^>]*>([^<]*)</text>", drawn)
-
-    def test_the_picture_that_was_drawn(self) -> None:
-        self.expect(0, "1 as they must be, 0 not")
-
-    def test_what_is_drawn(self) -> None:
-        crates, hops = ["rb_session", "rb_retry"], ["1", "session.rt", "2", "fail.rt", "3", "reply.rt"]
-        self.assertEqual(crates + hops, self.words_drawn()[1:])
+    def test_the_hops_of_the_table(self) -> None:
+        self.expect(0, "3 as they must be, 0 not")
 
     def test_another_file_in_the_table(self) -> None:
         self.write("docs/ARCHITECTURE.md", PAGE.replace("src/fail.rt", "src/failing.rt"))
-        self.expect(1, "0 as they must be, 1 not", ANOTHER)
+        self.expect(1, "2 as they must be, 1 not", SECOND.replace("fail.rt", "failing.rt"))
 
-    def test_a_changed_picture(self) -> None:
-        path = self.top / "docs" / "request.svg"
-        path.write_text(path.read_text(encoding="utf-8") + "\n", encoding="utf-8")
-        self.expect(1, "0 as they must be, 1 not", ANOTHER)
+    def test_another_file_in_the_picture(self) -> None:
+        self.write("docs/request.svg", PICTURE.replace("fail.rt", "failing.rt"))
+        self.expect(1, "2 as they must be, 1 not", SECOND)
+
+    def test_a_hop_in_the_column_of_another_crate(self) -> None:
+        self.write("docs/request.svg", PICTURE.replace('"216" y="1', '"84" y="1'))
+        self.expect(1, "2 as they must be, 1 not", SECOND)
+
+    def test_a_hop_that_the_picture_lacks(self) -> None:
+        self.write("docs/request.svg", PICTURE.replace(">3<", "><"))
+        self.expect(1, "2 as they must be, 1 not", THIRD)
+
+    def test_a_hop_that_the_table_lacks(self) -> None:
+        more = '<text x="84" y="200">4</text>\n<text x="84" y="219">reply.rt</text>\n</svg>'
+        self.write("docs/request.svg", PICTURE.replace("</svg>", more))
+        fault = "docs/request.svg shows hop 4 rb_session reply.rt, which is not in docs/ARCHITECTURE.md"
+        self.expect(1, "3 as they must be, 1 not", fault)
 
     def test_no_picture(self) -> None:
         (self.top / "docs" / "request.svg").unlink()
-        self.expect(1, "0 as they must be, 1 not", ANOTHER)
+        first = "docs/request.svg does not show hop 1 rb_session session.rt of docs/ARCHITECTURE.md"
+        self.expect(1, "0 as they must be, 3 not", first, SECOND, THIRD)
 
     def test_a_hop_that_is_left_out(self) -> None:
         self.write("docs/ARCHITECTURE.md", PAGE.replace("| 2 |", "| 4 |"))
-        reason = f"{self.top}/docs/ARCHITECTURE.md has no table of hops, numbered from 1, below 'The way of a request'"
-        self.expect_missing(reason)
-        ran = self.run_tool("draw_request")
-        self.assertEqual((2, f"draw_request: {reason}\n"), (ran.returncode, ran.stderr))
+        page = f"{self.top}/docs/ARCHITECTURE.md"
+        self.expect_missing(f"{page} has no table of hops, numbered from 1, below 'The way of a request'")
