@@ -97,14 +97,19 @@ class Endings:
 
     def _is_unrecorded(self, session: Session, event: int, returns: Deque[int]) -> bool:
         """Whether an event before these returns may be that of a request which a client that was killed did not come
-        to note. The jobs that it gave were then held too, and must come back."""
-        history = self._placing.history
-        act = history.act(event).split(" ")
-        given = given_ids(act)
-        is_return = act[0] == "offer" and act[-2] != "1"
-        if not session.is_cut or is_return or len(returns) + len(given) > MOST_HELD:
+        to note: the FAIL of a job that it held, or any other."""
+        if not session.is_cut:
             return False
-        if any(history.exits[id] != event for id in given):
+        if event in map(self._return_of, session.account.held):
+            returns.remove(event)
+            return True
+        act = self._placing.history.act(event).split(" ")
+        is_return = act[0] == "offer" and act[-2] != "1"
+        return not is_return and self._may_have_given(session, event, given_ids(act), returns)
+
+    def _may_have_given(self, session: Session, event: int, given: List[int], returns: Deque[int]) -> bool:
+        """Whether a session may have got these jobs without a note. They were then held too, and must come back."""
+        if len(returns) + len(given) > MOST_HELD or any(self._placing.history.exits[id] != event for id in given):
             return False
         for id in given:
             if self._return_of(id) != NONE:

@@ -53,9 +53,10 @@ class Client:
 class Simulation:
     """A run of so many events. `lines` are those of all clients, by name."""
 
-    def __init__(self, seed: int, events: int, seats: int, longest: int) -> None:
-        """A session makes at most `longest` requests."""
+    def __init__(self, seed: int, events: int, seats: int, longest: int, kills: bool = False) -> None:
+        """A session makes at most `longest` requests. With `kills` clients that hold a job are killed."""
         random.seed(seed)
+        self._kills = kills
         self.events: List[str] = []
         self.lines: List[Line] = []
         self._queue: List[Tuple[int, int]] = []
@@ -87,11 +88,25 @@ class Simulation:
         return Client(f"s{self._sessions}", seat)
 
     def _leave(self, client: Client) -> None:
-        client.note(self._at, "QUIT", "BYE")
+        if self._kills and client.held:
+            self._leave_unheard(client)
+        else:
+            client.note(self._at, "QUIT", "BYE")
         self.lines += client.lines
         for element in client.held:
             if element.attempt < ATTEMPTS:
                 self._offer(client, self._at + DELAY, element.payload, element)
+
+    def _leave_unheard(self, client: Client) -> None:
+        """What was under way is in no record: the ends of some jobs, and a fetch of another."""
+        for element in random.sample(client.held, random.randint(0, len(client.held))):
+            client.held.remove(element)
+            if element.attempt < ATTEMPTS and random.random() < 0.7:
+                self._offer(client, self._at + DELAY, element.payload, element)
+        if self._queue and self._elements[self._queue[0][1]].attempt < ATTEMPTS:  # it must come back
+            given = self._taken(client)
+            if given:
+                self._event(client, f"take {given.id}")
 
     def _event(self, client: Client, act: str) -> None:
         self.events.append(f"{client.seat} {self._at} {self._at} {act}")

@@ -26,6 +26,13 @@ EVENTS = [
 POLL, FIRST_RETURN, SECOND_RETURN = EVENTS[3:6]
 
 
+# `a` holds jobs 0 and 1, and is killed with a FAIL of the second under way; then the first comes back.
+TWO_HELD = [
+    "1 1 1 offer 0 1 0 1 1 x", "1 2 2 offer 1 2 1 2 1 y", "1 3 3 take 0", "1 4 4 take 1",
+    "1 5 5 offer 2 9 1 2 2 y", "1 6 6 offer 3 9 0 1 2 x",
+]
+
+
 def lines() -> List[Line]:
     """The records of both."""
     return [
@@ -34,6 +41,14 @@ def lines() -> List[Line]:
         line("other", 48, 52, "POLL", "ITEM 2 45 2 x"),
         line("other", 58, 62, "POLL", "ITEM 3 46 2 y"),
         line("killed", 15, 22, "TAKE", "ITEM 0 10 1 x"),
+    ]
+
+
+def held_two() -> List[Line]:
+    """The record of the client of TWO_HELD."""
+    return [
+        line("a", 0, 1, "OFFER 0 x", "OFFERED 0 1"), line("a", 1, 2, "OFFER 0 y", "OFFERED 1 2"),
+        line("a", 2, 3, "TAKE", "ITEM 0 1 1 x"), line("a", 3, 4, "TAKE", "ITEM 1 2 1 y"),
     ]
 
 
@@ -129,11 +144,28 @@ class KilledTest(RunTest):
             self.assertEqual(self.found(events, record=record), faults)
 
     def test_a_failure_without_a_reply_of_a_job_that_is_not_the_first(self) -> None:
-        events = ["1 1 1 offer 0 1 0 1 1 x", "1 2 2 offer 1 2 1 2 1 y", "1 3 3 take 0", "1 4 4 take 1",
-                  "1 5 5 offer 2 9 1 2 2 y", "1 6 6 offer 3 9 0 1 2 x"]
-        record = [line("a", 0, 1, "OFFER 0 x", "OFFERED 0 1"), line("a", 1, 2, "OFFER 0 y", "OFFERED 1 2"),
-                  line("a", 2, 3, "TAKE", "ITEM 0 1 1 x"), line("a", 3, 4, "TAKE", "ITEM 1 2 1 y")]
         fail = {**line("a", 4, 5, "FAIL 1"), "received": None}
-        self.assertEqual(self.found(events, fail, record=record), {})
-        self.assertEqual(self.found(events, record=record), {"gap": 1, "return": 1})
-        self.assertEqual(self.found(events, {**fail, "request": "FAIL 7"}, record=record), {"gap": 1, "return": 1})
+        self.assertEqual(self.found(TWO_HELD, fail, record=held_two()), {})
+        self.assertEqual(self.found(TWO_HELD, record=held_two()), {})
+        self.assertEqual(self.found(TWO_HELD, {**fail, "request": "FAIL 7"}, record=held_two()), {"gap": 1, "return": 1})
+
+    def test_with_all_the_failure_is_in_no_record(self) -> None:
+        self.assertEqual(self.found(TWO_HELD, record=held_two(), is_whole=True), {"unrecorded": 1})
+
+    def test_the_jobs_of_a_client_that_left_come_back_in_another_order(self) -> None:
+        left = line("a", 4, 5, "QUIT", "BYE")
+        self.assertEqual(self.found(TWO_HELD, left, record=held_two()), {"gap": 1, "return": 1})
+
+    def test_failures_and_a_wait_under_way(self) -> None:
+        """A client may send several at a time, such as the ends of two jobs and a POLLFOR."""
+        events = [f"1 {it} {it} offer {it} {it} {it} {it} 1 x" for it in range(5)]
+        events += [f"2 {10 + it} {10 + it} take {it}" for it in range(4)]
+        fails = ["2 21 21 offer 5 29 3 3 2 x", "2 22 22 offer 6 29 1 1 2 x"]
+        wait = "2 23 23 pollfor 20 100 4"
+        ends = [f"2 {30 + it} {30 + it} offer {7 + it} 39 {id} {id} 2 x" for it, id in enumerate((0, 2, 4))]
+        record = [line("a", 10 + it, 10 + it, "TAKE", f"ITEM {it} {it} 1 x") for it in range(4)]
+        self.assertEqual(self.found([*events, *fails, wait, *ends], record=record), {})
+        self.assertEqual(self.found([*events, wait, *fails, *ends], record=record), {})
+        others = [it.replace("2 ", "3 ", 1) for it in ends[:1]]
+        elsewhere = self.found([*events, *fails, wait, *others, *ends[1:]], record=record)
+        self.assertEqual(elsewhere.keys(), {"return"})

@@ -23,8 +23,8 @@ def tells_its_place(line: Line) -> bool:
 
 
 class SimulatedTest(RunTest):
-    def simulated(self, seed: int, longest: int = 40) -> Simulation:
-        return Simulation(seed, events=300, seats=4, longest=longest)
+    def simulated(self, seed: int, longest: int = 40, kills: bool = False) -> Simulation:
+        return Simulation(seed, events=300, seats=4, longest=longest, kills=kills)
 
     def named_lines(self, run: Simulation) -> List[int]:
         return [number for number, it in enumerate(run.lines) if keyword(it) in NAMED]
@@ -37,6 +37,11 @@ class SimulatedTest(RunTest):
         for seed in SEEDS:
             run = self.simulated(seed)
             self.assertEqual(self.judged(run.history, run.record), ({}, []), seed)
+
+    def test_clients_that_are_killed(self) -> None:
+        for seed in SEEDS:
+            run = self.simulated(seed, kills=True)
+            self.assertEqual(self.judged(run.history, run.record, is_whole=False), ({}, []), seed)
 
     def test_records_of_some_of_the_clients(self) -> None:
         for seed in SEEDS:
