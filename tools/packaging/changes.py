@@ -15,30 +15,31 @@ LINK = re.compile(r"\[([^\]]*)\]\([^)]*\)")
 
 
 def changelog(version: Version) -> str:
-    """One entry, since all that changed is in the one version that is packed, with the changes of each day."""
-    with open(CHANGES, encoding="utf-8") as it:
-        changes = changes_of(it.read())
+    """One entry, since all that changed is in the one version that is packed, with the changes of each section."""
+    with open(CHANGES, encoding="utf-8") as file:
+        changes = changes_of(file.read())
     date = email.utils.formatdate(version.moment)
     return f"rb-broker ({version.text}) unstable; urgency=medium\n\n{changes}\n -- {OWNER}  {date}\n"
 
 
 def changes_of(text: str) -> str:
-    """The changes of a text of the form of CHANGELOG.md: days, and below each its kinds of changes, a line for each."""
-    days = [changes_of_day(it) for it in re.split(r"^### ", text, flags=re.M)[1:]]
-    if not any("  * " in it for it in days):
+    """The changes of a text of the form of CHANGELOG.md: its sections, and in each its kinds of changes, a line for
+    each change."""
+    sections = [changes_of_section(section) for section in re.split(r"^## ", text, flags=re.M)[1:]]
+    if not any("  * " in section for section in sections):
         raise Fault(f"{CHANGES} has no changes")
-    return "\n".join(days)
+    return "\n".join(sections)
 
 
-def changes_of_day(text: str) -> str:
-    """The changes of a day, whose date is the first line."""
-    date, *lines = text.splitlines()
-    told, kind = f"  [ {date} ]\n", ""
+def changes_of_section(text: str) -> str:
+    """The changes of a section, whose name is the first line."""
+    name, *lines = text.splitlines()
+    told, kind = f"  [ {name.strip('[]')} ]\n", ""
     for line in lines:
         if line.startswith("- "):
             told += change(f"{kind}: {line[2:]}")
-        elif line.isalpha():
-            kind = line
+        elif line.startswith("### "):
+            kind = line[4:]
     return told
 
 
