@@ -9,7 +9,7 @@ from reporting.figures import Figures
 from reporting.jobs import given_events, lives
 from reporting.lives import Chosen
 from reporting.plot import Plot
-from reporting.terminal import DONE_OR_DEAD, LEAVES_OUT
+from reporting.terminal import DONE_OR_DEAD, LEAVES_OUT, runs_table
 from reporting.units import counted, number, percent, span
 
 MOST_BUSY = 12
@@ -81,14 +81,8 @@ def _runs(figures: Figures) -> str:
     """A row for each run, if there are several."""
     if len(figures.history.runs) == 1:
         return ""
-    dates, rows = figures.dates, []
-    for place, (run, end, given) in enumerate(figures.runs, 1):
-        began = dates.text(run.opened_at, run=place) if dates else str(run.opened_at)
-        rows.append((str(place), escape(run.name), began, span(end - run.opened_at), *map(number, (
-            run.events, run.kept, run.offered, given, run.left))))
-    heading = ("run", "history", "began (UTC)" if dates else "began at (ns)", "lasted", "events", "at the start",
-               "offered", "given", "left")
-    return _section("Runs", _table(heading, rows, "words"))
+    heading, rows = runs_table(figures)
+    return _section("Runs", _table(heading, [[*map(escape, row)] for row in rows], "words"))
 
 
 def _plot(plot: Plot) -> str:

@@ -1,7 +1,7 @@
 """The report as text."""
 from __future__ import annotations
 
-from typing import List, Optional, Sequence
+from typing import List, Optional, Sequence, Tuple
 
 from histories import acts
 from histories.history import NONE, History
@@ -49,16 +49,20 @@ def _head(figures: Figures) -> List[str]:
 
 def _runs(figures: Figures) -> List[str]:
     """A line for each run, if there are several."""
-    if len(figures.history.runs) == 1:
-        return []
-    dates, lines = figures.dates, []
+    return ["Runs", *table(*runs_table(figures), left=2)] if len(figures.history.runs) > 1 else []
+
+
+def runs_table(figures: Figures) -> Tuple[Sequence[str], List[Sequence[str]]]:
+    """A heading, and a row for each run."""
+    dates = figures.dates
+    rows: List[Sequence[str]] = []
     for place, (run, end, given) in enumerate(figures.runs, 1):
         began = dates.text(run.opened_at, run=place) if dates else str(run.opened_at)
-        lines.append((str(place), run.name, began, span(end - run.opened_at), number(run.events), number(run.kept),
-                      number(run.offered), number(given), number(run.left)))
+        rows.append((str(place), run.name, began, span(end - run.opened_at), number(run.events), number(run.kept),
+                     number(run.offered), number(given), number(run.left)))
     heading = ("run", "history", "began (UTC)" if dates else "began at (ns)", "lasted", "events", "at the start",
                "offered", "given", "left")
-    return ["Runs", *table(heading, lines, left=2)]
+    return heading, rows
 
 
 def _calls(figures: Figures) -> List[str]:
