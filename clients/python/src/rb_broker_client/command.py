@@ -37,6 +37,7 @@ from .errors import BrokerError, InDoubtError, NotOfferedError, RefusedError
 from .job import Job
 from .limits import MOST_HELD
 from .producer import Producer
+from .tls import add_tls_words, context_of
 from .worker import AsyncWorker, Worker
 
 NAME = "rb_broker_client"
@@ -95,6 +96,7 @@ def _parser() -> argparse.ArgumentParser:
         added.add_argument("--port", type=_whole(1, 65_535), required=needs_port, metavar="P", help="the server's port")
         added.add_argument("--host", default="127.0.0.1", metavar="H", help="where it is (default: 127.0.0.1)")
         added.add_argument("--record", metavar="FILE", help="adds each request and its reply to this file")
+        add_tls_words(added)
         if name != "worker":
             added.add_argument("--patience", type=_seconds, default=5.0, metavar="SECONDS",
                                help="how long a server is looked for, and a reply waited for (default: 5)")
@@ -134,7 +136,7 @@ def _work(asked: Asked) -> Iterator[str]:
         raise ValueError("either both functions are coroutine functions or none")
     kind: Any = AsyncWorker if is_async else Worker
     worker = kind(asked.handler, asked.port, asked.host, concurrency=asked.concurrency, session=asked.session,
-                  timeout=asked.timeout, on_dead=asked.on_dead, record=asked.record)
+                  timeout=asked.timeout, on_dead=asked.on_dead, tls=context_of(asked), record=asked.record)
 
     def stop(number: int, _: Any) -> None:
         signal.signal(number, signal.SIG_DFL)  # whoever asks twice does not want to wait
@@ -203,13 +205,13 @@ def _dead(asked: Asked) -> Iterator[str]:
 
 
 def _producer(asked: Asked) -> Producer:
-    return Producer(asked.port, asked.host, patience=asked.patience, record=asked.record)
+    return Producer(asked.port, asked.host, patience=asked.patience, tls=context_of(asked), record=asked.record)
 
 
 @contextmanager
 def _broker(asked: Asked) -> Iterator[Broker]:
     """A session, which is left with `QUIT` if nothing went wrong."""
-    with Broker(asked.port, asked.host, asked.patience, record=asked.record) as broker:
+    with Broker(asked.port, asked.host, asked.patience, tls=context_of(asked), record=asked.record) as broker:
         broker.await_service()  # a question that is given up before that costs no call
         yield broker
         broker.quit()

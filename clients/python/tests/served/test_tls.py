@@ -1,10 +1,14 @@
 """Clients of a server behind TLS: certificates that are right, of another authority, expired, and left out."""
 import asyncio
 import logging
+import re
 import shutil
+import signal
 import ssl
 import subprocess
+import sys
 import tempfile
+import textwrap
 import threading
 import unittest
 
@@ -12,9 +16,10 @@ from encryption import Certificates, Proxy
 from rb_broker_client import (
     AsyncBroker, AsyncProducer, AsyncWorker, Broker, NotOfferedError, Offered, Producer, Report, Request, Worker,
 )
-from server import PATIENCE, ServedTest, free_port, start
+from server import PATIENCE, TOP, ServedTest, free_port, start
 
 JOBS = 200
+REFUSED = "(?i)alert|reset|closed|broken pipe|EOF"
 
 
 @unittest.skipUnless(shutil.which("openssl"), "there is no openssl")
@@ -79,8 +84,38 @@ class TlsTest(ServedTest):
             self.assertEqual(len(broker.drain(64)), 64)
             broker.quit()
 
-    def refuse(self, port, tls, text):
-        """Each kind of client is refused, and says why."""
+    def command(self, port, command, *words):
+        """Runs the command to its end. Its status, and what it wrote."""
+        ran = subprocess.run([sys.executable, "-m", "rb_broker_client", *command, "--port", str(port), *words],
+                             stdout=subprocess.PIPE, stderr=subprocess.PIPE, encoding="ascii", timeout=PATIENCE)
+        return ran.returncode, ran.stdout, ran.stderr
+
+    def test_the_command(self):
+        port, tls = self.protect(), self.certificates.words()
+        worker = start([sys.executable, "-u", "-m", "rb_broker_client", "worker", "builtins:print", "--port", str(port),
+                        *tls], stderr=subprocess.DEVNULL, encoding="ascii")
+        self.addCleanup(worker.communicate)
+        self.addCleanup(worker.kill)
+        status, said, errors = self.command(port, ["offer", "0", "letter"], *tls[:-4], "--cert",
+                                           self.certificates.joined("client"))
+        self.assertEqual((status, errors), (0, ""))
+        self.assertRegex(said, r"\AOFFERED 0 [0-9]+\n\Z")
+        self.assertIn("letter", worker.stdout.readline())
+        worker.send_signal(signal.SIGTERM)
+        told = "done 1, again 0, dead 0, lost 0, unheard 0\n"
+        self.assertEqual((worker.communicate(timeout=PATIENCE)[0], worker.returncode), (told, 0))
+        self.assertEqual(self.command(port, ["size"], *tls), (0, "SIZE 0\n", ""))
+
+    def test_a_key_of_another_certificate(self):
+        words, key = self.certificates.words(), self.certificates.key("stranger")
+        told = f"rb_broker_client: {key} can't be used: it has no key of {words[4]} that can be read\n"
+        self.assertEqual(self.command(1, ["size"], *words[:-1], key), (1, "", told))
+
+    def refuse(self, port, text, encrypts=True, **certificates):
+        """Each kind of client is refused, and says why. It trusts and shows these certificates, if it encrypts."""
+        tls = self.certificates.client(**certificates) if encrypts else None
+        words = self.certificates.words(**certificates) if encrypts else []
+
         async def ask():
             async with AsyncBroker(port, patience=PATIENCE, tls=tls) as broker:
                 await broker.size()
@@ -96,25 +131,29 @@ class TlsTest(ServedTest):
         with Producer(port, patience=0.5, tls=tls) as producer:
             with self.assertRaisesRegex(NotOfferedError, text):
                 producer.offer("letter")
+        status, said, errors = self.command(port, ["size"], *words)
+        self.assertEqual((status, said), (1, ""))
+        self.assertRegex(errors, rf"\Arb_broker_client: no answer from 127\.0\.0\.1:{port}: [^\n]+\n\Z")
+        self.assertRegex(errors, text)
 
     def test_a_certificate_of_another_authority(self):
-        self.refuse(self.protect(), self.certificates.client(authority="other"), "CERTIFICATE_VERIFY_FAILED")
+        self.refuse(self.protect(), "CERTIFICATE_VERIFY_FAILED", authority="other")
 
     def test_a_certificate_that_has_expired(self):
-        self.refuse(self.protect("expired"), self.certificates.client(), "certificate has expired")
+        self.refuse(self.protect("expired"), "certificate has expired")
 
     def test_a_client_without_a_certificate(self):
-        self.refuse(self.protect(), self.certificates.client(name=None), "(?i)alert|reset|closed|broken pipe|EOF")
+        self.refuse(self.protect(), REFUSED, name=None)
 
     def test_a_client_with_a_certificate_of_another_authority(self):
-        self.refuse(self.protect(), self.certificates.client(name="stranger"), "(?i)alert|reset|closed|broken pipe|EOF")
+        self.refuse(self.protect(), REFUSED, name="stranger")
 
     def test_a_port_that_has_no_encryption(self):
         server = self.serve("--workers", 4, "--sessions", 100)
-        self.refuse(server.port, self.certificates.client(), "(?i)wrong.version|EOF|record")
+        self.refuse(server.port, "(?i)wrong.version|EOF|record")
 
     def test_a_client_that_does_not_encrypt(self):
-        self.refuse(self.protect(), None, "(?i)closed|reset|broken pipe")
+        self.refuse(self.protect(), "(?i)closed|reset|broken pipe", encrypts=False)
 
     def test_a_worker_logs_why_and_tries_again(self):
         port = self.protect("expired")
@@ -134,20 +173,30 @@ class TlsTest(ServedTest):
 
 @unittest.skipUnless(shutil.which("stunnel"), "there is no stunnel")
 class StunnelTest(TlsTest):
-    """The proxy is stunnel, as docs/OPERATING.md describes it."""
+    """The proxy is stunnel, with the settings of docs/OPERATING.md."""
 
     def proxy(self, port, certificate):
-        listens = free_port()
-        path = f"{self.room}/stunnel.conf"
+        listens, path = free_port(), f"{self.room}/stunnel.conf"
         with open(path, "w", encoding="ascii") as file:
-            file.write(f"foreground = yes\npid =\n[rb_broker]\naccept = 127.0.0.1:{listens}\nconnect = 127.0.0.1:{port}\n"
-                       f"cert = {self.certificates.path(certificate)}\nkey = {self.certificates.key(certificate)}\n"
-                       f"CAfile = {self.certificates.path('ca')}\nverifyChain = yes\n")
+            file.write(f"foreground = yes\npid =\n{self.settings(listens, port, certificate)}")
         process = start(["stunnel", path], stderr=subprocess.DEVNULL)
         self.addCleanup(process.communicate)
         self.addCleanup(process.kill)
         self.wait_until(lambda: self.is_listening(listens))
         return listens
+
+    def settings(self, listens, port, certificate):
+        """Those of the page, with the ports and files of the test. It knows the client, and a client's authority is
+        nothing to it."""
+        with open(f"{TOP}/docs/OPERATING.md", encoding="utf-8") as page:
+            settings = textwrap.dedent(re.search(r"(?m)^    \[rb_broker\]\n(?:    .+\n)+", page.read())[0])
+        shown = self.certificates.joined(certificate)
+        for told, here in (("accept = 7012", f"accept = 127.0.0.1:{listens}"), ("127.0.0.1:7011", f"127.0.0.1:{port}"),
+                           ("/etc/stunnel/server.pem", shown),
+                           ("/etc/stunnel/clients.pem", self.certificates.path("client"))):
+            self.assertEqual(settings.count(told), 1, settings)
+            settings = settings.replace(told, here)
+        return settings
 
     def is_listening(self, port):
         with open("/proc/net/tcp", encoding="ascii") as file:

@@ -117,6 +117,8 @@ class CommandTest(ScriptedTest):
             ("worker", here, "--port", 1, "--concurrency", 0), ("worker", here, "--port", 1, "--concurrency", 65),
             ("worker", here, "--port", 1, "--session", "-1"), ("worker", here, "--port", 1, "--on-dead", "x"),
             ("worker", here, "--port", 1, "--on-dead", f"{__name__}:handle_async"),
+            *(("size", "--port", 1, it, "x") for it in ("--ca", "--cert", "--key")),
+            ("size", "--port", 1, "--tls", "--key", "x"), ("worker", here, "--port", 1, "--ca", "x"),
         ):
             with self.subTest(words=words):
                 status, said, errors = run(*words)
@@ -127,6 +129,26 @@ class CommandTest(ScriptedTest):
         told = "rb_broker_client: /no/such/folder can't be used: No such file or directory\n"
         for words in (("size",), ("offer", 0, "a"), ("worker", f"{__name__}:handle")):
             self.assertEqual(run(*words, "--port", 1, "--record", "/no/such/folder"), (1, "", told))
+
+    def test_files_of_certificates_that_can_not_be_used(self):
+        with tempfile.TemporaryDirectory() as room:
+            absent, letter = os.path.join(room, "absent.pem"), os.path.join(room, "letter.pem")
+            with open(letter, "w", encoding="ascii") as file:
+                file.write("Dear Ann\n")
+            cases = [
+                (("--ca", absent), absent, "No such file or directory"),
+                (("--cert", absent), absent, "No such file or directory"),
+                (("--cert", letter, "--key", absent), absent, "No such file or directory"),
+                (("--ca", room), room, "Is a directory"),
+                (("--ca", letter), letter, "it has no certificate in the form of PEM"),
+                (("--cert", letter), letter, "it has no certificate in the form of PEM"),
+                (("--cert", letter, "--key", letter), letter, "it has no certificate in the form of PEM"),
+            ]
+            for words, path, why in cases:
+                for command in (("size",), ("offer", 0, "a"), ("worker", f"{__name__}:handle")):
+                    with self.subTest(words=words, command=command):
+                        told = f"rb_broker_client: {path} can't be used: {why}\n"
+                        self.assertEqual(run(*command, "--port", 1, "--tls", *words), (1, "", told))
 
     def test_a_record(self):
         server = self.play([GREETING, ("SIZE", "SIZE 3"), GOODBYE])

@@ -2,13 +2,16 @@ package rbbroker.client;
 
 import static org.junit.Assert.assertEquals;
 import static org.junit.Assert.assertThrows;
+import static org.junit.Assert.assertTrue;
 
 import java.io.IOException;
 import java.net.Socket;
 import java.nio.file.Files;
 import java.nio.file.Path;
 import java.time.Duration;
+import java.util.Map;
 import java.util.concurrent.ThreadLocalRandom;
+import java.util.stream.Collectors;
 import javax.net.ssl.SSLContext;
 import org.junit.Rule;
 import org.junit.Test;
@@ -16,8 +19,8 @@ import org.junit.rules.TemporaryFolder;
 import org.junit.rules.Timeout;
 
 /**
- * A server behind stunnel, as docs/OPERATING.md has it: it knows its clients by their certificates. The property
- * {@code rbbroker.stunnel} names the program.
+ * A server behind stunnel, with the settings of docs/OPERATING.md: it knows its clients by their certificates. The
+ * properties {@code rbbroker.stunnel} and {@code rbbroker.page} name the program and the page.
  */
 public class StunnelTest {
     @Rule
@@ -26,19 +29,21 @@ public class StunnelTest {
     public final TemporaryFolder folder = new TemporaryFolder();
 
     @Test
-    public void aClientThatStunnelKnowsAndOneThatItDoesNot() throws Exception {
+    public void aClientThatStunnelKnowsAndOthers() throws Exception {
         Certificates certificates = new Certificates(folder.getRoot().toPath());
         int port = ThreadLocalRandom.current().nextInt(22_000, 23_000);
         try (Server server = Server.start("--sessions", 50)) {
             Process stunnel = start(certificates, port, server.port());
             try (RemoteDelayQueue queue = queue(port, certificates.context("client", "authority"));
-                    RemoteDelayQueue stranger = queue(port, certificates.context("stranger", "authority"))) {
+                    RemoteDelayQueue stranger = queue(port, certificates.context("stranger", "authority"));
+                    RemoteDelayQueue astray = queue(port, certificates.context("client", "stranger"))) {
                 awaitDoor(port);
                 queue.offer(new Job("a", Duration.ZERO));
                 Job job = queue.take();
                 assertEquals("a", job.payload());
                 job.done();
                 assertThrows(TlsException.class, stranger::size);
+                assertThrows(TlsException.class, astray::size);
             } finally {
                 stunnel.destroyForcibly().waitFor();
             }
@@ -51,11 +56,24 @@ public class StunnelTest {
 
     private Process start(Certificates certificates, int port, int target) throws Exception {
         Path settings = folder.getRoot().toPath().resolve("stunnel.conf");
-        Files.writeString(settings, String.join("\n", "foreground = yes", "pid =", "[rb_broker]",
-            "accept = 127.0.0.1:" + port, "connect = 127.0.0.1:" + target, "cert = " + certificates.pem("server", true),
-            "CAfile = " + certificates.pem("client", false), "verifyPeer = yes", ""));
+        Files.writeString(settings, "foreground = yes\npid =\n" + settingsOfThePage(Map.of(
+            "accept = 7012", "accept = 127.0.0.1:" + port, "127.0.0.1:7011", "127.0.0.1:" + target,
+            "/etc/stunnel/server.pem", certificates.pem("server", true).toString(),
+            "/etc/stunnel/clients.pem", certificates.pem("client", false).toString())));
         return new ProcessBuilder(System.getProperty("rbbroker.stunnel"), settings.toString())
             .redirectErrorStream(true).redirectOutput(ProcessBuilder.Redirect.DISCARD).start();
+    }
+
+    /** What the page shows, with these words in the place of its own. */
+    private static String settingsOfThePage(Map<String, String> words) throws IOException {
+        Path page = Path.of(System.getProperty("rbbroker.page"));
+        String settings = Files.readAllLines(page).stream().dropWhile(it -> !it.equals("    [rb_broker]"))
+            .takeWhile(it -> it.startsWith("    ")).map(it -> it.strip() + "\n").collect(Collectors.joining());
+        for (Map.Entry<String, String> it : words.entrySet()) {
+            assertTrue(settings, settings.contains(it.getKey()));
+            settings = settings.replace(it.getKey(), it.getValue());
+        }
+        return settings;
     }
 
     /** Waits until stunnel listens. */
