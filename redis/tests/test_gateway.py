@@ -38,7 +38,7 @@ class RequestsTest(GatewayTest):
 
     def test_moments_are_dates_and_never_go_back(self) -> None:
         queue = self.joined()
-        queue.call("rb_calls", f"{2**63:020}", "", 0, "0 SIZE")  # an event that is still to come
+        queue.call("rb_calls", f"{2**63:020}", "", "0 SIZE")  # an event that is still to come
         talker = self.talker()
         self.assertEqual(talker.ask(f"OFFERAT {2**63} a"), f"OFFERED 0 {2**63}")
         self.assertEqual(talker.ask("POLL"), f"ITEM 0 {2**63} 1 a")
@@ -196,9 +196,51 @@ class EndsTest(GatewayTest):
             one.ask("TAKE")
             late.process.send_signal(signal.SIGSTOP)
             self.assertEqual(heir.ask("TAKE").split()[3], "2")
+            one.send("DONE 0\n")
             late.process.send_signal(signal.SIGCONT)
-            self.assertEqual(one.ask("DONE 0"), "ERR 5 not-held")
+            self.assertEqual(one.rest(), ["ERR 5 not-held"])
             self.assertEqual(heir.ask("DONE 1"), "DONE 1")
+
+    def test_nothing_is_given_to_a_session_whose_lease_was_over(self) -> None:
+        late, other = self.serve("--lease", "2s", "--wait", "30s"), self.serve("--lease", "2s", "--wait", "30s")
+        with late.talker() as holder, late.talker() as polling, late.talker() as waiting, other.talker() as heir:
+            holder.send("OFFER 0 a\nOFFER 0 b\nTAKE\n")
+            polling.ask("SIZE")
+            for _ in range(3):
+                holder.read()
+            heir.ask("TAKE")
+            waiting.send("TAKE\n")
+            self.assertTrue(waiting.is_silent(0.3))
+            late.process.send_signal(signal.SIGSTOP)
+            self.assertEqual(heir.ask("TAKE").split()[3:], ["2", "a"])
+            heir.ask("OFFER 0 c")
+            polling.send("POLL\n")
+            late.process.send_signal(signal.SIGCONT)
+            self.assertEqual([it.rest() for it in (holder, polling)], [[], []])
+            self.assertIn(waiting.rest(), ([], ["STOPPED"]))
+            self.assertEqual(heir.ask("TAKE").split()[3:], ["1", "c"])
+            with late.talker() as again:
+                again.ask("OFFER 0 d")
+                self.assertEqual(again.ask("POLL").split()[3:], ["1", "d"])
+        events = [it.split(b" ") for it in self.queue().command("LRANGE", self.queue().history, 0, -1)]
+        self.assertEqual([it for it in events if it[0] == events[0][0]][-1][-2:], [b"2", b"a"])
+
+    def test_a_gateway_joins_anew_where_the_policy_was_changed_meanwhile(self) -> None:
+        late = self.serve("--lease", "2s")
+        with late.talker() as one:
+            one.send("OFFER 0 a\nTAKE\n")
+            self.assertEqual([one.read().split()[0] for _ in range(2)], ["OFFERED", "ITEM"])
+            late.process.send_signal(signal.SIGSTOP)
+            changed = Served(self.started("serve", "--port", 0, "--lease", "2s", "--wait", "30s", "--delay", 0,
+                                          "--attempts", 2, "--change-policy"))
+            with changed.talker() as heir:
+                self.assertEqual(heir.ask("TAKE").split()[3], "2")
+                self.assertEqual(heir.ask("FAIL 1"), "DEAD 1")
+            late.process.send_signal(signal.SIGCONT)
+            self.assertEqual(one.rest(), [])
+        with late.talker() as again:
+            again.send("OFFER 0 b\nTAKE\nFAIL 2\nTAKE\nFAIL 3\n")
+            self.assertEqual([again.read().split()[0] for _ in range(5)], ["OFFERED", "ITEM", "AGAIN", "ITEM", "DEAD"])
 
     def test_policies_have_to_agree(self) -> None:
         self.serve()

@@ -63,10 +63,12 @@ class FakeGateway:
     def __init__(self) -> None:
         self.calls = FakeCalls()
         self.waits = Waits([self.calls], 3600 * SECOND)
+        self.is_joined = True
         self.lost: Optional[int] = None
 
-    def begin(self, session: Session) -> bytes:
-        return b"7 "
+    def begin(self, session: Session) -> None:
+        if self.is_joined:
+            session.sit(b"7 ")
 
     def end(self, session: Session, lost: int) -> None:
         self.lost = lost
@@ -251,6 +253,25 @@ class SessionTest(unittest.IsolatedAsyncioTestCase):
         self.answer(b"ITEM 0 50 1 a\n")
         self.assert_sent(b"")
         self.assert_ends()
+
+    async def test_lines_wait_for_a_seat(self) -> None:
+        self.gateway.is_joined = False
+        session, leaving = Session(self.gateway), Session(self.gateway)
+        for it in (session, leaving):
+            it.connection_made(FakeTransport())
+            it.data_received(b"SIZE\nPEEK\n")
+        leaving.connection_lost(None)
+        session.eof_received()
+        self.assert_idle()
+        self.assertEqual(self.gateway.lost, 0)
+        session.sit(b"8 ")
+        self.assert_calls(b"8 SIZE", b"8 PEEK")
+
+    async def test_a_session_that_is_closed_fetches_nothing_more(self) -> None:
+        self.session.data_received(b"TAKE\n")
+        self.session.close()
+        self.assertEqual(self.gateway.calls.withheld, self.gateway.calls.submitted[0][1])
+        self.assertTrue(self.transport.is_closed)
 
     async def test_what_is_in_doubt_has_no_reply(self) -> None:
         self.session.data_received(b"SIZE\nPEEK\n")

@@ -10,7 +10,8 @@
 --   4 {NAME}:state     hash, below
 --   5 {NAME}:history   list of the event lines that no archive has taken yet, oldest first, without line feeds
 --   6 {NAME}:dead      sorted set, all of score 0: 'ID DIED EXPIRY ORIGIN FIRST ATTEMPT PAYLOAD'
---   7 {NAME}:gateways  sorted set: the number of a gateway, with the microsecond since 1970 at which its lease ends
+--   7 {NAME}:gateways  sorted set: the number of a gateway, with the microsecond since 1970 at which its lease ends, or
+--                      0 while its sessions are ended
 --   8 {NAME}:opening   list: the lines 'open ..' and 'keep ..' with which event 0 begins; no key for an empty opening
 -- In due, held and dead the words EXPIRY, ID, SEAT, FETCH and DIED have 20 digits, and so has an EXPIRY of ids; all
 -- other numbers are as in the protocol. Wakes are published at the channel '{NAME}:head'.
@@ -30,20 +31,22 @@
 -- A session is its seat, a number that is never used again: GATEWAY * 10^9 + N for the session N of a gateway, and 0
 -- for the commands of the package. GATEWAY is the second since 1970 at which the gateway joined, or the next number
 -- that is free; so it is new even where a fail-over has lost what the queue knew. What a session holds is in held, in
--- the order of FETCH. A session has no lease of its own. Its gateway has one: while sessions of a gateway hold jobs, it
--- is in gateways. Once its lease is over, the rb_renew of any other gateway ends its sessions.
+-- the order of FETCH. A session has no lease of its own. Its gateway has one. Once that is over, the rb_renew of any
+-- other gateway ends its sessions, and from then on no call is made in its name: it gets the error LEASE, and has to join
+-- anew. So nothing is given at a seat that has ended.
 --
 -- Functions. ARGS are those after the keys.
---   rb_version                                    the version of this library, '1'; it needs no keys
+--   rb_version                                    the version of this library, '2'; it needs no keys
 --   rb_join LEASE PACE PERIOD ATTEMPTS MODE       a gateway joins, and the queue is made if there is none.
 --       LEASE is microseconds; PACE, PERIOD and ATTEMPTS are the policy, or '' for the queue's. MODE is '', 'change' to
 --       change the policy of a queue that has another, 'silent' to keep no events of a queue that is made now, or
 --       'limit N' for a queue that takes N calls. -> [GATEWAY, PACE, PERIOD, ATTEMPTS, NOW], or the error POLICY
---   rb_calls MOMENT GATEWAY LEASE CALL ..         makes the calls, one after the other, in one step.
---       MOMENT is '' for the node's TIME, or 20 digits. GATEWAY is '' where none is to be joined. -> a reply for each
---   rb_spare MOMENT GATEWAY LEASE CALL ..         the same for a Redis that is full: what needs room is 'ERR 7 memory'
+--   rb_calls MOMENT GATEWAY CALL ..               makes the calls, one after the other, in one step.
+--       MOMENT is '' for the node's TIME, or 20 digits. GATEWAY is '' for the commands. -> a reply for each, or the
+--       error LEASE
+--   rb_spare MOMENT GATEWAY CALL ..               the same for a Redis that is full: what needs room is 'ERR 7 memory'
 --   rb_renew GATEWAY LEASE [ONLY]                 renews the lease, and ends up to 1,000 jobs of a gateway whose lease
---       is over. -> how many jobs; call again until it is 0
+--       is over. -> how many jobs; call again until it is 0; or the error LEASE
 --   rb_leave GATEWAY                              the gateway leaves, unless sessions of it still hold jobs
 --   rb_cut CUT COUNT                              takes COUNT lines off the front of history, if CUT lines were taken
 --       before, and the opening with them. -> how many were taken in all, which the caller compares
@@ -63,11 +66,12 @@
 --
 -- A publish is 'HEAD NOW': the expiry of an element that has become the earliest, and the moment now.
 
-local VERSION = '1'
+local VERSION = '2'
 local LAST = '18446744073709551615'
 local MOST_HELD = 64
 local MOST_ENDED = 1000
 local NEVER = '~' -- above every moment
+local ENDED = '0' -- in the place of a lease: the gateway's sessions are ended
 
 -- What stands before a number of so many digits. A library that is loaded may not use string.rep.
 local ZEROS = { [20] = '' }
@@ -187,21 +191,10 @@ local function count_of(queue, seat)
     return count
 end
 
--- Sees to it that the gateway has a lease before one of its sessions holds a job.
-local function join(queue)
-    local gateway = queue.gateway
-    if gateway == '' then return end
-    if not redis.call('ZSCORE', queue.keys[7], gateway) then
-        redis.call('ZADD', queue.keys[7], whole(queue.now + tonumber(queue.lease)), gateway)
-    end
-    queue.gateway = ''
-end
-
 -- Takes out the earliest element, if it has expired, and lets the session hold it. -> its id and its ITEM line
 local function fetch(queue, seat)
     local head = head_of(queue)
     if not head or string.sub(head, 1, 20) > queue.at then return nil end
-    join(queue)
     local expiry, id, attempt, payload = string.match(head, '^(%d+):(%d+) %d+ %d+ (%d+) (.*)$')
     local shown = plain(id)
     redis.call('ZPOPMIN', queue.keys[1])
@@ -421,14 +414,23 @@ function requests.DROP(queue, seat, id)
     return 'DROPPED ' .. id .. '\n'
 end
 
+-- Whether the sessions of a gateway may make calls. A lease that is over counts until another gateway has found it so.
+local function has_lease(keys, gateway)
+    local lease = redis.call('ZSCORE', keys[7], gateway)
+    return lease and lease ~= ENDED
+end
+
+local function lease_is_over() return redis.error_reply('LEASE the lease of this gateway is over') end
+
 local function perform(keys, args, spare)
     local queue, fault = open(keys, args[1])
     if not queue then return fault end
-    queue.spare, queue.gateway, queue.lease = spare, args[2], args[3]
+    if args[2] ~= '' and not has_lease(keys, args[2]) then return lease_is_over() end
+    queue.spare = spare
     local replies = {}
-    for place = 4, #args do
+    for place = 3, #args do
         local seat, word, number, rest = string.match(args[place], '^(%d+) (%u+) ?(%S*) ?(%S*)$')
-        replies[place - 3] = requests[word](queue, seat, number, rest)
+        replies[place - 2] = requests[word](queue, seat, number, rest)
     end
     close(queue)
     return replies
@@ -469,6 +471,7 @@ end
 
 local function renew(keys, args)
     local gateway, lease, only_own = unpack(args)
+    if not has_lease(keys, gateway) then return lease_is_over() end
     local now = microseconds()
     redis.call('ZADD', keys[7], whole(now + tonumber(lease)), gateway)
     if only_own then return 0 end
@@ -484,7 +487,7 @@ local function renew(keys, args)
         if seat ~= ended then end_session(queue, seat) end
         ended = seat
     end
-    if #members == 0 then redis.call('ZREM', keys[7], late) end
+    if #members < MOST_ENDED then redis.call('ZREM', keys[7], late) else redis.call('ZADD', keys[7], ENDED, late) end
     close(queue)
     return #members
 end

@@ -4,8 +4,9 @@ from __future__ import annotations
 import asyncio
 import logging
 import time
-from typing import Callable, Optional
+from typing import Callable, Iterator, Optional
 
+from .errors import ErrorReply
 from .keys import keys_of
 from .link import Link
 from .resp import Answer, ErrorAnswer, bulks, command
@@ -29,20 +30,31 @@ SECONDS_BETWEEN_TRIES = 0.05
 LATER = {"LOADING", "BUSY", "TRYAGAIN", "ASK", "CLUSTERDOWN", "NOREPLICAS", "MISCONF", "LOADING_QUEUE"}
 # The same, but another node has to be asked.
 ELSEWHERE = {"MOVED", "READONLY", "MASTERDOWN", "UNBLOCKED"}
+# The same, and the Redis does not know this gateway: its sessions have ended.
+UNKNOWN = {"NOQUEUE", "LEASE"}
+
+AT_AN_END = {b"DONE": ErrorReply.NOT_HELD, b"FAIL": ErrorReply.NOT_HELD, b"END": b"ENDED 0\n"}
+"""What calls of a session are answered that has ended. The others have no reply."""
+
+
+def word_of(call: bytes) -> bytes:
+    """What a call asks for."""
+    return call.split(b" ")[1]
 
 
 def without_fetch(call: bytes) -> bytes:
     """The call, or one that fetches nothing in its place."""
-    seat, word, *_ = call.split(b" ")
-    return seat + b" WAIT" if word in FETCHES else call
+    return call.partition(b" ")[0] + b" WAIT" if word_of(call) in FETCHES else call
 
 
 class Batch:
     """Calls that go out together, with who is told the replies."""
 
-    __slots__ = ("calls", "parts", "function", "sent", "answer_before_copies")
+    __slots__ = ("calls", "parts", "front", "function", "sent", "answer_before_copies")
 
-    def __init__(self) -> None:
+    def __init__(self, front: bytes) -> None:
+        """`front` names the gateway whose sessions make the calls."""
+        self.front = front
         self.calls: list[bytes] = []
         self.parts: list[tuple[Answered, int]] = []
         self.function = b"rb_calls"
@@ -54,23 +66,32 @@ class Batch:
         if len(self.parts) == 1:
             self.parts[0][0](replies)
             return
-        start = 0
-        for answered, count in self.parts:
-            answered(replies[start:start + count])
-            start += count
+        for answered, its_calls in self._parts():
+            answered(replies[its_calls])
 
     def withhold(self, answered: Answered) -> None:
         """Fetches nothing for this one. Its calls that would are answered LATER."""
-        start = 0
-        for its_answered, count in self.parts:
+        for its_answered, its_calls in self._parts():
             if its_answered == answered:
-                self.calls[start:start + count] = map(without_fetch, self.calls[start:start + count])
-            start += count
+                self.calls[its_calls] = map(without_fetch, self.calls[its_calls])
+
+    def answer_at_an_end(self) -> None:
+        """The sessions have ended, and no call is made: what they held they do not hold any more."""
+        for answered, its_calls in self._parts():
+            replies = [AT_AN_END[word] for word in map(word_of, self.calls[its_calls]) if word in AT_AN_END]
+            answered(replies if len(replies) == len(self.calls[its_calls]) else None)
 
     def doubt(self) -> None:
         """Nobody knows whether the calls were made."""
         for answered, _ in self.parts:
             answered(None)
+
+    def _parts(self) -> Iterator[tuple[Answered, slice]]:
+        """Who is told the replies to which calls."""
+        start = 0
+        for answered, count in self.parts:
+            yield answered, slice(start, start + count)
+            start += count
 
 
 class Calls:
@@ -79,16 +100,16 @@ class Calls:
 
     def __init__(self, queue: str, *, replicas: int = 0, patience: float = 5.0) -> None:
         self._head = bulks(key.encode() for key in keys_of(queue))
-        self._tail = bulks([b"", b"", b"0"])
         self._replicas, self._patience = replicas, patience
-        self._batch = Batch()
+        self._front = bulks([b"", b""])
+        self._batch = Batch(self._front)
         self._again: list[Batch] = []
         self._flying: dict[Batch, None] = {}
         self._link: Optional[Link] = None
         self._gateway = 0
         self._loop = asyncio.get_event_loop()
         self._is_scheduled = False
-        self.queue_is_gone: Callable[[], None] = lambda: None
+        self.gateway_is_unknown: Callable[[], None] = lambda: None
         self.functions_are_gone: Callable[[], None] = lambda: None
 
     @property
@@ -100,10 +121,12 @@ class Calls:
         """The seat of a session of this gateway."""
         return b"%d" % (self._gateway * SEATS_OF_A_GATEWAY + session % SEATS_OF_A_GATEWAY)
 
-    def join(self, gateway: int, lease: int) -> None:
-        """From now on the calls are those of this gateway, whose lease is so many microseconds."""
-        self._gateway = gateway
-        self._tail = bulks([b"", b"%d" % gateway, b"%d" % lease])
+    def join(self, gateway: int) -> None:
+        """From now on the calls are those of this gateway. What was gathered before is of the one before."""
+        self._gateway, self._front = gateway, bulks([b"", b"%d" % gateway])
+        if self._batch.calls:
+            self._again.append(self._batch)
+        self._batch = Batch(self._front)
 
     def use(self, link: Optional[Link]) -> None:
         """Sends by this link from now on. What was sent by the one before, and not answered, is in doubt."""
@@ -144,7 +167,7 @@ class Calls:
         if self._again:
             batch = self._again.pop(0)
         elif self._batch.calls:
-            batch, self._batch = self._batch, Batch()
+            batch, self._batch = self._batch, Batch(self._front)
         else:
             return
         self._send(link, batch)
@@ -154,8 +177,8 @@ class Calls:
     def _send(self, link: Link, batch: Batch) -> None:
         self._flying[batch] = None
         batch.sent = time.monotonic()
-        head = b"*%d\r\n$5\r\nFCALL\r\n$8\r\n%b\r\n$1\r\n8\r\n" % (14 + len(batch.calls), batch.function)
-        data = b"".join([head, self._head, self._tail, bulks(batch.calls)])
+        head = b"*%d\r\n$5\r\nFCALL\r\n$8\r\n%b\r\n$1\r\n8\r\n" % (13 + len(batch.calls), batch.function)
+        data = b"".join([head, self._head, batch.front, bulks(batch.calls)])
         if not self._replicas:
             link.send(data, lambda answer: self._answered(link, batch, answer))
             return
@@ -196,9 +219,10 @@ class Calls:
         elif code in ELSEWHERE:
             self._send_again(batch, 0)
             link.close()
-        elif code == "NOQUEUE":
-            self.queue_is_gone()
-            batch.doubt()
+        elif code in UNKNOWN:
+            if batch.front is self._front:
+                self.gateway_is_unknown()
+            batch.answer_at_an_end()
         elif "Function not found" in str(answer):
             self._send_again(batch, SECONDS_BETWEEN_TRIES)
             self.functions_are_gone()

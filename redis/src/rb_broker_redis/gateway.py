@@ -58,6 +58,8 @@ class Gateway:
         self._upkeeps = [self._upkeep_of(number, *it) for number, it in enumerate(zip(names, queues))]
         self._sessions: set[Session] = set()
         self._server: asyncio.base_events.Server
+        self._unseated: dict[Session, int] = {}
+        """Sessions that have no seat yet, with their numbers."""
         self._count = self._lost = 0
         self._all_ended = asyncio.Event()
 
@@ -66,7 +68,7 @@ class Gateway:
         return Upkeep(
             settings.address, name, calls, lease=settings.lease // 1_000, policy=settings.policy, mode=settings.mode,
             heard=lambda message: self.waits.heard(message, number),
-            may_have_missed=lambda: self.waits.look_now(number), queue_is_gone=self._close_all,
+            may_have_missed=lambda: self.waits.look_now(number), forgotten=self._stop_all, joined=self._seat_all,
         )
 
     async def join(self) -> None:
@@ -86,8 +88,7 @@ class Gateway:
         many sessions there were, and how many jobs were lost."""
         self._server.close()
         self._all_ended.clear()
-        for session in list(self._sessions):
-            session.stop()
+        self._stop_all()
         if self._sessions:
             try:
                 await asyncio.wait_for(self._all_ended.wait(), SECONDS_TO_END)
@@ -101,19 +102,27 @@ class Gateway:
         for upkeep in self._upkeeps:
             await upkeep.stop()
 
-    def begin(self, session: Session) -> bytes:
-        """A session begins. Returns what stands before each of its calls: its seat and a space."""
+    def begin(self, session: Session) -> None:
+        """A session begins. It is given a seat, at once or when the queues know this gateway again."""
         self._sessions.add(session)
         self._count += 1
-        return self.calls.seat_of(self._count) + b" "
+        self._unseated[session] = self._count
+        self._seat_all()
 
     def end(self, session: Session, lost: int) -> None:
         """A session has ended."""
         self._sessions.discard(session)
+        self._unseated.pop(session, None)
         self._lost += lost
         if not self._sessions:
             self._all_ended.set()
 
-    def _close_all(self) -> None:
+    def _seat_all(self) -> None:
+        if all(it.is_joined for it in self._upkeeps):
+            while self._unseated:
+                session, number = self._unseated.popitem()
+                session.sit(self.calls.seat_of(number) + b" ")
+
+    def _stop_all(self) -> None:
         for session in list(self._sessions):
-            session.close()
+            session.stop()

@@ -66,5 +66,5 @@ class Queue:
 
     def request(self, line: str, seat: int = COMMANDS_SEAT) -> str:
         """Makes one call of `rb_calls` by the node's time. The reply is without its last line feed."""
-        (reply,) = self.call("rb_calls", "", "", 0, f"{seat} {line}")
+        (reply,) = self.call("rb_calls", "", "", f"{seat} {line}")
         return str(reply.decode()[:-1])

@@ -108,7 +108,7 @@ def performer(queue: Queue) -> Perform:
     """Makes calls of the queue."""
 
     def perform(moment: int, calls: list[bytes]) -> list[bytes]:
-        replies: list[bytes] = queue.call("rb_calls", f"{moment:020}", "", 0, *calls)
+        replies: list[bytes] = queue.call("rb_calls", f"{moment:020}", "", *calls)
         return replies
 
     return perform

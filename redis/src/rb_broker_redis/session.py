@@ -43,6 +43,7 @@ class Session(asyncio.Protocol):
         """None is a line that the end of input has cut off."""
         self._transport: asyncio.Transport
         self._seat = b""
+        """What stands before each of its calls: its number at the queue, and a space. Until it has one, its lines wait."""
         self._plan: list[Optional[bytes]] = []
         self._wait_request = b""
         """The request of a plan that may have to wait."""
@@ -64,7 +65,12 @@ class Session(asyncio.Protocol):
         self._transport = cast(asyncio.Transport, transport)
         for option, value in KEPT_ALIVE:
             transport.get_extra_info("socket").setsockopt(*option, value)
-        self._seat = self._gateway.begin(self)
+        self._gateway.begin(self)
+
+    def sit(self, seat: bytes) -> None:
+        """Gives it its seat."""
+        self._seat = seat
+        self._go_on()
 
     def data_received(self, data: bytes) -> None:
         if self._is_over or self._is_at_end:
@@ -72,7 +78,7 @@ class Session(asyncio.Protocol):
         self._lines += self._cutter.cut(data)
         if not self._is_busy:
             self._go_on()
-        elif len(self._lines) > MOST_WAITING_LINES and not self._is_paused:
+        if len(self._lines) > MOST_WAITING_LINES and not self._is_paused:
             self._is_paused = True
             self._transport.pause_reading()
 
@@ -90,12 +96,7 @@ class Session(asyncio.Protocol):
     def connection_lost(self, fault: Optional[Exception]) -> None:
         self._is_gone = self._is_at_end = True
         self._lines.clear()
-        if self._wait:
-            self._gateway.waits.give_up(self._wait)
-        elif self._is_busy:
-            self._gateway.calls.withhold(self._answered)
-        else:
-            self._end()
+        self._leave()
 
     def pause_writing(self) -> None:
         self._is_full = self._is_paused = True
@@ -107,7 +108,8 @@ class Session(asyncio.Protocol):
             self._go_on()
 
     def stop(self) -> None:
-        """Ends it in good order: what is under way is answered, and no further line is carried out."""
+        """Ends it in good order: what is under way is answered, and no further line is carried out. If it has ended at the
+        queue, what is under way is refused there."""
         self._lines.clear()
         self._is_at_end = True
         if self._wait:
@@ -120,14 +122,11 @@ class Session(asyncio.Protocol):
         self._lines.clear()
         self._is_at_end = self._is_gone = True
         self._transport.close()
-        if self._wait:
-            self._gateway.waits.give_up(self._wait)
-        elif not self._is_busy:
-            self._end()
+        self._leave()
 
     def _go_on(self) -> None:
         """Carries out the next lines, up to one that may wait."""
-        if self._lines and not self._is_full:
+        if self._lines and self._seat and not self._is_full:
             self._is_busy = True
             calls = self._calls_of_next()
             if calls:
@@ -213,6 +212,15 @@ class Session(asyncio.Protocol):
         if not self._is_gone:
             self._transport.write(reply)
         self._go_on()
+
+    def _leave(self) -> None:
+        """Its client gets no further reply: fetches nothing more for it, and ends."""
+        if self._wait:
+            self._gateway.waits.give_up(self._wait)
+        elif self._is_busy:
+            self._gateway.calls.withhold(self._answered)
+        else:
+            self._end()
 
     def _end(self) -> None:
         """Ends the session at the queue, and then closes the connection."""

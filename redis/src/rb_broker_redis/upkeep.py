@@ -2,6 +2,7 @@
 from __future__ import annotations
 
 import asyncio
+import contextlib
 import logging
 import time
 from typing import Any, Awaitable, Callable, Optional, TypeVar
@@ -9,7 +10,7 @@ from uuid import uuid4
 
 from . import library
 from .address import Address
-from .calls import Calls
+from .calls import UNKNOWN, Calls
 from .keys import channel_of, keys_of
 from .link import Link, connect
 from .place import place_of
@@ -25,24 +26,29 @@ Made = TypeVar("Made")
 
 
 class Upkeep:
-    """`heard` gets what is published about the queue, and `may_have_missed` is called when a publish may be lost."""
+    """`heard` gets what is published about the queue, and `may_have_missed` is called when a publish may be lost.
+    `forgotten` is called when the sessions have ended that there are, and `joined` when others may begin."""
 
     def __init__(
         self, address: Address, queue: str, calls: Calls, *, lease: int, policy: Optional[Policy], mode: str,
-        heard: Callable[[bytes], None], may_have_missed: Callable[[], None], queue_is_gone: Callable[[], None],
+        heard: Callable[[bytes], None], may_have_missed: Callable[[], None], forgotten: Callable[[], None],
+        joined: Callable[[], None],
     ) -> None:
-        self._gateway = 0
+        self._gateway = b""
         self._name = f"rb_broker-{uuid4().hex}".encode()
         """That of its links, which no other gateway has."""
         self._address, self._queue, self._calls = address, queue, calls
-        self._lease, self._policy, self._mode = lease, policy, mode
-        self._heard, self._may_have_missed, self._queue_is_gone = heard, may_have_missed, queue_is_gone
+        self._lease = lease
+        self._words, self._mode = policy.words() if policy else NO_WORDS, mode
+        self._heard, self._may_have_missed, self._forgotten, self._joined = heard, may_have_missed, forgotten, joined
         self._keys = keys_of(queue)
         self._link: Optional[Link] = None
         self._linked_at = time.monotonic()
-        self._is_joined = False
+        self.is_joined = False
+        """Whether the queue knows this gateway."""
         self._tasks: list[asyncio.Task[None]] = []
-        calls.queue_is_gone = self._join_anew
+        self._must_join = asyncio.Event()
+        calls.gateway_is_unknown = self._is_unknown
         calls.functions_are_gone = self._reload
 
     async def start(self) -> None:
@@ -105,23 +111,28 @@ class Upkeep:
         if library.must_load(version):
             await link.ask("FUNCTION", "LOAD", "REPLACE", library.SOURCE)
 
-    async def _call(self, link: Link, function: str, *args: "str | int") -> Any:
+    async def _call(self, link: Link, function: str, *args: "bytes | str | int") -> Any:
         return await link.ask("FCALL", function, len(self._keys), *self._keys, *args)
 
     async def _join(self, link: Link) -> None:
-        words = self._policy.words() if self._policy else NO_WORDS
-        joined = await self._call(link, "rb_join", self._lease, *words, self._mode)
-        self._gateway = int(joined[0])
-        self._calls.join(self._gateway, self._lease)
-        self._is_joined = True
+        """Gives the gateway a new number."""
+        joined = await self._call(link, "rb_join", self._lease, *self._words, self._mode)
+        self._gateway, pace, period, attempts, _ = joined
+        self._words = pace.decode(), period.decode(), attempts.decode()
+        self._mode = self._mode.replace("change", "")
+        self._calls.join(int(self._gateway))
+        self.is_joined = True
+        self._joined()
 
-    def _join_anew(self) -> None:
-        """The queue is gone, as after FLUSHALL: it is made again, and the sessions of the old one are closed."""
-        if self._is_joined:
-            LOG.error("queue %s is gone from the Redis, and is made anew", self._queue)
-            self._is_joined = False
-            self._queue_is_gone()
-            self._close_link()
+    async def _join_anew(self, link: Link) -> None:
+        """Joins again. If the queue has been given another policy meanwhile, that is kept."""
+        try:
+            await self._join(link)
+        except ErrorAnswer as fault:
+            if fault.code != "POLICY":
+                raise
+            self._words = NO_WORDS
+            await self._join(link)
 
     def _reload(self) -> None:
         """The functions are gone, as after FUNCTION FLUSH. A new link is given them."""
@@ -147,8 +158,8 @@ class Upkeep:
     async def _connect_again(self, lost: asyncio.Event) -> Link:
         lost.clear()
         link = await self._connect(lost)
-        if not self._is_joined:
-            await self._join(link)
+        if not self.is_joined:
+            await self._join_anew(link)
         return link
 
     async def _keep_subscribed(self) -> None:
@@ -181,14 +192,30 @@ class Upkeep:
 
     async def _keep_lease(self) -> None:
         while True:
-            await asyncio.sleep(self._lease / 3e6)
+            with contextlib.suppress(asyncio.TimeoutError):
+                await asyncio.wait_for(self._must_join.wait(), self._lease / 3e6)
+            self._must_join.clear()
             try:
+                if self._link and not self.is_joined:
+                    await self._join_anew(self._link)
                 while self._link and await self._call(self._link, "rb_renew", self._gateway, self._lease, *self._only()):
                     LOG.warning("a gateway's lease is over: its sessions have ended, and their jobs come back")
             except OSError:
                 self._close_link()
             except ErrorAnswer as fault:
-                LOG.warning("the lease is not renewed: %s", fault)
+                if fault.code in UNKNOWN:
+                    self._is_unknown()
+                else:
+                    LOG.warning("the lease is not renewed: %s", fault)
+
+    def _is_unknown(self) -> None:
+        """The Redis does not know this gateway, as after FLUSHALL, or when another has found its lease to be over. Its
+        sessions have ended, and it joins again."""
+        if self.is_joined:
+            LOG.error("queue %s does not know this gateway any more: its sessions have ended", self._queue)
+            self.is_joined = False
+            self._forgotten()
+            self._must_join.set()
 
     def _only(self) -> list[str]:
         """Lets the call renew its own lease only, while others may not have found the Redis again."""
