@@ -13,6 +13,15 @@ REFUSALS = frozenset((
 ))
 
 
+class Rules(NamedTuple):
+    """What is otherwise where a queue stands on Redis."""
+
+    has_leases: bool = False
+    """A session may end before its client leaves. What it held has come back, and its next DONE is refused."""
+    is_shard: bool = False
+    """The session has jobs of other queues too, and a fetch may ask this queue in vain."""
+
+
 class Strange(Exception):
     """A reply that its request can't get."""
 
@@ -32,12 +41,13 @@ Answer = Callable[["Account", Words, Words, List[str]], Optional[Expected]]
 class Account:
     """What a session holds, by its replies so far."""
 
-    def __init__(self, history: History) -> None:
-        self._history = history
+    def __init__(self, history: History, rules: Rules) -> None:
+        self._history, self._rules = history, rules
         self.held: Dict[int, Optional[Element]] = {}  # by id, in the order in which they were fetched
         self.has_left = False  # by QUIT
         self.last_attempt = ""  # of a job, as a DEAD says
         self.was_full = False  # so was the run, as a refusal says
+        self._is_over = False  # by a lease that was over, as a refusal says
 
     def expected(self, request: str, reply: List[str]) -> Optional[Expected]:
         """The event that a reply speaks of, if it speaks of one. Raises `Strange` for no right reply."""
@@ -45,6 +55,8 @@ class Account:
         words = reply[0].split(" ")
         answer = ANSWERS.get(words[0])
         if answer is None or (len(reply) > 1 and words[0] != "DRAINED"):
+            raise Strange
+        if self._is_over and words[0] not in ("ERR", "BYE"):
             raise Strange
         try:
             return answer(self, asked, words, reply)
@@ -96,7 +108,7 @@ class Account:
         return _answered(asked == ["PEEK"], Expected(f"peek {words[1]}", NONE, flaw))
 
     def _drained(self, asked: Words, words: Words, reply: List[str]) -> Expected:
-        most = min(int(asked[1]), MOST_HELD - len(self.held))
+        most = ANY if self._rules.is_shard else min(int(asked[1]), MOST_HELD - len(self.held))
         items = [line.split(" ") for line in reply[1:]]
         ids = [int(it[1]) for it in items]
         event = self._history.exits[ids[0]] if ids else NONE
@@ -153,7 +165,9 @@ class Account:
 
     def _refused(self, asked: Words, words: Words, reply: List[str]) -> None:
         if words[1] == "5":
-            _answered(asked[0] in ("DONE", "FAIL") and int(asked[1]) not in self.held)
+            is_held = int(asked[1]) in self.held
+            _answered(asked[0] in ("DONE", "FAIL") and (self._rules.has_leases or not is_held))
+            self._is_over |= is_held
         if words[1] == "9":
             _answered(asked[0] in ("POLL", "POLLFOR", "TAKE") and len(self.held) == MOST_HELD)
         _answered(reply[0] in REFUSALS)

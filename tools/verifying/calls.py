@@ -4,7 +4,7 @@ from __future__ import annotations
 from array import array
 from typing import Dict, List, NamedTuple, Optional, Tuple
 
-from verifying.account import Account, Expected, Strange
+from verifying.account import Account, Expected, Rules, Strange
 from verifying.faults import Faults
 from verifying.history import NONE, History
 from verifying.record import GREATEST_TIME, Exchange
@@ -74,16 +74,14 @@ class Calls:
 class Reading:
     """Reads records: finds the event of each reply that names an element, and leaves the others to be placed."""
 
-    def __init__(self, history: History, faults: Faults) -> None:
-        self._history, self._faults = history, faults
+    def __init__(self, history: History, faults: Faults, rules: Rules = Rules()) -> None:
+        self._history, self._faults, self._rules = history, faults, rules
         self.calls = Calls()
         self.sessions: List[Session] = []
-        self.requests = 0
         self._indexes: Dict[Tuple[str, str], int] = {}
 
     def add(self, path: str, exchange: Exchange) -> None:
         """Adds the next line of the record at this path."""
-        self.requests += 1
         index = self._session(path, exchange.session)
         session = self.sessions[index]
         if exchange.received is None:
@@ -92,8 +90,7 @@ class Reading:
         try:
             expected = session.account.expected(exchange.request, exchange.reply)
         except Strange:
-            where = f"{path}:{exchange.line}: session {session.name}"
-            self._faults.add("strange", where, f"{exchange.reply[0][:80]!a} answers {exchange.request[:80]!a}")
+            tell_strange(self._faults, path, exchange)
             return
         if expected is not None:
             session.calls.append(self.calls.add(exchange, index, self._event(expected)))
@@ -109,5 +106,11 @@ class Reading:
         index = self._indexes.get((path, name))
         if index is None:
             index = self._indexes[path, name] = len(self.sessions)
-            self.sessions.append(Session(name, path, Account(self._history)))
+            self.sessions.append(Session(name, path, Account(self._history, self._rules)))
         return index
+
+
+def tell_strange(faults: Faults, path: str, exchange: Exchange) -> None:
+    """Adds a reply of the record at this path that its request can't get."""
+    where = f"{path}:{exchange.line}: session {exchange.session}"
+    faults.add("strange", where, f"{exchange.reply[0][:80]!a} answers {exchange.request[:80]!a}")

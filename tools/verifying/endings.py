@@ -6,7 +6,7 @@ is under way then is in no record.
 from __future__ import annotations
 
 from collections import deque
-from typing import Deque, List
+from typing import Deque, Iterator, List
 
 from histories.given import given_ids
 from verifying.account import MOST_HELD
@@ -52,6 +52,17 @@ class Endings:
                     self._tell("gap", session, event, "stands before the return of a job that it held at its end")
         for event in returns:
             self._tell("return", session, event, "returns a job of its end, and is not right behind its last call")
+
+    def unrecorded_events(self) -> Iterator[int]:
+        """The events that are nobody's, once all sessions were followed."""
+        for event, call in enumerate(self._placing.claims):
+            if call == NONE and self._placing.history.is_looked_for(event):
+                yield event
+
+    @property
+    def unrecorded(self) -> int:
+        """How many they are."""
+        return sum(1 for _ in self.unrecorded_events())
 
     def _tell(self, kind: str, session: Session, event: int, what: str) -> None:
         where = f"{session.path}: session {session.name}"

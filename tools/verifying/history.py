@@ -2,8 +2,9 @@
 from __future__ import annotations
 
 import collections
+import re
 from array import array
-from typing import BinaryIO, Dict, List, Match, NamedTuple
+from typing import BinaryIO, Dict, List, Match, NamedTuple, Optional
 
 from histories.faults import Damaged
 from histories.grammar import Head
@@ -11,6 +12,12 @@ from histories.text import Text
 
 # Takes the place of an event if there is none.
 NONE = -1
+
+# Takes the place of an event's place in its seat's row, if it is not looked for there.
+NOWHERE = (1 << 32) - 1
+
+# The acts that name no element which comes or leaves. A fetch of a client of several queues may ask one in vain.
+IN_VAIN = re.compile(rb"\S+ \S+ \S+ (?:poll none|pollfor \S+ \S+ none|drain \S+|peek \S+|size \S+)\n")
 
 # In the words of an act, what is not told.
 ANY = "…"
@@ -56,8 +63,8 @@ class EventsById:
 class History:
     """The events of a run, each by its index, from 0. Whether they are legal is the affair of `rb_broker replay`."""
 
-    def __init__(self, version: int, next_id: int) -> None:
-        self.version = version
+    def __init__(self, version: int, next_id: int, name: str = "") -> None:
+        self.version, self._name = version, name
         self.text = bytearray()  # of the events
         self.starts = array("Q", [0])  # where each event's line begins, and where the next one would
         self.seat_names: List[int] = []
@@ -95,7 +102,11 @@ class History:
 
     def told(self, event: int) -> str:
         """How messages name an event."""
-        return f"event {event} ({self.act(event)}, seat {self.seat(event)})"
+        return f"{self._name}event {event} ({self.act(event)}, seat {self.seat(event)})"
+
+    def is_looked_for(self, event: int) -> bool:
+        """Whether an event must be the call of somebody."""
+        return self.places[event] != NOWHERE
 
     def element(self, id: int) -> Element | None:
         """The element of an id, if it was offered or there from the start."""
@@ -123,20 +134,21 @@ def read_history(*files: BinaryIO) -> History:
 class Series:
     """Reads the files of a series, one after the other."""
 
-    def __init__(self) -> None:
-        self._reader: _Reader | None = None
+    def __init__(self, shard: Optional[int] = None) -> None:
+        """`shard` is the number of the queue, if it is one of several with one name."""
+        self._shard = shard
+        self._reader: Optional[_Reader] = None
 
     @property
     def history(self) -> History:
-        """What was read so far."""
-        assert self._reader
-        return self._reader.history
+        """What was read so far. A queue that nobody has used has no file."""
+        return self._reader.history if self._reader else History(3, 0)
 
     def read(self, file: BinaryIO) -> None:
         """Adds a file. Whether it begins with the elements that the one before left is the affair of tools/report."""
         text = Text(file)
         if self._reader is None:
-            self._reader = _Reader(text.head)
+            self._reader = _Reader(text.head, self._shard)
             for _, line in text.kept():
                 self._reader.keep(line)
         else:
@@ -149,8 +161,9 @@ class Series:
 class _Reader:
     """Fills the columns and indexes of a history, line by line."""
 
-    def __init__(self, head: Head) -> None:
-        self.history = History(head.version, head.next_id)
+    def __init__(self, head: Head, shard: Optional[int]) -> None:
+        self._is_shard = shard is not None
+        self.history = History(head.version, head.next_id, f"shard {shard} " if self._is_shard else "")
         self._next_id = head.next_id  # of the file that is read
         self._next, self._last = head.next_id, head.opened_at  # with which a file begins that goes on
         self._latest: Dict[int, int] = {}  # the id of the latest attempt of each job that was offered again
@@ -176,8 +189,11 @@ class _Reader:
         if index is None:
             index = self._new_seat(line[1], number)
         history.seats.append(index)
-        history.places.append(len(history.rows[index]))
-        history.rows[index].append(event)
+        if self._is_shard and IN_VAIN.fullmatch(line.string):
+            history.places.append(NOWHERE)
+        else:
+            history.places.append(len(history.rows[index]))
+            history.rows[index].append(event)
         history.text += line.string
         history.starts.append(len(history.text))
         self._last = int(line[3])

@@ -66,13 +66,15 @@ def record_of(record: List[Line]) -> str:
 class RunTest(RoomTest):
     """A test of runs that are files in its folder, or texts."""
 
+    has_leases = False
+
     def verify(self, *words: str) -> subprocess.CompletedProcess[str]:
         return run_tool("verify", *words)
 
     def judged(self, history: str, record: str, is_whole: bool = True) -> Tuple[Dict[str, int], List[str]]:
         """The number of faults of each kind that has any, and the lines of the faults."""
         exchanges = (("record.jsonl", it) for it in read_record(io.BytesIO(record.encode())))
-        verdict = judge(read_history(io.BytesIO(history.encode())), exchanges, 10, is_whole)
+        verdict = judge([read_history(io.BytesIO(history.encode()))], exchanges, 10, is_whole, self.has_leases)
         lines = report(verdict, is_whole)
         told = re.findall(r"^(\w+): +([\d,]+) faults?:", "\n".join(lines), re.M)
         counts = {kind: int(count.replace(",", "")) for kind, count in told}
