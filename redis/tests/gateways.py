@@ -13,7 +13,7 @@ POLICY = ("--delay", "20ms", "--attempts", 1000)
 
 
 class Gateway(Process):
-    """A gateway of a queue, which listens once it is started."""
+    """A gateway of a queue, which is started. `wait` waits until it listens."""
 
     def __init__(self, folder: Path, redis: str, queue: str, options: Sequence[object] = POLICY) -> None:
         folder.mkdir(parents=True)
@@ -22,14 +22,6 @@ class Gateway(Process):
                  "--port", self.port, *options]
         super().__init__([*map(str, words)], folder / "log")
         self.start()
-
-    def start(self) -> None:
-        super().start()
-        self.wait()
-
-    def start_soon(self) -> None:
-        """Starts it, and does not wait until it listens."""
-        super().start()
 
     def wait(self) -> None:
         """Waits until it listens."""

@@ -16,7 +16,8 @@ from typing import Any, Callable, Dict, List, Optional, Sequence
 import redis
 
 HOST = "127.0.0.1"
-PORTS = range(26_000, 27_000)  # a node of a Cluster also has the port that is 10,000 above its own
+PORTS = range(*map(int, os.environ.get("RB_BROKER_PORTS", "26000-27000").split("-")))
+"""Of this process alone. A node of a Cluster also has the port that is 10,000 above its own."""
 PATIENCE = 180  # seconds that anything may take, on a busy machine
 
 ALWAYS = ("--appendonly", "yes", "--appendfsync", "always")

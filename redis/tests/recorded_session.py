@@ -61,6 +61,10 @@ class RecordedSession:
         self._replies.close()
         self._socket.close()
 
+    def reset(self) -> None:
+        """Ends the connection as a kill of this process would, also while a reply is waited for."""
+        self._socket.shutdown(socket.SHUT_RDWR)
+
     def _line(self) -> str:
         line = self._replies.readline()
         if not line.endswith(b"\n"):

@@ -5,6 +5,7 @@ import io
 import subprocess
 import sys
 import tempfile
+import time
 import unittest
 from contextlib import redirect_stderr, redirect_stdout
 from pathlib import Path
@@ -50,7 +51,8 @@ class RedisTest(unittest.TestCase):
 
     def words(self, *words: object) -> list[str]:
         """The words of a command, with this test's Redis and queue."""
-        return [*map(str, words), "--redis", self.node.url, *([] if "--queue" in words else ["--queue", self.name])]
+        more = {"--redis": self.node.url, "--queue": self.name}
+        return [*map(str, words), *(it for name in more if name not in words for it in (name, more[name]))]
 
     def started(self, *words: object) -> subprocess.Popen[str]:
         """A command of the package for this test's queue, as a process."""
@@ -80,12 +82,15 @@ class RedisTest(unittest.TestCase):
         self.assertEqual(self.ran(*words), (status, [], f"rb_broker_redis: {line}\n"))
 
     def kill_again_and_again(self, *words: object) -> int:
-        """Starts a command and kills it, each time a bit later, until it ends well before that. How often it was
-        killed."""
+        """Starts a command and kills it, first while it starts and then each time a bit later, until it ends well before
+        that. How often it was killed."""
+        began = time.monotonic()
+        self.started(words[0], "--help").communicate()
+        to_start = time.monotonic() - began
         for kills in range(100):
             process = self.started(*words)
             try:
-                _, errors = process.communicate(timeout=0.2 * 1.1 ** kills)
+                _, errors = process.communicate(timeout=0.6 * to_start * 1.2 ** kills)
                 self.assertEqual((process.returncode, errors), (0, ""))
                 return kills
             except subprocess.TimeoutExpired:

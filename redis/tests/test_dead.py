@@ -12,10 +12,12 @@ class DeadTest(RedisTest):
     def with_dead(self, count: int, name: str = "") -> Queue:
         """A queue of jobs with one attempt each, of which so many have died."""
         queue = self.joined(attempts=1, name=name)
-        for number in range(count):
-            queue.request(f"OFFER 0 job-{number}", SEAT)
-            self.assertEqual(queue.request("POLL", SEAT).split(" ")[0], "ITEM")
-            self.assertEqual(queue.request(f"FAIL {number}", SEAT), f"DEAD {number}")
+        for first in range(0, count, 500):
+            numbers = range(first, min(first + 500, count))
+            calls = [f"{SEAT} {it}" for number in numbers for it in (f"OFFER 0 job-{number}", "POLL", f"FAIL {number}")]
+            replies = [it.decode() for it in queue.call("rb_calls", "", "", *calls)]
+            self.assertEqual({it.split(" ")[0] for it in replies[1::3]}, {"ITEM"})
+            self.assertEqual(replies[2::3], [f"DEAD {number}\n" for number in numbers])
         return queue
 
     def test_a_list(self) -> None:

@@ -3,7 +3,7 @@
 Afterwards the program accepts each history that was archived, with its retries. Each job that was offered is in them
 once, each of its attempts came after a failure of the one before, and its last attempt was given and did not come
 back. A worker knows that it was done, and no other knows that too; or the job is named, since its worker died or lost
-its connection before it could know.
+its connection before it could know. What the clients saw is what the histories tell, as tools/verify compares them.
 """
 from __future__ import annotations
 
@@ -18,13 +18,14 @@ import threading
 import time
 import unittest
 from pathlib import Path
-from typing import Callable
+from typing import Callable, Dict
 
-from accounts import attempts_in, sum_up
+from accounts import Attempts, attempts_in, sum_up
 from crew import Crew, Producer, compiled_java
 from gateways import POLICY, Gateway
 from nodes import ALWAYS, Node, Process, Replicas, Sentinels, wait_until
 from rb_broker_redis.archive_folder import ArchiveFolder
+from rb_broker_redis.shards import shard_names
 
 JOBS = int(os.environ.get("RB_BROKER_JOBS", 1_000))
 PROGRAM = os.environ["RB_BROKER_PROGRAM"]
@@ -33,16 +34,16 @@ PATIENCE = 600 + JOBS / 10  # seconds until all jobs are done
 GATEWAYS = 3
 PRODUCERS = 3
 EACH = 2  # workers of each kind
-SERVING = (*POLICY, "--wait", "200ms", "--lease", "10s")
+LEASE = 4  # seconds, which a busy machine may well let pass: then sessions lose their jobs while their gateway lives
+SERVING = (*POLICY, "--wait", "200ms", "--lease", f"{LEASE}s")
 CHAINS = ("--chains", "--delay", "20000000", "--attempts", "1000")
 QUEUE = "jobs"
 
-# Where a lease was over while its gateway lived, as on a machine without time for it, sessions lose their jobs early.
-OF_LATE = {"strange", "gap", "return"}
-
 
 class Day(unittest.TestCase):
-    """What both days have."""
+    """What all days have."""
+
+    shards = 1
 
     def setUp(self) -> None:
         room = tempfile.TemporaryDirectory(prefix="rb-day-")
@@ -53,18 +54,21 @@ class Day(unittest.TestCase):
 
     def run_day(self, redis: str, kill_redis: Callable[[], None], serving: tuple[object, ...] = SERVING) -> None:
         """Lets the day pass, and judges it."""
+        serving = (*serving, "--shards", self.shards)
         self.gateways = [Gateway(self.room / f"gateway-{it}", redis, QUEUE, serving) for it in range(GATEWAYS)]
-        self.crew = Crew(self.room, [it.port for it in self.gateways], compiled_java(self.room / "java"))
-        self.workers = [self.crew.start_worker(kind) for kind in self.crew.kinds for _ in range(EACH)]
         for it in self.gateways:
             self.addCleanup(it.kill)
+        self.crew = Crew(self.room, [it.port for it in self.gateways], compiled_java(self.room / "java"))
+        for it in self.gateways:
+            it.wait()
+        self.workers = [self.crew.start_worker(kind) for kind in self.crew.kinds for _ in range(EACH)]
         self.addCleanup(lambda: [it.kill() for it in self.crew.started])
         payloads = [str(it) for it in range(JOBS)]
         self.producers = [Producer(self.crew, self.room, f"producer-{it}", payloads[it::PRODUCERS])
                           for it in range(PRODUCERS)]
         self.addCleanup(lambda: [it.kill() for it in self.producers])
         self.take_events = [sys.executable, "-B", "-m", "rb_broker_redis", "archive", str(self.archive), "--redis", redis,
-                            "--queue", QUEUE]
+                            "--queue", QUEUE, "--shards", str(self.shards)]
         self.archiving = Process([*self.take_events, "--every", "300ms"], self.room / "archive.log")
         self.archiving.start()
         self.addCleanup(self.archiving.kill)
@@ -84,7 +88,7 @@ class Day(unittest.TestCase):
             if what == "gateway":
                 gateway = self.draw.choice(self.gateways)
                 gateway.kill()
-                gateway.start_soon()
+                gateway.start()
             elif what == "worker":
                 self.kill_worker()
             elif what == "producer":
@@ -106,7 +110,7 @@ class Day(unittest.TestCase):
         """As a supervisor does: a gateway that finds no Redis when it starts ends."""
         for it in self.gateways:
             if not it.is_alive:
-                it.start_soon()
+                it.start()
 
     def kill_worker(self) -> None:
         """Kills a worker that has had work, and starts another of its kind."""
@@ -117,7 +121,7 @@ class Day(unittest.TestCase):
 
     def is_empty(self) -> bool:
         """Whether no job is in the queue or in hand, and stays so for longer than a lease."""
-        for _ in range(60):
+        for _ in range(5 * (LEASE + 1)):
             if self.gateways[0].ask("SIZE") != ["SIZE 0"]:
                 return False
             time.sleep(0.2)
@@ -133,13 +137,18 @@ class Day(unittest.TestCase):
         self.assertEqual((ran.returncode, ran.stderr), (0, ""))
 
     def judge(self) -> None:
-        histories = self.histories()
+        queues = self.histories()
+        histories = [it for files in queues for it in files]
         for it in histories:
             ran = subprocess.run([PROGRAM, "replay", str(it), *CHAINS], capture_output=True, text=True, check=False)
             self.assertEqual(ran.returncode, 0, f"{it}: {ran.stdout}{ran.stderr}")
-        self.assertEqual(self.said("tools/report", *histories)[0], 0)
+        jobs: Dict[str, Attempts] = {}
+        for files in queues:
+            self.assertEqual(self.said("tools/report", *files)[0], 0)
+            its_jobs = attempts_in(files)
+            self.assertEqual(jobs.keys() & its_jobs.keys(), set(), "a payload is in two queues")
+            jobs.update(its_jobs)
         faults = self.faults_of(histories)
-        jobs = attempts_in(histories)
         offered = set().union(*(it.offered() for it in self.producers))
         self.assertEqual(offered - jobs.keys(), set(), "offers were answered, and are in no history")
         for payload, attempts in jobs.items():
@@ -155,25 +164,29 @@ class Day(unittest.TestCase):
               f"{day.jobs} made; {day.done_once} jobs done once, {len(day.done_twice)} twice, {len(day.in_doubt)} in "
               f"doubt, of which {len(day.unseen)} without a note; {day.handled_again} handled again, {day.late} answers "
               f"too late; {len(histories)} histories accepted; faults of tools/verify: {faults}", flush=True)
-        a_lease_was_over = any("lease is over" in it.said() for it in self.gateways)
-        self.assertEqual({it for it, count in faults.items() if count} - (OF_LATE if a_lease_was_over else set()), set())
+        self.assertEqual({it: count for it, count in faults.items() if count}, {})
 
-    def histories(self) -> list[Path]:
+    def histories(self) -> list[list[Path]]:
+        """The files of each queue."""
         folder = ArchiveFolder(self.archive)
         self.addCleanup(folder.close)
-        files = folder.files(QUEUE)
-        self.assertEqual([it.first for it in files], [0, *(it.end for it in files[:-1])])
-        return [it.path for it in files]
+        queues = [folder.files(it) for it in shard_names(QUEUE, self.shards)]
+        for files in queues:
+            self.assertEqual([it.first for it in files], [0, *(it.end for it in files[:-1])])
+        return [[it.path for it in files] for files in queues]
 
     def faults_of(self, histories: list[Path]) -> dict[str, int]:
         """The number of faults of each kind that tools/verify finds."""
-        status, said = self.said("tools/verify", *histories, *[it for it in self.crew.records if it.exists()])
+        status, said = self.said("tools/verify", *histories, *[it for it in self.crew.records if it.exists()],
+                                 "--leases", "--shards", self.shards)
         self.assertIn(status, (0, 1), said)
         found = {kind: int(count) for kind, count in re.findall(r"^(\w+): +(\d+) faults?: ", said, re.MULTILINE)}
-        self.assertLessEqual({*OF_LATE, "changed", "missing", "twice", "order", "seat", "time"}, found.keys())
+        self.assertEqual({"strange", "gap", "return", "changed", "missing", "twice", "order", "seat", "time"}, {*found})
+        if status:
+            print(said, flush=True)
         return found
 
-    def said(self, tool: str, *words: Path) -> tuple[int, str]:
+    def said(self, tool: str, *words: object) -> tuple[int, str]:
         """The status of a tool, and what it prints."""
         ran = subprocess.run([sys.executable, "-B", str(TOP / tool), *map(str, words)], stdout=subprocess.PIPE,
                              stderr=subprocess.STDOUT, text=True, check=False)
@@ -192,6 +205,12 @@ class OneNodeTest(Day):
 
         self.run_day(node.url, kill_redis)
         self.assertEqual(list(self.archive.glob("*.lost-*")), [])
+
+
+class ShardsTest(OneNodeTest):
+    """The same with one name over several queues."""
+
+    shards = 3
 
 
 class SentinelTest(Day):

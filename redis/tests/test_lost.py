@@ -23,6 +23,7 @@ from recorded_session import Broken, Notes, RecordedSession
 ROUNDS = int(os.environ.get("RB_BROKER_ROUNDS", 1))
 PRODUCERS = 4
 SECONDS = 2.0  # before the kill
+ON_THE_WAY = 0.5  # seconds in which replies that the Redis has given reach the producers
 QUEUE = "jobs"
 SHIM = Path(__file__).with_name("power_cut.c")
 
@@ -84,12 +85,14 @@ class LostTest(unittest.TestCase):
     def offered_until(self, room: Path, redis: str, kill: Callable[[], None], *options: object) -> "tuple[Offers, float]":
         """Offers through a gateway until the kill. The answers, and the time of the kill."""
         gateway = Gateway(room / "gateway", redis, QUEUE, ("--timeout", "1s", *options))
+        gateway.wait()
         offers = Offers(gateway.port, room / "record")
         time.sleep(random.uniform(0.6, 1.0) * SECONDS)
         kill()
         killed = time.monotonic()
+        time.sleep(ON_THE_WAY)
+        gateway.kill()  # which would let the producers wait for a Redis
         offers.end()
-        gateway.kill()
         return offers, killed
 
     def missing(self, offers: Offers, killed: float, node: Node) -> Lost:

@@ -9,6 +9,7 @@ import sys
 import unittest
 from pathlib import Path
 
+from nodes import Process, wait_until
 from random_script import RandomScript
 from rb_broker_redis import script
 from rb_broker_redis.command import parser
@@ -30,11 +31,16 @@ PASSED_OVER = {
 
 class CasesTest(RedisTest):
     def test_each_case_passes_or_is_passed_over_by_name(self) -> None:
+        warm = [sys.executable, Path(__file__).with_name("warm.py"), self.room / "warm"]
+        server = Process([*map(str, warm)], self.room / "log")
+        server.start()
+        self.addCleanup(server.kill)
+        wait_until(warm[2].exists, "no command is warm")
         command = self.room / "command"
         command.write_text(
             "#!/bin/sh\n"
             f'[ "$1" = script ] || exec {PROGRAM} "$@"\n'
-            f'exec {sys.executable} -B -m rb_broker_redis "$@" --redis {self.node.url}\n')
+            f'exec {sys.executable} -IS {warm[1]} {warm[2]} "$@" --redis {self.node.url}\n')
         command.chmod(command.stat().st_mode | stat.S_IXUSR)
         ran = subprocess.run([TOP / "tools" / "conform", "--jobs", "4", command], stdout=subprocess.PIPE,
                              stderr=subprocess.PIPE, encoding="utf-8", check=False, env=self.environment())
