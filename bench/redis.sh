@@ -3,20 +3,22 @@
 # bench/redis.sh, from any folder. It needs redis-server, the package redis for /usr/bin/python3, and rustc for the
 # clients, bench/clients.rs, which say what they do.
 #
-#   ROUNDS   rounds (offer, take and done) of each run, of all its clients together (default 40000, at most 330000)
-#   RUNS     runs of each kind, of which the median by rounds a second counts (default 3)
-#   CLIENTS  how many clients at the same time (default "1 16 256 2000")
-#   WAKES    jobs that are waited for, to measure how late they come (default 1000)
+#   ROUNDS   rounds (offer, take and done) of each run, of all its clients together (default 20000, at most 330000)
+#   RUNS     runs of each kind, one of each in turn, of which the median by rounds a second counts (default 3)
+#   CLIENTS  how many clients at the same time (default "16 1 256 2000")
+#   WAKES    jobs that are waited for, to measure how late they come (default 500)
+#   MINUTES  how long it takes at most: then runs are left out (default 8)
 #   OTHER    a command that is given a port and that of a Redis, and serves the protocol from it, to compare with
 #
 # Each run has a Redis of its own, without persistence. Beside the rounds and the times of a request are the processor
-# times of a round, in microseconds: of the first gateway or server, and of the Redis.
+# times of a round, in microseconds, of the first gateway or server and of the Redis, and the share of a processor that
+# the Redis takes. A client alone makes no more than 3,000 rounds.
 set -euo pipefail
 export LC_ALL=C
 
-ROUNDS=${ROUNDS:-40000} RUNS=${RUNS:-3} CLIENTS=${CLIENTS:-1 16 256 2000} WAKES=${WAKES:-1000}
-if ((ROUNDS < 1000 || ROUNDS > 330000 || RUNS < 1 || WAKES < 100)); then
-    echo "bench: ROUNDS is 1000 to 330000, RUNS from 1, WAKES from 100" >&2 && exit 2
+ROUNDS=${ROUNDS:-20000} RUNS=${RUNS:-3} CLIENTS=${CLIENTS:-16 1 256 2000} WAKES=${WAKES:-500} MINUTES=${MINUTES:-8}
+if ((ROUNDS < 1000 || ROUNDS > 330000 || RUNS < 1 || WAKES < 100 || MINUTES < 1)); then
+    echo "bench: ROUNDS is 1000 to 330000, RUNS from 1, WAKES from 100, MINUTES from 1" >&2 && exit 2
 fi
 
 top=$(readlink -f -- "${BASH_SOURCE[0]}") && top=${top%/*/*}
@@ -78,6 +80,7 @@ start_gateways() {
 run_once() {
     local kind=$1 clients=$2 batches peer=broker first=1 before after line
     batches=$(((ROUNDS + clients - 1) / clients))
+    ((batches <= 3000)) || batches=3000
     [[ $kind == broker ]] || start_redis
     case $kind in
         broker) ports=$(free_port) first=0 && start "$ports" "$program" serve --port "$ports" --workers 16 --sessions 10000 --calls 1000000 ;;
@@ -92,23 +95,41 @@ run_once() {
     end_all
 }
 
-measure() {
-    local kind=$1 clients=$2
-    for ((run = 0; run < RUNS; run++)); do
-        run_once "$kind" "$clients"
-    done | sort -n > "$room/runs"
-    # shellcheck disable=SC2046 # words
-    printf '%-12s %7d %9d %9.1f %9.1f %9d %9d   %s\n' "$kind" "$clients" $(sed -n "$(((RUNS + 1) / 2))p" "$room/runs") \
-        "$(cut -d' ' -f1 "$room/runs" | tr '\n' ' ')"
+# Prints the median of the runs of a kind.
+print_median() {
+    local kind=$1 clients=$2 runs=$3
+    sort -n "$runs" | awk -v kind="$kind" -v clients="$clients" '
+        { line[NR] = $0; all = all $1 " " }
+        END {
+            split(line[int((NR + 1) / 2)], it, " ")
+            share = kind == "broker" ? "" : sprintf("%d%%", it[1] * it[5] / 10000)
+            printf "%-12s %7d %9d %9.1f %9.1f %9d %9d %9s   %s\n", kind, clients, it[1], it[2], it[3], it[4], it[5], share, all
+        }'
 }
 
-kinds=("1 gateway" "3 gateways" scripts ${OTHER:+other})
-printf '%-12s %7s %9s %9s %9s %9s %9s   %s\n' kind clients rounds/s 'median us' '99th us' 'its us' 'redis us' 'rounds/s of each run'
+kinds=(${OTHER:+other} "1 gateway" "3 gateways" scripts broker)
+last=0
+for ((run = 0; run < RUNS; run++)); do
+    for clients in $CLIENTS; do
+        for kind in "${kinds[@]}"; do
+            [[ $kind != broker ]] || ((clients <= 16)) || continue
+            begun=$SECONDS
+            if ((begun + last + 20 > MINUTES * 60)); then # the wakes take some time too
+                echo "left out for want of time: $kind, $clients clients, run $((run + 1))"
+                continue
+            fi
+            run_once "$kind" "$clients" >> "$room/$kind $clients"
+            ((last >= SECONDS - begun)) || last=$((SECONDS - begun))
+        done
+    done
+done
+
+printf '%-12s %7s %9s %9s %9s %9s %9s %9s   %s\n' \
+    kind clients rounds/s 'median us' '99th us' 'its us' 'redis us' 'redis' 'rounds/s of each run'
 for clients in $CLIENTS; do
     for kind in "${kinds[@]}"; do
-        measure "$kind" "$clients"
+        [[ ! -f $room/$kind\ $clients ]] || print_median "$kind" "$clients" "$room/$kind $clients"
     done
-    ((clients > 16)) || measure broker "$clients"
 done
 
 start_redis
