@@ -24,7 +24,7 @@ final class Session {
     /** How long the reply to {@code QUIT} is waited for, whatever the patience is. */
     private static final long FAREWELL = TimeUnit.SECONDS.toNanos(2);
 
-    /** How long a session lasts at a server that has no worker left: then others wait for one. */
+    /** How long a session lasts while others may wait for a worker of the server. */
     private static final long LONGEST_TURN = TimeUnit.SECONDS.toNanos(3);
     /** How long a session waits for a worker if there is none left. A {@link #LONG_WAIT} is worth a line in the log. */
     private static final long WAIT = TimeUnit.SECONDS.toNanos(1);
@@ -46,7 +46,7 @@ final class Session {
     boolean isLent;
     /** How many threads wait for this very session, to answer a job that it holds. */
     int answering;
-    /** The thread that last took jobs on it. */
+    /** The thread that last took jobs on it, or 0. */
     long taker;
 
     /** The session over a connection on which it was served after this time. */
@@ -164,9 +164,11 @@ final class Session {
         return longest;
     }
 
-    /** It lasts no longer than a turn, since others wait for a worker of the server. */
-    void makeWay() {
+    /** It lasts no longer than a turn, since others may wait for a worker of the server. Gives whether that is less. */
+    boolean makeWay() {
+        boolean isLess = longest > LONGEST_TURN;
         longest = Math.min(longest, LONGEST_TURN);
+        return isLess;
     }
 
     /** Whether it is to be left as soon as it holds no job. */

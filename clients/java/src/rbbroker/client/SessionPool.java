@@ -21,7 +21,8 @@ import java.util.function.Predicate;
  * of a wait, the others have to do for a while.
  *
  * <p>A session that has lasted long enough is left as soon as it is given back and holds no job. One that nobody uses
- * is left by a timer. So a server can end while queues lie idle.
+ * is left by a timer. So a server can end while queues lie idle. The first sessions that take jobs make way early, as
+ * nobody knows then whether other clients wait for a worker of the server: those behind would be served after a wait.
  */
 final class SessionPool {
     /** What a session is wanted for. */
@@ -50,6 +51,8 @@ final class SessionPool {
     private int waiting;
     /** Threads that wait for a session for a call that does not wait at the server. They come before those that do. */
     private int calling;
+    /** Whether a session that took jobs has been left, so that whoever waited then had a turn. */
+    private boolean hasMadeWay;
     private boolean hasBeenCrowded;
     private long crowdedSince;
     private boolean isClosed;
@@ -160,6 +163,7 @@ final class SessionPool {
                 forgetLost(session);
             } else if (session.isClosed()) {
                 sessions.remove(session);
+                hasMadeWay |= session.taker != 0;
             }
             changed.signalAll();
         } finally {
@@ -245,10 +249,13 @@ final class SessionPool {
     /** Marks a session as lent. */
     private Session lent(Session session, Use use) {
         session.isLent = true;
+        waiting += use == Use.WAIT ? 1 : 0;
         if (use != Use.CALL) {
             session.taker = Thread.currentThread().getId();
+            if (!hasMadeWay && session.makeWay()) {
+                watch(session);
+            }
         }
-        waiting += use == Use.WAIT ? 1 : 0;
         return session;
     }
 

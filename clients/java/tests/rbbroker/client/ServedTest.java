@@ -393,7 +393,7 @@ public class ServedTest {
 
     @Test
     public void aJobIsAnsweredWhileTheThreadThatTookItWaits() throws Exception {
-        serve(1, 1);
+        serve(1, 50); // the wait may outlast a session, which another one follows
         RemoteDelayQueue queue = opened(builder(Acknowledge.BY_CALL).longestWait(Duration.ofMillis(100)));
         queue.offer(due("a"));
         Job job = queue.take();
@@ -404,6 +404,7 @@ public class ServedTest {
         assertTrue(System.nanoTime() - begun < SECONDS.toNanos(2));
         assertNull(taken.get(30, SECONDS));
         queue.close();
+        server.useUp();
         assertEnded(0);
     }
 

@@ -108,6 +108,31 @@ public class TurnsTest {
     }
 
     @Test
+    public void aProducerJustBehindWorkersHasATurn() throws Exception {
+        serve(2);
+        for (int it = 0; it < 2; it++) {
+            RemoteDelayQueue queue = queue(1, Duration.ofSeconds(30));
+            start(() -> work(queue, 5, new CountDownLatch(0)));
+        }
+        Thread.sleep(1_000); // both of the server's workers serve one of them
+        long begun = System.nanoTime();
+        queue(1, Duration.ofSeconds(30)).offer(new Job("a", Duration.ZERO));
+        long waited = System.nanoTime() - begun;
+        assertTrue("waited " + waited, waited < SECONDS.toNanos(15)); // for the first sessions, of three seconds
+    }
+
+    @Test
+    public void onlyTheFirstSessionIsShortWhereNobodyWaits() throws Exception {
+        serve(2);
+        RecordingProxy proxy = new RecordingProxy(server.port());
+        open.add(0, proxy);
+        RemoteDelayQueue queue = queue(proxy.port(), 1, Duration.ofSeconds(30));
+        start(() -> work(queue, 5, new CountDownLatch(0)));
+        Thread.sleep(9_000);
+        assertEquals(2, proxy.sessions());
+    }
+
+    @Test
     public void whoeverWaitsForAWorkerOfTheServerHasATurn() throws Exception {
         serve(2);
         for (int it = 0; it < 4; it++) {
