@@ -1,12 +1,14 @@
 """The parts of tools/service, the process that keeps a server running at one port.
 
     service.py       one server after the other, each of which begins with what the one before left
+    resuming.py, starting.py, current.py, ending.py, saving.py    how a run begins, goes on and ends
+    parts.py, writing.py                     what these share, and how they write while the disk is full
     settings.py, durations.py                the words of the command line
     folder.py, record.py, runs.py            the folder of a service: what is written of a run, and in what order
     clock.py, opening.py                     what a run begins with: its moment, its ids and its elements
     deciding.py                              how a service begins, when a run ends, and which old ones are dropped
-    keeper.py, keeping.py, orphans.py        the process that holds a server and its history, and how it is found
-    server.py, ending.py, visits.py, cutting.py   a server, and how its run is brought to an end
+    keeper.py, keeping.py                    the process that holds a server and its history, and how it is found
+    server.py, visits.py, cutting.py         a server, how its sessions are used up, and how they are cut
     watch.py, sockets.py, session.py, looking.py  what is seen of a server
     signals.py, saying.py, notifying.py      how others ask for the end, and what they are told
     showing.py       what the service shows of itself

@@ -12,14 +12,13 @@ from __future__ import annotations
 
 import contextlib
 import fcntl
-import gzip
 import json
 import os
 import re
 import secrets
 import time
 import zlib
-from typing import BinaryIO, Iterable, Iterator, List, Optional
+from typing import Iterable, Iterator, List, Optional
 
 from servicing.record import Record, record_in
 
@@ -137,11 +136,6 @@ class Folder:
         """Removes all files of a run."""
         for form in _FILES:
             self.remove(form.format(number))
-
-
-def opened(path: str) -> BinaryIO:
-    """Opens a history, compressed or not."""
-    return gzip.open(path, "rb") if path.endswith(".gz") else open(path, "rb")  # type: ignore[return-value]
 
 
 def _opener(path: str, flags: int) -> int:

@@ -17,7 +17,7 @@ import threading
 import traceback
 from dataclasses import dataclass
 from http import HTTPStatus
-from typing import Any, Awaitable, Callable, Dict, List, Optional, Tuple
+from typing import Any, Callable, Dict, List, Optional, Tuple, Type
 
 from servicing.address import Address
 
@@ -27,8 +27,6 @@ MOST_A_SECOND = 50  # answers, so that who floods this with requests leaves the 
 PIECE = 65_536  # bytes that are handed on at a time, so that slow clients do not take much memory
 HEAD_SECONDS, TALK_SECONDS, LINGER_SECONDS = 5.0, 30.0, 1.0
 STOP_SECONDS, BEAT_SECONDS = 5.0, 1.0
-
-Meeting = Callable[[asyncio.StreamReader, asyncio.StreamWriter], Awaitable[None]]
 
 TEXT = "text/plain; charset=utf-8"
 
@@ -62,23 +60,22 @@ class Answer:
         return "\r\n".join([*lines, "", ""]).encode("latin-1")
 
 
-@dataclass(frozen=True)
-class Request:
-    """A request: its method, the path that it names, and the host, or nothing if it names none."""
+# What is answered where no request has come.
+FAULTS: Dict[Type[Exception], Answer] = {
+    asyncio.LimitOverrunError: Answer.line(HTTPStatus.REQUEST_HEADER_FIELDS_TOO_LARGE, "the request is too long"),
+    asyncio.TimeoutError: Answer.line(HTTPStatus.REQUEST_TIMEOUT, "the request did not come in time"),
+    asyncio.IncompleteReadError: Answer.line(HTTPStatus.BAD_REQUEST, "the request is not whole"),
+}
 
-    method: str
-    path: str
-    host: str
 
-    @classmethod
-    def of(cls, head: bytes) -> Optional[Request]:
-        """Reads the lines of a request. None if they are none."""
-        first, *fields = head.decode("latin-1").split("\r\n")
-        words = first.split(" ")
-        if len(words) != 3 or words[2] not in ("HTTP/1.0", "HTTP/1.1") or not words[1].startswith("/"):
-            return None
-        hosts = [it.partition(":")[2].strip() for it in fields if it.lower().startswith("host:")]
-        return cls(words[0], words[1].partition("?")[0], hosts[0] if hosts else "") if len(hosts) <= 1 else None
+def request_in(head: bytes) -> Optional[Tuple[str, str, str]]:
+    """The method of a request, its path, and the host that it names, or nothing. None if the lines are no request."""
+    first, *fields = head.decode("latin-1").split("\r\n")
+    words = first.split(" ")
+    hosts = [it.partition(":")[2].strip() for it in fields if it.lower().startswith("host:")]
+    if len(words) != 3 or words[2] not in ("HTTP/1.0", "HTTP/1.1") or words[1][:1] != "/" or len(hosts) > 1:
+        return None
+    return words[0], words[1].partition("?")[0], "".join(hosts)
 
 
 class HttpServer:
@@ -91,7 +88,7 @@ class HttpServer:
         self._talks: Dict["asyncio.Task[object]", None] = {}  # the open connections, the oldest first
         self._turn = 0.0  # of the next answer, by the thread's clock
         self._thread: Optional[threading.Thread] = None
-        self._end: Optional[Callable[[], object]] = None  # ends the thread, from any other
+        self._end: Callable[[], object] = lambda: None  # ends the thread, from any other
         self._has_begun = threading.Event()
 
     def listen(self, at: Address) -> Address:
@@ -119,18 +116,16 @@ class HttpServer:
 
     def stop(self) -> None:
         """Cuts all connections, and listens no more."""
-        thread, self._thread = self._thread, None
-        if thread is not None:
-            if self._end is not None:
-                with contextlib.suppress(RuntimeError):  # it has ended by itself
-                    self._end()
-            thread.join(STOP_SECONDS)
+        if self._thread is not None:
+            with contextlib.suppress(RuntimeError):  # it has ended by itself
+                self._end()
+            self._thread.join(STOP_SECONDS)
         for it, _ in self._listening:
             it.close()
         if self._path is not None:
             with contextlib.suppress(FileNotFoundError):
                 os.unlink(self._path)
-        self._listening, self._path = [], None
+        self._thread, self._listening, self._path = None, [], None
 
     def _run(self) -> None:
         try:
@@ -139,11 +134,11 @@ class HttpServer:
             self._has_begun.set()
 
     async def _serve(self) -> None:
-        must_end, servers, loop = asyncio.Event(), [], asyncio.get_running_loop()
+        must_end, loop = asyncio.Event(), asyncio.get_running_loop()
         loop.set_exception_handler(_complain)
         self._end = functools.partial(loop.call_soon_threadsafe, must_end.set)
-        for it, address in self._listening:
-            servers.append(await asyncio.start_server(self._meeting(address), sock=it, limit=MOST_HEAD))
+        servers = [await asyncio.start_server(functools.partial(self._meet, address), sock=it, limit=MOST_HEAD)
+                   for it, address in self._listening]
         self._has_begun.set()
         while not must_end.is_set():
             self._beat()
@@ -154,71 +149,51 @@ class HttpServer:
         for talk in list(self._talks):
             talk.cancel()
 
-    def _meeting(self, address: Optional[Address]) -> Meeting:
-        """What is done with each connection to an address."""
-
-        async def meet(reader: asyncio.StreamReader, writer: asyncio.StreamWriter) -> None:
-            talk = asyncio.current_task()
-            assert talk is not None
-            if len(self._talks) >= MOST_CONNECTIONS:
-                oldest = next(iter(self._talks))
-                del self._talks[oldest]
-                oldest.cancel()
-            self._talks[talk] = None
-            deadline = asyncio.get_running_loop().call_later(TALK_SECONDS, talk.cancel)
-            try:
-                await self._talk(reader, writer, address)
-            except (asyncio.CancelledError, OSError):
-                pass  # a client that is too slow, gave way to another, or is gone
-            finally:
-                deadline.cancel()
-                self._talks.pop(talk, None)
-                writer.transport.abort()
-
-        return meet
-
-    async def _talk(
-        self, reader: asyncio.StreamReader, writer: asyncio.StreamWriter, address: Optional[Address]
+    async def _meet(
+        self, address: Optional[Address], reader: asyncio.StreamReader, writer: asyncio.StreamWriter
     ) -> None:
-        """One request and its answer."""
-        answer, with_body = await self._reply(reader, address)
-        body = answer.body if with_body else b""
-        writer.transport.set_write_buffer_limits(0)  # so that what was written is gone once it is drained
-        for piece in (answer.head, *(body[at:at + PIECE] for at in range(0, len(body), PIECE))):
-            writer.write(piece)
-            await writer.drain()
-        writer.write_eof()
-        with contextlib.suppress(asyncio.TimeoutError):
-            await asyncio.wait_for(_read_all(reader), LINGER_SECONDS)  # or the answer would be lost with a reset
-
-    async def _reply(self, reader: asyncio.StreamReader, address: Optional[Address]) -> Tuple[Answer, bool]:
-        """The answer to what comes, and whether its body is sent."""
+        """One connection to an address."""
+        talk = asyncio.current_task()
+        assert talk is not None
+        if len(self._talks) >= MOST_CONNECTIONS:
+            oldest = next(iter(self._talks))
+            del self._talks[oldest]
+            oldest.cancel()
+        self._talks[talk] = None
+        deadline = asyncio.get_running_loop().call_later(TALK_SECONDS, talk.cancel)
         try:
-            head = await asyncio.wait_for(reader.readuntil(b"\r\n\r\n"), HEAD_SECONDS)
-        except asyncio.LimitOverrunError:
-            return Answer.line(HTTPStatus.REQUEST_HEADER_FIELDS_TOO_LARGE, "the request is too long"), True
-        except asyncio.TimeoutError:
-            return Answer.line(HTTPStatus.REQUEST_TIMEOUT, "the request did not come in time"), True
-        except asyncio.IncompleteReadError:
-            return Answer.line(HTTPStatus.BAD_REQUEST, "the request is not whole"), True
-        request = Request.of(head)
+            await _send(await self._reply(reader, address), reader, writer)
+        except (asyncio.CancelledError, OSError):
+            pass  # a client that is too slow, gave way to another, or is gone
+        finally:
+            deadline.cancel()
+            self._talks.pop(talk, None)
+            writer.transport.abort()
+
+    async def _reply(self, reader: asyncio.StreamReader, address: Optional[Address]) -> List[bytes]:
+        """The parts of the answer to what comes: its head, and its body if that is asked for."""
+        try:
+            request = request_in(await asyncio.wait_for(reader.readuntil(b"\r\n\r\n"), HEAD_SECONDS))
+        except tuple(FAULTS) as fault:
+            return [FAULTS[type(fault)].head, FAULTS[type(fault)].body]
         if request is None:
-            return Answer.line(HTTPStatus.BAD_REQUEST, "this is no request of HTTP/1.1"), True
-        if address is not None and not address.allows(request.host):
+            answer = Answer.line(HTTPStatus.BAD_REQUEST, "this is no request of HTTP/1.1")
+        elif address is not None and not address.allows(request[2]):
             says = "only requests to 127.0.0.1 or localhost are answered here"
-            return Answer.line(HTTPStatus.MISDIRECTED_REQUEST, says), True
-        if request.method not in ("GET", "HEAD"):
+            answer = Answer.line(HTTPStatus.MISDIRECTED_REQUEST, says)
+        elif request[0] not in ("GET", "HEAD"):
             allowed = ("Allow", "GET, HEAD")
-            return Answer.line(HTTPStatus.METHOD_NOT_ALLOWED, "only GET and HEAD are answered", allowed), True
-        await self._wait_for_turn()
-        return self._answer_to(request.path), request.method == "GET"
+            answer = Answer.line(HTTPStatus.METHOD_NOT_ALLOWED, "only GET and HEAD are answered", allowed)
+        else:
+            await self._wait_for_turn()
+            answer = self._answer_to(request[1])
+        return [answer.head, b"" if request and request[0] == "HEAD" else answer.body]
 
     async def _wait_for_turn(self) -> None:
         """Waits, if as many answers as a second has were given in the last one."""
         now = asyncio.get_running_loop().time()
         self._turn = max(self._turn + 1 / MOST_A_SECOND, now - 1)
-        if self._turn > now:
-            await asyncio.sleep(self._turn - now)
+        await asyncio.sleep(max(self._turn - now, 0))
 
     def _answer_to(self, path: str) -> Answer:
         try:
@@ -233,6 +208,18 @@ def _complain(loop: asyncio.AbstractEventLoop, context: Dict[str, Any]) -> None:
     """Says what went wrong, unless a client did it."""
     if not isinstance(context.get("exception"), OSError):
         loop.default_exception_handler(context)
+
+
+async def _send(parts: List[bytes], reader: asyncio.StreamReader, writer: asyncio.StreamWriter) -> None:
+    """Sends an answer, and reads what still comes, or it would be lost with a reset."""
+    writer.transport.set_write_buffer_limits(0)  # so that what was written is gone once it is drained
+    for part in parts:
+        for at in range(0, len(part), PIECE):
+            writer.write(part[at:at + PIECE])
+            await writer.drain()
+    writer.write_eof()
+    with contextlib.suppress(asyncio.TimeoutError):
+        await asyncio.wait_for(_read_all(reader), LINGER_SECONDS)
 
 
 async def _read_all(reader: asyncio.StreamReader) -> None:

@@ -36,12 +36,10 @@ if __name__ == "__main__":
 from servicing.cutting import cut_sessions  # noqa: E402
 
 IDLE = 30.0  # seconds
-MOST_BYTES = 1 << 17
+MOST_BYTES, MOST_FILES = 1 << 17, 4  # of a message
 
 # Stand in the words of a server for names that are this process's to know.
 HISTORY, OPENING = "HISTORY", "OPENING"
-
-Answer = Tuple[Dict[str, Any], List[int]]
 
 
 class Keeper:
@@ -59,7 +57,7 @@ class Keeper:
         has_ended = bool(select.select([self._held[2]], [], [], 0)[0])
         return not has_ended or os.path.isdir(folder)
 
-    def answer(self, asked: Dict[str, Any], given: List[int]) -> Answer:
+    def answer(self, asked: Dict[str, Any], given: List[int]) -> Tuple[Dict[str, Any], List[int]]:
         """Does what was asked. Descriptors that came with it are this process's now."""
         do = asked["do"]
         if do == "start":
@@ -72,11 +70,9 @@ class Keeper:
             return {"cut": len(done), "why": why}, []
         elif do in ("drop", "end"):
             self._drop()
-        return self._status(), self._held if do == "take" else []
-
-    def _status(self) -> Dict[str, Any]:
         status = self._child.poll() if self._child else None
-        return {"run": self._run, "last": self._last, "pid": self._pid, "status": status}
+        told = {"run": self._run, "last": self._last, "pid": self._pid, "status": status}
+        return told, self._held if do == "take" else []
 
     def _start(self, run: int, words: List[str], given: List[int]) -> None:
         self._drop()
@@ -97,7 +93,7 @@ class Keeper:
 def serve(keeper: Keeper, service: socket.socket) -> bool:
     """Answers one service until it has gone. Returns whether the keeper is to end."""
     while True:
-        told, given, _, _ = socket.recv_fds(service, MOST_BYTES, 4)
+        told, given, _, _ = socket.recv_fds(service, MOST_BYTES, MOST_FILES)
         if not told:
             return False
         asked = json.loads(told)

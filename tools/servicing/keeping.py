@@ -1,6 +1,7 @@
 """The service's side of the keeper: how it is found or begun, and asked."""
 from __future__ import annotations
 
+import contextlib
 import json
 import os
 import socket
@@ -10,7 +11,9 @@ import sys
 from dataclasses import dataclass
 from typing import Any, Dict, List, Optional, Sequence, Tuple
 
-from servicing.keeper import MOST_BYTES
+from servicing.folder import Unusable
+from servicing.keeper import MOST_BYTES, MOST_FILES
+from servicing.server import Server
 
 PATIENCE = 30.0  # seconds that an answer may take
 KEEPER = os.path.join(os.path.dirname(os.path.realpath(__file__)), "keeper.py")
@@ -35,72 +38,96 @@ class Held:
 
 
 class Keeping:
-    """A keeper at the other end of a socket."""
+    """The keeper at this name: the one that an earlier service has begun, or a new one."""
 
-    def __init__(self, link: socket.socket) -> None:
-        link.settimeout(PATIENCE)
-        self._link = link
+    def __init__(self, name: str, folder: str) -> None:
+        self._name, self._folder = name, folder
+        self.was_found = self._has_found()
+        if not self.was_found:
+            self._begin()
 
-    @classmethod
-    def found(cls, name: str) -> Optional[Keeping]:
-        """The keeper that an earlier service has begun, if it is still there and of this user."""
-        link = socket.socket(socket.AF_UNIX, socket.SOCK_SEQPACKET)
+    def _has_found(self) -> bool:
+        """Whether a keeper of this user is there."""
+        self._link = socket.socket(socket.AF_UNIX, socket.SOCK_SEQPACKET)
+        self._link.settimeout(PATIENCE)
         try:
-            link.connect(name)
+            self._link.connect(self._name)
+            _, owner, _ = struct.unpack("3i", self._link.getsockopt(socket.SOL_SOCKET, socket.SO_PEERCRED, 12))
         except OSError:
-            link.close()
-            return None
-        owner = struct.unpack("3i", link.getsockopt(socket.SOL_SOCKET, socket.SO_PEERCRED, 12))[1]
+            owner = -1
         if owner != os.geteuid():
-            link.close()
-            return None
-        return cls(link)
+            self._link.close()
+        return bool(owner == os.geteuid())
 
-    @classmethod
-    def begun(cls, name: str, folder: str) -> Keeping:
-        """A new keeper, which outlives this process and gets none of its signals. Raises an `OSError`."""
-        with socket.socket(socket.AF_UNIX, socket.SOCK_SEQPACKET) as door:
-            door.bind(name)
-            door.listen(8)
-            subprocess.Popen([sys.executable, "-I", "-S", KEEPER, str(door.fileno()), folder], pass_fds=[door.fileno()],
-                             stdin=subprocess.DEVNULL, stdout=subprocess.DEVNULL, stderr=subprocess.DEVNULL,
-                             start_new_session=True, cwd="/")
-            link = socket.socket(socket.AF_UNIX, socket.SOCK_SEQPACKET)
-            link.connect(name)
-            return cls(link)
+    def _begin(self) -> None:
+        """Begins another one, which outlives this process and gets none of its signals. Raises an `Unusable`."""
+        none = subprocess.DEVNULL
+        try:
+            with socket.socket(socket.AF_UNIX, socket.SOCK_SEQPACKET) as door:
+                door.bind(self._name)
+                door.listen(8)
+                words = [sys.executable, "-I", "-S", KEEPER, str(door.fileno()), self._folder]
+                subprocess.Popen(words, pass_fds=[door.fileno()], stdin=none, stdout=none, stderr=none,
+                                 start_new_session=True, cwd="/")
+                self._has_found()
+        except OSError as fault:
+            raise Unusable(f"no keeper can be started: {fault.strerror}") from None
 
     def status(self) -> Held:
-        return Held(**self._ask({"do": "status"})[0])
+        return Held(**self._ask("status")[0])
 
-    def take(self) -> List[int]:
-        """The descriptors of the history, of what the server prints, and of its process."""
-        return self._ask({"do": "take"})[1]
+    def held(self) -> Server:
+        """The server that it holds."""
+        held = self.status()
+        return Server(held.run or 0, held.pid, *self._ask("take")[1])
 
     def start(self, run: int, words: Sequence[str], files: Sequence[int]) -> None:
-        """Starts a server with a history, what it prints, and an opening. Raises a `NotStarted`."""
-        answer, _ = self._ask({"do": "start", "run": run, "words": list(words)}, files)
+        """Starts a server with a history, what it prints, and an opening; if the keeper was killed, another one does.
+        Raises a `NotStarted`."""
+        try:
+            answer, _ = self._ask("start", files, run=run, words=list(words))
+        except KeeperLost:
+            self._begin()
+            answer, _ = self._ask("start", files, run=run, words=list(words))
         if "fault" in answer:
             raise NotStarted(answer["fault"])
 
-    def hold(self, run: int, pid: int, fds: List[int]) -> None:
-        self._ask({"do": "hold", "run": run, "pid": pid}, fds)
+    def hold(self, server: Server) -> None:
+        self._ask("hold", [server.history, server.printed, server.process], run=server.run, pid=server.pid)
+
+    def is_renewed(self, server: Server) -> bool:
+        """Whether the keeper was killed, so that another one holds the server now."""
+        try:
+            self.status()
+            return False
+        except KeeperLost:
+            self._begin()
+            self.hold(server)
+            return True
 
     def cut(self, ports: Sequence[int]) -> Tuple[int, str]:
         """Cuts sessions. Returns how many, and why others were not."""
-        answer, _ = self._ask({"do": "cut", "ports": list(ports)})
+        try:
+            answer, _ = self._ask("cut", ports=list(ports))
+        except KeeperLost as fault:
+            answer = {"fault": f"the keeper is lost: {fault}"}
         return (0, answer["fault"]) if "fault" in answer else (answer["cut"], answer["why"])
 
     def drop(self) -> None:
-        self._ask({"do": "drop"})
+        with contextlib.suppress(KeeperLost):  # another one holds nothing
+            self._ask("drop")
 
-    def end(self) -> None:
-        self._ask({"do": "end"})
-        self._link.close()
+    def let_go(self) -> None:
+        """Ends it, unless it holds something for the next service."""
+        with contextlib.suppress(KeeperLost):
+            if self.status().run is None:
+                self._ask("end")
+                self._link.close()
 
-    def _ask(self, request: Dict[str, Any], fds: Sequence[int] = ()) -> Tuple[Dict[str, Any], List[int]]:
+    def _ask(self, do: str, fds: Sequence[int] = (), **words: Any) -> Tuple[Dict[str, Any], List[int]]:
         try:
-            socket.send_fds(self._link, [json.dumps(request).encode()], list(fds))
-            told, got, _, _ = socket.recv_fds(self._link, MOST_BYTES, 4)
+            socket.send_fds(self._link, [json.dumps({"do": do, **words}).encode()], list(fds))
+            told, got, _, _ = socket.recv_fds(self._link, MOST_BYTES, MOST_FILES)
         except OSError as fault:
             raise KeeperLost(str(fault)) from None
         if not told:

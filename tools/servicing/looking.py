@@ -8,7 +8,7 @@ from typing import Deque, Dict, List, Optional, Set, Tuple
 
 from servicing.session import OwnSession, Told
 from servicing.sockets import Connection, Sockets
-from servicing.state import Client, Clients, Doing, Head, Queue, Supply
+from servicing.state import Client, Clients, Doing, Queue, Supply
 
 WINDOW, SHORTEST = 60.0, 5.0  # seconds over which a pace is measured
 BRIEF = 1_000  # milliseconds; a client from which something came since is active
@@ -42,10 +42,9 @@ class Pace:
 
 def client_of(it: Connection, was_unread: bool) -> Client:
     """What a client does. `was_unread` says whether replies lay on the way to it at the look before, too."""
-    doing, seconds = _doing(it, was_unread), None if it.heard is None else it.heard / 1000
-    program = it.program
-    return Client(it.port, program.name if program else None, program.pid if program else None, doing, seconds,
-                  it.send_queue, it.receive_queue)
+    name, pid = (it.program.name, it.program.pid) if it.program else (None, None)
+    seconds = None if it.heard is None else it.heard / 1000
+    return Client(it.port, name, pid, _doing(it, was_unread), seconds, it.send_queue, it.receive_queue)
 
 
 def _doing(it: Connection, was_unread: bool) -> Doing:
@@ -70,9 +69,8 @@ def has_given_up(it: Connection) -> bool:
 
 def silent_ports(connections: List[Connection], seconds: float) -> List[int]:
     """The clients over whose sessions nothing came and nothing went for so long."""
-    limit = seconds * 1000
     return [it.port for it in connections if it.is_served and it.heard is not None and it.told is not None
-            and min(it.heard, it.told) >= limit]
+            and min(it.heard, it.told) >= seconds * 1000]
 
 
 @dataclass(frozen=True)
@@ -94,11 +92,10 @@ class Looks:
         self._limits, self._own = limits, own
         self._unread: Set[str] = set()  # the connections with a queue to the client at the last look
         self._seen: Set[str] = set()  # the connections that were served at the last look
-        self._used_sessions, self._used_calls = 0, 0
+        self._used_sessions = self._used_calls = 0
         self._since: Dict[str, float] = {}  # when each client that is served now was first seen so
         self._lasted: Deque[float] = deque(maxlen=MANY)  # seconds that others were served, until they left
-        self._sessions, self._calls = Pace(), Pace()
-        self.offers, self.leaves = Pace(), Pace()
+        self._sessions, self._calls, self.offers, self.leaves = Pace(), Pace(), Pace(), Pace()
         self.clients: Optional[Clients] = None
         self.connections: List[Connection] = []  # of clients
         self.queue: Optional[Queue] = None
@@ -138,21 +135,18 @@ class Looks:
 
     def hear(self, told: Told) -> None:
         """Takes what the server told."""
-        self.moment = told.moment
-        began = told.at - (told.moment - self._limits.moment)
+        limits, own = self._limits, self._own
+        self.queue, self.moment = told.queue, told.moment
+        began = told.heard - (told.moment - limits.moment)
         self.began = began if self.began is None else min(self.began, began)
-        ids = told.next_id - self._limits.next_id
-        self.offered = ids - self._own.probes
-        self.left = max(ids - told.elements + self._limits.opening - self._own.probes, 0)
+        ids = told.next_id - limits.next_id
+        self.offered = ids - own.probes
+        self.left = max(self.offered - told.queue.elements + limits.opening, 0)
         # One call for each id, one for each element that has left, and the looks; that of a probe was counted twice.
-        calls = ids + self.left + self._own.calls - self._own.probes
-        self._used_calls = max(self._used_calls, min(calls, self._limits.calls))
+        calls = ids + self.left + own.calls - own.probes
+        self._used_calls = max(self._used_calls, min(calls, limits.calls))
         for pace, number in ((self._calls, self._used_calls), (self.offers, self.offered), (self.leaves, self.left)):
             pace.add(time.monotonic(), number)
-        it, head = told.head, None
-        if it is not None:
-            head = Head(it.id, it.expiry, it.attempt, it.payload, (told.moment - it.expiry) / 1e9)
-        self.queue = Queue(time.time(), told.elements, head)
 
     @property
     def sessions(self) -> Supply:
@@ -160,8 +154,8 @@ class Looks:
 
     @property
     def calls(self) -> Supply:
-        used = self._limits.calls if self._own.is_full else self._used_calls
-        return Supply(used, not self._own.is_full, self._limits.calls, self._calls.a_second)
+        is_full, limit = self._own.is_full, self._limits.calls
+        return Supply(limit if is_full else self._used_calls, not is_full, limit, self._calls.a_second)
 
     @property
     def waiting(self) -> int:

@@ -16,63 +16,40 @@ const WHY = { asked: "asked to end", time: "its time was over", calls: "few call
   sessions: "few sessions were left", elements: "elements that were set aside had room",
   killed: "lost: its server was killed", unknown: "ended while no service was there" };
 
+const KINDS = { "does not read": "bad", "has hung up": "bad", "waits for a worker": "fair" };
+
 let last = null; // what was shown last
 
 function show(told) {
   last = told;
-  const queue = told.queue;
+  const { queue, run, phase } = told;
   const elements = queue === null ? "" : ", " + counted(queue.elements, "element");
   const alerts = told.alerts.length === 0 ? "" : counted(told.alerts.length, "alert") + ", ";
-  document.title = alerts + told.phase + elements + ": rb_broker " + told.port;
+  const why = told.why === null ? "" : " (" + WHY[told.why] + ")";
+  document.title = alerts + phase + elements + ": rb_broker " + told.port;
   document.body.classList.remove("old");
   put("port", String(told.port));
-  put("state", told.phase, gradeOf(told));
-  put("told", phaseOf(told));
-  showAttention(told);
-  showCards(told);
-  showClients(told.clients);
-  showRoom(told);
-  showRuns(told);
-  showLosses(told);
+  put("state", phase, phase === "serving" && told.is_healthy ? "good"
+    : phase === "serving" || phase === "stopped" || told.disk !== null ? "bad" : "fair");
+  put("told", "since " + date(told.since) + why + (run === null ? "" : ", run " + run.number + " since "
+    + date(run.began)) + ", shown as of " + clock(told.at));
+  [showAttention, showCards, showClients, showRoom, showRuns, showLosses].forEach((it) => it(told));
   const trend = { ...told.trend, failures: failures(told) };
   plots.forEach((it) => it.draw(trend, told.at));
   document.getElementById("head").replaceChildren(...headOf(queue));
 }
 
-function gradeOf(told) {
-  if (told.phase === "serving") {
-    return told.is_healthy ? "good" : "bad";
-  }
-  return told.phase === "stopped" || told.disk !== null ? "bad" : "fair";
-}
-
-function phaseOf(told) {
-  const why = told.why === null ? "" : " (" + WHY[told.why] + ")";
-  const run = told.run === null ? "" : ", run " + told.run.number + " since " + date(told.run.began);
-  return "since " + date(told.since) + why + run + ", shown as of " + clock(told.at);
-}
-
-function showAttention(told) {
-  const texts = told.alerts.map((it) => it.text + " (since " + date(it.since) + ")");
-  if (told.disk !== null) {
-    texts.push(told.disk.file + " can't be written: " + told.disk.why + "; " + counted(told.disk.kept, "byte")
-      + " are kept in memory (since " + date(told.disk.since) + ")");
-  }
-  texts.push(...told.waits_for.map((it) => "The service waits: " + it));
+function showAttention({ alerts, disk, waits_for }) {
+  const since = (it) => " (since " + date(it.since) + ")";
+  const texts = [...alerts.map((it) => it.text + since(it)), ...(disk === null ? [] : [disk.file + " can't be written: "
+    + disk.why + "; " + counted(disk.kept, "byte") + " are kept in memory" + since(disk)]),
+    ...waits_for.map((it) => "The service waits: " + it)];
   if (isNew("attention", JSON.stringify(texts))) {
-    const items = texts.length === 0 ? [made("p", "Nothing.")] : texts.map((it) => made("li", it));
-    document.querySelector("#attention div").replaceChildren(...wrapped(items));
+    const list = texts.length === 0 ? made("p", "Nothing.") : document.createElement("ul");
+    list.append(...texts.map((it) => made("li", it)));
+    document.querySelector("#attention div").replaceChildren(list);
     document.getElementById("attention").className = texts.length === 0 ? "" : "alarm";
   }
-}
-
-function wrapped(items) {
-  if (items[0].tagName !== "LI") {
-    return items;
-  }
-  const list = document.createElement("ul");
-  list.append(...items);
-  return [list];
 }
 
 function showCards(told) {
@@ -102,10 +79,10 @@ function headOf(queue) {
     made("code", payload), ". It " + when + " that."];
 }
 
-function showClients(clients) {
+function showClients({ clients }) {
+  fill("clients", clients === null ? [] : clients.all.map(clientOf));
   if (clients === null) {
     put("clients-told", "Not known.");
-    fill("clients", []);
     return;
   }
   const more = clients.served + clients.waiting - clients.all.length;
@@ -115,27 +92,20 @@ function showClients(clients) {
     + " hung up while their request waits, " + clients.silent + " silent for " + span(clients.silent_from)
     + " or longer" + longest + "." + (more > 0 ? " " + counted(more, "client more is", "clients more are")
     + " not listed." : ""));
-  fill("clients", clients.all.map((it) => [String(it.port), { text: programOf(it), kind: "words" },
-    { text: doingOf(it), kind: "words " + kindOf(it) },
-    it.seconds === null ? "" : span(it.seconds) + " ago"]));
 }
 
-function programOf(client) {
-  if (client.program !== null) {
-    return client.program + " " + client.pid;
-  }
-  return client.doing === "has hung up" ? "gone" : "not shown to this user";
+// The cells of a client.
+function clientOf({ port, program, pid, doing, seconds, unread_by_client, unread_by_server }) {
+  const gone = doing === "has hung up" ? "gone" : "not shown to this user";
+  const bytes = [[unread_by_client, "it"], [unread_by_server, "the server"]].filter(([count]) => count > 0);
+  const does = [doing, ...bytes.map(([count, by]) => number(count) + " B not read by " + by)].join(", ");
+  return [String(port), words(program === null ? gone : program + " " + pid), words(does, KINDS[doing] ?? ""),
+    seconds === null ? "" : span(seconds) + " ago"];
 }
 
-function doingOf(client) {
-  const bytes = [[client.unread_by_client, "it"], [client.unread_by_server, "the server"]];
-  return [client.doing, ...bytes.filter(([count]) => count > 0).map(([count, by]) =>
-    number(count) + " B not read by " + by)].join(", ");
-}
-
-function kindOf(client) {
-  return { "does not read": "bad", "has hung up": "bad", "waits for a worker": "fair" }[client.doing] ?? "";
-}
+const words = (text, kind = "") => ({ text, kind: "words " + kind });
+const wide = (text) => ({ text, kind: "from-720" });
+const dated = (seconds) => ({ text: date(seconds), kind: "date" });
 
 function showRoom(told) {
   const { queue, traffic } = told;
@@ -146,26 +116,19 @@ function showRoom(told) {
   const rows = [["calls", told.calls], ["sessions", told.sessions], ["elements for the next run", elements]];
   put("room-told", rows.every(([, it]) => it === null) ? "Not known." : "");
   fill("room", rows.filter(([, it]) => it !== null).map(([name, it]) => [
-    { text: name, kind: "words" }, (it.is_least ? "≥ " : "") + number(it.used), number(it.limit),
-    { text: percent(it.used, it.limit), meter: it.used, most: it.limit, kind: "from-720" },
-    { text: rate(it.a_second), kind: "from-720" }, span(it.lasts)]));
-}
-
-function dated(seconds) {
-  return { text: date(seconds), kind: "date" };
+    words(name), (it.is_least ? "≥ " : "") + number(it.used), number(it.limit),
+    { ...wide(percent(it.used, it.limit)), meter: it.used, most: it.limit }, wide(rate(it.a_second)),
+    span(it.lasts)]));
 }
 
 function showRuns(told) {
   const { run, queue, calls } = told;
-  const rows = run === null ? [] : [[
-    String(run.number), dated(run.began), { text: span(told.at - run.began), kind: "from-720" },
-    told.phase === "serving" ? "it goes on" : "it is " + told.phase, { text: number(run.opening), kind: "from-720" },
-    { text: number(calls && calls.used), kind: "from-720" }, number(queue && queue.elements), ""]];
-  rows.push(...told.runs.map((it) => [
-    String(it.number), dated(it.began), { text: span(it.lasted), kind: "from-720" },
-    { text: endOf(it), kind: it.is_lost ? "words bad" : "words" }, { text: number(it.opening), kind: "from-720" },
-    { text: number(it.calls), kind: "from-720" }, number(it.left),
-    it.has_history ? { text: "report", link: "runs/" + it.number } : ""]));
+  const row = (it, lasted, state, used, left, report) => [String(it.number), dated(it.began), wide(span(lasted)), state,
+    wide(number(it.opening)), wide(number(used)), number(left), report];
+  const rows = run === null ? [] : [row(run, told.at - run.began, told.phase === "serving" ? "it goes on" : "it is "
+    + told.phase, calls && calls.used, queue && queue.elements, "")];
+  rows.push(...told.runs.map((it) => row(it, it.lasted, words(endOf(it), it.is_lost ? "bad" : ""), it.calls, it.left,
+    it.has_history ? { text: "report", link: "runs/" + it.number } : "")));
   const more = told.runs_kept - told.runs.length;
   const none = told.runs.length === 0 ? "No run has ended yet." : "";
   put("runs-told", more > 0 ? counted(more, "earlier run is", "earlier runs are") + " kept too." : none);
@@ -187,21 +150,14 @@ function endOf(run) {
 }
 
 function showLosses(told) {
-  const rows = told.runs.filter((it) => it.is_lost || it.lost_jobs > 0).map((it) => [
-    String(it.number), dated(it.began), span(it.lasted), { text: lossOf(it), kind: "words" }]);
-  const total = told.lost_runs === 0 ? "No run was lost." : counted(told.lost_runs, "run was", "runs were")
-    + " lost since this folder exists.";
-  put("lost-told", total);
-  fill("losses", rows);
+  const lossOf = (run) => run.is_lost ? "all that happened in it; the next run began again with the "
+    + counted(run.opening, "element") + " of its opening"
+    : counted(run.lost_jobs, "job") + " that failed and could not come back, since the run was full";
+  fill("losses", told.runs.filter((it) => it.is_lost || it.lost_jobs > 0).map((it) => [
+    String(it.number), dated(it.began), span(it.lasted), words(lossOf(it))]));
+  put("lost-told", told.lost_runs === 0 ? "No run was lost." : counted(told.lost_runs, "run was", "runs were")
+    + " lost since this folder exists.");
   document.getElementById("lost").className = told.lost_runs > 0 ? "alarm" : "";
-}
-
-function lossOf(run) {
-  if (run.is_lost) {
-    return "all that happened in it; the next run began again with the " + counted(run.opening, "element")
-      + " of its opening";
-  }
-  return counted(run.lost_jobs, "job") + " that failed and could not come back, since the run was full";
 }
 
 // The failures a second of runs that have ended, at the moments of the trend.
@@ -223,8 +179,7 @@ function showSilence() {
 
 async function look() {
   try {
-    const answer = await fetch("state.json", { signal: AbortSignal.timeout(PATIENCE) });
-    const told = await answer.json();
+    const told = await (await fetch("state.json", { signal: AbortSignal.timeout(PATIENCE) })).json();
     if (told !== null) {
       show(told);
     }

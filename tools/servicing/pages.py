@@ -1,13 +1,8 @@
 """The page, the metrics and the health of a service, on one thread of their own.
 
-    pages = Pages(board, port, folder, http)   # `http` is the `Address` of --http, or None
-    warnings = pages.start()   # binds and returns; raises an OSError if the address can't be had
-    pages.stop()               # within five seconds, whatever clients do; may be called twice, and without a start
-
-Those are all the calls that the service makes. It says each warning, a sentence, in a line of its own. Whatever clients
-send, or leave out, the service goes on: the thread takes what it shows from the board alone, and no exit waits for it.
-The same is always answered at the socket `status` in the folder, for `tools/service --status`: whoever may use the
-folder may connect there. If there is no room for the socket, a warning says so, and nothing else is missing.
+Whatever clients send, or leave out, the service goes on: the thread takes what it shows from the board alone, and no
+exit waits for it. The same is always answered at the socket `status` in the folder, for `tools/service --status`:
+whoever may use the folder may connect there. If there is no room for the socket, nothing else is missing.
 """
 from __future__ import annotations
 
@@ -24,25 +19,19 @@ SOCKET = "status"  # in the folder
 
 
 class Pages:
-    """What a service shows, at an address and at the folder's socket."""
+    """What a service shows, at an address if there is one, and at the folder's socket."""
 
     def __init__(self, board: Board, port: int, folder: str, http: Optional[Address]) -> None:
-        self._reports, self._path = Reports(), os.path.join(folder, SOCKET)
+        self._reports, self._path, self._http = Reports(), os.path.join(folder, SOCKET), http
         site = Site(board, port, self._reports)
         self._server = HttpServer(site.answer, site.beat)
-        self._http = http
-
-    @property
-    def address(self) -> Optional[Address]:
-        """Where the page is, with the port that the system chose if it was asked to."""
-        return self._http
 
     def start(self) -> List[str]:
-        """Serves from now on. Returns what an operator has to know of that."""
+        """Serves from now on. Returns what an operator has to know of that. Raises an `OSError` if the address can't be
+        had."""
         warnings = []
         if self._http is not None:
-            self._http = self._server.listen(self._http)
-            warnings += [self._http.warning] if self._http.warning else []
+            warnings += [it for it in [self._server.listen(self._http).warning] if it]
         try:
             self._server.listen_in(self._path)
         except OSError as fault:
@@ -51,6 +40,6 @@ class Pages:
         return warnings
 
     def stop(self) -> None:
-        """Cuts all connections, ends a report that is being made, and listens no more."""
+        """Cuts all connections, ends a report that is being made, and listens no more, within five seconds."""
         self._reports.stop()
         self._server.stop()

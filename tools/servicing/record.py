@@ -2,37 +2,14 @@
 from __future__ import annotations
 
 import json
-from dataclasses import asdict, dataclass, replace
+from dataclasses import asdict, dataclass
 from typing import Any, Dict, Optional, Tuple
 
 from servicing.clock import Reading
-from servicing.state import PastRun, Reason
-
+from servicing.state import End, PastRun, Reason
 
 # Nanoseconds in which a server begins to serve, and for each element of its opening.
 SLOWEST_START, SLOWEST_ELEMENT = 10_000_000_000, 100_000
-
-
-@dataclass(frozen=True)
-class End:
-    """What became of a run. The counts of a lost run are not known."""
-
-    date: float  # seconds since 1970
-    why: Reason
-    calls: Optional[int] = None
-    offered: Optional[int] = None  # all elements, jobs that came back among them
-    failed: Optional[int] = None
-    given: Optional[int] = None
-    left: Optional[int] = None
-    last_attempts: Optional[int] = None
-    lost_jobs: Optional[int] = None
-    closed: Optional[float] = None  # seconds
-    held_by: Tuple[str, ...] = ()
-    cut: int = 0
-
-    def with_closed(self, closed: float) -> End:
-        """With the seconds for which new clients were not served behind it."""
-        return replace(self, closed=round(closed, 3))
 
 
 @dataclass(frozen=True)
@@ -56,22 +33,22 @@ class Record:
         """At which the moment was the opening's, or later. By an earlier one a job could be early in the next run."""
         return self.began if self.is_seen else self.began.after(SLOWEST_START + SLOWEST_ELEMENT * self.opening)
 
+    @property
+    def lost(self) -> int:
+        """How many runs of the folder were lost, this one included."""
+        return self.lost_before + (self.end is not None and self.end.why is Reason.KILLED)
+
+    def id_in(self, folder_id: str) -> str:
+        """The name that no other run of any service has."""
+        return f"{folder_id}-{self.number}"
+
     def text(self) -> bytes:
-        told = asdict(self)
-        if self.end is not None:
-            told["end"]["why"] = self.end.why.value
-        return json.dumps(told, indent=1).encode() + b"\n"
+        return json.dumps(asdict(self), indent=1).encode() + b"\n"
 
     def past_run(self, folder_id: str, history: Optional[str]) -> Optional[PastRun]:
         """How others see a run that has ended."""
-        it = self.end
-        if it is None:
-            return None
-        new = it.offered - it.failed if it.offered is not None and it.failed is not None else None
-        return PastRun(
-            number=self.number, id=f"{folder_id}-{self.number}", began=self.began.date / 1e9, ended=it.date, why=it.why,
-            opening=self.opening, history=history, calls=it.calls, offered=new, failed=it.failed, given=it.given,
-            left=it.left, lost_jobs=it.lost_jobs, closed=it.closed, held_by=it.held_by, cut=it.cut)
+        return None if self.end is None else PastRun(
+            self.number, self.id_in(folder_id), self.began.date / 1e9, self.opening, history, self.end)
 
 
 def record_in(text: bytes) -> Record:

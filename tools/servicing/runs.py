@@ -13,15 +13,16 @@ import time
 from dataclasses import dataclass, replace
 from typing import Callable, Dict, Optional, Tuple
 
+from histories.files import open_history
 from servicing.clock import Reading, elapsed, read_clock
 from servicing.deciding import runs_to_drop
-from servicing.folder import Folder, Unusable, opened
+from servicing.folder import Folder, Unusable
 from servicing.opening import Elements, Left, Opening, left_in, opening_after, opening_again
-from servicing.record import End, Record
+from servicing.record import Record
 from servicing.saying import say
 from servicing.server import Server
 from servicing.settings import Keep, Settings
-from servicing.state import Reason
+from servicing.state import End, PastRun
 
 LOW_PRIORITY = 10
 _TIDYING = threading.Lock()
@@ -75,16 +76,22 @@ class Runs:
         say("info", "begins-with", history=path, elements=len(left.elements))
         return Next(lambda moment: opening_after(left, {}, moment), left.moment + age, None)
 
+    @property
+    def lost(self) -> int:
+        """How many runs were lost since the folder exists."""
+        return self.last.lost if self.last else 0
+
+    def past(self) -> Tuple[PastRun, ...]:
+        """The runs that have ended, the latest first."""
+        records = sorted(self.records.values(), key=lambda it: -it.number)
+        runs = (it.past_run(self.folder.id, self.folder.history(it.number)) for it in records)
+        return tuple(it for it in runs if it is not None)
+
     def prepare(self, following: Next, settings: Settings) -> Record:
         """Writes down the next run, whose server is started right behind. Raises an `OSError` if the disk is full."""
-        now, number = read_clock(), self.next_number
+        now, number, before = read_clock(), self.next_number, self.last
         opening = following.at(now)
-        before = self.last
-        lost = 0
-        if before is not None and before.number != number:
-            lost = before.lost_before + (before.end is not None and before.end.why is Reason.KILLED)
-        elif before is not None:
-            lost = before.lost_before
+        lost = 0 if before is None else before.lost_before if before.number == number else before.lost
         record = Record(number, opening.next_id, opening.moment, len(opening.elements), len(opening.aside),
                         settings.calls, tuple(settings.policy), now, lost_before=lost)
         if opening.aside:
@@ -96,13 +103,12 @@ class Runs:
         self._greatest = number
         return record
 
-    def see(self, record: Record, moment: int, began: Reading) -> None:
-        """Writes down at which moment a server really began, and when. It is no harm if that can't be written."""
-        seen = replace(record, moment=moment, began=began, is_seen=True)
-        try:
+    def see(self, record: Record, began: Reading) -> Record:
+        """Writes down when a server really began. It is no harm if that can't be written."""
+        self.records[record.number] = seen = replace(record, began=began, is_seen=True)
+        with contextlib.suppress(OSError):
             self._write(seen)
-        except OSError:
-            self.records[record.number] = seen
+        return seen
 
     def after(self, record: Record, left: Left) -> Next:
         """What follows a run that ended in good order."""
@@ -166,7 +172,7 @@ class Runs:
 def _left_of(path: str) -> Left:
     """What is left in a file. Raises an `Unusable`."""
     try:
-        with opened(path) as file:
+        with open_history(path) as file:
             return left_in(file)
     except OSError as fault:
         raise Unusable(f"{path}: {fault.strerror}") from None

@@ -1,18 +1,25 @@
-"""A server that a keeper has started, and what it leaves: what it printed, and its history."""
+"""A server that a keeper has started, how it is found without one, and what it leaves."""
 from __future__ import annotations
 
+import contextlib
 import json
 import os
 import re
 import select
 import subprocess
 from dataclasses import dataclass
-from typing import Dict, Iterator, List, Optional, Sequence
+from pathlib import Path
+from typing import Dict, Iterator, Optional, Sequence, Tuple
 
 from servicing.opening import Left, left_in
 
 _COUNTS = re.compile(r"^sessions (\d+) faults (\d+) lost (\d+)$", re.M)
 PIECE = 1 << 20
+PRINTED = 1  # its standard output
+
+
+class Damaged(Exception):
+    """Why what a server has left is no history that a run can continue."""
 
 
 @dataclass(frozen=True)
@@ -65,37 +72,37 @@ class Server:
         for it in (self.history, self.printed, self.process):
             os.close(it)
 
+    def collect(self, program: str, policy: Sequence[str]) -> Tuple[Dict[str, int], Left]:
+        """Has the history checked, and reads meanwhile what is left in it. Returns the audit too. Raises a `Damaged`."""
+        if not self.size:
+            raise Damaged(f"the server left no history: {self.last_line or 'it was killed'}")
+        words = [program, "replay", f"/dev/fd/{self.history}", "--chains", *policy]
+        pipe = subprocess.PIPE
+        with subprocess.Popen(words, stdin=subprocess.DEVNULL, stdout=pipe, stderr=pipe, pass_fds=[self.history],
+                              encoding="utf-8", errors="replace", start_new_session=True) as replay:
+            left = None
+            with contextlib.suppress(ValueError, IndexError, KeyError):  # which the replay explains
+                with open(f"/proc/self/fd/{self.history}", "rb", 1 << 18) as file:
+                    left = left_in(file, int(policy[-1]))
+            said, errors = replay.communicate()
+        if replay.returncode or left is None:
+            raise Damaged((said + errors).strip() or f"status {replay.returncode}")
+        return json.loads(said), left
 
-@dataclass(frozen=True)
-class Verdict:
-    """What `replay` says of a history: its audit, or why it is refused."""
 
-    audit: Optional[Dict[str, int]]
-    fault: str
+def file_name(folder_id: str, number: int, what: str) -> str:
+    """The name that a file in memory has for whoever looks at the processes that have it."""
+    return f"rb_broker-{folder_id}-{number}-{what}"
 
 
-@dataclass(frozen=True)
-class Collected:
-    """The history of a run that has ended."""
-
-    verdict: Verdict
-    left: Optional[Left]
-
-
-def collect(program: str, server: Server, policy: Sequence[str]) -> Collected:
-    """Has the history checked, and reads meanwhile what is left in it."""
-    if not server.size:
-        return Collected(Verdict(None, f"the server left no history: {server.last_line or 'it was killed'}"), None)
-    words: List[str] = [program, "replay", f"/dev/fd/{server.history}", "--chains", *policy]
-    pipe = subprocess.PIPE
-    with subprocess.Popen(words, stdin=subprocess.DEVNULL, stdout=pipe, stderr=pipe, pass_fds=[server.history],
-                          encoding="utf-8", errors="replace", start_new_session=True) as replay:
-        try:
-            with open(f"/proc/self/fd/{server.history}", "rb", 1 << 18) as file:
-                left = left_in(file, int(policy[-1]))
-        except (ValueError, IndexError, KeyError):
-            left = None  # which the replay explains
-        said, errors = replay.communicate()
-    if replay.returncode != 0 or left is None:
-        return Collected(Verdict(None, (said + errors).strip() or f"status {replay.returncode}"), None)
-    return Collected(Verdict(json.loads(said), ""), left)
+def orphan_of(folder_id: str, number: int) -> Optional[Server]:
+    """The server of a run whose service and keeper were both killed, if it is there and this user may look at it."""
+    wanted = f"/memfd:{file_name(folder_id, number, 'printed')} (deleted)"
+    for name in filter(str.isdigit, os.listdir("/proc")):
+        with contextlib.suppress(OSError, ValueError):
+            if os.readlink(f"/proc/{name}/fd/{PRINTED}") == wanted:
+                words = Path(f"/proc/{name}/cmdline").read_bytes().decode().split("\0")
+                history = words[words.index("--history") + 1].rpartition("/")[2]
+                files = [os.open(f"/proc/{name}/fd/{it}", os.O_RDWR | os.O_CLOEXEC) for it in (history, PRINTED)]
+                return Server(number, int(name), files[0], files[1], os.pidfd_open(int(name)))
+    return None

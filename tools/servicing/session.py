@@ -5,36 +5,25 @@ import contextlib
 import socket
 import time
 from dataclasses import dataclass
-from typing import List, Optional
+from typing import Optional
 
 from servicing.clock import up_time
 from servicing.opening import PROBE, PROBE_DELAY
+from servicing.state import Head, Queue
 
 HOST = "127.0.0.1"
 PATIENCE = 0.5  # seconds that a look waits for a worker
 REPLY = 2.0  # seconds that it waits for a reply of one
-FULL = "ERR 6 full"
-
-
-@dataclass(frozen=True)
-class Item:
-    """The element that expires first, as the server shows it."""
-
-    id: int
-    expiry: int
-    attempt: int
-    payload: str
 
 
 @dataclass(frozen=True)
 class Told:
     """What the server told at one look."""
 
-    elements: int
-    head: Optional[Item]
+    queue: Queue
     next_id: int
     moment: int
-    at: int  # when that was heard, by the clock that `clock.up_time` reads
+    heard: int  # when, by the clock that `clock.up_time` reads
 
 
 class Lost(Exception):
@@ -55,9 +44,7 @@ class OwnSession:
         self._heard = b""
         self._is_greeted = False
         self._since: Optional[float] = None  # when it was tried first to have a worker, since one last served this
-        self.sessions = 0  # that were begun
-        self.calls = 0
-        self.probes = 0
+        self.sessions = self.calls = self.probes = 0  # that were begun or made
         self.is_full = False  # whether the run takes no further calls
 
     @property
@@ -84,28 +71,31 @@ class OwnSession:
             if not self._greet():
                 return None
             self._send("SIZE", "PEEK", f"OFFER {PROBE_DELAY} {PROBE}")
-            size, head, offered = (self._reply() for _ in range(3))
-            self.calls += sum(not it.startswith("ERR") for it in (size, head, offered))
+            size, head, offered = (self._called() for _ in range(3))
+            heard = up_time()
             if not offered.startswith("OFFERED "):
-                self.is_full = self.is_full or offered == FULL
+                self.is_full = self.is_full or offered == "ERR 6 full"
                 return None
-            return self._told(size, head, offered)
+            id, expiry = map(int, offered.split(" ")[1:])
+            self._send(f"REMOVE {id}")
+            self._called()
+            self.probes += 1
+            moment = expiry - PROBE_DELAY
+            return Told(Queue(time.time(), int(size.split(" ")[1]), _head(head, moment)), id + 1, moment, heard)
         except (OSError, ValueError, IndexError) as fault:
             self.drop()
             raise Lost(repr(fault)) from None
 
-    def _told(self, size: str, head: str, offered: str) -> Told:
-        at = up_time()
-        id, expiry = map(int, offered.split(" ")[1:])
-        self._send(f"REMOVE {id}")
-        self.calls += not self._reply().startswith("ERR")
-        self.probes += 1
-        return Told(int(size.split(" ")[1]), _item(head), id + 1, expiry - PROBE_DELAY, at)
+    def _called(self) -> str:
+        """The reply to a request, which is a call unless it is refused."""
+        reply = self._reply()
+        self.calls += not reply.startswith("ERR")
+        return reply
 
     def last_call(self) -> None:
         """Leaves with a call, the last of the run: by its moment the history tells when the run ended."""
         with contextlib.suppress(OSError):
-            if self._socket and self._is_greeted:
+            if self._is_greeted:
                 self._send("SIZE", "QUIT")
                 while self._reply() != "BYE":
                     pass
@@ -144,6 +134,7 @@ class OwnSession:
         self._socket.sendall("".join(f"{it}\n" for it in requests).encode())
 
     def _reply(self) -> str:
+        """The next line. What came of one when the time was over stays for the next call."""
         assert self._socket
         until = time.monotonic() + (REPLY if self._is_greeted else PATIENCE)
         while b"\n" not in self._heard:
@@ -156,8 +147,10 @@ class OwnSession:
         return line.decode("ascii")
 
 
-def _item(head: str) -> Optional[Item]:
-    words: List[str] = head.split(" ")
+def _head(line: str, moment: int) -> Optional[Head]:
+    """The element that expires first, unless it is one of a service's own."""
+    words = line.split(" ")
     if words[0] != "HEAD" or words[4] == PROBE:
         return None
-    return Item(int(words[1]), int(words[2]), int(words[3]), words[4])
+    expiry = int(words[2])
+    return Head(int(words[1]), expiry, int(words[3]), words[4], (moment - expiry) / 1e9)

@@ -2,11 +2,12 @@
 from __future__ import annotations
 
 import argparse
+import dataclasses
 import math
 import os
 import sys
 from dataclasses import dataclass
-from typing import Callable, List, NoReturn, Optional, Union
+from typing import Callable, List, NoReturn, Optional, Tuple
 
 from common.words import number, parser_of
 from servicing.address import Address, address_of
@@ -15,8 +16,7 @@ from servicing.keeper import HISTORY, OPENING
 
 TURN = 20_000_000  # nanoseconds that a turn of a wait lasts while nothing happens
 MOST_TURNS = 1_000_000
-NEVER = "never"
-
+DELAY = 30 * SECOND
 DAY = 86_400 * SECOND
 
 
@@ -40,8 +40,7 @@ class Settings:
     sessions: int
     calls: int
     turns: int
-    delay: Optional[int]  # or else `rate`
-    rate: Optional[int]
+    retry: Tuple[str, int]  # --delay or --rate, with its time
     attempts: int
     timer: str
     every: int
@@ -53,15 +52,13 @@ class Settings:
     @property
     def policy(self) -> List[str]:
         """The words by which `replay --chains` checks the retries of a run."""
-        retry = ["--rate", str(self.rate)] if self.rate is not None else ["--delay", str(self.delay)]
-        return [*retry, "--attempts", str(self.attempts)]
+        return [*map(str, self.retry), "--attempts", str(self.attempts)]
 
     @property
     def serve_words(self) -> List[str]:
         """The command that serves a run, for a keeper."""
-        return [self.program, "serve", "--port", str(self.port), "--workers", str(self.workers),
-                "--sessions", str(self.sessions), "--calls", str(self.calls), "--turns", str(self.turns),
-                "--timer", self.timer, *self.policy, "--from", OPENING, "--history", HISTORY]
+        said = ((f"--{it}", str(getattr(self, it))) for it in ("port", "workers", "sessions", "calls", "turns", "timer"))
+        return [self.program, "serve", *sum(said, ()), *self.policy, "--from", OPENING, "--history", HISTORY]
 
 
 class _Parser(argparse.ArgumentParser):
@@ -85,7 +82,7 @@ def _span(least: int, most: int, said: str) -> Callable[[str], int]:
 
 
 def _silent(word: str) -> Optional[int]:
-    return None if word == NEVER else _span(SECOND, DAY, "1s to 1d")(word)
+    return None if word == "never" else _span(SECOND, DAY, "1s to 1d")(word)
 
 
 def _keep(word: str) -> Keep:
@@ -113,12 +110,12 @@ def parser(doc: Optional[str]) -> argparse.ArgumentParser:
     add("--from", dest="begin_with", metavar="HISTORY", help="begins an empty folder with what this history left")
     add("--status", action="store_true", help="shows the service of the folder in this terminal")
     add("--json", action="store_true", help="with --status: one object of JSON")
-    _add_server_options(add)
+    _add_server_options(made)
     add("--every", type=_span(SECOND, 30 * DAY, "1s to 30d"), default=3600 * SECOND, metavar="TIME",
         help="the longest that a run lasts, and so the most that a kill loses, 1s to 30d (1h)")
     add("--stop-within", type=_span(SECOND, 3600 * SECOND, "1s to 1h"), default=60 * SECOND, metavar="TIME",
         help="how long a run's end waits for clients to leave, before it cuts their sessions, 1s to 1h (60s)")
-    add("--silent", type=_silent, default=None, metavar="TIME",
+    add("--silent", type=_silent, metavar="TIME",
         help="cuts sessions over which nothing came and nothing went for so long, 1s to 1d or never (never)")
     add("--keep", type=_keep, default=Keep(None, 7 * DAY), metavar="N|TIME",
         help="how many old runs are kept, or for how long (7d)")
@@ -126,8 +123,9 @@ def parser(doc: Optional[str]) -> argparse.ArgumentParser:
     return made
 
 
-def _add_server_options(add: Callable[..., object]) -> None:
-    most = 2**64 - 1
+def _add_server_options(made: argparse.ArgumentParser) -> None:
+    add, retry = made.add_argument, made.add_mutually_exclusive_group().add_argument
+    any_span = _span(0, 2**64 - 1, "0s to 584 years")
     add("--workers", type=number(int, 1, 16), default=16, metavar="N", help="clients served at once, 1 to 16 (16)")
     add("--sessions", type=number(int, 1, 10_000), default=10_000, metavar="N",
         help="sessions of a run, 1 to 10000 (10000)")
@@ -135,10 +133,8 @@ def _add_server_options(add: Callable[..., object]) -> None:
         help="calls of a run, 1 to 1000000 (1000000)")
     add("--wait", type=_span(0, MOST_TURNS * TURN, "0s to 20000s"), default=SECOND, metavar="TIME",
         help="how long a TAKE or POLLFOR waits at most, 0s to 20000s (1s)")
-    retry = add.__self__.add_mutually_exclusive_group().add_argument  # type: ignore[attr-defined]
-    retry("--delay", type=_span(0, most, "0s to 584 years"), metavar="TIME",
-          help="how long after a failure the job comes back (30s)")
-    retry("--rate", type=_span(0, most, "0s to 584 years"), metavar="TIME",
+    retry("--delay", type=any_span, metavar="TIME", help="how long after a failure the job comes back (30s)")
+    retry("--rate", type=any_span, metavar="TIME",
           help="instead: the time from one attempt's expiry to the next")
     add("--attempts", type=number(int, 1, 1000), default=20, metavar="N", help="attempts of a job, 1 to 1000 (20)")
     add("--timer", choices=["list", "heap", "pairing", "wheel"], default="heap",
@@ -153,11 +149,10 @@ def folder_of(given: Optional[str], port: int) -> str:
     return os.environ.get("STATE_DIRECTORY") or f"{state}/rb_broker/{port}"
 
 
-def settings_of(words: argparse.Namespace, program: Union[str, None]) -> Settings:
+def settings_of(words: argparse.Namespace, program: str) -> Settings:
     """The settings that the words of the command line say."""
-    delay = words.delay if words.delay is not None or words.rate is not None else 30 * SECOND
-    return Settings(
-        port=words.port, folder=folder_of(words.folder, words.port), program=program or "", begin_with=words.begin_with,
-        workers=words.workers, sessions=words.sessions, calls=words.calls, turns=math.ceil(words.wait / TURN),
-        delay=delay, rate=words.rate, attempts=words.attempts, timer=words.timer, every=words.every,
-        stop_within=words.stop_within, silent=words.silent, keep=words.keep, http=words.http)
+    delay = DELAY if words.delay is None else words.delay
+    said = {**vars(words), "program": program, "folder": folder_of(words.folder, words.port),
+            "turns": math.ceil(words.wait / TURN),
+            "retry": ("--delay", delay) if words.rate is None else ("--rate", words.rate)}
+    return Settings(**{it.name: said[it.name] for it in dataclasses.fields(Settings)})

@@ -2,14 +2,13 @@
 from __future__ import annotations
 
 import time
-from typing import Dict, Optional, Tuple
+from typing import Dict, Iterator, Optional, Tuple
 
 from histories.grammar import MOST_OPENING_ELEMENTS
 from servicing.durations import SECOND, text_of
-from servicing.folder import Folder
 from servicing.looking import Looks
 from servicing.notifying import notify
-from servicing.record import Record
+from servicing.runs import Runs
 from servicing.saying import say
 from servicing.settings import Settings
 from servicing.state import Alert, Board, DiskFault, PastRun, Phase, Reason, Run, State, Traffic
@@ -24,22 +23,24 @@ MORE_TIME = 300_000_000  # microseconds that systemd is asked for while nothing 
 class Showing:
     """Puts a new state on the board whenever something has changed."""
 
-    def __init__(self, settings: Settings, folder: Folder, board: Board) -> None:
-        self._board, self._folder, self._began = board, folder, time.time()
-        retry = "--rate" if settings.rate is not None else "--delay"
-        policy = f"{retry} {text_of((settings.rate if settings.rate is not None else settings.delay or 0) / SECOND)}"
-        self._settings = Shown(settings.port, folder.path, settings.every / SECOND, settings.stop_within / SECOND,
-                               settings.attempts, policy)
+    def __init__(self, settings: Settings, runs: Runs, board: Board) -> None:
+        self._board, self._history, self._began = board, runs, time.time()
+        option, span = settings.retry
+        self._settings = Shown(settings.port, settings.folder, settings.every / SECOND, settings.stop_within / SECOND,
+                               settings.attempts, f"{option} {text_of(span / SECOND)}")
         self.phase, self._since, self.why = Phase.STARTING, self._began, None  # type: Phase, float, Optional[Reason]
         self.waits_for: Tuple[str, ...] = ()
         self.run: Optional[Run] = None
         self.looks: Optional[Looks] = None
         self.disk: Optional[DiskFault] = None
-        self.records: Dict[int, Record] = {}
-        self._runs: Tuple[PastRun, ...] = ()
         self._told: Dict[str, Alert] = {}  # alerts that the service has raised
         self._offered = self._left = self._failed = self._last_attempts = 0  # in runs that have ended
         self._failed_a_second: Optional[float] = None
+        self.renew_runs()
+
+    def renew_runs(self) -> None:
+        """Takes note of runs that have ended, and where their histories are."""
+        self._runs = self._history.past()
 
     def enter(self, phase: Phase, why: Optional[Reason] = None, **told: object) -> None:
         """Another phase begins, which a line says."""
@@ -48,36 +49,25 @@ class Showing:
             why=why.value if why else None, **told)
         self.show()
 
-    def raise_alert(self, name: str, text: str, level: str = "warning", **told: object) -> None:
+    def raise_alert(self, name: str, text: str, level: str = "warning") -> None:
         """Raises an alert, or says another text of one. A line says it each time that the text is new."""
         before = self._told.get(name)
         if before is None or before.text != text:
-            say(level, name, **told, text=text)
+            say(level, name, text=text)
         self._told[name] = Alert(name, text, before.since if before else time.time())
 
     def lower_alert(self, name: str) -> None:
         if self._told.pop(name, None):
             say("info", f"{name}-over")
 
-    def count(self, record: Record, offered: int, left: int) -> None:
+    def count(self, run: PastRun, offered: int, left: int) -> None:
         """Adds what is known of a run that has ended."""
         self._offered += offered
         self._left += left
-        if record.end and record.end.failed is not None:
-            self._failed += record.end.failed
-            self._last_attempts += record.end.last_attempts or 0
-            self._failed_a_second = record.end.failed / max(record.end.date - record.began.date / 1e9, 1)
-
-    def renew_runs(self) -> None:
-        """Looks again which runs have ended, and where their histories are."""
-        records = sorted(self.records.values(), key=lambda it: -it.number)
-        runs = (it.past_run(self._folder.id, self._folder.history(it.number)) for it in records)
-        self._runs = tuple(it for it in runs if it is not None)
-
-    @property
-    def lost_runs(self) -> int:
-        last = self.records.get(max(self.records, default=0))
-        return 0 if last is None else last.lost_before + (last.end is not None and last.end.why is Reason.KILLED)
+        if run.end.failed is not None:
+            self._failed += run.end.failed
+            self._last_attempts += run.end.last_attempts or 0
+            self._failed_a_second = run.end.failed / max(run.lasted, 1)
 
     def show(self) -> None:
         """Puts the present state on the board, and tells systemd its line."""
@@ -87,7 +77,7 @@ class Showing:
             why=self.why, waits_for=self.waits_for, run=self.run, queue=looks.queue if looks else None,
             clients=looks.clients if looks else None, calls=looks.calls if looks else None,
             sessions=looks.sessions if looks else None, traffic=self._traffic(), runs=self._runs,
-            lost_runs=self.lost_runs, alerts=self._alerts(), disk=self.disk)
+            lost_runs=self._history.lost, alerts=(*self._told.values(), *self._alerts()), disk=self.disk)
         self._board.put(state)
         # An end takes as long as --stop-within says, and an opening of many elements its time.
         longer = {} if self.phase is Phase.SERVING else {"EXTEND_TIMEOUT_USEC": MORE_TIME}
@@ -95,30 +85,26 @@ class Showing:
 
     def _traffic(self) -> Traffic:
         looks = self.looks
-        return Traffic(
-            self._offered + (looks.offered if looks else 0), self._left + (looks.left if looks else 0), self._failed,
-            self._last_attempts, looks.offers.a_second if looks else None, looks.leaves.a_second if looks else None,
-            self._failed_a_second)
+        offered, left, offers, leaves = (
+            (looks.offered, looks.left, looks.offers.a_second, looks.leaves.a_second) if looks else (0, 0, None, None))
+        return Traffic(self._offered + offered, self._left + left, self._failed, self._last_attempts, offers, leaves,
+                       self._failed_a_second)
 
-    def _alerts(self) -> Tuple[Alert, ...]:
-        alerts = [*self._told.values()]
+    def _alerts(self) -> Iterator[Alert]:
+        """Those that follow from what is seen."""
         run, queue = self.run, self.looks.queue if self.looks else None
         if run is None:
-            return tuple(alerts)
+            return
         elements = (queue.elements if queue else run.opening) + run.aside
         if elements >= MANY_ELEMENTS:
             aside = f", of which {run.aside:,} wait in a file" if run.aside else ""
             text = f"{elements:,} elements wait{aside}; a run can begin with {MOST_OPENING_ELEMENTS:,}"
-            alerts.append(Alert("many-elements", text, run.began))
+            yield Alert("many-elements", text, run.began)
         if run.next_id > MANY_IDS:
-            alerts.append(Alert("few-ids", f"ids end at {2**40:,}, and this run begins at {run.next_id:,}", run.began))
-        return (*alerts, *self._lost_alert())
-
-    def _lost_alert(self) -> Tuple[Alert, ...]:
+            yield Alert("few-ids", f"ids end at {2**40:,}, and this run begins at {run.next_id:,}", run.began)
         lost = next((it for it in self._runs if it.is_lost), None)
-        if lost is None or time.time() - lost.ended > DAY:
-            return ()
-        return (Alert("lost-run", lost_text(lost), lost.ended),)
+        if lost is not None and time.time() - lost.end.date <= DAY:
+            yield Alert("lost-run", lost_text(lost), lost.end.date)
 
 
 def lost_text(run: PastRun) -> str:

@@ -19,7 +19,7 @@ from servicing import metrics
 from servicing.http import Answer
 from servicing.page import page
 from servicing.reports import Reports
-from servicing.state import Board, PastRun, State, Traffic
+from servicing.state import Board, State, Traffic
 from servicing.told import told
 from servicing.trend import Trend
 
@@ -27,6 +27,7 @@ HTML, JSON = "text/html; charset=utf-8", "application/json"
 NONE_YET = Answer.line(HTTPStatus.SERVICE_UNAVAILABLE, "starting")
 
 STALE = 60.0  # seconds without a new state after which the service is not healthy
+COUNTS = ("offered", "left", "failed", "dead_or_done")  # of the traffic, which rise
 
 MAKING = """<!DOCTYPE html>
 <html lang="en"><head><meta charset="utf-8"><meta name="viewport" content="width=device-width, initial-scale=1">
@@ -40,16 +41,17 @@ class Site:
 
     def __init__(self, board: Board, port: int, reports: Reports) -> None:
         self._board, self._reports, self._trend, self._page = board, reports, Trend(), page(port)
-        self._version, self._changed = 0, time.monotonic()
+        self._seen: Optional[State] = None
+        self._changed = time.monotonic()
         self._counted = Traffic(0, 0, 0, 0, None, None, None)
         self._told: Optional[Answer] = None  # which is made once, however many ask
         self._told_of: Optional[State] = None
 
     def beat(self) -> None:
         """Takes note of the present state. To be called about once a second."""
-        version, state = self._board.wait(self._version, 0)
-        if version > self._version and state is not None:
-            self._version, self._changed, self._told = version, time.monotonic(), None
+        state = self._board.state
+        if state is not self._seen and state is not None:
+            self._seen, self._changed, self._told = state, time.monotonic(), None
             self._trend.add(state)
         elif self._is_stale:
             self._told = None
@@ -81,15 +83,13 @@ class Site:
         """In one line, which says what is wrong."""
         if self._is_healthy(state):
             return Answer.line(HTTPStatus.OK, state.phase.value)
-        if self._is_stale:
-            return Answer.line(HTTPStatus.SERVICE_UNAVAILABLE, f"the service has found nothing for {STALE:g} seconds")
-        why = f"; {state.disk.file}: {state.disk.why}" if state.disk else ""
-        return Answer.line(HTTPStatus.SERVICE_UNAVAILABLE, f"{state.phase.value}{why}")
+        why = f"{state.phase.value}; {state.disk.file}: {state.disk.why}" if state.disk else state.phase.value
+        why = f"the service has found nothing for {STALE:g} seconds" if self._is_stale else why
+        return Answer.line(HTTPStatus.SERVICE_UNAVAILABLE, why)
 
     def _risen(self, traffic: Traffic) -> Traffic:
         """What was counted, never less than before: a run whose end corrects a count must not look like a reset."""
-        names = ("offered", "left", "failed", "dead_or_done")
-        counts = {it: max(getattr(traffic, it), getattr(self._counted, it)) for it in names}
+        counts = {it: max(getattr(traffic, it), getattr(self._counted, it)) for it in COUNTS}
         self._counted = dataclasses.replace(traffic, **counts)
         return self._counted
 
@@ -102,12 +102,11 @@ class Site:
 
     def _report(self, state: State, number: int) -> Optional[Answer]:
         run = next((it for it in state.runs if it.number == number and it.history is not None), None)
-        return None if run is None else self._report_on(run, state)
-
-    def _report_on(self, run: PastRun, state: State) -> Answer:
+        if run is None:
+            return None
         report = self._reports.of(run, state.settings)
         if report is None:
-            return Answer(HTTPStatus.ACCEPTED, HTML, MAKING.format(run.number).encode(), (("Refresh", "2"),))
+            return Answer(HTTPStatus.ACCEPTED, HTML, MAKING.format(number).encode(), (("Refresh", "2"),))
         if report.page is None:
             return Answer.line(HTTPStatus.INTERNAL_SERVER_ERROR, f"there is no report: {report.fault}")
         return Answer(HTTPStatus.OK, HTML, report.page)

@@ -4,9 +4,7 @@ from __future__ import annotations
 import re
 import subprocess
 from dataclasses import dataclass
-from typing import Dict, List, Optional, Tuple
-
-
+from typing import Dict, List, Optional
 
 HOST = "127.0.0.1"
 PATIENCE = 10  # seconds that the command may take
@@ -55,14 +53,12 @@ class Sockets:
     connections: List[Connection]
 
 
-def look_at(port: int, with_programs: bool = True) -> Sockets:
-    """Lists the connections of a port of 127.0.0.1. Without the programs it takes less time."""
-    words = "-Htinoepa" if with_programs else "-Htinoea"
-    filter = f"( src {HOST}:{port} or dst {HOST}:{port} )"
+def look_at(port: int) -> Sockets:
+    """Lists the connections of a port of 127.0.0.1."""
+    words = ["ss", "-Htinoepa", "exclude", "time-wait", f"( src {HOST}:{port} or dst {HOST}:{port} )"]
     try:
-        run = subprocess.run(["ss", words, "exclude", "time-wait", filter], capture_output=True, encoding="utf-8",
-                             errors="replace", timeout=PATIENCE, check=False,
-                             start_new_session=True)  # which Ctrl-C does not end
+        run = subprocess.run(words, capture_output=True, encoding="utf-8", errors="replace", timeout=PATIENCE,
+                             check=False, start_new_session=True)  # which Ctrl-C does not end
     except FileNotFoundError:
         raise Unwatchable("the command ss is not there, which iproute2 brings") from None
     except subprocess.TimeoutExpired:
@@ -77,7 +73,7 @@ def sockets_in(text: str, port: int) -> Sockets:
     """Reads what `ss` printed. A line that begins with a space belongs to the one before."""
     here = f"{HOST}:{port}"
     is_listening, server = False, None
-    ends: List[Tuple[List[str], str]] = []
+    ends: List[str] = []
     clients: Dict[str, Optional[Program]] = {}
     for line in re.sub(r"\n[ \t]+", " ", text).splitlines():
         words = line.split(None, 5)
@@ -87,10 +83,10 @@ def sockets_in(text: str, port: int) -> Sockets:
         if state == "LISTEN" and local == here:
             is_listening, server = True, _program(line)
         elif state in (OPEN, HUNG_UP) and local == here:
-            ends.append((words, line))
+            ends.append(line)
         elif peer == here:
             clients[local] = _program(line)
-    return Sockets(is_listening, server, [_connection(words, line, clients) for words, line in ends])
+    return Sockets(is_listening, server, [_connection(it, clients) for it in ends])
 
 
 def _program(line: str) -> Optional[Program]:
@@ -98,13 +94,13 @@ def _program(line: str) -> Optional[Program]:
     return Program(found[1], int(found[2])) if found else None
 
 
-def _connection(words: List[str], line: str, clients: Dict[str, Optional[Program]]) -> Connection:
+def _connection(line: str, clients: Dict[str, Optional[Program]]) -> Connection:
+    state, receive_queue, send_queue, _, peer = line.split(None, 5)[:5]
     fields = dict(_FIELD.findall(line))
     has_times = "rto:" in line  # the kernel told about the connection; what is 0 is left out then
     heard, told = (int(fields.get(it, 0)) if has_times else None for it in ("lastrcv", "lastsnd"))
-    came, went = (int(fields.get(it, 0)) for it in ("data_segs_in", "data_segs_out"))
-    peer = words[4]
     return Connection(
-        port=int(peer.rpartition(":")[2]), key=f"{peer} {fields.get('sk', '')}", has_hung_up=words[0] == HUNG_UP,
-        is_served=fields.get("ino", "0") != "0", receive_queue=int(words[1]), send_queue=int(words[2]),
-        heard=heard, told=told, owes_reply=came > went, program=clients.get(peer))
+        port=int(peer.rpartition(":")[2]), key=f"{peer} {fields.get('sk', '')}", has_hung_up=state == HUNG_UP,
+        is_served=fields.get("ino", "0") != "0", receive_queue=int(receive_queue), send_queue=int(send_queue),
+        heard=heard, told=told, owes_reply=int(fields.get("data_segs_in", 0)) > int(fields.get("data_segs_out", 0)),
+        program=clients.get(peer))

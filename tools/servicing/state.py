@@ -5,7 +5,6 @@ unit. What is not known is None, never 0.
 """
 from __future__ import annotations
 
-import threading
 from dataclasses import dataclass
 from enum import Enum
 from typing import Optional, Tuple
@@ -21,7 +20,7 @@ class Phase(Enum):
     STOPPED = "stopped"  # the service has ended in good order
 
 
-class Reason(Enum):
+class Reason(str, Enum):
     """Why a run ends."""
 
     ASKED = "asked"  # SIGTERM or SIGINT
@@ -146,33 +145,45 @@ class Run:
 
 
 @dataclass(frozen=True)
+class End:
+    """What became of a run. The counts of a lost run are not known."""
+
+    date: float  # for a lost run, when that was found
+    why: Reason
+    calls: Optional[int] = None
+    offered: Optional[int] = None  # new jobs and those that came back
+    failed: Optional[int] = None  # jobs that came back
+    given: Optional[int] = None
+    left: Optional[int] = None  # elements at its end
+    last_attempts: Optional[int] = None  # jobs that were given their last attempt
+    lost_jobs: Optional[int] = None  # held at a session's end in a full run, so that they could not come back
+    closed: Optional[float] = None  # seconds without a server that served new clients, before the next run
+    held_by: Tuple[str, ...] = ()  # the clients that were waited for longest
+    cut: int = 0  # sessions that were cut
+
+
+@dataclass(frozen=True)
 class PastRun:
-    """A run that has ended. The counts of a lost run are not known."""
+    """A run that has ended."""
 
     number: int
     id: str
     began: float
-    ended: float  # for a lost run, when that was found
-    why: Reason
     opening: int
     history: Optional[str]  # the path of the file, which ends in .gz if it is compressed; None if there is none
-    calls: Optional[int]
-    offered: Optional[int]  # new jobs
-    failed: Optional[int]  # jobs that came back
-    given: Optional[int]
-    left: Optional[int]  # elements at its end
-    lost_jobs: Optional[int]  # held at a session's end in a full run, so that they could not come back
-    closed: Optional[float]  # seconds without a server that served new clients, before the next run
-    held_by: Tuple[str, ...] = ()  # the clients that were waited for longest, and those that were cut
-    cut: int = 0  # sessions that were cut
+    end: End
 
     @property
     def is_lost(self) -> bool:
-        return self.why is Reason.KILLED
+        return self.end.why is Reason.KILLED
 
     @property
     def lasted(self) -> float:
-        return self.ended - self.began
+        return self.end.date - self.began
+
+    @property
+    def new_jobs(self) -> Optional[int]:
+        return None if self.end.offered is None or self.end.failed is None else self.end.offered - self.end.failed
 
 
 @dataclass(frozen=True)
@@ -235,27 +246,9 @@ class State:
 
 
 class Board:
-    """Holds the latest state. Any thread may look at it; the service's own puts it there."""
+    """Holds the latest state, None before the first. The service's own thread puts it there, and any may look at it."""
 
-    def __init__(self) -> None:
-        self._changed = threading.Condition()
-        self._state: Optional[State] = None
-        self._version = 0
+    state: Optional[State] = None
 
     def put(self, state: State) -> None:
-        with self._changed:
-            self._state, self._version = state, self._version + 1
-            self._changed.notify_all()
-
-    @property
-    def state(self) -> Optional[State]:
-        """The latest, or None before the first."""
-        with self._changed:
-            return self._state
-
-    def wait(self, seen: int, seconds: float) -> Tuple[int, Optional[State]]:
-        """Waits until there is a state after the one of version `seen`, at first 0, or so long. Returns the latest
-        with its version."""
-        with self._changed:
-            self._changed.wait_for(lambda: self._version > seen, seconds)
-            return self._version, self._state
+        self.state = state

@@ -16,30 +16,27 @@ STYLES = {Doing.NOT_READING.value: RED, Doing.HUNG_UP.value: RED, Doing.WAITING.
 LATE = 1.0  # seconds from which on lateness is marked
 MOST_HELD_BY = 2  # clients that held up a run
 
+ENDS = {
+    Reason.ASKED: "was asked to end", Reason.TIME: "ended when its time was over",
+    Reason.CALLS: "ended when few calls were left", Reason.SESSIONS: "ended when few sessions were left",
+    Reason.ELEMENTS: "ended since elements that were set aside had room",
+    Reason.KILLED: "was lost: its server was killed", Reason.UNKNOWN: "ended while no service was there",
+}
+
 Line = Tuple[str, str]  # a style and a text
 
 
 def head_lines(told: Told) -> List[Line]:
     """What is told of the service as a whole."""
-    late = (told["queue"] or {}).get("head")
-    is_late = late is not None and late["late"] > LATE
-    clients = told["clients"] or {}
-    is_ill = bool(clients.get("not_reading") or clients.get("hung_up"))
+    why = f" ({told['why']})" if told["why"] else ""
+    title = f"port {told['port']}, {told['phase']}{why} for {_span(told['at'] - told['since'])}    {_date(told['at'])}"
     return [
-        (BOLD if told["is_healthy"] else RED, _title(told)),
-        ("", ""),
-        *_attention(told),
-        (YELLOW if clients.get("waiting") else "", f"clients    {_clients(told)}"),
-        (RED if is_ill else "", f"ill        {_ill(told)}"),
-        ("", f"silent     {_silent(told)}"),
-        (YELLOW if is_late else "", f"queue      {_queue(told)}"),
-        ("", f"traffic    {_traffic(told)}"),
-        ("", f"calls      {_supply(told['calls'])}"),
-        ("", f"sessions   {_supply(told['sessions'])}"),
-        ("", f"run        {_run(told)}"),
-        ("", f"before     {_before(told)}"),
-        (RED if told["lost_runs"] else "", f"lost       {counted(told['lost_runs'], 'run')}"),
-        ("", ""),
+        (BOLD if told["is_healthy"] else RED, title), ("", ""), *_attention(told), *_clients(told["clients"]),
+        _queue(told["queue"], told["at"]), ("", f"traffic    {_traffic(told['traffic'])}"),
+        ("", f"calls      {_supply(told['calls'])}"), ("", f"sessions   {_supply(told['sessions'])}"),
+        ("", f"run        {_run(told['run'])}"),
+        ("", f"before     {_before(told['runs'][0]) if told['runs'] else 'no run has ended yet'}"),
+        (RED if told["lost_runs"] else "", f"lost       {counted(told['lost_runs'], 'run')}"), ("", ""),
     ]
 
 
@@ -53,84 +50,63 @@ def client_lines(told: Told) -> List[Line]:
     return [(DIM, lines[0]), *((STYLES.get(it["doing"], ""), line) for it, line in zip(clients, lines[1:]))]
 
 
-def _title(told: Told) -> str:
-    why = f" ({told['why']})" if told["why"] else ""
-    return f"port {told['port']}, {told['phase']}{why} for {_span(told['at'] - told['since'])}    {_date(told['at'])}"
-
-
 def _attention(told: Told) -> Iterator[Line]:
     """What an operator has to know of, with an empty line below."""
-    lines = [(RED, f"! {it['text']} (since {_date(it['since'])})") for it in told["alerts"]]
-    if told["disk"]:
-        disk = told["disk"]
+    alerts, disk = [*told["alerts"]], told["disk"]
+    if disk:
         kept = counted(disk["kept"], "byte is kept in memory", "bytes are kept in memory")
-        lines.append((RED, f"! {disk['file']} can't be written: {disk['why']}; {kept} (since {_date(disk['since'])})"))
+        alerts.append({"text": f"{disk['file']} can't be written: {disk['why']}; {kept}", "since": disk["since"]})
+    lines = [(RED, f"! {it['text']} (since {_date(it['since'])})") for it in alerts]
     lines += [(YELLOW, f"! it waits: {it}") for it in told["waits_for"]]
     yield from [*lines, ("", "")] if lines else []
 
 
-def _clients(told: Told) -> str:
-    clients = told["clients"]
+def _clients(clients: Optional[Told]) -> List[Line]:
     if not clients:
-        return "not known"
-    workers = counted(clients["workers"], "worker")
-    return f"{clients['served']} served by {workers}, {clients['waiting']} waiting for a worker"
+        return [("", f"{name:10} not known") for name in ("clients", "ill", "silent")]
+    workers, longest = counted(clients["workers"], "worker"), clients["longest_silence"]
+    served = f"{clients['served']} served by {workers}, {clients['waiting']} waiting for a worker"
+    ill = f"{clients['not_reading']} not reading, {clients['hung_up']} hung up while their request waits"
+    silent = (f"{clients['silent']} for {_span(clients['silent_from'])} or longer"
+              + ("" if longest is None else f", the longest for {_span(longest)}"))
+    return [(YELLOW if clients["waiting"] else "", f"clients    {served}"),
+            (RED if clients["not_reading"] or clients["hung_up"] else "", f"ill        {ill}"),
+            ("", f"silent     {silent}")]
 
 
-def _ill(told: Told) -> str:
-    clients = told["clients"]
-    if not clients:
-        return "not known"
-    return f"{clients['not_reading']} not reading, {clients['hung_up']} hung up while their request waits"
-
-
-def _silent(told: Told) -> str:
-    clients = told["clients"]
-    if not clients:
-        return "not known"
-    longest = clients["longest_silence"]
-    since = f"{clients['silent']} for {_span(clients['silent_from'])} or longer"
-    return since + ("" if longest is None else f", the longest for {_span(longest)}")
-
-
-def _queue(told: Told) -> str:
-    queue = told["queue"]
+def _queue(queue: Optional[Told], now: float) -> Line:
     if not queue:
-        return "not answered yet"
-    parts = [counted(queue["elements"], "element")]
-    if queue["head"]:
-        head = queue["head"]
-        late = head["late"]
-        when = f"is {_span(late)} late" if late > 0 else f"expires in {_span(-late)}"
-        parts.append(f"the first (id {head['id']}, attempt {head['attempt']}, {head['payload']}) {when}")
-    ago = told["at"] - queue["at"]
-    return ", ".join(parts) + (f", as it was {_span(ago)} ago" if ago > 10 else "")
+        return "", "queue      not answered yet"
+    head, said = queue["head"], f"queue      {counted(queue['elements'], 'element')}"
+    if head:
+        when = f"is {_span(head['late'])} late" if head["late"] > 0 else f"expires in {_span(-head['late'])}"
+        said += f", the first (id {head['id']}, attempt {head['attempt']}, {head['payload']}) {when}"
+    ago = now - queue["at"]
+    return (YELLOW if head and head["late"] > LATE else "",
+            said + (f", as it was {_span(ago)} ago" if ago > 10 else ""))
 
 
-def _traffic(told: Told) -> str:
-    traffic = told["traffic"]
-    rates = [("offers", "offered_a_second"), ("gifts", "left_a_second")]
-    parts = [f"{traffic[rate]:,.1f} {name} a second" for name, rate in rates if traffic[rate] is not None]
-    if traffic["failed_a_second"] is not None:
-        parts.append(f"{traffic['failed_a_second']:,.1f} failures a second in the last run")
-    return ", ".join(parts) or "not known yet"
+def _traffic(traffic: Told) -> str:
+    rates = {"offered_a_second": "offers a second", "left_a_second": "gifts a second",
+             "failed_a_second": "failures a second in the last run"}
+    return ", ".join(f"{traffic[it]:,.1f} {name}" for it, name in rates.items() if traffic[it] is not None) or (
+        "not known yet")
 
 
 def _supply(supply: Optional[Told]) -> str:
     """How much of something is used, and how long the rest lasts."""
     if not supply:
         return "not known"
-    how = "at least" if supply["is_least"] else "about"
+    how, sooner = ("at least", " or sooner") if supply["is_least"] else ("about", "")
     parts = [f"{how} {supply['used']:,} of {supply['limit']:,}"]
     if supply["a_second"] is not None:
         parts.append(f"{supply['a_second']:,.1f} a second")
     if supply["lasts"] is not None:
-        parts.append(f"none left in {_span(supply['lasts'])}" + (" or sooner" if supply["is_least"] else ""))
+        parts.append(f"none left in {_span(supply['lasts'])}{sooner}")
     return ", ".join(parts)
 
 
-def _run(told: Told) -> str:
-    run = told["run"]
+def _run(run: Optional[Told]) -> str:
     if not run:
         return "none yet"
     aside = f", {counted(run['aside'], 'element waits', 'elements wait')} in a file" if run["aside"] else ""
@@ -139,12 +115,9 @@ def _run(told: Told) -> str:
             f"{aside}")
 
 
-def _before(told: Told) -> str:
+def _before(last: Told) -> str:
     """How the last run ended."""
-    if not told["runs"]:
-        return "no run has ended yet"
-    last = told["runs"][0]
-    parts = [f"run {last['number']} {ENDS[last['why']]}"]
+    parts = [f"run {last['number']} {ENDS[Reason(last['why'])]}"]
     if last["closed"] is not None:
         most, more = last["held_by"][:MOST_HELD_BY], len(last["held_by"]) - MOST_HELD_BY
         held = f", held up by {', '.join(most)}" + (f" and {more} more" if more > 0 else "") if most else ""
@@ -154,24 +127,12 @@ def _before(told: Told) -> str:
     return ", ".join(parts)
 
 
-ENDS = {
-    Reason.ASKED.value: "was asked to end", Reason.TIME.value: "ended when its time was over",
-    Reason.CALLS.value: "ended when few calls were left", Reason.SESSIONS.value: "ended when few sessions were left",
-    Reason.ELEMENTS.value: "ended since elements that were set aside had room",
-    Reason.KILLED.value: "was lost: its server was killed", Reason.UNKNOWN.value: "ended while no service was there",
-}
-
-
 def _cells(client: Told) -> List[str]:
+    gone = "gone" if client["doing"] == Doing.HUNG_UP.value else "not shown to this user"
+    program = gone if client["program"] is None else f"{client['program']} {client['pid']}"
     ago = f"{_span(client['seconds'])} ago" if client["seconds"] is not None else ""
     unread = [f"{it:,} B" if it else "" for it in (client["unread_by_client"], client["unread_by_server"])]
-    return [str(client["port"]), program_of(client), client["doing"], ago, *unread]
-
-
-def program_of(client: Told) -> str:
-    if client["program"] is not None:
-        return f"{client['program']} {client['pid']}"
-    return "gone" if client["doing"] == Doing.HUNG_UP.value else "not shown to this user"
+    return [str(client["port"]), program, client["doing"], ago, *unread]
 
 
 def _span(seconds: float) -> str:

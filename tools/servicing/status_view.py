@@ -103,13 +103,12 @@ def _show_again(folder: str, told: Optional[Told]) -> int:
 def frame(told: Optional[Told], is_gone: bool = False) -> str:
     """What is written to the terminal, cut to its size. `is_gone` says that the service does not answer any more."""
     width, height = shutil.get_terminal_size()
-    is_plain = "NO_COLOR" in os.environ
     head = head_lines(told) if told else [STARTING]
     gone = [(RED, "no service answers; this was seen last:")] if is_gone else []
     drawn = []
     for style, text in _fitting([*gone, *head], client_lines(told) if told else [], height - 1):
         text = _printable(text)[:width - 1]
-        drawn.append((f"{style}{text}{PLAIN}" if style and not is_plain else text) + REST_OF_LINE)
+        drawn.append((f"{style}{text}{PLAIN}" if style and "NO_COLOR" not in os.environ else text) + REST_OF_LINE)
     return HOME + NEXT_LINE.join(drawn) + REST_OF_SCREEN
 
 

@@ -3,19 +3,19 @@
 const UNITS = [[86400, "d", 2], [3600, "h", 2], [60, "min", 2], [1, "s", 1], [1e-3, "ms", 1], [1e-6, "µs", 1]];
 const UNKNOWN = "–";
 
-// A span of seconds in a unit that suits it, with three digits.
-function span(seconds) {
-  if (seconds === null) {
-    return UNKNOWN;
-  }
-  const [size, name] = UNITS.find(([size, , least]) => seconds >= size * least) ?? [1, "s", 0];
-  const value = seconds / size;
-  const digits = value === 0 || value >= 100 ? 0 : value >= 10 ? 1 : 2;
-  return fixed(value, digits) + " " + name;
-}
-
 function fixed(value, digits) {
   return value.toLocaleString("en-US", { minimumFractionDigits: digits, maximumFractionDigits: digits });
+}
+
+const number = (value) => value === null ? UNKNOWN : fixed(value, 0);
+
+// A number with three digits if it is small: so many a second, for one.
+const rate = (value) => value === null ? UNKNOWN : fixed(value, value >= 100 || value === 0 ? 0 : value >= 10 ? 1 : 2);
+
+// A span of seconds in a unit that suits it.
+function span(seconds) {
+  const [size, name] = UNITS.find(([size, , least]) => seconds >= size * least) ?? [1, "s"];
+  return seconds === null ? UNKNOWN : rate(seconds / size) + " " + name;
 }
 
 // A round span as a label of an axis: in the largest unit of which it is a multiple.
@@ -23,15 +23,6 @@ function mark(seconds) {
   const isWhole = (count) => count >= 1 && Math.abs(count - Math.round(count)) < 1e-6;
   const [size, name] = UNITS.find(([size]) => isWhole(seconds / size)) ?? [1, "s"];
   return fixed(seconds / size, 0) + " " + name;
-}
-
-function number(value) {
-  return value === null ? UNKNOWN : fixed(value, 0);
-}
-
-// So many a second, with two digits if they are few.
-function rate(value) {
-  return value === null ? UNKNOWN : fixed(value, value >= 100 || value === 0 ? 0 : value >= 10 ? 1 : 2);
 }
 
 // A share. A small one is never shown as nothing.
@@ -67,9 +58,7 @@ function put(name, text, kind) {
   if (it.textContent !== text) {
     it.textContent = text;
   }
-  if (kind !== undefined) {
-    it.className = kind;
-  }
+  it.className = kind ?? it.className;
 }
 
 // A cell is a text, or an object with a text, and perhaps a class as `kind`, and `link`, where it leads, or `meter`,

@@ -4,9 +4,11 @@ Dates are seconds since 1970, spans are seconds, queues are bytes. What is not k
 """
 from __future__ import annotations
 
+import dataclasses
+from enum import Enum
 from typing import Any, Dict, Optional
 
-from servicing.state import Client, Clients, Doing, PastRun, Queue, State, Supply
+from servicing.state import Clients, Doing, PastRun, State, Supply
 
 Told = Dict[str, Any]
 
@@ -15,69 +17,49 @@ MOST_CLIENTS, MOST_RUNS = 32, 100  # that are told one by one
 
 def told(state: State) -> Told:
     """Everything, except the trend."""
-    settings, run, disk = state.settings, state.run, state.disk
+    whole = {it.name: _plain(getattr(state, it.name)) for it in dataclasses.fields(state)
+             if it.name not in ("clients", "runs")}
+    settings = whole["settings"]
     return {
-        "at": _rounded(state.at), "port": settings.port, "folder": settings.folder, "began": _rounded(state.began),
-        "settings": {"every": settings.every, "stop_within": settings.stop_within, "attempts": settings.attempts,
-                     "policy": settings.policy},
-        "phase": state.phase.value, "since": _rounded(state.since), "why": state.why.value if state.why else None,
-        "waits_for": list(state.waits_for), "is_healthy": state.is_healthy,
-        "run": run and {"number": run.number, "id": run.id, "began": _rounded(run.began), "opening": run.opening,
-                        "aside": run.aside, "server": run.server, "moment": run.moment, "next_id": run.next_id},
-        "queue": _queue(state.queue), "clients": _clients(state.clients),
+        **whole, "port": settings.pop("port"), "folder": settings.pop("folder"), "is_healthy": state.is_healthy,
+        "clients": state.clients and _clients(state.clients),
         "calls": _supply(state.calls), "sessions": _supply(state.sessions),
-        "traffic": {name: _rounded(value) for name, value in vars(state.traffic).items()},
         "runs": [_past(it) for it in state.runs[:MOST_RUNS]], "runs_kept": len(state.runs),
-        "lost_runs": state.lost_runs,
-        "alerts": [{"name": it.name, "text": it.text, "since": _rounded(it.since)} for it in state.alerts],
-        "disk": disk and {"file": disk.file, "why": disk.why, "since": _rounded(disk.since), "kept": disk.kept},
     }
 
 
-def _rounded(value: Optional[float]) -> Optional[float]:
-    return None if value is None else round(value, 6)
+def _plain(value: Any) -> Any:
+    """A value as JSON tells it."""
+    if isinstance(value, Enum):
+        return value.value
+    if isinstance(value, float):
+        return round(value, 6)
+    if isinstance(value, tuple):
+        return [*map(_plain, value)]
+    if dataclasses.is_dataclass(value):
+        return {it.name: _plain(getattr(value, it.name)) for it in dataclasses.fields(value)}
+    return value
 
 
-def _queue(queue: Optional[Queue]) -> Optional[Told]:
-    if queue is None:
-        return None
-    head = queue.head
-    return {"at": _rounded(queue.at), "elements": queue.elements, "head": head and {
-        "id": head.id, "expiry": head.expiry, "attempt": head.attempt, "payload": head.payload,
-        "late": _rounded(head.late)}}
-
-
-def _clients(clients: Optional[Clients]) -> Optional[Told]:
-    if clients is None:
-        return None
+def _clients(clients: Clients) -> Told:
     silent = clients.silent
     return {
         "workers": clients.workers, "served": clients.served, "waiting": clients.count(Doing.WAITING),
         "not_reading": clients.count(Doing.NOT_READING), "hung_up": clients.count(Doing.HUNG_UP),
         "silent": len(silent), "silent_from": clients.silent_from,
-        "longest_silence": _rounded(silent[0].seconds) if silent else None,
-        "all": [_client(it) for it in clients.all[:MOST_CLIENTS]],
+        "longest_silence": _plain(silent[0].seconds) if silent else None, "all": _plain(clients.all[:MOST_CLIENTS]),
     }
 
 
-def _client(client: Client) -> Told:
-    return {"port": client.port, "program": client.program, "pid": client.pid, "doing": client.doing.value,
-            "seconds": _rounded(client.seconds), "unread_by_client": client.unread_by_client,
-            "unread_by_server": client.unread_by_server}
-
-
 def _supply(supply: Optional[Supply]) -> Optional[Told]:
-    if supply is None:
-        return None
-    return {"used": supply.used, "is_least": supply.is_least, "limit": supply.limit,
-            "a_second": _rounded(supply.a_second), "lasts": _rounded(supply.lasts)}
+    return None if supply is None else {**_plain(supply), "lasts": _plain(supply.lasts)}
 
 
 def _past(run: PastRun) -> Told:
+    """No path of a history is told."""
+    end = _plain(run.end)
     return {
-        "number": run.number, "id": run.id, "began": _rounded(run.began), "ended": _rounded(run.ended),
-        "lasted": _rounded(run.lasted), "why": run.why.value, "is_lost": run.is_lost, "opening": run.opening,
-        "has_history": run.history is not None, "calls": run.calls, "offered": run.offered, "failed": run.failed,
-        "given": run.given, "left": run.left, "lost_jobs": run.lost_jobs, "closed": _rounded(run.closed),
-        "held_by": list(run.held_by), "cut": run.cut,
+        "number": run.number, "id": run.id, "began": _plain(run.began), "ended": end.pop("date"),
+        "lasted": _plain(run.lasted), "is_lost": run.is_lost, "opening": run.opening,
+        "has_history": run.history is not None, **end, "offered": run.new_jobs,
     }

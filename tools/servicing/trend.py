@@ -2,16 +2,16 @@
 from __future__ import annotations
 
 from collections import deque
-from dataclasses import dataclass
-from typing import Deque, Dict, List, Optional
+from typing import Deque, Dict, List, NamedTuple, Optional
 
 from servicing.state import State
 
 SPAN, BETWEEN = 900.0, 2.0  # seconds that are kept, and from one sample to the next at least
 
+Values = List[Optional[float]]
 
-@dataclass(frozen=True)
-class Sample:
+
+class Sample(NamedTuple):
     """What is drawn of one moment."""
 
     at: float
@@ -23,10 +23,11 @@ class Sample:
 
 
 def sample_of(state: State) -> Sample:
-    queue = state.queue
-    late = max(queue.head.late, 0.0) if queue and queue.head else 0.0
-    return Sample(state.at, queue.elements if queue else None, late if queue else None, queue.at if queue else state.at,
-                  state.traffic.offered, state.traffic.left)
+    queue, traffic = state.queue, state.traffic
+    if queue is None:
+        return Sample(state.at, None, None, state.at, traffic.offered, traffic.left)
+    late = round(max(queue.head.late, 0.0), 3) if queue.head else 0.0
+    return Sample(state.at, queue.elements, late, queue.at, traffic.offered, traffic.left)
 
 
 class Trend:
@@ -46,31 +47,21 @@ class Trend:
         while samples[0].at < state.at - SPAN:
             samples.popleft()
 
-    def told(self) -> Dict[str, List[Optional[float]]]:
+    def told(self) -> Dict[str, Values]:
         """A list for each value, with a place for each sample. Rates are those between the last two counts."""
-        samples = list(self._samples)
         return {
-            "at": [round(it.at, 1) for it in samples],
-            "elements": [it.elements for it in samples],
-            "late": [_rounded(it.late) for it in samples],
-            "offers": self._rates([it.offered for it in samples]),
-            "gifts": self._rates([it.left for it in samples]),
+            "at": [round(it.at, 1) for it in self._samples], "elements": [it.elements for it in self._samples],
+            "late": [it.late for it in self._samples], "offers": self._rates([it.offered for it in self._samples]),
+            "gifts": self._rates([it.left for it in self._samples]),
         }
 
-    def _rates(self, counts: List[int]) -> List[Optional[float]]:
-        rates: List[Optional[float]] = []
+    def _rates(self, counts: List[int]) -> Values:
+        rates: Values = []
         since = before = 0.0
         for sample, count in zip(self._samples, counts):
-            if not rates:
-                rates.append(None)
-            elif sample.counted_at <= since:
+            if rates and sample.counted_at <= since:
                 rates.append(rates[-1])
                 continue
-            else:
-                rates.append(_rounded(max(count - before, 0) / (sample.counted_at - since)))
+            rates.append(round(max(count - before, 0) / (sample.counted_at - since), 3) if rates else None)
             since, before = sample.counted_at, count
         return rates
-
-
-def _rounded(value: Optional[float]) -> Optional[float]:
-    return None if value is None else round(value, 3)

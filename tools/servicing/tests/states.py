@@ -5,7 +5,7 @@ import dataclasses
 from typing import Any
 
 from servicing.state import (
-    Alert, Client, Clients, DiskFault, Doing, Head, PastRun, Phase, Queue, Reason, Run, Settings, State, Supply,
+    Alert, Client, Clients, DiskFault, Doing, End, Head, PastRun, Phase, Queue, Reason, Run, Settings, State, Supply,
     Traffic,
 )
 
@@ -25,12 +25,12 @@ CLIENTS = (
 
 PRESENT = Run(12, "1f6c-12", AT - 4000, 10**15, 44_000, 1200, 0, 30170)
 
-ENDED = PastRun(11, "1f6c-11", AT - 7600, AT - 4000.3, Reason.TIME, 900, "/nowhere/run-11.txt.gz", 250_000, 100_000,
-                4_000, 103_700, 1200, 0, 0.31)
-LOST = PastRun(10, "1f6c-10", AT - 9000, AT - 7600, Reason.KILLED, 900, None, None, None, None, None, None, None, 1.25)
-HELD = PastRun(9, "1f6c-9", AT - 90_000, AT - 9000, Reason.CALLS, 0, "/nowhere/run-9.txt.gz", 1_000_000, 400_000,
-               12_345, 411_445, 900, 3, 61.5,
-               ("client 41007 (python3 4711): 60s", "client 41008 (python3 4712): 2s", "client 41009: 1s"), 1)
+ENDED = PastRun(11, "1f6c-11", AT - 7600, 900, "/nowhere/run-11.txt.gz", End(
+    AT - 4000.3, Reason.TIME, 250_000, 104_000, 4_000, 103_700, 1200, 0, 0, 0.31))
+LOST = PastRun(10, "1f6c-10", AT - 9000, 900, None, End(AT - 7600, Reason.KILLED, closed=1.25))
+HELD = PastRun(9, "1f6c-9", AT - 90_000, 0, "/nowhere/run-9.txt.gz", End(
+    AT - 9000, Reason.CALLS, 1_000_000, 412_345, 12_345, 411_445, 900, 0, 3, 61.5,
+    ("client 41007 (python3 4711): 60s", "client 41008 (python3 4712): 2s", "client 41009: 1s"), 1))
 
 
 def state(**changes: Any) -> State:

@@ -6,7 +6,8 @@ from typing import Dict, Optional
 
 from servicing.clock import Reading
 from servicing.opening import Left, Opening, left_in
-from servicing.record import End, Record
+from servicing.record import Record
+from servicing.state import End
 
 SECOND = 1_000_000_000
 

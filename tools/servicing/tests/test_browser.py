@@ -11,12 +11,12 @@ from unittest import mock
 from histories.tests.support import RUN
 from reporting.tests.support import PageTest
 from reporting.tests.test_sight import TOUCHING, contrast, luminance
-from servicing import http
+from servicing import http, reports
 from servicing.address import Address
 from servicing.http import HttpServer
 from servicing.reports import Reports
 from servicing.site import Site
-from servicing.state import Alert, Board, Client, Clients, Doing, Head, Phase, Queue, Reason, State, Traffic
+from servicing.state import Alert, Board, Client, Clients, Doing, Head, PastRun, Phase, Queue, Reason, State, Traffic
 from servicing.tests.states import AT, ENDED, LONG, first_state, state, troubled_state
 
 PATIENCE, BEAT = 60.0, 0.02  # seconds
@@ -52,12 +52,19 @@ def date(at: float) -> str:
     return time.strftime("%Y-%m-%d %H:%M:%S", time.localtime(at))
 
 
+def ended(**told: Any) -> PastRun:
+    return dataclasses.replace(ENDED, end=dataclasses.replace(ENDED.end, **told))
+
+
 class ServedTest(PageTest):
     def setUp(self) -> None:
         patch = mock.patch.object(http, "BEAT_SECONDS", BEAT)
         patch.start()
         self.addCleanup(patch.stop)
         self.board, self.reports = Board(), Reports()
+        patch = mock.patch.object(reports, "NICENESS", 0)
+        patch.start()
+        self.addCleanup(patch.stop)
         self.addCleanup(self.reports.stop)
         self.browser.complaints.clear()
         self.browser.resize(1200, 900)
@@ -198,7 +205,7 @@ class ShownTest(ServedTest):
         hostile = state(
             clients=Clients((Client(1, HOSTILE, 2, Doing.ACTIVE, 0, 0, 0),), 4, 10.0), waits_for=(HOSTILE,),
             queue=Queue(AT, 1, Head(1, 1, 1, HOSTILE, 0.0)), alerts=(Alert(HOSTILE, HOSTILE, AT),),
-            runs=(dataclasses.replace(ENDED, held_by=(HOSTILE,)),))
+            runs=(ended(held_by=(HOSTILE,)),))
         self.show(hostile)
         self.assertEqual(self.browser.value("document.querySelector('#head code').textContent"), HOSTILE)
         self.assertEqual(self.browser.value(rows("clients"))[0][1], f"{HOSTILE} 2")
@@ -219,6 +226,7 @@ class ShownTest(ServedTest):
         self.shows("document.title", "run-11.txt.gz: report")
         self.assertEqual(self.browser.value("document.querySelectorAll('.plot').length > 3"), True)
         self.assertEqual(self.browser.complaints, [])
+        self.shows("document.readyState", "complete")  # or the next test would take its end for that of its own page
 
 
 class PlotsTest(ServedTest):
@@ -233,7 +241,7 @@ class PlotsTest(ServedTest):
         """Ten seconds after the one before: ten elements more, 50 offers, 40 gifts, and a second later."""
         queue = Queue(AT + 10 * place, 100 + 10 * place, Head(1, 1, 1, "a", float(place)))
         traffic = Traffic(50 * place, 40 * place, 0, 0, None, None, None)
-        run = dataclasses.replace(ENDED, began=AT - 100, ended=AT + 15, failed=230)
+        run = dataclasses.replace(ended(date=AT + 15, failed=230), began=AT - 100)
         return state(at=AT + 10 * place, queue=queue, traffic=traffic, runs=(run,))
 
     def test_the_value_at_the_keyboard(self) -> None:

@@ -7,9 +7,9 @@ from typing import Optional
 
 from servicing.deciding import Seen, Start, how_to_start, is_to_prepare, runs_to_drop, why_to_end
 from servicing.keeping import Held
-from servicing.record import End, record_in
+from servicing.record import record_in
 from servicing.settings import Keep
-from servicing.state import Reason, Supply
+from servicing.state import End, Reason, Supply
 from servicing.tests.support import record
 
 WELL, LOST = End(1000.0, Reason.TIME, 5, 2, 0, 2, 0, 0, 0), End(1000.0, Reason.KILLED)

@@ -192,6 +192,12 @@ class TrendTest(SiteTest):
 
 
 class ReportsTest(SiteTest):
+    def setUp(self) -> None:
+        super().setUp()
+        patch = mock.patch.object(making, "NICENESS", 0)  # so that other tests do not come first
+        patch.start()
+        self.addCleanup(patch.stop)
+
     def serve(self, text: bytes, number: int = 11) -> None:
         """A service behind which this run lies."""
         path = self.path(f"run-{number}.txt.gz")
