@@ -4,16 +4,21 @@ from __future__ import annotations
 import argparse
 import importlib
 import os
+import re
 import shutil
 import signal
 import sys
 import unittest
-from typing import Any, Optional, Sequence, Set
+from typing import Any, List, Optional, Sequence, Set
 
 from common.program import TOP, add_program_option, test_with
+from common.side_by_side import SideBySide
 from common.words import parser_of
 
 TOOLS = f"{TOP}/tools"
+
+# The line that counts.
+_COUNTS = re.compile(r"(\d+) as they must be, (\d+) not(?:, (\d+) passed over)?")
 
 
 class Tally:
@@ -34,6 +39,17 @@ class Tally:
         """Counts what can't be tried here, and says so."""
         self.passed_over += 1
         print(f"{name}: passed over: {reason}", flush=True)
+
+    def add(self, lines: List[str]) -> None:
+        """Adds what another process has counted that printed these lines, and prints what was not as it must be."""
+        counts = _COUNTS.fullmatch(lines[-1]) if lines else None
+        if counts is None or counts[2] != "0":
+            print("\n".join(lines[:-1] if counts else lines), flush=True)
+        else:
+            print(*(f"{it}\n" for it in lines if ": passed over: " in it), sep="", end="", flush=True)
+        passed, failed, passed_over = (int(it or 0) for it in counts.groups()) if counts else (0, 1, 0)
+        self.passed, self.failed = self.passed + passed, self.failed + failed
+        self.passed_over += passed_over
 
     def end(self) -> bool:
         """Prints the count, and returns whether everything that was tried is as it must be."""
@@ -60,27 +76,35 @@ class Result(unittest.TextTestResult):
         return {getattr(test, "test_case", test).id() for test in failed}
 
 
-def run_suite(suite: unittest.TestSuite) -> int:
+def run_suite(suite: unittest.TestSuite, at_once: int = 1) -> int:
     """Runs tests, says which fail and which are passed over, and counts them. Returns the exit status.
 
-    It is 2 if the run was interrupted, also by SIGTERM, after which no process is left behind either.
+    With `at_once` more than 1 so many processes run them, those of a class in one. The status is 2 if the run was
+    interrupted, also by SIGTERM, after which no process is left behind either.
     """
     signal.signal(signal.SIGTERM, signal.default_int_handler)
     if not suite.countTestCases():
         print("no test was found")
         return 1
-    runner = unittest.TextTestRunner(sys.stdout, verbosity=0, resultclass=Result)
+    tally = Tally()
     try:
-        result = runner.run(suite)
+        if at_once > 1:
+            for lines in SideBySide(at_once).outputs(suite):
+                tally.add(lines)
+        else:
+            _run_here(suite, tally)
     except KeyboardInterrupt:
         print(f"{os.path.basename(sys.argv[0])}: it was broken off", file=sys.stderr)
         return 2
+    return 0 if tally.end() else 1
+
+
+def _run_here(suite: unittest.TestSuite, tally: Tally) -> None:
+    result = unittest.TextTestRunner(sys.stdout, verbosity=0, resultclass=Result).run(suite)
     assert isinstance(result, Result)
-    tally = Tally()
     for test, reason in result.skipped:
         tally.pass_over(test.id(), reason)
     tally.passed, tally.failed = result.passed, len(result.failed)
-    return 0 if tally.end() else 1
 
 
 def tests_of(name: str) -> unittest.TestSuite:
@@ -96,9 +120,9 @@ def needs_program(package: str) -> bool:
     return bool(getattr(importlib.import_module(f"{package}.tests"), "NEEDS_PROGRAM", False))
 
 
-def run_tests(name: str) -> int:
+def run_tests(name: str, at_once: int = 1) -> int:
     """Runs the tests of a package or of a module."""
-    return run_suite(tests_of(name))
+    return run_suite(tests_of(name), at_once)
 
 
 def parser_of_check(doc: Optional[str]) -> argparse.ArgumentParser:
@@ -106,17 +130,21 @@ def parser_of_check(doc: Optional[str]) -> argparse.ArgumentParser:
     return parser_of(f"tools/{os.path.basename(sys.argv[0])}", doc)
 
 
-def check(doc: Optional[str], name: str, needs: Sequence[str] = ()) -> int:
-    """What a check does that has no option but --program: runs the tests of a package or of a module with the program.
+def check(doc: Optional[str], name: str, needs: Sequence[str] = (), at_once: int = 1, long: str = "") -> int:
+    """What a check does that has no option but --program, and perhaps --long, which chooses the module `long` instead:
+    runs the tests of a package or of a module with the program.
 
     It ends with status 2 if one of the commands is missing that all of them need.
     """
     parser = parser_of_check(doc)
     add_program_option(parser)
+    if long:
+        parser.add_argument("--long", action="store_const", const=long, default=name, dest="tests",
+                            help="runs the tests that take minutes, and no others")
     options = parser.parse_args()
     for it in needs:
         if not shutil.which(it):
             print(f"{os.path.basename(sys.argv[0])}: there is no {it} on the path", file=sys.stderr)
             return 2
     test_with(options.program)
-    return run_tests(name)
+    return run_tests(options.tests if long else name, at_once)

@@ -3,14 +3,19 @@ from __future__ import annotations
 
 import contextlib
 import io
+import os
 import signal
+import subprocess
 import sys
+import tempfile
+import time
 import types
 import unittest
+from pathlib import Path
 from typing import List, Tuple, Type
 from unittest import mock
 
-from common.checking import Tally, needs_program, run_suite, tests_of
+from common.checking import TOOLS, Tally, needs_program, run_suite, tests_of
 
 
 class Right(unittest.TestCase):
@@ -56,6 +61,12 @@ class BrokenAsAWhole(PassedOverAsAWhole):
     @classmethod
     def setUpClass(cls) -> None:
         raise OSError("a disk is gone")
+
+
+class Slow(unittest.TestCase):
+    def runTest(self) -> None:
+        Path(os.environ["RB_SLOW"]).write_text(str(os.getpid()), encoding="ascii")
+        time.sleep(60)
 
 
 class Stopped(unittest.TestCase):
@@ -126,6 +137,52 @@ class SuiteTest(unittest.TestCase):
         status, lines, errors = ran(Right, Stopped, Right)
         self.assertEqual(status, 2)
         self.assertNotIn("as they must be", "\n".join(lines))
+        self.assertTrue(errors.endswith(": it was broken off\n"), errors)
+
+    def test_side_by_side(self) -> None:
+        """What two processes count is added up, and only what is not as it must be is printed."""
+        suite = unittest.TestSuite(map(tests_of, ("common.tests.test_words", "common.tests.test_program")))
+        said = io.StringIO()
+        with contextlib.redirect_stdout(said):
+            status = run_suite(suite, at_once=2)
+        wanted = f"{suite.countTestCases()} as they must be, 0 not"
+        self.assertEqual((status, said.getvalue().splitlines()[-1]), (0, wanted))
+        self.assertNotIn("Ran ", said.getvalue())
+
+    def test_side_by_side_with_what_can_not_be_run(self) -> None:
+        suite = unittest.TestSuite(map(tests_of, ("common.tests.test_words", "common.tests.no_such_module")))
+        said = io.StringIO()
+        with contextlib.redirect_stdout(said):
+            status = run_suite(suite, at_once=2)
+        self.assertEqual((status, said.getvalue().splitlines()[-1]), (
+            1, f"{suite.countTestCases() - 1} as they must be, 1 not"))
+        self.assertIn("no_such_module", said.getvalue())
+
+    def test_what_another_process_counted(self) -> None:
+        tally, said = Tally(), io.StringIO()
+        with contextlib.redirect_stdout(said):
+            tally.add(["Ran 3 tests", "a: passed over: there is no moon", "2 as they must be, 0 not, 1 passed over"])
+            tally.add(["b is wrong", "1 as they must be, 2 not"])
+            tally.add(["Segmentation fault"])
+            tally.add([])
+        self.assertEqual((tally.passed, tally.failed, tally.passed_over), (3, 4, 1))
+        self.assertEqual(said.getvalue().split("\n"), [
+            "a: passed over: there is no moon", "b is wrong", "Segmentation fault", "", ""])
+
+    def test_side_by_side_broken_off(self) -> None:
+        """A signal ends the processes that run tests too."""
+        code = ("import sys; sys.path.insert(0, sys.argv[1]); from common.checking import run_tests; "
+                f"sys.exit(run_tests('{__name__}.Slow', 2))")
+        with tempfile.TemporaryDirectory(prefix="rb-test-") as room:
+            noted = Path(room, "process")
+            with subprocess.Popen([sys.executable, "-B", "-c", code, TOOLS], stdout=subprocess.PIPE, encoding="utf-8",
+                                  stderr=subprocess.PIPE, env={**os.environ, "RB_SLOW": str(noted)}) as process:
+                while not noted.exists() or not noted.read_text():
+                    time.sleep(0.05)
+                process.send_signal(signal.SIGTERM)
+                said, errors = process.communicate(timeout=60)
+            self.assertRaises(ProcessLookupError, os.kill, int(noted.read_text()), 0)
+        self.assertEqual((process.returncode, said), (2, ""))
         self.assertTrue(errors.endswith(": it was broken off\n"), errors)
 
     def test_the_tests_of_a_package_and_of_a_module(self) -> None:

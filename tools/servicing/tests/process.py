@@ -7,6 +7,7 @@ import json
 import os
 import re
 import signal
+import socket
 import subprocess
 import sys
 import threading
@@ -14,7 +15,7 @@ import time
 from typing import Callable, Dict, List, Optional, Sequence
 
 from common.program import TOP, tested_program
-from serving import PATIENCE
+from serving import HOST, PATIENCE
 from serving.server import free_port
 from serving.session import Session
 from common.testing import RoomTest
@@ -42,10 +43,10 @@ class Service:
         words = [*before, python, "-B", f"{TOP}/tools/service", "--port", str(self.port), "--folder", folder,
                  "--program", program or tested_program(), *map(str, options)]
         self.process = subprocess.Popen(words, stderr=subprocess.PIPE, encoding="utf-8")
-        atexit.register(self.process.kill)
+        atexit.register(self.kill_all)
         self.events: List[Event] = []
         self.lines: List[str] = []
-        self._came = threading.Condition()
+        self._came, self._has_ended = threading.Condition(), False
         self._reader = threading.Thread(target=self._read, daemon=True)
         self._reader.start()
 
@@ -56,6 +57,9 @@ class Service:
                 self.lines.append(line.rstrip("\n"))
                 self.events.append(event_of(line))
                 self._came.notify_all()
+        with self._came:
+            self._has_ended = True
+            self._came.notify_all()
 
     def all(self, event: str) -> List[Event]:
         with self._came:
@@ -65,7 +69,7 @@ class Service:
         """The last of this many lines of an event, once they are there."""
         with self._came:
             self._came.wait_for(lambda: len([it for it in self.events if it.get("event") == event]) >= count
-                                or (self.process.poll() is not None and not self._reader.is_alive()), patience)
+                                or self._has_ended, patience)
         found = self.all(event)
         if len(found) < count:
             raise AssertionError(f"{len(found)} of {count} lines of {event} came: {self.lines}")
@@ -108,6 +112,7 @@ class Service:
 
     def kill_all(self) -> None:
         """Kills what is left of it: the service, its server and its keeper."""
+        atexit.unregister(self.kill_all)
         self.kill()
         for it in os.listdir("/proc"):
             with contextlib.suppress(OSError, ValueError):
@@ -129,6 +134,11 @@ class ServiceTest(RoomTest):
     def setUp(self) -> None:
         super().setUp()
         self.port = free_port()
+        # Until the end, no other process finds the port free while none of its services listens.
+        kept = socket.socket()
+        self.addCleanup(kept.close)
+        kept.setsockopt(socket.SOL_SOCKET, socket.SO_REUSEADDR, 1)
+        kept.bind((HOST, self.port))
 
     def begin(self, *options: object, folder: str = "", before: Sequence[str] = (), program: str = "") -> Service:
         """A service that serves."""
@@ -137,7 +147,9 @@ class ServiceTest(RoomTest):
         return service
 
     def start(self, *options: object, folder: str = "", before: Sequence[str] = (), program: str = "") -> Service:
-        service = Service(folder or self.path("runs"), *options, port=self.port, before=before, program=program)
+        """A service with few sessions unless they are named, since each end uses them up."""
+        few = () if "--sessions" in options else ("--sessions", 400)
+        service = Service(folder or self.path("runs"), *options, *few, port=self.port, before=before, program=program)
         self.addCleanup(service.kill_all)
         return service
 
