@@ -4,9 +4,10 @@ from __future__ import annotations
 import re
 import shutil
 import time
+from datetime import datetime, timezone
 
 from common.checking import Tally
-from packaging.tests.machine import Machine, reason_not_to_boot
+from packaging.tests.machine import SET_DATE, Machine, reason_not_to_boot
 from packaging.tests.running import Told, fault_unless
 from serving.server import free_port
 from serving.session import Session
@@ -21,6 +22,8 @@ CODE = (
     "import signal, threading; from rb_broker_client import Worker; worker = Worker(print, {port}); "
     "signal.signal(signal.SIGTERM, lambda *_: threading.Timer(10, worker.stop).start()); worker.run()"
 )
+
+DUE = 12  # seconds after which a job is due while the date is set
 
 # Fewer sessions than by default, since each end uses up those that are left.
 OPTIONS = 'RB_BROKER_OPTIONS="--sessions 200 --stop-within 1s {}"\n'
@@ -48,6 +51,7 @@ def try_units(tally: Tally, package: str, folder: str) -> None:
         try_stop_by_systemd(tally, service)
         try_kills(tally, service)
         try_silence(tally, service)
+        try_dates(tally, service)
         try_order(tally, service)
         try_removal(tally, service)
 
@@ -172,6 +176,43 @@ def try_silence(tally: Tally, service: Service) -> None:
     is_right = is_cut and " event=cut-silent sessions=1 " in journal
     tally.count("a silent session under systemd", fault_unless(is_right, (is_cut, journal)))
     service.stop()
+
+
+def try_dates(tally: Tally, service: Service) -> None:
+    """The machine's date is set while a job waits: the job is due after real time, also over a restart of the service,
+    and no run ends for that."""
+    machine = service.machine
+    if not machine.can_set_date():
+        tally.pass_over("a date that is set under systemd", "there is no C compiler")
+        return
+    machine.write(f"/run/units/{service.name}.d/date.conf", f"[Service]\nEnvironment=LD_PRELOAD={SET_DATE}\n")
+    machine.run("systemctl", "daemon-reload")
+    service.start()
+    for hours in (5, -3):
+        service.journal()
+        with Session(service.port) as it:
+            it.ask(f"OFFER {DUE}000000000 reminder")
+            it.ask("QUIT")
+        offered = time.monotonic()
+        machine.set_date(hours * 3600)
+        time.sleep(2)  # in which it would be seen that the run is old
+        told = machine.run("systemctl", "restart", service.name)
+        with Session(service.port) as it:
+            early = it.ask("POLL") if time.monotonic() < offered + DUE - 1 else "NONE"
+            while (reply := it.ask("TAKE")) == "STOPPED":
+                pass
+            passed = time.monotonic() - offered
+            it.ask(f"DONE {reply.split(' ')[1]}")
+            it.ask("QUIT")
+        journal = service.journal()
+        date = datetime.fromisoformat(re.findall(r"^time=(\S+)Z ", journal, re.M)[-1]).replace(tzinfo=timezone.utc)
+        is_set = abs(date.timestamp() - time.time() - hours * 3600) < 60
+        is_right = (told.status == 0 and is_set and early == "NONE" and reply.endswith(" reminder")
+                    and DUE <= passed < DUE + 5 and " why=time" not in journal and " event=lost-run " not in journal)
+        tally.count(f"a date that is set by {hours} h under systemd",
+                    fault_unless(is_right, (told, date, early, reply, passed, journal)))
+    service.stop()
+    machine.set_date(0)
 
 
 def try_order(tally: Tally, service: Service) -> None:
