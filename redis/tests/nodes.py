@@ -94,13 +94,15 @@ class Process:
         self.signal(signal.SIGKILL)
 
     def pause(self) -> None:
-        """Lets it do nothing until `go_on`."""
-        assert self._process
-        self._process.send_signal(signal.SIGSTOP)
+        """Lets it do nothing until `go_on`, or until it is killed."""
+        self._send(signal.SIGSTOP)
 
     def go_on(self) -> None:
-        assert self._process
-        self._process.send_signal(signal.SIGCONT)
+        self._send(signal.SIGCONT)
+
+    def _send(self, number: int) -> None:
+        if self._process:
+            self._process.send_signal(number)
 
     @property
     def is_alive(self) -> bool:

@@ -1,4 +1,5 @@
-"""Days on which all goes wrong: gateways, clients, the archive and the Redis itself are killed at any moment.
+"""Days on which all goes wrong: gateways, clients, the archive and the Redis itself are killed at any moment, and a gateway
+may stand still until its lease is over.
 
 Afterwards the program accepts each history that was archived, with its retries. Each job that was offered is in them
 once, each of its attempts came after a failure of the one before, and its last attempt was given and did not come
@@ -18,7 +19,7 @@ import threading
 import time
 import unittest
 from pathlib import Path
-from typing import Callable, Dict
+from typing import Callable, Dict, List
 
 from accounts import Attempts, attempts_in, sum_up
 from crew import Crew, Producer, compiled_java
@@ -50,7 +51,8 @@ class Day(unittest.TestCase):
         self.addCleanup(room.cleanup)
         self.room, self.archive = Path(room.name), Path(room.name) / "archive"
         self.draw = random.Random()
-        self.kills = {it: 0 for it in ("gateway", "worker", "producer", "archive", "redis")}
+        self.pauses: List[threading.Timer] = []
+        self.kills = {it: 0 for it in ("gateway", "worker", "producer", "archive", "redis", "lease")}
 
     def run_day(self, redis: str, kill_redis: Callable[[], None], serving: tuple[object, ...] = SERVING) -> None:
         """Lets the day pass, and judges it."""
@@ -83,12 +85,14 @@ class Day(unittest.TestCase):
             self.assertLess(time.monotonic(), began + PATIENCE, "the offers are not made in time")
             time.sleep(self.draw.uniform(0.1, 0.8))
             self.start_what_has_ended()
-            what = self.draw.choices([*self.kills], [2, 5, 1, 1, 1])[0]
+            what = self.draw.choices([*self.kills], [2, 5, 1, 1, 1, 0.5])[0]
             self.kills[what] += 1
             if what == "gateway":
                 gateway = self.draw.choice(self.gateways)
                 gateway.kill()
                 gateway.start()
+            elif what == "lease":
+                self.let_lease_pass(self.draw.choice(self.gateways))
             elif what == "worker":
                 self.kill_worker()
             elif what == "producer":
@@ -102,9 +106,18 @@ class Day(unittest.TestCase):
                 kill_redis()
         self.took = time.monotonic() - began
         self.start_what_has_ended()
+        for pause in self.pauses:
+            pause.join()
         for it in self.gateways:
             it.wait()
         wait_until(self.is_empty, "the jobs are not done in time", PATIENCE)
+
+    def let_lease_pass(self, gateway: Gateway) -> None:
+        """Lets a gateway stand still, unless it is killed, for about as long as its lease or longer."""
+        gateway.pause()
+        going_on = threading.Timer(LEASE * self.draw.uniform(0.8, 2), gateway.go_on)
+        going_on.start()
+        self.pauses.append(going_on)
 
     def start_what_has_ended(self) -> None:
         """As a supervisor does: a gateway that finds no Redis when it starts ends."""
@@ -159,7 +172,7 @@ class Day(unittest.TestCase):
         self.assertEqual(day.done_twice, [])
         self.assertEqual(day.done_once + len(day.in_doubt), day.jobs)
         self.assertLessEqual(len(day.unseen), sum(self.kills.values()), day.unseen)
-        print(f"{self.id().rpartition('.')[2]}: {JOBS} jobs in {self.took:.0f} s; killed: "
+        print(f"{type(self).__name__}: {JOBS} jobs in {self.took:.0f} s; killed: "
               f"{', '.join(f'{it} {count}' for it, count in self.kills.items())}; {len(offered)} offers answered, "
               f"{day.jobs} made; {day.done_once} jobs done once, {len(day.done_twice)} twice, {len(day.in_doubt)} in "
               f"doubt, of which {len(day.unseen)} without a note; {day.handled_again} handled again, {day.late} answers "
