@@ -45,9 +45,9 @@ class Server:
             fault = self._process.communicate()[1].strip()
         raise RuntimeError(f"no server could be started: {fault}")
 
-    def use_up(self):
+    def use_up(self, seconds=PATIENCE):
         """Uses up the sessions that are left, so that the server ends once those that go on have ended."""
-        deadline = time.monotonic() + PATIENCE
+        deadline = time.monotonic() + seconds
         while time.monotonic() < deadline:
             try:
                 socket.create_connection(("127.0.0.1", self.port), timeout=PATIENCE).close()

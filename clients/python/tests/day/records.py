@@ -1,0 +1,33 @@
+"""What the records of workers say about the attempts of jobs."""
+import json
+from collections import defaultdict
+
+
+def ends_in(paths):
+    """What workers were told of each attempt, by payload and attempt: `ITEM`, and then `DONE`, `AGAIN`, `ERR`, or
+    `nothing` where the reply never came."""
+    told = defaultdict(list)
+    for path in paths:
+        held = {}
+        with open(path, encoding="ascii") as file:
+            for line in map(json.loads, file):
+                for words in (it.split(" ") for it in line["reply"]):
+                    if words[0] == "ITEM":
+                        held[line["session"], words[1]] = job = words[4], int(words[3])
+                        told[job].append("ITEM")
+                keyword, _, id = line["request"].partition(" ")
+                if keyword in ("DONE", "FAIL"):
+                    reply = line["reply"][0].split(" ")[0] if line["reply"] else "nothing"
+                    told[held[line["session"], id]].append(reply)
+    return told
+
+
+def lines_between(paths, first, last):
+    """The lines of the sessions that began at one of these moments, the last one left out."""
+    for path in paths:
+        began = {}
+        with open(path, encoding="ascii") as file:
+            for line in file:
+                told = json.loads(line)
+                if first <= began.setdefault(told["session"], told["sent"]) < last:
+                    yield line

@@ -1,0 +1,226 @@
+"""A day on which all goes wrong: workers are killed while they hold jobs and while handlers hang, other clients are
+silent or lie, one server is replaced by the next, and that one runs full and is replaced too.
+
+Afterwards each job is in the histories once, each of its attempts came after a failure of the one before, and its last
+attempt was given and did not come back. A worker was told that it is done, and no other was; or the job is named, since
+the worker that had it was killed before it could know, or the full run took no failed job back. tools/verify finds no
+fault in what producers and workers recorded.
+"""
+import asyncio
+import math
+import os
+import random
+import subprocess
+import sys
+import threading
+import time
+import unittest
+
+from history import History
+from nuisance import Nuisance
+from rb_broker_client import AsyncProducer, Broker, FullError, InDoubtError, Pauses, Producer
+from records import ends_in, lines_between
+from server import PATIENCE, TOP, ServedTest, start
+
+JOBS = int(os.environ.get("RB_BROKER_JOBS", 1_000))
+LONGEST = 120 + JOBS / 10  # seconds until all jobs are offered, or done
+HANDLERS = ("handle", "handle_async", "handle")
+HELD = 4  # jobs that a worker has at most
+SESSIONS = 600 + JOBS // 6  # of a server, which are more than a run uses: the rest is used up at its end
+POLICY = ("--delay", 2_000_000, "--attempts", 1_000)
+DELAYS = (0, 0, 0.001, 0.05, 0.4)
+PAUSE = 0.03  # seconds at most between two offers of a producer
+
+
+class WorkerProcess:
+    """The package's command as a worker, with a record of its own."""
+
+    def __init__(self, handler, port, record):
+        self.record, self.handler = record, handler
+        open(record, "ab").close()
+        words = ["worker", f"hostile_handlers:{handler}", "--port", port, "--concurrency", HELD, "--session", 2,
+                 "--timeout", 1, "--record", record]
+        self._process = start([sys.executable, "-m", "rb_broker_client", *map(str, words)],
+                              cwd=os.path.dirname(os.path.realpath(__file__)), stderr=subprocess.DEVNULL)
+
+    @property
+    def has_begun(self):
+        """Whether it has asked something. Before that a signal might end it as any other process."""
+        return os.path.getsize(self.record) > 0
+
+    def kill(self):
+        self._process.kill()
+        self._process.wait()
+        self._process.stdout.close()
+
+    def stop(self):
+        """Ends it in good order. Gives its status."""
+        self._process.terminate()
+        return self._process.wait(PATIENCE)
+
+
+class HostileDayTest(ServedTest):
+    def setUp(self):
+        super().setUp()
+        self.histories, self.began, self.records, self.killed = [], [], [], []
+        self.offered, self.doubted, self.lost, self.faults = [], [], 0, []
+        self.is_over = threading.Event()
+
+    def test_each_job_is_done_once_or_named(self):
+        began = time.monotonic()
+        self.begin(1_000_000)
+        nuisances = [Nuisance(self.server.port, is_silent) for is_silent in (True, True, False, False)]
+        self.workers = [self.start_worker(it) for it in HANDLERS]
+        self.addCleanup(lambda: [it.kill() for it in self.workers])
+        self.addCleanup(self.is_over.set)
+        producers = [self.start(self.produce), self.start(lambda: asyncio.run(self.produce_async()))]
+        killer = self.start(self.kill_now_and_then)
+        self.wait_until(lambda: len(self.offered) >= JOBS // 3, LONGEST)
+        self.replace(JOBS // 2)  # calls, which are soon made
+        self.wait_until(lambda: self.size() is None, LONGEST)
+        self.replace(1_000_000)
+        for it in producers:
+            it.join(LONGEST)
+        self.assertEqual(self.faults, [])
+        self.assertEqual(sorted(map(int, [*self.offered, *self.doubted])), list(range(JOBS)))
+        self.wait_until(self.is_empty, LONGEST)
+        self.is_over.set()
+        killer.join(PATIENCE)
+        self.assertEqual(self.faults, [])
+        self.wait_until(lambda: all(it.has_begun for it in self.workers), LONGEST)
+        self.assertEqual([it.stop() for it in self.workers], [0] * len(HANDLERS))
+        sessions = 0
+        for it in nuisances:
+            count, wrong = it.finish()
+            self.assertEqual(wrong, [])
+            sessions += count
+        self.end()
+        self.judge(f"{sessions} sessions of clients that are silent or lie, {time.monotonic() - began:.0f} s")
+
+    def start(self, work):
+        def run():
+            try:
+                work()
+            except Exception as fault:
+                self.faults.append(fault)
+
+        thread = threading.Thread(target=run, daemon=True)
+        thread.start()
+        return thread
+
+    def begin(self, calls):
+        """Starts the first server or the next, with room for this many calls."""
+        self.began.append(time.monotonic_ns())
+        opening = ["--from", self.histories[-1]] if self.histories else []
+        self.histories.append(f"{self.room}/history-{len(self.histories)}")
+        self.server = self.serve("--workers", 16, "--sessions", SESSIONS, "--calls", calls, "--turns", 50, *POLICY,
+                                 *opening, "--history", self.histories[-1],
+                                 port=self.server.port if opening else None)
+
+    def end(self):
+        """Lets the server end, while clients go on."""
+        self.server.use_up(LONGEST)
+        status, lines = self.server.end()
+        self.assertEqual(status, 0, lines)
+        self.assertRegex(lines[0], f"^sessions {SESSIONS} faults [0-9]+ lost [0-9]+$")
+        self.lost += int(lines[0].split(" ")[-1])
+        self.assertEqual(self.assert_chained(self.histories[-1], *POLICY), lines[1])
+
+    def replace(self, calls):
+        self.end()
+        self.begin(calls)
+
+    def record(self, kind):
+        self.records.append(f"{self.room}/{kind}-{len(self.records)}.jsonl")
+        return self.records[-1]
+
+    def start_worker(self, handler):
+        return WorkerProcess(handler, self.server.port, self.record("worker"))
+
+    def kill_now_and_then(self):
+        """Kills one worker after the other, each once it has begun."""
+        while len(self.killed) < JOBS // 50 and not self.is_over.wait(random.uniform(0.2, 0.6)):
+            place = random.randrange(len(self.workers))
+            worker = self.workers[place]
+            if worker.has_begun:
+                worker.kill()
+                self.killed.append(worker.record)
+                self.workers[place] = self.start_worker(worker.handler)
+
+    def options(self):
+        return {"session": 1, "patience": LONGEST, "pauses": Pauses(0.05, 0.5), "record": self.record("producer")}
+
+    def produce(self):
+        with Producer(self.server.port, **self.options()) as producer:
+            for number in range(0, JOBS, 2):
+                try:
+                    producer.offer(str(number), delay=random.choice(DELAYS))
+                    self.offered.append(number)
+                except InDoubtError:
+                    self.doubted.append(number)
+                time.sleep(random.uniform(0, PAUSE))
+
+    async def produce_async(self):
+        async with AsyncProducer(self.server.port, **self.options()) as producer:
+            for number in range(1, JOBS, 2):
+                try:
+                    await producer.offer(str(number), delay=random.choice(DELAYS))
+                    self.offered.append(number)
+                except InDoubtError:
+                    self.doubted.append(number)
+                await asyncio.sleep(random.uniform(0, PAUSE))
+
+    def size(self):
+        """How many elements are in the queue, or None if the run is full. Takes its time, as each takes a session."""
+        time.sleep(0.2)
+        with Broker(self.server.port, patience=PATIENCE) as broker:
+            try:
+                return broker.size()
+            except FullError:
+                return None
+
+    def is_empty(self):
+        """Whether the queue is empty for a while. A job that is held is not in it, and comes back if its worker is
+        killed, or its handler hangs."""
+        return all(self.size() == 0 for _ in range(15))
+
+    def judge(self, said):
+        for number in range(len(self.histories)):
+            self.verify(number)
+        history, told = History(*self.histories), ends_in(self.records)
+        attempts, given = history.attempts(), {}
+        for it in map(history.elements.get, history.given):
+            given.setdefault(it.payload, []).append(it.attempt)
+        named, unseen = [], []
+        for payload, offered in attempts.items():
+            self.assertEqual(offered, [*range(1, len(offered) + 1)], payload)
+            self.assertEqual(given[payload], offered, payload)
+            done = [it for it in offered if "DONE" in told[payload, it]]
+            self.assertIn(done, ([], offered[-1:]), payload)
+            self.assertLessEqual(told[payload, offered[-1]].count("DONE"), 1, payload)
+            if not done:
+                named.append(int(payload))
+                if "ITEM" not in told[payload, offered[-1]]:
+                    unseen.append(int(payload))
+        self.assertEqual({*range(JOBS)} - {*map(int, attempts)} - {*self.doubted}, set())
+        self.assertLessEqual(len(unseen), self.lost, unseen)
+        self.assertGreater(len(self.killed), 0)
+        self.assertLessEqual(len(named), HELD * len(self.killed) + self.lost, named)
+        again = sum(len(it) > (2 if int(payload) % 10 == 0 else 1) for payload, it in attempts.items())
+        print(f"hostile day: {JOBS} jobs, {len(self.killed)} workers killed, {len(self.histories)} servers, {said}: "
+              f"{len(attempts) - len(named)} done once, {len(named)} named {sorted(named)}, of which {self.lost} were "
+              f"lost in the full run; {len(self.doubted)} offers in doubt; {again} given once more than they failed",
+              flush=True)
+
+    def verify(self, number):
+        """The run of this number is that of its clients, whose sessions began in it."""
+        path = f"{self.room}/records-{number}.jsonl"
+        with open(path, "w", encoding="ascii") as file:
+            file.writelines(lines_between(self.records, self.began[number], [*self.began, math.inf][number + 1]))
+        words = [sys.executable, os.path.join(TOP, "tools", "verify"), self.histories[number], path]
+        ran = subprocess.run(words, stdout=subprocess.PIPE, stderr=subprocess.STDOUT, encoding="utf-8", timeout=LONGEST)
+        self.assertEqual((ran.returncode, ran.stdout.splitlines()[-1]), (0, "0 faults"), ran.stdout)
+
+
+if __name__ == "__main__":
+    unittest.main()
