@@ -36,6 +36,9 @@ if __name__ == "__main__":
 from servicing.cutting import cut_sessions  # noqa: E402
 
 IDLE = 30.0  # seconds
+
+# The room of a history is large, and a page of it is first touched while its lock is held: huge pages are fewer.
+HUGE_PAGES = {"GLIBC_TUNABLES": "glibc.malloc.hugetlb=1"}
 MOST_BYTES, MOST_FILES = 1 << 17, 4  # of a message
 
 # Stand in the words of a server for names that are this process's to know.
@@ -79,7 +82,8 @@ class Keeper:
         history, printed, opening = given
         names = {HISTORY: f"/dev/fd/{history}", OPENING: f"/dev/fd/{opening}"}
         self._child = subprocess.Popen([names.get(it, it) for it in words], stdin=subprocess.DEVNULL, stdout=printed,
-                                       stderr=printed, pass_fds=[history, opening], start_new_session=True)
+                                       stderr=printed, pass_fds=[history, opening], start_new_session=True,
+                                       env={**HUGE_PAGES, **os.environ})
         os.close(opening)
         self._run, self._last, self._pid = run, run, self._child.pid
         self._held = [history, printed, os.pidfd_open(self._pid)]
