@@ -18,7 +18,7 @@ from .history import MOST_EVENTS
 from .limits import SECOND
 from .queue_events import QueueEvents
 from .queues import add_queues_words, queues_in
-from .words import Parser, duration, whole
+from .words import Parser, add_command, duration, whole
 
 SOON = 10.0  # seconds after which something is tried again that failed
 
@@ -46,10 +46,7 @@ wrong or a file can't be written; 3 if the Redis can't be reached.
 
 def add_to(commands: "argparse._SubParsersAction[Parser]") -> None:
     """Adds the command."""
-    about, _, rest = ABOUT.partition("\n\n")
-    parser = commands.add_parser("archive", help=about, description=f"{about}.", epilog=rest, allow_abbrev=False,
-                                 formatter_class=argparse.RawDescriptionHelpFormatter)
-    parser.set_defaults(run=run)
+    parser = add_command(commands, "archive", ABOUT, run)
     parser.add_argument("folder", metavar="FOLDER", type=Path, help="where the files are; it is made if it is not there")
     add_queues_words(parser)
     parser.add_argument("--events", metavar="N", type=whole(1, MOST_EVENTS), default=MOST_EVENTS,

@@ -9,7 +9,7 @@ from .ending import ends_with_a_line, fail
 from .limits import GREATEST_NUMBER
 from .queues import add_queues_words, queues_in
 from .shards import inner_id, outer_id
-from .words import Parser, duration, whole
+from .words import Parser, add_command, duration, whole
 
 ABOUT = """lists the jobs whose last attempt failed, offers them again or drops them
 
@@ -23,10 +23,7 @@ reached.
 
 def add_to(commands: "argparse._SubParsersAction[Parser]") -> None:
     """Adds the command."""
-    about, _, rest = ABOUT.partition("\n\n")
-    parser = commands.add_parser("dead", help=about, description=f"{about}.", epilog=rest, allow_abbrev=False,
-                                 formatter_class=argparse.RawDescriptionHelpFormatter)
-    parser.set_defaults(run=run, parser=parser)
+    parser = add_command(commands, "dead", ABOUT, run)
     parser.add_argument("ids", metavar="ID", type=whole(0, GREATEST_NUMBER), nargs="*", help="a job to offer or to drop")
     add_queues_words(parser)
     what = parser.add_mutually_exclusive_group()

@@ -53,7 +53,7 @@ class Gateway:
             self.calls, self.waits = queues[0], Waits(queues, settings.wait)
         else:
             self.calls = ShardedCalls(queues, names)
-            self.waits = Waits(queues, settings.wait, self.calls)
+            self.waits = Waits(queues, settings.wait, self.calls.front_of, self.calls.seen)
             self.calls.note = self.waits.note
         self._upkeeps = [self._upkeep_of(number, *it) for number, it in enumerate(zip(names, queues))]
         self._sessions: set[Session] = set()

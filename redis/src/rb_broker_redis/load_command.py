@@ -11,7 +11,7 @@ from .ending import ends_with_a_line, fail
 from .history import Damaged, Run, read_text
 from .load import Left, NotLoaded, abandon, load
 from .queues import add_queues_words, queues_in
-from .words import Parser, sentence_of
+from .words import Parser, add_command, sentence_of
 
 DATES = "dates"
 
@@ -34,10 +34,7 @@ Redis can't be reached.
 
 def add_to(commands: "argparse._SubParsersAction[Parser]") -> None:
     """Adds the command."""
-    about, _, rest = ABOUT.partition("\n\n")
-    parser = commands.add_parser("load", help=about, description=f"{about}.", epilog=rest, allow_abbrev=False,
-                                 formatter_class=argparse.RawDescriptionHelpFormatter)
-    parser.set_defaults(run=run, parser=parser)
+    parser = add_command(commands, "load", ABOUT, run)
     parser.add_argument("histories", metavar="HISTORY", type=Path, nargs="*", help="the text of a history")
     parser.add_argument("--began", metavar="TIME", type=sentence_of(_began), action="append", default=[],
                         help="when the run of HISTORY began, or `dates`")

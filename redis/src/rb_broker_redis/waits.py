@@ -4,7 +4,7 @@ from __future__ import annotations
 import asyncio
 import time
 from itertools import zip_longest
-from typing import Callable, Optional, Protocol, Sequence
+from typing import Callable, Optional, Sequence
 
 from .calls import Calls
 from .limits import SECOND
@@ -18,26 +18,6 @@ EARLY = 0.0005
 
 WaitAnswered = Callable[[Optional[bytes]], None]
 """Gets the reply to a request that waited, or None where it is in doubt."""
-
-
-class Seats(Protocol):
-    """What a session is at each queue, and what it sees of a reply."""
-
-    def front_of(self, queue: int, seat: bytes) -> bytes:
-        """What stands before each of its calls at this queue."""
-
-    def seen(self, queue: int, seat: bytes, reply: bytes) -> bytes:
-        """The reply of this queue, as the session's client gets it."""
-
-
-class OneQueue:
-    """A session's seat and its replies are those of the only queue."""
-
-    def front_of(self, queue: int, seat: bytes) -> bytes:
-        return seat
-
-    def seen(self, queue: int, seat: bytes, reply: bytes) -> bytes:
-        return reply
 
 
 class Later:
@@ -73,10 +53,14 @@ class Wait:
 
 
 class Waits:
-    """Waits are given up after `longest` nanoseconds, with STOPPED."""
+    """Waits are given up after `longest` nanoseconds, with STOPPED. `front_of` gives what stands before the calls of a
+    session's seat at a queue, and `seen` the reply of a queue as the session's client gets it."""
 
-    def __init__(self, queues: Sequence[Calls], longest: int, seats: Seats = OneQueue()) -> None:
-        self._queues, self._longest, self._seats = queues, longest, seats
+    def __init__(
+        self, queues: Sequence[Calls], longest: int, front_of: Callable[[int, bytes], bytes] = lambda queue, seat: seat,
+        seen: Callable[[int, bytes, bytes], bytes] = lambda queue, seat, reply: reply,
+    ) -> None:
+        self._queues, self._longest, self._front_of, self._seen = queues, longest, front_of, seen
         self._waiting: Waiting[Wait] = Waiting()
         self._loop = asyncio.get_event_loop()
         self._timer: Optional[asyncio.TimerHandle] = None
@@ -93,7 +77,7 @@ class Waits:
             left = later.left(int(request.split()[1]))
             longest, asks_at_end = min(longest, left), left <= longest
             ends = [b" " + start for start in later.starts]
-        calls = [self._seats.front_of(queue, seat) + request + end for queue, end in enumerate(ends)]
+        calls = [self._front_of(queue, seat) + request + end for queue, end in enumerate(ends)]
         wait = Wait(seat, calls, answered, asks_at_end)
         self._wait(wait, longest)
         if len(self._queues) == 1:
@@ -200,4 +184,4 @@ class Waits:
     def _answer(self, wait: Wait, queue: int, reply: Optional[bytes]) -> None:
         wait.timer.cancel()
         self._waiting.remove(wait)
-        wait.answered(reply and self._seats.seen(queue, wait.seat, reply))
+        wait.answered(reply and self._seen(queue, wait.seat, reply))

@@ -23,6 +23,17 @@ class Parser(argparse.ArgumentParser):
         self.exit(2, f"{NAME}: {message}\n")
 
 
+def add_command(
+    commands: "argparse._SubParsersAction[Parser]", name: str, about: str, run: Callable[[argparse.Namespace], int]
+) -> Parser:
+    """Adds a command. What it is about begins with a sentence, which an empty line ends."""
+    sentence, _, rest = about.partition("\n\n")
+    parser = commands.add_parser(name, help=sentence, description=f"{sentence}.", epilog=rest, allow_abbrev=False,
+                                 formatter_class=argparse.RawDescriptionHelpFormatter)
+    parser.set_defaults(run=run, parser=parser)
+    return parser
+
+
 def sentence_of(read: Callable[[str], object]) -> Callable[[str], object]:
     """Reads a word, with the `ValueError`'s or `OSError`'s own sentence if it is wrong."""
 
