@@ -14,6 +14,7 @@ from servicing.state import Alert, Queue, State
 from servicing.tests.states import AT, first_state, state, troubled_state
 
 PROMTOOL = shutil.which("promtool")
+ALERTS = f"{TOP}/examples/alerts.yml"
 
 
 def promtool(what: str, given: str, *paths: str) -> "tuple[int, str]":
@@ -82,18 +83,15 @@ class MetricsTest(RoomTest):
         for kind, name in re.findall(r"^# TYPE (\w+) (\w+)$", metrics(troubled_state(), True), re.M):
             self.assertEqual(name == "counter", kind.endswith("_total"), kind)
 
-    def test_the_alerts_of_the_page(self) -> None:
-        """Each metric that an alert of docs/OPERATING.md names is one that is told."""
-        with open(f"{TOP}/docs/OPERATING.md", encoding="utf-8") as file:
-            rules = re.search(r"^    groups:\n(?:    .*\n|\n)+", file.read(), re.M)
-        assert rules is not None
-        text = re.sub(r"^    ", "", rules[0], flags=re.M)
-        named = set(re.findall(r"\brb_broker_\w+", text))
+    def test_the_example_of_alerts(self) -> None:
+        """Each metric that an alert of examples/alerts.yml names is one that is told."""
+        with open(ALERTS, encoding="utf-8") as file:
+            named = set(re.findall(r"\brb_broker_\w+", file.read()))
         told = set(re.findall(r"^# TYPE (\w+) ", metrics(troubled_state(), True), re.M))
         self.assertTrue(named and named <= told, named - told)
         if not PROMTOOL:
             self.skipTest("there is no promtool")
-        status, said = promtool("rules", "", self.file("rules.yml", text))
+        status, said = promtool("rules", "", ALERTS)
         self.assertEqual(status, 0, said)
 
     def test_that_promtool_has_checked_the_metrics(self) -> None:
