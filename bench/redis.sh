@@ -12,8 +12,8 @@
 #
 # Each run has a Redis of its own, without persistence. Beside the rounds and the times of a request are the processor
 # times of a round, in microseconds, of the first gateway or server and of the Redis, and the share of a processor that
-# the Redis takes. A client alone makes no more than 3,000 rounds. Only gateways are tried with more than 256 clients, and
-# `rb_broker serve` with no more than 16.
+# the Redis takes. A client alone makes no more than 3,000 rounds. Only gateways are tried with more than 256 clients,
+# and `rb_broker serve` with no more than 16.
 set -euo pipefail
 export LC_ALL=C
 
@@ -104,7 +104,8 @@ print_median() {
         END {
             split(line[int((NR + 1) / 2)], it, " ")
             share = kind == "broker" ? "" : sprintf("%d%%", it[1] * it[5] / 10000)
-            printf "%-12s %7d %9d %9.1f %9.1f %9d %9d %9s   %s\n", kind, clients, it[1], it[2], it[3], it[4], it[5], share, all
+            printf "%-12s %7d %9d %9.1f %9.1f %9d %9d %9s   %s\n",
+                kind, clients, it[1], it[2], it[3], it[4], it[5], share, all
         }'
 }
 

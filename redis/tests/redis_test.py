@@ -82,8 +82,8 @@ class RedisTest(unittest.TestCase):
         self.assertEqual(self.ran(*words), (status, [], f"rb_broker_redis: {line}\n"))
 
     def kill_again_and_again(self, *words: object) -> int:
-        """Starts a command and kills it, first while it starts and then each time a bit later, until it ends well before
-        that. How often it was killed."""
+        """Starts a command and kills it, first while it starts and then each time a bit later, until it ends well
+        before that. How often it was killed."""
         began = time.monotonic()
         self.started(words[0], "--help").communicate()
         to_start = time.monotonic() - began

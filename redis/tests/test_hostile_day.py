@@ -1,5 +1,5 @@
-"""Days on which all goes wrong: gateways, clients, the archive and the Redis itself are killed at any moment, and a gateway
-may stand still until its lease is over.
+"""Days on which all goes wrong: gateways, clients, the archive and the Redis itself are killed at any moment, and a
+gateway may stand still until its lease is over.
 
 Afterwards the program accepts each history that was archived, with its retries. Each job that was offered is in them
 once, each of its attempts came after a failure of the one before, and its last attempt was given and did not come

@@ -1,5 +1,5 @@
-"""What tools/verify says of sessions that end while a request is under way: by a lease, by a kill of the client, and by a
-Redis whose reply is lost. Each may come about on any hostile day, and is made here on purpose."""
+"""What tools/verify says of sessions that end while a request is under way: by a lease, by a kill of the client, and by
+a Redis whose reply is lost. Each may come about on any hostile day, and is made here on purpose."""
 from __future__ import annotations
 
 import contextlib

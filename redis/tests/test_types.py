@@ -15,8 +15,9 @@ class TypesTest(unittest.TestCase):
         mypy = shutil.which("mypy")
         if mypy is None:
             self.skipTest("there is no mypy")
-        ran = subprocess.run([mypy, "--strict", "--python-version", "3.9", "--cache-dir", os.devnull, "rb_broker_redis"],
-                             cwd=SOURCES, stdout=subprocess.PIPE, stderr=subprocess.STDOUT, text=True, check=False)
+        words = [mypy, "--strict", "--python-version", "3.9", "--cache-dir", os.devnull, "rb_broker_redis"]
+        ran = subprocess.run(words, cwd=SOURCES, stdout=subprocess.PIPE, stderr=subprocess.STDOUT, text=True,
+                             check=False)
         self.assertEqual(ran.returncode, 0, ran.stdout)
 
 

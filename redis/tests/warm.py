@@ -1,6 +1,7 @@
 """Commands of the package without their start: each runs in a process that is forked from one which has imported all.
 
-`warm.py SOCKET` is that one. `python3 -IS warm.py SOCKET WORD ..` takes the place of `python3 -m rb_broker_redis WORD ..`.
+`warm.py SOCKET` is that one. `python3 -IS warm.py SOCKET WORD ..` takes the place of `python3 -m rb_broker_redis
+WORD ..`.
 """
 import array
 import os

@@ -39,8 +39,8 @@ def judge(
     histories: Sequence[History], exchanges: Exchanges, most: int, is_whole: bool, has_leases: bool = False
 ) -> Verdict:
     """Compares the history of a queue, or those of its shards, with the exchanges of its clients, each with the path of
-    its record. Keeps the words of at most so many faults of a kind. If the records are those of all clients, an event of
-    none of them is a fault."""
+    its record. Keeps the words of at most so many faults of a kind. If the records are those of all clients, an event
+    of none of them is a fault."""
     faults, rules = Faults(most), Rules(has_leases, len(histories) > 1)
     readings = [Reading(it, faults, rules) for it in histories]
     sessions: Set[Tuple[str, str]] = set()

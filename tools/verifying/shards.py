@@ -1,5 +1,5 @@
-"""Clients of one name over several queues, as `--shards` of the broker on Redis serves them: what a request and its reply
-are at each queue.
+"""Clients of one name over several queues, as `--shards` of the broker on Redis serves them: what a request and its
+reply are at each queue.
 
 The id that a client sees is 64 times the queue's own, plus the number of the queue. A fetch may ask several queues, and
 some in vain; SIZE, PEEK and CLEAR ask all. So a reply that names no element which came or left is not compared, and

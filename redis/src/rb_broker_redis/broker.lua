@@ -32,8 +32,8 @@
 -- for the commands of the package. GATEWAY is the second since 1970 at which the gateway joined, or the next number
 -- that is free; so it is new even where a fail-over has lost what the queue knew. What a session holds is in held, in
 -- the order of FETCH. A session has no lease of its own. Its gateway has one. Once that is over, the rb_renew of any
--- other gateway ends its sessions, and from then on no call is made in its name: it gets the error LEASE, and has to join
--- anew. So nothing is given at a seat that has ended.
+-- other gateway ends its sessions, and from then on no call is made in its name: it gets the error LEASE, and has to
+-- join anew. So nothing is given at a seat that has ended.
 --
 -- Functions. ARGS are those after the keys.
 --   rb_version                                    the version of this library, '2'; it needs no keys

@@ -43,7 +43,7 @@ class Session(asyncio.Protocol):
         """None is a line that the end of input has cut off."""
         self._transport: asyncio.Transport
         self._seat = b""
-        """What stands before each of its calls: its number at the queue, and a space. Until it has one, its lines wait."""
+        """What stands before each of its calls: its number at the queue, and a space. Its lines wait for it."""
         self._plan: list[Optional[bytes]] = []
         self._wait_request = b""
         """The request of a plan that may have to wait."""
@@ -108,8 +108,8 @@ class Session(asyncio.Protocol):
             self._go_on()
 
     def stop(self) -> None:
-        """Ends it in good order: what is under way is answered, and no further line is carried out. If it has ended at the
-        queue, what is under way is refused there."""
+        """Ends it in good order: what is under way is answered, and no further line is carried out. If it has ended at
+        the queue, what is under way is refused there."""
         self._lines.clear()
         self._is_at_end = True
         if self._wait:
