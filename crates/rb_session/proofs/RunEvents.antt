@@ -39,13 +39,9 @@ use Rattle.rb_session.specs.Turn.{Point, point, IsTurn}
 use Rattle.rb_session.specs.Session.{Turn, IsLine, Serves, ServesFirst, ServesToEnd, ServesToQuit}
 use Rattle.rb_session.specs.Session.{bytes_of, answers_of, texts_of, rest_text}
 use Rattle.rb_session.specs.Closing.{Closes}
-use Rattle.rb_session.specs.Ran.{BeginsWith, BreaksOff, FailsToWrite, RanUntil}
-use Rattle.rb_session.specs.Gathered.{FailsToSend, LosesReplies, RanGatheredUntil, ServesSome}
-use Rattle.rb_session.specs.Delivered.{RanDelivered, gathering_rules}
+use Rattle.rb_session.specs.Ran.{BeginsWith, BreaksOff, FailsToWrite, FailsToSend, LosesReplies, RanUntil, ServesSome}
 use Rattle.rb_session.specs.Events.{AreOfLines, AreOfClosing, latest}
 use Rattle.rb_session.specs.RunEvents.{AreSomeOf, StandFirst, SendsAll, MadeByRun, RecordsByRun, handed_by, handed_out}
-use Rattle.rb_session.specs.declared.delivery.Delivery.{Delivery}
-use Rattle.rb_session.specs.declared.delivery.Delivery.TheVariants.{AtOnce, Gathered}
 use Rattle.rb_session.specs.declared.ended.Ended.{Ended}
 use Rattle.rb_session.specs.declared.ended.Ended.TheVariants as ends
 use Rattle.rb_session.specs.declared.session_fault.SessionFault.{SessionFault}
@@ -339,59 +335,42 @@ module _ {S : Type 0} (rules : SessionRules S) (Over : Type 0) (from : S) where
   path_to_some to came text (inr (inl ending)) = path_to_end to came text ending
   path_to_some to came text (inr (inr first)) = path_to_first to came text first
 
-  path_to_late_fault : (to : Point S) (came sent : List ℕ) → LosesReplies rules Over (point from []) came sent to
+  path_to_loss : (to : Point S) (came sent : List ℕ) → LosesReplies rules Over (point from []) came sent to
       → (unsent : List ℕ) × Path rules.desk Over from came (sent ++ unsent) to
-  path_to_late_fault to came sent loses = late loses.passed loses.parts loses.fails
+  path_to_loss to came sent loses = late loses.passed loses.parts loses.fails
     where
-      late : (passed : List ℕ) → passed ≡ sent ++ loses.gathered
+      late : (passed : List ℕ) → passed ≡ sent ++ loses.held_back
           → FailsToSend rules Over (point from []) came passed to
           → (unsent : List ℕ) × Path rules.desk Over from came (sent ++ unsent) to
       late passed parts (inl fails) =
           let found = path_to_fault to came passed fails in (
-            loses.gathered ++ found.0,
+            loses.held_back ++ found.0,
             subst (λ text. Path rules.desk Over from came text to)
-                (ap (λ (text : List ℕ). text ++ found.0) parts ∙ append_assoc sent loses.gathered found.0) found.1,
+                (ap (λ (text : List ℕ). text ++ found.0) parts ∙ append_assoc sent loses.held_back found.0) found.1,
           )
-      late passed parts (inr some) = (
-        loses.gathered,
+      late passed parts (inr (gathers, some)) = (
+        loses.held_back,
         subst (λ text. Path rules.desk Over from came text to) parts (path_to_some to came passed some),
       )
 
-  pub ends_at_once : (to : S) (served : Served) (ended : Result Ended SessionFault)
+  pub ends_of : (to : S) (served : Served) (ended : Result Ended SessionFault)
       → RanUntil rules Over from served ended to → Ends rules.desk Over from served ended to
-  ends_at_once to served (Ok (ends.Quit lost)) (last, quits, closes) =
+  ends_of to served (Ok (ends.Quit lost)) (last, quits, closes) =
       ends_whole rules.desk Over from served (Ok (ends.Quit lost)) to last lost refl
       (path_to_quit last served.came served.sent quits) closes
-  ends_at_once to served (Ok (ends.EndOfInput lost)) (last, ending, closes) =
+  ends_of to served (Ok (ends.EndOfInput lost)) (last, ending, closes) =
       ends_whole rules.desk Over from served (Ok (ends.EndOfInput lost)) to last lost refl
       (path_to_end last served.came served.sent ending) closes
-  ends_at_once to served (Err (faults.Read lost)) (last, breaks, closes) =
+  ends_of to served (Err (faults.Read lost)) (last, breaks, closes) =
       ends_whole rules.desk Over from served (Err (faults.Read lost)) to last lost refl
       (path_to_break last served.came served.sent breaks) closes
-  ends_at_once to served (Err (faults.ReadTurns lost)) (last, breaks, closes) =
+  ends_of to served (Err (faults.ReadTurns lost)) (last, breaks, closes) =
       ends_whole rules.desk Over from served (Err (faults.ReadTurns lost)) to last lost refl
       (path_to_break last served.came served.sent breaks) closes
-  ends_at_once to served (Err (faults.Write lost)) (last, fails, closes) =
-      ends_part rules.desk Over from served to last lost (path_to_fault last served.came served.sent fails) closes
-  ends_at_once to served (Err faults.Memory) (same, nothing, silent) =
+  ends_of to served (Err (faults.Write lost)) (last, loses, closes) =
+      ends_part rules.desk Over from served to last lost (path_to_loss last served.came served.sent loses) closes
+  ends_of to served (Err faults.Memory) (same, nothing, silent) =
       ends_unbegun rules.desk Over from to served same silent
-
-  pub ends_gathered : (to : S) (served : Served) (ended : Result Ended SessionFault)
-      → RanGatheredUntil rules Over from served ended to → Ends rules.desk Over from served ended to
-  ends_gathered to served (Ok ended) ran = ends_at_once to served (Ok ended) ran
-  ends_gathered to served (Err (faults.Read lost)) ran = ends_at_once to served (Err (faults.Read lost)) ran
-  ends_gathered to served (Err (faults.ReadTurns lost)) ran = ends_at_once to served (Err (faults.ReadTurns lost)) ran
-  ends_gathered to served (Err faults.Memory) ran = ends_at_once to served (Err faults.Memory) ran
-  ends_gathered to served (Err (faults.Write lost)) (last, loses, closes) =
-      ends_part rules.desk Over from served to last lost (path_to_late_fault last served.came served.sent loses) closes
-
--- whichever way the replies go
-pub ends_of : {S : Type 0} (rules : SessionRules S) (delivery : Delivery) (Over : Type 0) (from to : S)
-    (served : Served)
-    → RanDelivered rules delivery Over from served to → Ends rules.desk Over from served served.ended to
-ends_of rules AtOnce Over from to served ran = ends_at_once rules Over from to served served.ended ran
-ends_of rules (Gathered hands_on) Over from to served ran =
-    ends_gathered (gathering_rules rules hands_on) Over from to served served.ended ran
 
 -- a run's growth in other words
 pub grows_so : {Over : Type 0} {served : Served} {Grows More : List Made → Type 0}
@@ -466,7 +445,8 @@ ways_opening policy old new (turn ∷ turns) (between, way, rest) =
 pub records_by_run : {W : Type 0} (contents : W → Option (List ℕ)) → RecordsByRun kept_rules contents
 records_by_run contents policy got delivery rest from to served ran =
     let desk = kept_rules policy in
-    let run = ends_of (session_rules desk (HadGotBehind contents got)) delivery (IsAtEnd rest) from to served ran in
+    let rules = session_rules desk delivery (HadGotBehind contents got) in
+    let run = ends_of rules (IsAtEnd rest) from to served served.ended ran in
     let made = made_by_ends desk whole_mine makes_whole refuses_whole stays_whole (IsAtEnd rest) from to served run in (
       made.0,
       closing_moment policy run.last.desk to run.last.held run.lost run.closes

@@ -15,15 +15,16 @@ use Rattle.rb_session.specs.Session.{Turn, GotBeforeWaits, ServesFirst, ServesTo
 use Rattle.rb_session.specs.Session.{bytes_of, answers_of, rest_text}
 use Rattle.rb_session.specs.Ran.{BreaksOff, FailsToWrite}
 use Rattle.rb_session.specs.Progress.{FailsAtLine, ServesLines, AnswersEnd, Stops}
+use Rattle.rb_session.specs.declared.delivery.Delivery.{Delivery}
 use Rattle.rb_session.specs.declared.line_buffer.LineBuffer.{LineBuffer}
 use Rattle.rb_session.specs.declared.stop.Stop.{Stop}
 use Rattle.rb_session.specs.declared.stop.Stop.TheVariants as stops
 use Rattle.rb_session.proofs.Turns.{bytes_of-append, answers_of-append, serves_on, waits_on, waits_behind}
 
-module _ {S : Type 0} (desk : DeskRules S) (HadGot : List ℕ → Type 0) (from here : Point S) (came sent : List ℕ)
-    (start : ServesFirst (session_rules desk HadGot) from came sent here) where
+module _ {S : Type 0} (desk : DeskRules S) (delivery : Delivery) (HadGot : List ℕ → Type 0) (from here : Point S)
+    (came sent : List ℕ) (start : ServesFirst (session_rules desk delivery HadGot) from came sent here) where
   abbrev rules : SessionRules S
-  rules = session_rules desk HadGot
+  rules = session_rules desk delivery HadGot
 
   -- the input breaks off
   pub breaks_off : HasNoLineFeed start.unserved → BreaksOff rules from came sent here
@@ -38,9 +39,9 @@ module _ {S : Type 0} (desk : DeskRules S) (HadGot : List ℕ → Type 0) (from 
   }
 
   -- the input ends
-  pub ran_end : (HoldsBack Over : Type 0) → Over → HasNoLineFeed start.unserved → (stop : Stop) (more : List ℕ)
-      → AnswersEnd stop start.unserved more → Stops rules HoldsBack Over from came (sent ++ more) stop here
-  ran_end HoldsBack Over over no_feed stops.EndOfInput more is = record {
+  pub ran_end : (Over : Type 0) → Over → HasNoLineFeed start.unserved → (stop : Stop) (more : List ℕ)
+      → AnswersEnd stop start.unserved more → Stops rules Over from came (sent ++ more) stop here
+  ran_end Over over no_feed stops.EndOfInput more is = record {
     over = over;
     turns = start.turns;
     rest = start.unserved;
@@ -50,7 +51,7 @@ module _ {S : Type 0} (desk : DeskRules S) (HadGot : List ℕ → Type 0) (from 
     waits = start.waits;
     answers = ap (λ t. t ++ more) start.answers ∙ ap (λ t. answers_of start.turns ++ t) is;
   }
-  ran_end HoldsBack Over over no_feed stops.Write more (some, unsent, parts) = inl (record {
+  ran_end Over over no_feed stops.Write more (some, unsent, parts) = inl (record {
     turns = start.turns;
     unserved = start.unserved;
     split = start.split;
@@ -71,15 +72,18 @@ module _ {S : Type 0} (desk : DeskRules S) (HadGot : List ℕ → Type 0) (from 
       rest_is : (rest : List ℕ) → 0 < length rest → rest_text rest ≡ text_of (lines.Err words.Line)
       rest_is [] some = absurd (omega arith)
       rest_is (byte ∷ rest) some = refl
-  ran_end HoldsBack Over over no_feed stops.Quit more ends = absurd ends
-  ran_end HoldsBack Over over no_feed stops.Read more ends = absurd ends
-  ran_end HoldsBack Over over no_feed stops.ReadTurns more ends = absurd ends
+  ran_end Over over no_feed stops.Quit more ends = absurd ends
+  ran_end Over over no_feed stops.Read more ends = absurd ends
+  ran_end Over over no_feed stops.ReadTurns more ends = absurd ends
 
   -- More came, and more was sent. What the writer had got since, it had got behind what was sent so far.
   module _ (HadSince : List ℕ → Type 0) (since : (text : List ℕ) → HadSince text → HadGot (sent ++ text))
       (more sent' : List ℕ) (to : Point S) where
     abbrev rules' : SessionRules S
-    rules' = session_rules desk HadSince
+    rules' = session_rules desk delivery HadSince
+
+    got_since : (text : List ℕ) → rules'.HadGot text → rules.HadGot (sent ++ text)
+    got_since text had writes = since text (had writes)
 
     -- what came so far, and more, is the lines that were served and the bytes behind them
     pub later : (turns : List Turn) (tail : List ℕ) → start.unserved ++ more ≡ bytes_of turns ++ tail
@@ -98,18 +102,19 @@ module _ {S : Type 0} (desk : DeskRules S) (HadGot : List ℕ → Type 0) (from 
         ∙ ap (λ t. t ++ tail) (sym (answers_of-append start.turns turns))
 
     -- and what had been got before their waits
-    pub waits_later : (turns : List Turn) → GotBeforeWaits HadSince [] turns
-        → GotBeforeWaits HadGot [] (start.turns ++ turns)
+    pub waits_later : (turns : List Turn) → GotBeforeWaits rules'.HadGot [] turns
+        → GotBeforeWaits rules.HadGot [] (start.turns ++ turns)
     waits_later turns waits =
-        waits_on HadGot [] start.turns turns start.waits
-        (subst (λ text. GotBeforeWaits HadGot text turns) (append-nil sent ∙ start.answers)
-        (waits_behind HadSince HadGot sent since [] turns waits))
+        waits_on rules.HadGot [] start.turns turns start.waits
+        (subst (λ text. GotBeforeWaits rules.HadGot text turns) (append-nil sent ∙ start.answers)
+        (waits_behind rules'.HadGot rules.HadGot sent got_since [] turns waits))
 
-    last_later : (turns : List Turn) → HadSince (answers_of turns) → HadGot (answers_of (start.turns ++ turns))
+    last_later : (turns : List Turn) → rules'.HadGot (answers_of turns)
+        → rules.HadGot (answers_of (start.turns ++ turns))
     last_later turns got =
-        subst HadGot
+        subst rules.HadGot
         (ap (λ t. t ++ answers_of turns) start.answers ∙ sym (answers_of-append start.turns turns))
-        (since (answers_of turns) got)
+        (got_since (answers_of turns) got)
 
     -- whole lines were served
     unfoldable pub serves_more : ServesFirst rules' here (start.unserved ++ more) sent' to
@@ -161,12 +166,12 @@ module _ {S : Type 0} (desk : DeskRules S) (HadGot : List ℕ → Type 0) (from 
     }
 
     -- a line stopped the session
-    pub stopped : (HoldsBack Over : Type 0) (stop : Stop) (buffer : LineBuffer)
-        → ServesLines rules' HoldsBack here (start.unserved ++ more) sent' (Some stop) buffer to
-        → Stops rules HoldsBack Over from (came ++ more) (sent ++ sent') stop to
-    stopped HoldsBack Over stops.Quit buffer served = ran_quit served
-    stopped HoldsBack Over stops.Write buffer (inl fails) = inl (ran_fails Over fails)
-    stopped HoldsBack Over stops.Write buffer (inr (late, on)) = inr (late, inr (inr (serves_more on)))
-    stopped HoldsBack Over stops.EndOfInput buffer served = absurd served
-    stopped HoldsBack Over stops.Read buffer served = absurd served
-    stopped HoldsBack Over stops.ReadTurns buffer served = absurd served
+    pub stopped : (Over : Type 0) (stop : Stop) (buffer : LineBuffer)
+        → ServesLines rules' here (start.unserved ++ more) sent' (Some stop) buffer to
+        → Stops rules Over from (came ++ more) (sent ++ sent') stop to
+    stopped Over stops.Quit buffer served = ran_quit served
+    stopped Over stops.Write buffer (inl fails) = inl (ran_fails Over fails)
+    stopped Over stops.Write buffer (inr (late, on)) = inr (late, inr (inr (serves_more on)))
+    stopped Over stops.EndOfInput buffer served = absurd served
+    stopped Over stops.Read buffer served = absurd served
+    stopped Over stops.ReadTurns buffer served = absurd served

@@ -17,10 +17,8 @@ pub mod Closing
 pub mod Events
 pub mod Ran
 pub mod Reasons
-pub mod Gathered
 pub mod Outlet
 pub mod Buffer
 pub mod Progress
 pub mod Growth
-pub mod Delivered
 pub mod RunEvents

@@ -16,15 +16,15 @@ use Rattle.rb_protocol.specs.declared.format.TheConstants.{LINE_FEED}
 use Rattle.rb_protocol.specs.declared.request.Request.{Request}
 use Rattle.rb_protocol.specs.declared.line_fault.LineFault.{LineFault}
 use Rattle.rb_protocol.specs.Reads.{HasNotFailed}
+use Rattle.rb_protocol.specs.declared.limited_reader.LimitedReader.{LimitedReader}
 use Rattle.rb_protocol.specs.declared.reader_state.ReaderState.{ReaderState}
 use Rattle.rb_protocol.specs.declared.reader_state.ReaderState.TheVariants.{AtEnd, Failed}
-use Rattle.rb_session.specs.Rules.{SessionRules}
+use Rattle.rb_session.specs.Rules.{SessionRules, IsGathered}
 use Rattle.rb_session.specs.Turn.{Point, IsTurn, AsksToWait}
 use Rattle.rb_session.specs.Turn.{fault_line, reply_line, lines_for, fetched_by, held_after}
 use Rattle.rb_session.specs.Session.{Turn, IsLine, Serves, GotBeforeWaits, ServesFirst, ServesToEnd, ServesToQuit}
 use Rattle.rb_session.specs.Session.{bytes_of, answers_of, texts_of, rest_text}
-use Rattle.rb_session.specs.Ran.{BreaksOff}
-use Rattle.rb_session.specs.Outlet.{FailsThrough}
+use Rattle.rb_session.specs.Ran.{BreaksOff, FailsToSend}
 use Rattle.rb_session.specs.declared.line_buffer.LineBuffer.{LineBuffer}
 use Rattle.rb_session.specs.declared.ended.Ended.{Ended}
 use Rattle.rb_session.specs.declared.ended.Ended.TheVariants as ends
@@ -76,16 +76,13 @@ abbrev pub IsClearAt : Type 0 → Stop → Type 0
 IsClearAt clear Write = Unit {0}
 IsClearAt clear stop = clear
 
--- nothing is held back where a read failed
-abbrev pub IsClearAtRead : Type 0 → Stop → Type 0
-IsClearAtRead clear Read = clear
-IsClearAtRead clear stop = Unit {0}
-
--- why the lines stopped, as the reader tells: what `IsReason` says of the session that ends so
-abbrev pub IsReasonToStop : ReaderState → ReaderState → Stop → Type 0
-IsReasonToStop old new EndOfInput = new ≡ AtEnd
-IsReasonToStop old new Read = new ≡ Failed
-IsReasonToStop old new stop = HasNotFailed old new
+-- why the lines stopped, as the reader tells: what `IsReason` says of the session that ends so, and that nothing was
+-- held back when a read failed
+abbrev pub IsReasonToStop : {R : Type 0} → ReaderState → LimitedReader R → Type 0 → Stop → Type 0
+IsReasonToStop old new clear EndOfInput = new.state ≡ AtEnd
+IsReasonToStop old new clear Read = (new.state ≡ Failed) × clear
+IsReasonToStop old new clear ReadTurns = HasNotFailed old new.state × (new.left ≡ 0)
+IsReasonToStop old new clear stop = HasNotFailed old new.state
 
 -- how a session ends that stopped so
 abbrev pub end_of : Stop → ℕ → Result Ended SessionFault
@@ -117,19 +114,19 @@ module _ {S : Type 0} (rules : SessionRules S) where
 
   -- What serving the whole lines of a buffer comes to. If a write failed, a reply could not be sent,
   -- or what answers the lines so far could not be handed on before a request that may wait.
-  abbrev pub ServesLines : Type 0 → Point S → List ℕ → List ℕ → Option Stop → LineBuffer → Point S → Type 0
-  ServesLines HoldsBack from bytes sent None buffer to =
+  abbrev pub ServesLines : Point S → List ℕ → List ℕ → Option Stop → LineBuffer → Point S → Type 0
+  ServesLines from bytes sent None buffer to =
       (served : ServesFirst rules from bytes sent to)
       × HasNoLineFeed served.unserved × IsUnserved buffer served.unserved
-  ServesLines HoldsBack from bytes sent (Some Quit) buffer to = ServesToQuit rules from bytes sent to
-  ServesLines HoldsBack from bytes sent (Some Write) buffer to =
-      FailsAtLine from bytes sent to ⊎ (HoldsBack × ServesFirst rules from bytes sent to)
-  ServesLines HoldsBack from bytes sent (Some _) buffer to = ⊥
+  ServesLines from bytes sent (Some Quit) buffer to = ServesToQuit rules from bytes sent to
+  ServesLines from bytes sent (Some Write) buffer to =
+      FailsAtLine from bytes sent to ⊎ (IsGathered rules.delivery × ServesFirst rules from bytes sent to)
+  ServesLines from bytes sent (Some _) buffer to = ⊥
 
   -- what serving what comes leads to
-  abbrev pub Stops : Type 0 → Type 0 → Point S → List ℕ → List ℕ → Stop → Point S → Type 0
-  Stops HoldsBack Over from came sent Quit to = ServesToQuit rules from came sent to
-  Stops HoldsBack Over from came sent EndOfInput to = ServesToEnd rules Over from came sent to
-  Stops HoldsBack Over from came sent Read to = BreaksOff rules from came sent to
-  Stops HoldsBack Over from came sent ReadTurns to = BreaksOff rules from came sent to
-  Stops HoldsBack Over from came sent Write to = FailsThrough rules HoldsBack Over from came sent to
+  abbrev pub Stops : Type 0 → Point S → List ℕ → List ℕ → Stop → Point S → Type 0
+  Stops Over from came sent Quit to = ServesToQuit rules from came sent to
+  Stops Over from came sent EndOfInput to = ServesToEnd rules Over from came sent to
+  Stops Over from came sent Read to = BreaksOff rules from came sent to
+  Stops Over from came sent ReadTurns to = BreaksOff rules from came sent to
+  Stops Over from came sent Write to = FailsToSend rules Over from came sent to

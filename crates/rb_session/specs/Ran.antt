@@ -1,15 +1,15 @@
 -- What a run of a session comes to: what came, what was sent, and the desk's way between them.
-use Rattle.std.specs.Prelude.{◌≡◌, ℕ, ◌<◌, ◌⊎◌, List, [], ◌∷◌, ◌++◌, length, Result, Ok, Err}
+use Rattle.std.specs.Prelude.{◌≡◌, ℕ, ◌<◌, ◌≤◌, ◌⊎◌, List, [], ◌∷◌, ◌++◌, length, Result, Ok, Err}
 use Rattle.rb_protocol.specs.Line.{HasNoLineFeed}
 use Rattle.rb_protocol.specs.declared.format.TheConstants.{LINE_FEED}
 use Rattle.rb_protocol.specs.declared.request.Request.{Request}
 use Rattle.rb_protocol.specs.declared.line_fault.LineFault.{LineFault}
 use Rattle.rb_protocol.specs.declared.line_fault.LineFault.TheVariants.{Line}
 use Rattle.rb_protocol.specs.declared.line_reply.LineReply.{LineReply}
-use Rattle.rb_session.specs.Rules.{SessionRules}
+use Rattle.rb_session.specs.Rules.{SessionRules, IsGathered, most_held_back}
 use Rattle.rb_session.specs.Served.{Served}
 use Rattle.rb_session.specs.Turn.{Point, point, IsTurn, AsksToWait}
-use Rattle.rb_session.specs.Session.{Turn, IsLine, Serves, GotBeforeWaits, ServesToEnd, ServesToQuit}
+use Rattle.rb_session.specs.Session.{Turn, IsLine, Serves, GotBeforeWaits, ServesFirst, ServesToEnd, ServesToQuit}
 use Rattle.rb_session.specs.Session.{bytes_of, answers_of, texts_of}
 use Rattle.rb_session.specs.Closing.{Closes}
 use Rattle.rb_session.specs.declared.ended.Ended.{Ended}
@@ -35,8 +35,8 @@ module _ {S : Type 0} (rules : SessionRules S) where
     pub waits : GotBeforeWaits rules.HadGot [] turns
     pub answers : sent ≡ answers_of turns
 
-  -- A write failed. The lines before were answered whole; the line whose reply failed was the last that
-  -- was served, and a first part of its own text was sent.
+  -- A reply could not be sent whole. The lines before were answered whole; this line was the last that was served, and
+  -- a first part of its own text was sent.
   pub record FailsToWrite (Over : Type 0) (from : Point S) (came sent : List ℕ) (to : Point S) : Type 0 where
     pub turns : List Turn
     pub unserved : List ℕ
@@ -54,6 +54,28 @@ module _ {S : Type 0} (rules : SessionRules S) where
     pub parts : texts_of replies ≡ first ++ unsent
     pub answers : sent ≡ answers_of turns ++ first
 
+  -- what a session may have served when a write fails: all that it had to, or the first lines
+  abbrev pub ServesSome : Type 0 → Point S → List ℕ → List ℕ → Point S → Type 0
+  ServesSome Over from came text to =
+      ServesToQuit rules from came text to
+      ⊎ (ServesToEnd rules Over from came text to ⊎ ServesFirst rules from came text to)
+
+  -- A write failed: a reply could not be sent, or all that was served was answered, and what was held back of gathered
+  -- replies could not be handed on.
+  abbrev pub FailsToSend : Type 0 → Point S → List ℕ → List ℕ → Point S → Type 0
+  FailsToSend Over from came sent to =
+      FailsToWrite Over from came sent to ⊎ (IsGathered rules.delivery × ServesSome Over from came sent to)
+
+  -- A write failed, perhaps later than the first reply that it lost. The replies passed on are those of the lines that
+  -- were served, up to where passing them on failed. The writer was sent a first part of these; the rest was held back,
+  -- and no more than that was lost.
+  pub record LosesReplies (Over : Type 0) (from : Point S) (came sent : List ℕ) (to : Point S) : Type 0 where
+    pub passed : List ℕ
+    pub fails : FailsToSend Over from came passed to
+    pub held_back : List ℕ
+    pub few : length held_back ≤ most_held_back rules.delivery
+    pub parts : passed ≡ sent ++ held_back
+
   -- where serving the lines stopped, what is still held fails
   abbrev pub ThenCloses : (Point S → Type 0) → ℕ → S → Type 0
   ThenCloses stopped lost to =
@@ -70,10 +92,11 @@ module _ {S : Type 0} (rules : SessionRules S) where
   RanUntil Over from served (Err (ReadTurns lost)) to =
       ThenCloses (λ last. BreaksOff (point from []) served.came served.sent last) lost to
   RanUntil Over from served (Err (Write lost)) to =
-      ThenCloses (λ last. FailsToWrite Over (point from []) served.came served.sent last) lost to
+      ThenCloses (λ last. LosesReplies Over (point from []) served.came served.sent last) lost to
   RanUntil Over from served (Err Memory) to = (to ≡ from) × (served.came ≡ []) × (served.sent ≡ [])
 
   -- A session took the desk from one state to another, and this is what came, what was sent and how it ended. Nothing
-  -- is held at the start.
+  -- is held at the start. But for a write that failed, a session whose replies are gathered ends as if each had been
+  -- written at once.
   abbrev pub Ran : Type 0 → S → Served → S → Type 0
   Ran Over from served to = RanUntil Over from served served.ended to

@@ -1,6 +1,7 @@
 -- Why a session ended, as its reader tells.
 use Rattle.std.specs.Prelude.{◌≡◌, Result, Ok, Err}
 use Rattle.rb_protocol.specs.Reads.{HasNotFailed}
+use Rattle.rb_protocol.specs.declared.limited_reader.LimitedReader.{LimitedReader}
 use Rattle.rb_protocol.specs.declared.reader_state.ReaderState.{ReaderState}
 use Rattle.rb_protocol.specs.declared.reader_state.ReaderState.TheVariants.{AtEnd, Failed}
 use Rattle.rb_session.specs.declared.ended.Ended.{Ended}
@@ -8,12 +9,12 @@ use Rattle.rb_session.specs.declared.ended.Ended.TheVariants.{Quit, EndOfInput}
 use Rattle.rb_session.specs.declared.session_fault.SessionFault.{SessionFault}
 use Rattle.rb_session.specs.declared.session_fault.SessionFault.TheVariants.{Memory, Read, Write, ReadTurns}
 
--- The input ended only if the reader is at its end, a read failed exactly if the session says so, and a session that
--- had no memory to begin has read nothing.
-abbrev pub IsReason : ReaderState → ReaderState → Result Ended SessionFault → Type 0
-IsReason old new (Ok (Quit lost)) = HasNotFailed old new
-IsReason old new (Ok (EndOfInput lost)) = new ≡ AtEnd
-IsReason old new (Err (Read lost)) = new ≡ Failed
-IsReason old new (Err (Write lost)) = HasNotFailed old new
-IsReason old new (Err (ReadTurns lost)) = HasNotFailed old new
-IsReason old new (Err Memory) = new ≡ old
+-- The input ended only if the reader is at its end, a read failed exactly if the session says so, reading was given up
+-- only when no read was left, and a session that had no memory to begin has read nothing.
+abbrev pub IsReason : {R : Type 0} → ReaderState → LimitedReader R → Result Ended SessionFault → Type 0
+IsReason old new (Ok (Quit lost)) = HasNotFailed old new.state
+IsReason old new (Ok (EndOfInput lost)) = new.state ≡ AtEnd
+IsReason old new (Err (Read lost)) = new.state ≡ Failed
+IsReason old new (Err (Write lost)) = HasNotFailed old new.state
+IsReason old new (Err (ReadTurns lost)) = HasNotFailed old new.state × (new.left ≡ 0)
+IsReason old new (Err Memory) = new.state ≡ old

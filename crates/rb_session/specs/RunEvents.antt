@@ -15,7 +15,7 @@ use Rattle.rb_protocol.specs.Line.{HasNoLineFeed}
 use Rattle.rb_session.specs.Rules.{session_rules, HadGotBehind}
 use Rattle.rb_session.specs.Served.{Served}
 use Rattle.rb_session.specs.Session.{Turn, IsLine, answers_of}
-use Rattle.rb_session.specs.Delivered.{RanDelivered}
+use Rattle.rb_session.specs.Ran.{Ran}
 use Rattle.rb_session.specs.Events.{AreOfLines, AreOfClosing, made_in, latest}
 use Rattle.rb_session.specs.declared.delivery.Delivery.{Delivery}
 use Rattle.rb_session.specs.declared.ended.Ended.{Ended}
@@ -78,8 +78,7 @@ abbrev pub MakesByRun : {D W : Type 0} → Desk.Ghosts D → (W → Option (List
 MakesByRun words contents =
     (policy : Policy) (got : Option (List ℕ)) (delivery : Delivery) (rest : Option (List ℕ))
     (from to : words.State) (served : Served)
-    → RanDelivered (session_rules (desk_rules words policy) (HadGotBehind contents got)) delivery
-    (IsAtEnd rest) from served to
+    → Ran (session_rules (desk_rules words policy) delivery (HadGotBehind contents got)) (IsAtEnd rest) from served to
     → MadeByRun (IsAtEnd rest) served (λ made. words.mine to ≡ words.mine from ++ made)
 
 -- the law of runs at a desk over a kept queue, by its rules under each policy: the history grows by just what the run
@@ -88,7 +87,6 @@ abbrev pub RecordsByRun : {W : Type 0} → (Policy → DeskRules KeptState) → 
 RecordsByRun rules contents =
     (policy : Policy) (got : Option (List ℕ)) (delivery : Delivery) (rest : Option (List ℕ))
     (from to : KeptState) (served : Served)
-    → RanDelivered (session_rules (rules policy) (HadGotBehind contents got)) delivery
-    (IsAtEnd rest) from served to
+    → Ran (session_rules (rules policy) delivery (HadGotBehind contents got)) (IsAtEnd rest) from served to
     → (run : MadeByRun (IsAtEnd rest) served (λ made. made_in to.log ≡ made_in from.log ++ made))
     × (to.moment ≡ latest from.moment run.lines) × (to.log.opening ≡ from.log.opening)

@@ -2,6 +2,7 @@ ghost use Rattle.std.specs.Prelude.{◌≡◌, ℕ, ◌<◌, ◌≤◌, ◌++◌
 ghost use Rattle.rb_queue.specs.declared.reply.Reply.{Reply};
 ghost use Rattle.rb_retry.specs.DeskRules.{desk_rules};
 ghost use Rattle.rb_session.specs.Held.{AreGiven};
+ghost use Rattle.rb_session.specs.Rules.{WritesBeforeWaits};
 ghost use Rattle.rb_session.specs.Turn.{word_for, point, moment_line, AsksToWait, IsTurn, IsServed};
 ghost use Rattle.rb_session.specs.Progress.{replies_of};
 
@@ -13,20 +14,21 @@ use crate::outlet::Outlet;
 use rb_protocol::{ErrWord, LineFault, LineReply, Request};
 use rb_queue::Ask;
 use rb_retry::{Desk, Policy};
+use std::io::Write;
 
 /// Answers one line with the first line of its reply. If that is a drain's, the elements that it
 /// took are the last that are held.
 ///
 /// The desk's clock is read once for each request. If the request may wait, all replies that the
 /// client may need meanwhile were handed on.
-pub(crate) fn answer<O: Outlet, D: Desk>(
-    _outlet: &O,
+pub(crate) fn answer<W: Write, D: Desk>(
+    _outlet: &Outlet<'_, W>,
     desk: &mut D,
     held: &mut HeldJobs,
     policy: &Policy,
     reading: Result<Request, LineFault>,
 ) -> LineReply
-    requires clear { AsksToWait reading → O.IsClearForWait _outlet.now }
+    requires clear { AsksToWait reading → WritesBeforeWaits _outlet.now.delivery → _outlet.now.gathered.items ≡ [] }
     requires given { AreGiven (D.mine (D.state desk.old)) held.old }
     ensures turn { IsTurn (desk_rules D.Desk policy.now) (point (D.state desk.old) held.old)
         reading (replies_of result held.new) (point (D.state desk.new) held.new) }

@@ -3,7 +3,7 @@ ghost use Rattle.rb_retry.specs.DeskRules.{desk_rules};
 ghost use Rattle.rb_session.specs.Exchange.{CameFirst, SentLast};
 ghost use Rattle.rb_session.specs.Events.{MakesByLines, MakesByClosing, HoldsOnce};
 ghost use Rattle.rb_session.specs.Events.{RecordsByLines, RecordsByClosing};
-ghost use Rattle.rb_session.specs.declared.gathering.TheConstants.{GATHERED_BYTES};
+ghost use Rattle.rb_session.specs.declared.delivery.TheConstants.{GATHERED_BYTES};
 ghost use Rattle.rb_session.specs.declared.held_jobs.TheConstants.{MOST_HELD};
 ghost use Rattle.rb_session.specs.declared.job_map.TheConstants.{MOST_ENTRIES};
 

@@ -6,13 +6,9 @@
 
 mod answer;
 mod calls;
-mod delivered;
 mod delivery;
-mod direct;
 mod ended;
 mod fetches;
-mod gathered;
-mod gathering;
 mod hands_on;
 mod held_job_ends;
 mod held_jobs;
@@ -27,7 +23,6 @@ mod session;
 mod session_fault;
 mod stop;
 
-pub use delivered::{run_delivered, run_limited, run_session};
 pub use delivery::Delivery;
 pub use ended::Ended;
 pub use hands_on::HandsOn;
@@ -36,5 +31,6 @@ pub use laws::{
     came_first, each_id_held_once, events_of_session, history_of_session, sent_last,
     session_limits_have_their_values,
 };
+pub use run::{run_limited, run_session};
 pub use run_laws::{events_of_run, history_of_run};
 pub use session_fault::SessionFault;

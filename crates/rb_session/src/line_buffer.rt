@@ -16,7 +16,7 @@ use rb_protocol::{
 };
 use std::alloc::{AllocError, Global};
 use std::io;
-use std::io::Read;
+use std::io::{Read, Write};
 
 /// The greatest number of bytes before a line feed that may still be a request: the longest line,
 /// and a carriage return.
@@ -75,12 +75,12 @@ impl LineBuffer {
     /// 0 at the end of the input.
     ///
     /// Nothing may be held back then, so that no client waits for a reply that it has not got.
-    pub(crate) fn read_from<R: Read, O: Outlet>(
+    pub(crate) fn read_from<R: Read, W: Write>(
         &mut self,
         reader: &mut LimitedReader<'_, R>,
-        _outlet: &O,
+        _outlet: &Outlet<'_, W>,
     ) -> io::Result<usize>
-        requires clear { O.IsClear _outlet.now }
+        requires clear { _outlet.now.gathered.items ≡ [] }
         requires some_left { 0 < reader.old.left }
         ensures taken { (bytes : List ℕ) → IsUnserved self.old bytes → HasNoLineFeed bytes
             → TakesMore bytes (R.remaining reader.old.inner.now) result self.new (R.remaining reader.new.inner.now) }

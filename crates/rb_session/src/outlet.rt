@@ -1,75 +1,138 @@
-ghost use Rattle.std.specs.Prelude.{ℕ, List, ◌++◌, Option, OnOk, OnErr};
-ghost use Rattle.std.specs.Io.KnownBytes.{Appends, Keeps};
+ghost use Rattle.std.specs.Prelude.{◌≡◌, ◌≤◌, ◌+◌, [], OnOk, OnErr, drop, vec_len, vec_capacity};
+ghost use Rattle.std.specs.Io.KnownBytes.{Keeps};
 ghost use Rattle.rb_protocol.specs.Sending.{Sends};
+ghost use Rattle.rb_session.specs.Rules.{most_held_back, IsGathered, WritesBeforeWaits};
 
-use rb_protocol::WriteFault;
+use crate::delivery::Delivery;
+use crate::hands_on::HandsOn;
+use rb_protocol::{WriteFault, flush, send_at_once, send_line, write_out};
+use std::io::Write;
 
-/// Where the replies of a session go. An outlet may hold back what was sent to it until it is told
-/// to hand that on.
+/// Where the replies of a session go: to a writer, each when its request is served or, if they are
+/// gathered, many in one write.
 ///
-/// A session sends each reply line in one piece, and says when those of a request have been sent.
-/// What is held back must be handed on at the session's end and before each read, so that no client
-/// waits for a reply that is held back. Before it serves a request that may wait, the session says
-/// so, and the outlet decides what must be handed on.
-pub(crate) trait Outlet {
-    /// The bytes that were sent, after those that were there before, if they are known.
-    ghost contents: { Self → Option (List ℕ) };
+/// What was sent is what the writer has got, followed by what is held back. The session has that
+/// handed on before each read and at its end, so no client waits for a reply that is held back.
+#[derive(Drop)]
+pub(crate) struct Outlet<'a, W: Write> {
+    writer: &'a mut W,
+    gathered: Vec<u8>,
+    delivery: Delivery,
+    ghost few: { vec_len gathered ≤ most_held_back delivery },
+}
 
-    /// Nothing is held back.
-    ghost IsClear: { Self → Type 0 };
+impl<'a, W: Write> Outlet<'a, W> {
+    ghost use Rattle.rb_session.specs.Outlet.{sent_to, Becomes};
 
-    /// Nothing is held back that a client may need while a request waits.
-    ghost IsClearForWait: { Self → Type 0 };
+    /// An outlet to this writer, which gathers in the room of an empty vector. It takes no more memory.
+    pub(crate) fn new(writer: &'a mut W, room: Vec<u8>, delivery: Delivery) -> Outlet<'a, W>
+        requires { room.items ≡ [] }
+        ensures same_reference { result.writer.ghost_name ≡ writer.entry.ghost_name }
+        ensures same { result.writer.now ≡ writer.old }
+        ensures empty { result.gathered.items ≡ [] }
+        ensures delivery { result.delivery ≡ delivery }
+    {
+        Outlet {
+            writer,
+            gathered: room,
+            delivery,
+        }
+    }
 
-    /// The client had at some time got just this text, after what was sent to this outlet; or an
-    /// outlet like this does not promise that.
-    ghost HadGot: { Self → List ℕ → Type 0 };
+    /// The writer. What is still held back is dropped.
+    pub(crate) fn into_writer(self) -> &'a mut W
+        ensures same_reference { result.ghost_name ≡ self.entry.writer.ghost_name }
+        ensures same { result.now ≡ self.entry.writer.now }
+    {
+        let Outlet { writer, .. } = self;
+        writer
+    }
 
-    /// An outlet of this kind may hold something back, so that it may fail to hand it on.
-    ghost HoldsBack: { Type 0 };
-
-    /// What may become of an outlet: it keeps its writer, and never takes back what that has got.
-    ghost Becomes: { Self → Self → Type 0 };
-
-    /// Takes a line.
+    /// Sends a line, in one piece.
     ///
-    /// After an `Err` it has taken the first bytes of the line, perhaps none.
-    fn send(&mut self, line: &[u8]) -> Result<(), WriteFault>
-        ensures sent { Sends result (contents self.old) line.now (contents self.new) }
-        ensures becomes { Becomes self.old self.new };
+    /// After an `Err` the first bytes of the line were sent, perhaps none.
+    pub(crate) fn send(&mut self, line: &[u8]) -> Result<(), WriteFault>
+        ensures sent { Sends result (sent_to W.Write self.old) line.now (sent_to W.Write self.new) }
+        ensures becomes { Becomes W.Write self.old self.new }
+    {
+        match self.delivery {
+            Delivery::AtOnce => send_line(self.writer, line),
+            Delivery::Gathered(_) => self.gather(line),
+        }
+    }
 
-    /// The replies to a request have been sent. The outlet decides what that means for what is held
-    /// back.
-    fn after_replies(&mut self) -> Result<(), WriteFault>
-        ensures kept { Keeps (contents self.old) (contents self.new) }
-        ensures becomes { Becomes self.old self.new };
+    /// The replies to a request have been sent: what is not gathered is flushed.
+    pub(crate) fn after_replies(&mut self) -> Result<(), WriteFault>
+        ensures kept { Keeps (sent_to W.Write self.old) (sent_to W.Write self.new) }
+        ensures becomes { Becomes W.Write self.old self.new }
+    {
+        match self.delivery {
+            Delivery::AtOnce => flush(self.writer),
+            Delivery::Gathered(_) => Ok(()),
+        }
+    }
 
-    /// Hands on all that is held back.
-    fn hand_on(&mut self) -> Result<(), WriteFault>
-        ensures kept { Keeps (contents self.old) (contents self.new) }
-        ensures clear { OnOk result (IsClear self.new) }
-        ensures late { OnErr result HoldsBack }
-        ensures becomes { Becomes self.old self.new };
+    /// A request that may wait is served next: hands on what is held back, unless that is for reads alone.
+    pub(crate) fn before_wait(&mut self) -> Result<(), WriteFault>
+        ensures kept { Keeps (sent_to W.Write self.old) (sent_to W.Write self.new) }
+        ensures clear { OnOk result (WritesBeforeWaits self.old.delivery → self.new.gathered.items ≡ []) }
+        ensures late { OnErr result (IsGathered self.old.delivery) }
+        ensures becomes { Becomes W.Write self.old self.new }
+    {
+        match self.delivery {
+            Delivery::Gathered(HandsOn::BeforeReads) => Ok(()),
+            _ => self.hand_on(),
+        }
+    }
 
-    /// A request that may wait is served next: hands on what a client may need until that is answered.
-    fn before_wait(&mut self) -> Result<(), WriteFault>
-        ensures kept { Keeps (contents self.old) (contents self.new) }
-        ensures clear { OnOk result (IsClearForWait self.new) }
-        ensures late { OnErr result HoldsBack }
-        ensures becomes { Becomes self.old self.new };
+    /// Hands on what is held back. What the writer did not take before a failing write stays there.
+    pub(crate) fn hand_on(&mut self) -> Result<(), WriteFault>
+        ensures kept { Keeps (sent_to W.Write self.old) (sent_to W.Write self.new) }
+        ensures clear { OnOk result (self.new.gathered.items ≡ []) }
+        ensures late { OnErr result (IsGathered self.old.delivery) }
+        ensures becomes { Becomes W.Write self.old self.new }
+    {
+        if self.gathered.is_empty() {
+            return Ok(());
+        }
+        let taken = write_out(self.writer, &self.gathered);
+        remove_first(&mut self.gathered, taken);
+        if !self.gathered.is_empty() {
+            return Err(WriteFault);
+        }
+        flush(self.writer)
+    }
 
-    /// When an outlet is clear for a wait, its client has got all that was sent.
-    ghost gets: { (old new : Self) (text : List ℕ) → Becomes old new → IsClearForWait new
-        → Appends (contents old) (contents new) text → HadGot old text };
+    // Gathers a line, or sends it at once where there is no room for it behind what is handed on then.
+    fn gather(&mut self, line: &[u8]) -> Result<(), WriteFault>
+        ensures sent { Sends result (sent_to W.Write self.old) line.now (sent_to W.Write self.new) }
+        ensures becomes { Becomes W.Write self.old self.new }
+    {
+        if line.len() > self.room() {
+            self.hand_on()?;
+            if line.len() > self.room() {
+                return send_at_once(self.writer, line);
+            }
+        }
+        self.gathered.extend_from_slice(line).unwrap();
+        Ok(())
+    }
 
-    /// What a client had got after a later outlet, it had got after an earlier one, behind what was
-    /// sent between the two.
-    ghost gets_on: { (old new : Self) (before text : List ℕ) → Becomes old new
-        → Appends (contents old) (contents new) before → HadGot new text → HadGot old (before ++ text) };
+    // How many bytes can still be gathered.
+    fn room(&self) -> usize
+        ensures taken { vec_len self.now.gathered + result ≤ vec_capacity self.now.gathered }
+        ensures few { vec_len self.now.gathered + result ≤ most_held_back self.now.delivery }
+    {
+        self.gathered.capacity().min(self.delivery.most_held_back()) - self.gathered.len()
+    }
+}
 
-    /// An outlet may stay as it is.
-    ghost stays: { (outlet : Self) → Becomes outlet outlet };
-
-    /// What an outlet becomes in two steps it may become.
-    ghost goes_on: { (one two three : Self) → Becomes one two → Becomes two three → Becomes one three };
+// Drops the first bytes.
+fn remove_first(bytes: &mut Vec<u8>, count: usize)
+    requires { count ≤ vec_len bytes.old }
+    ensures { bytes.new.items ≡ drop count bytes.old.items }
+{
+    let len = bytes.len();
+    bytes.copy_within(count..len, 0);
+    bytes.truncate(len - count);
 }

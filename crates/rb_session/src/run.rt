@@ -1,15 +1,14 @@
-ghost use Rattle.std.specs.Prelude.{◌≡◌, ◌≤◌, ℕ, Err};
+ghost use Rattle.std.specs.Prelude.{◌≡◌, ◌≤◌};
 ghost use Rattle.std.specs.Io.KnownBytes.{IsAtEnd};
 ghost use Rattle.rb_retry.specs.DeskRules.{desk_rules};
 ghost use Rattle.rb_session.specs.Exchange.{Exchanges};
 ghost use Rattle.rb_session.specs.Rules.{session_rules, HadGotBehind};
 ghost use Rattle.rb_session.specs.Ran.{Ran};
-ghost use Rattle.rb_session.specs.Outlet.{RanThrough, HandedOn};
 ghost use Rattle.rb_session.specs.Progress.{end_of};
 ghost use Rattle.rb_session.specs.Reasons.{IsReason};
-ghost use Rattle.rb_session.specs.declared.session_fault.SessionFault.TheVariants.{ReadTurns};
+ghost use Rattle.rb_session.specs.declared.delivery.Delivery.TheVariants.{AtOnce};
 
-use crate::direct::Direct;
+use crate::delivery::Delivery;
 use crate::ended::Ended;
 use crate::held_job_ends::fail_all;
 use crate::outlet::Outlet;
@@ -21,63 +20,75 @@ use rb_retry::{Desk, Policy};
 use std::alloc::Global;
 use std::io::{Read, Write};
 
-/// Runs a session each of whose replies is written when its request is served.
-pub(crate) fn run_at_once<R: Read, W: Write, D: Desk>(
+/// Serves the lines of a reader until one of them is `QUIT`, or there are no more.
+///
+/// However the session ends, the jobs that it holds then fail at the desk's moment, in the order in
+/// which they were fetched, and no reply reports that. All memory except that for what is offered
+/// and drained is taken before the first read. Each reply line is one write, and each request's
+/// replies are flushed. The reader is read 10,000,000 times at most.
+pub fn run_session<R: Read, W: Write, D: Desk>(
     alloc: Global,
-    reader: &mut LimitedReader<'_, R>,
+    reader: &mut R,
     writer: &mut W,
     desk: &mut D,
     policy: &Policy,
 ) -> Result<Ended, SessionFault>
     ensures ran { Exchanges
-        (R.remaining reader.old.inner.now) (R.remaining reader.new.inner.now)
+        (R.remaining reader.old) (R.remaining reader.new)
         (W.contents writer.old) (W.contents writer.new)
         (λ came sent. Ran
-        (session_rules (desk_rules D.Desk policy.now) (HadGotBehind W.contents (W.contents writer.old)))
-        (IsAtEnd (R.remaining reader.new.inner.now))
+        (session_rules (desk_rules D.Desk policy.now) AtOnce (HadGotBehind W.contents (W.contents writer.old)))
+        (IsAtEnd (R.remaining reader.new))
         (D.state desk.old) (record { came = came; sent = sent; ended = result }) (D.state desk.new)) }
-    ensures used_up { (lost : ℕ) → result ≡ Err (ReadTurns lost) → reader.new.left ≡ 0 }
-    ensures reason { IsReason reader.old.state reader.new.state result }
-    ensures counted { reader.new.left ≤ reader.old.left }
-    ensures same_reference { reader.new.inner.ghost_name ≡ reader.old.inner.ghost_name }
     ensures name { D.name (D.state desk.new) ≡ D.name (D.state desk.old) }
 {
-    let mut outlet = Direct { writer };
-    run_session_through(alloc, reader, &mut outlet, desk, policy)
+    let mut limited = LimitedReader::new(reader);
+    run_limited(alloc, &mut limited, writer, desk, policy, Delivery::AtOnce)
 }
 
-/// Runs a session that sends its replies through an outlet.
+/// Runs a session like `run_session`, over a reader that counts its reads, whose replies are written
+/// when `delivery` says so.
 ///
-/// What the outlet holds back is handed on before each read, and at the end. So nothing is held
-/// back when a read fails, nor after an end that is no fault. The outlet is told before each
-/// request that may wait, a take or a timed poll. If it can't hand on what it must, a write failed,
-/// and that request is not served.
-pub(crate) fn run_session_through<R: Read, O: Outlet, D: Desk>(
+/// The session makes at most as many reads as this one has left, and `ReadTurns` means that it made
+/// all of them. `EndOfInput` means that the last read met the end of the input, and `Read` that it failed;
+/// a session that ends otherwise has had no read that failed.
+///
+/// If replies are gathered, the writer gets them before each read, at the end and, if `HandsOn` says
+/// so, before each request that may wait. So a batch of requests costs one write for each read or
+/// wait, and no client waits for a reply that is held back. The room of 64 KiB is taken before the
+/// first read. A write that fails comes later than the replies that it loses. The session then ends
+/// as after any fault of a write.
+pub fn run_limited<R: Read, W: Write, D: Desk>(
     alloc: Global,
     reader: &mut LimitedReader<'_, R>,
-    outlet: &mut O,
+    writer: &mut W,
     desk: &mut D,
     policy: &Policy,
+    delivery: Delivery,
 ) -> Result<Ended, SessionFault>
     ensures ran { Exchanges
         (R.remaining reader.old.inner.now) (R.remaining reader.new.inner.now)
-        (O.contents outlet.old) (O.contents outlet.new)
-        (λ came sent. RanThrough (session_rules (desk_rules D.Desk policy.now) (O.HadGot outlet.old)) O.HoldsBack
+        (W.contents writer.old) (W.contents writer.new)
+        (λ came sent. Ran
+        (session_rules (desk_rules D.Desk policy.now) delivery (HadGotBehind W.contents (W.contents writer.old)))
         (IsAtEnd (R.remaining reader.new.inner.now))
         (D.state desk.old) (record { came = came; sent = sent; ended = result }) (D.state desk.new)) }
-    ensures handed_on { HandedOn (O.IsClear outlet.new) result }
-    ensures becomes { O.Becomes outlet.old outlet.new }
-    ensures used_up { (lost : ℕ) → result ≡ Err (ReadTurns lost) → reader.new.left ≡ 0 }
-    ensures reason { IsReason reader.old.state reader.new.state result }
+    ensures reason { IsReason reader.old.state reader.new result }
     ensures counted { reader.new.left ≤ reader.old.left }
     ensures same_reference { reader.new.inner.ghost_name ≡ reader.old.inner.ghost_name }
     ensures name { D.name (D.state desk.new) ≡ D.name (D.state desk.old) }
 {
+    let Ok(room) = Vec::with_capacity(alloc, delivery.most_held_back()) else {
+        return Err(SessionFault::Memory);
+    };
     let Ok(mut session) = Session::new(alloc) else {
         return Err(SessionFault::Memory);
     };
-    let stop = session.serve(reader, outlet, desk, policy);
+    let mut outlet = Outlet::new(writer, room, delivery);
+    let stop = session.serve(reader, &mut outlet, desk, policy);
     let lost = fail_all(desk, policy, session.held);
+    // For the proof: what the writer has got.
+    let _ = &*outlet.into_writer();
     end_of(stop, lost)
 }
 

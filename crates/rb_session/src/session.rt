@@ -4,10 +4,11 @@ ghost use Rattle.rb_retry.specs.DeskRules.{desk_rules};
 ghost use Rattle.rb_protocol.specs.declared.request.Request.TheVariants.{Quit};
 ghost use Rattle.rb_session.specs.Buffer.{IsUnserved};
 ghost use Rattle.rb_session.specs.Held.{AreGiven};
-ghost use Rattle.rb_session.specs.Rules.{session_rules};
+ghost use Rattle.rb_session.specs.Outlet.{sent_to, rules_at, Becomes};
+ghost use Rattle.rb_session.specs.Rules.{IsGathered, WritesBeforeWaits};
 ghost use Rattle.rb_session.specs.Turn.{point, AsksToWait};
 ghost use Rattle.rb_session.specs.Exchange.{Exchanges};
-ghost use Rattle.rb_session.specs.Progress.{ServesLines, AnswersEnd, Stops, IsClearAt, IsClearAtRead, IsReasonToStop};
+ghost use Rattle.rb_session.specs.Progress.{ServesLines, AnswersEnd, Stops, IsClearAt, IsReasonToStop};
 
 use crate::answer::answer;
 use crate::held_jobs::HeldJobs;
@@ -18,7 +19,7 @@ use crate::stop::Stop;
 use rb_protocol::{ErrWord, LimitedReader, LineFault, LineReply, Request, WriteFault};
 use rb_retry::{Desk, Policy};
 use std::alloc::{AllocError, Global};
-use std::io::{ErrorKind, Read};
+use std::io::{ErrorKind, Read, Write};
 
 /// What a session keeps from one request to the next: the bytes that were read and are not served
 /// yet, and the jobs that it holds.
@@ -42,10 +43,10 @@ impl Session {
 
     /// Serves what is read until something stops it, and then hands on what is held back. A read is
     /// made with nothing held back, and a write that failed is not tried again.
-    pub(crate) fn serve<R: Read, O: Outlet, D: Desk>(
+    pub(crate) fn serve<R: Read, W: Write, D: Desk>(
         &mut self,
         reader: &mut LimitedReader<'_, R>,
-        outlet: &mut O,
+        outlet: &mut Outlet<'_, W>,
         desk: &mut D,
         policy: &Policy,
     ) -> Stop
@@ -53,16 +54,15 @@ impl Session {
         requires given { AreGiven (D.mine (D.state desk.old)) self.old.held }
         ensures stops { Exchanges
             (R.remaining reader.old.inner.now) (R.remaining reader.new.inner.now)
-            (O.contents outlet.old) (O.contents outlet.new)
-            (λ came sent. Stops (session_rules (desk_rules D.Desk policy.now) (O.HadGot outlet.old)) O.HoldsBack
+            (sent_to W.Write outlet.old) (sent_to W.Write outlet.new)
+            (λ came sent. Stops (rules_at (desk_rules D.Desk policy.now) W.Write outlet.old)
             (IsAtEnd (R.remaining reader.new.inner.now)) (point (D.state desk.old) self.old.held)
             came sent result (point (D.state desk.new) self.new.held)) }
-        ensures used_up { result ≡ Stop.ReadTurns → reader.new.left ≡ 0 }
-        ensures reason { IsReasonToStop reader.old.state reader.new.state result }
+        ensures reason { IsReasonToStop reader.old.state reader.new (outlet.new.gathered.items ≡ []) result }
         ensures counted { reader.new.left ≤ reader.old.left }
         ensures same_reference { reader.new.inner.ghost_name ≡ reader.old.inner.ghost_name }
-        ensures clear { IsClearAt (O.IsClear outlet.new) result }
-        ensures becomes { O.Becomes outlet.old outlet.new }
+        ensures clear { IsClearAt (outlet.new.gathered.items ≡ []) result }
+        ensures becomes { Becomes W.Write outlet.old outlet.new }
         ensures name { D.name (D.state desk.new) ≡ D.name (D.state desk.old) }
     {
         let stop = self.serve_reads(reader, outlet, desk, policy);
@@ -76,10 +76,10 @@ impl Session {
     }
 
     // Serves what is read until something stops it. Nothing is held back while a read is made.
-    fn serve_reads<R: Read, O: Outlet, D: Desk>(
+    fn serve_reads<R: Read, W: Write, D: Desk>(
         &mut self,
         reader: &mut LimitedReader<'_, R>,
-        outlet: &mut O,
+        outlet: &mut Outlet<'_, W>,
         desk: &mut D,
         policy: &Policy,
     ) -> Stop
@@ -87,16 +87,14 @@ impl Session {
         requires given { AreGiven (D.mine (D.state desk.old)) self.old.held }
         ensures stops { Exchanges
             (R.remaining reader.old.inner.now) (R.remaining reader.new.inner.now)
-            (O.contents outlet.old) (O.contents outlet.new)
-            (λ came sent. Stops (session_rules (desk_rules D.Desk policy.now) (O.HadGot outlet.old)) O.HoldsBack
+            (sent_to W.Write outlet.old) (sent_to W.Write outlet.new)
+            (λ came sent. Stops (rules_at (desk_rules D.Desk policy.now) W.Write outlet.old)
             (IsAtEnd (R.remaining reader.new.inner.now)) (point (D.state desk.old) self.old.held)
             came sent result (point (D.state desk.new) self.new.held)) }
-        ensures used_up { result ≡ Stop.ReadTurns → reader.new.left ≡ 0 }
-        ensures reason { IsReasonToStop reader.old.state reader.new.state result }
+        ensures reason { IsReasonToStop reader.old.state reader.new (outlet.new.gathered.items ≡ []) result }
         ensures counted { reader.new.left ≤ reader.old.left }
         ensures same_reference { reader.new.inner.ghost_name ≡ reader.old.inner.ghost_name }
-        ensures clear { IsClearAtRead (O.IsClear outlet.new) result }
-        ensures becomes { O.Becomes outlet.old outlet.new }
+        ensures becomes { Becomes W.Write outlet.old outlet.new }
         ensures name { D.name (D.state desk.new) ≡ D.name (D.state desk.old) }
     {
         while reader.may_read() {
@@ -117,20 +115,20 @@ impl Session {
     }
 
     // Serves each whole line of the buffer, until one stops the session.
-    fn serve_lines<O: Outlet, D: Desk>(
+    fn serve_lines<W: Write, D: Desk>(
         &mut self,
-        outlet: &mut O,
+        outlet: &mut Outlet<'_, W>,
         desk: &mut D,
         policy: &Policy,
     ) -> Option<Stop>
         requires given { AreGiven (D.mine (D.state desk.old)) self.old.held }
         ensures served { (bytes : List ℕ) → IsUnserved self.old.buffer bytes
-            → (sent : List ℕ) × Appends (O.contents outlet.old) (O.contents outlet.new) sent
-            × ServesLines (session_rules (desk_rules D.Desk policy.now) (O.HadGot outlet.old)) O.HoldsBack
+            → (sent : List ℕ) × Appends (sent_to W.Write outlet.old) (sent_to W.Write outlet.new) sent
+            × ServesLines (rules_at (desk_rules D.Desk policy.now) W.Write outlet.old)
             (point (D.state desk.old) self.old.held) bytes sent result
             self.new.buffer (point (D.state desk.new) self.new.held) }
         ensures given { IfNone result (AreGiven (D.mine (D.state desk.new)) self.new.held) }
-        ensures becomes { O.Becomes outlet.old outlet.new }
+        ensures becomes { Becomes W.Write outlet.old outlet.new }
         ensures name { D.name (D.state desk.new) ≡ D.name (D.state desk.old) }
     {
         while let Some(reading) = self.buffer.next_request() {
@@ -151,14 +149,14 @@ impl Session {
 }
 
 // Tells the outlet if the line's request may wait.
-fn clear_for_wait<O: Outlet>(
-    outlet: &mut O,
+fn clear_for_wait<W: Write>(
+    outlet: &mut Outlet<'_, W>,
     reading: &Result<Request, LineFault>,
 ) -> Result<(), WriteFault>
-    ensures kept { Keeps (O.contents outlet.old) (O.contents outlet.new) }
-    ensures clear { OnOk result (AsksToWait reading.now → O.IsClearForWait outlet.new) }
-    ensures late { OnErr result O.HoldsBack }
-    ensures becomes { O.Becomes outlet.old outlet.new }
+    ensures kept { Keeps (sent_to W.Write outlet.old) (sent_to W.Write outlet.new) }
+    ensures clear { OnOk result (AsksToWait reading.now → WritesBeforeWaits outlet.old.delivery → outlet.new.gathered.items ≡ []) }
+    ensures late { OnErr result (IsGathered outlet.old.delivery) }
+    ensures becomes { Becomes W.Write outlet.old outlet.new }
 {
     match reading {
         Ok(Request::Take | Request::PollFor(_)) => outlet.before_wait(),
@@ -174,11 +172,11 @@ fn is_quit(reading: &Result<Request, LineFault>) -> bool
 }
 
 // The input is over: bytes that no line feed ends are answered once.
-fn finish<O: Outlet>(buffer: &LineBuffer, outlet: &mut O, held: &HeldJobs) -> Stop
+fn finish<W: Write>(buffer: &LineBuffer, outlet: &mut Outlet<'_, W>, held: &HeldJobs) -> Stop
     ensures ends { (bytes : List ℕ) → IsUnserved buffer.now bytes
-        → (sent : List ℕ) × Appends (O.contents outlet.old) (O.contents outlet.new) sent
+        → (sent : List ℕ) × Appends (sent_to W.Write outlet.old) (sent_to W.Write outlet.new) sent
         × AnswersEnd result bytes sent }
-    ensures becomes { O.Becomes outlet.old outlet.new }
+    ensures becomes { Becomes W.Write outlet.old outlet.new }
 {
     if buffer.has_rest() {
         let error = LineReply::Err(ErrWord::Line);

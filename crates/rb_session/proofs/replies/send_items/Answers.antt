@@ -12,6 +12,8 @@ use Rattle.std.proofs.KnownBytes.{Appends-trans}
 use Rattle.rb_protocol.proofs.Sending.{sends_then, sends_part}
 use Rattle.rb_session.proofs.JobMaps.{present-append}
 use Rattle.rb_session.proofs.ReplyTexts.{texts_of-append}
+use Rattle.rb_session.specs.Outlet.{sent_to}
+use Rattle.rb_session.proofs.Gatherings.{goes_on}
 use Rattle.rb_session.proofs.replies.send_items.Goals as goal
 use Rattle.rb_session.proofs.replies.send_items.Goals.{in-Some+in_ok-send_reply, in_default}
 
@@ -59,7 +61,7 @@ module _ (entries : List (Option Element)) (place : ℕ) (entry : Option Element
 pub returns-in_err-send_reply-clause-sent : goal.returns-in_err-send_reply-clause-sent
 returns-in_err-send_reply-clause-sent g c =
     let failed = subst (λ (e : Element). (some : List ℕ) × (unsent : List ℕ) × (text_of (lines.Item e) ≡ some ++ unsent)
-    × Appends (g.O.Outlet.contents c.loop-entry.outlet) (g.O.Outlet.contents c.send_reply.new.outlet) some)
+    × Appends (sent_to g.W.Write c.loop-entry.outlet) (sent_to g.W.Write c.send_reply.new.outlet) some)
     c.element.ensures c.in_err-send_reply.ensures.sent in
     rw (text_split c.args.entries.now c.loop-entry.entry-index c.entry-item.result c.loop-entry-test.true
     c.entry-item.is c.in-Some.job c.in-Some.is)
@@ -73,14 +75,14 @@ loop-entry-preserved g c =
     elim c.match-entry.branch [
       | in-Some+in_ok-send_reply w ↦ record {
         sent =
-            let more = subst (λ (e : Element). Appends (g.O.Outlet.contents c.loop-entry.outlet)
-            (g.O.Outlet.contents w.send_reply.new.outlet) (text_of (lines.Item e))) w.element.ensures
+            let more = subst (λ (e : Element). Appends (sent_to g.W.Write c.loop-entry.outlet)
+            (sent_to g.W.Write w.send_reply.new.outlet) (text_of (lines.Item e))) w.element.ensures
             w.in_ok-send_reply.ensures.sent in
             rw w.outlet-is
             (subst (Appends _ _) (sym (text_longer entries c.loop-entry.entry-index c.entry-item.result
             c.loop-entry-test.true c.entry-item.is w.in-Some.job w.in-Some.is))
             (Appends-trans _ _ _ _ _ c.loop-entry.invariant.sent more));
-        becomes = rw w.outlet-is (g.met.O.Outlet.goes_on _ _ _ c.loop-entry.invariant.becomes
+        becomes = rw w.outlet-is (goes_on g.W.Write _ _ _ c.loop-entry.invariant.becomes
             w.in_ok-send_reply.ensures.becomes);
       }
       | in_default w ↦ record {
@@ -91,3 +93,7 @@ loop-entry-preserved g c =
         becomes = rw w.outlet-is c.loop-entry.invariant.becomes;
       }
     ]
+
+pub returns-in_err-send_reply-clause-becomes : goal.returns-in_err-send_reply-clause-becomes
+returns-in_err-send_reply-clause-becomes g c =
+    goes_on g.W.Write _ _ _ c.loop-entry.invariant.becomes c.send_reply.ensures.becomes

@@ -9,6 +9,8 @@ use Rattle.std.specs.Io.KnownBytes.{Appends}
 use Rattle.rb_protocol.specs.Sending.{Sends}
 use Rattle.rb_session.specs.Progress.{replies_of}
 use Rattle.rb_protocol.proofs.Sending.{sends_then, sends_part}
+use Rattle.rb_session.specs.Outlet.{sent_to}
+use Rattle.rb_session.proofs.Gatherings.{goes_on}
 use Rattle.rb_session.proofs.replies.send_lines.Goals as goal
 
 -- what comes behind the first line of a reply
@@ -38,10 +40,14 @@ returns-in_err-send_reply-clause-sent g c =
 
 pub returns-in-Drained-clause-sent : goal.returns-in-Drained-clause-sent
 returns-in-Drained-clause-sent g c =
-    let first = subst (λ (reply : LineReply). Appends (g.O.Outlet.contents c.args.outlet.now)
-    (g.O.Outlet.contents c.send_reply.new.outlet) (text_of reply)) c.in-Drained.is
+    let first = subst (λ (reply : LineReply). Appends (sent_to g.W.Write c.args.outlet.now)
+    (sent_to g.W.Write c.send_reply.new.outlet) (text_of reply)) c.in-Drained.is
     c.in_ok-send_reply.ensures.sent in
-    let items = subst (λ (held : List Element). Sends c.send_items.result (g.O.Outlet.contents c.send_reply.new.outlet)
-    (texts_of (map lines.Item held)) (g.O.Outlet.contents c.send_items.new.outlet))
+    let items = subst (λ (held : List Element). Sends c.send_items.result (sent_to g.W.Write c.send_reply.new.outlet)
+    (texts_of (map lines.Item held)) (sent_to g.W.Write c.send_items.new.outlet))
     c.last.ensures c.send_items.ensures.sent in
     rw c.in-Drained.is (sends_then c.send_items.result _ _ _ (text_of (lines.Drained c.in-Drained.count)) _ first items)
+
+pub returns-in-Drained-clause-becomes : goal.returns-in-Drained-clause-becomes
+returns-in-Drained-clause-becomes g c =
+    goes_on g.W.Write _ _ _ c.send_reply.ensures.becomes c.send_items.ensures.becomes

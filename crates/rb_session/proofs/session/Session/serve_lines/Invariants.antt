@@ -4,7 +4,7 @@ use Rattle.std.specs.Io.KnownBytes.{Appends}
 use Rattle.rb_retry.specs.DeskRules.{desk_rules}
 use Rattle.rb_session.specs.Buffer.{IsUnserved}
 use Rattle.rb_session.specs.Held.{AreGiven}
-use Rattle.rb_session.specs.Rules.{session_rules}
+use Rattle.rb_session.specs.Outlet.{sent_to, rules_at, Becomes}
 use Rattle.rb_session.specs.Session.{ServesFirst}
 use Rattle.rb_session.specs.Turn.{point}
 use Rattle.rb_session.proofs.session.Session.serve_lines.Given as goal
@@ -12,12 +12,12 @@ use Rattle.rb_session.proofs.session.Session.serve_lines.Given as goal
 abbrev pub invariant-loop-reading : goal.invariant-loop-reading
 invariant-loop-reading g l = record {
   served : (bytes : List ℕ) → IsUnserved l.fn.self.buffer bytes
-      → (sent : List ℕ) × Appends (g.O.Outlet.contents l.fn.outlet) (g.O.Outlet.contents l.outlet) sent
-      × (first : ServesFirst (session_rules (desk_rules g.D.Desk l.policy) (g.O.Outlet.HadGot l.fn.outlet))
+      → (sent : List ℕ) × Appends (sent_to g.W.Write l.fn.outlet) (sent_to g.W.Write l.outlet) sent
+      × (first : ServesFirst (rules_at (desk_rules g.D.Desk l.policy) g.W.Write l.fn.outlet)
       (point (g.D.Desk.state l.fn.desk) l.fn.self.held) bytes sent (point (g.D.Desk.state l.desk) l.self.held))
       × IsUnserved l.self.buffer first.unserved;
   given : AreGiven (g.D.Desk.mine (g.D.Desk.state l.desk)) l.self.held;
-  becomes : g.O.Outlet.Becomes l.fn.outlet l.outlet;
+  becomes : Becomes g.W.Write l.fn.outlet l.outlet;
   name : g.D.Desk.name (g.D.Desk.state l.desk) ≡ g.D.Desk.name (g.D.Desk.state l.fn.desk);
 }
 

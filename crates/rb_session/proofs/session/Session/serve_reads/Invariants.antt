@@ -6,7 +6,7 @@ use Rattle.rb_session.specs.Buffer.{IsUnserved}
 use Rattle.rb_session.specs.Held.{AreGiven}
 use Rattle.rb_protocol.specs.Line.{HasNoLineFeed}
 use Rattle.rb_protocol.specs.Reads.{HasNotFailed}
-use Rattle.rb_session.specs.Rules.{session_rules}
+use Rattle.rb_session.specs.Outlet.{sent_to, rules_at, Becomes}
 use Rattle.rb_session.specs.Session.{ServesFirst}
 use Rattle.rb_session.specs.Turn.{point}
 use Rattle.rb_session.proofs.session.Session.serve_reads.Given as goal
@@ -14,15 +14,15 @@ use Rattle.rb_session.proofs.session.Session.serve_reads.Given as goal
 abbrev pub invariant-loop-outlet : goal.invariant-loop-outlet
 invariant-loop-outlet g l = record {
   served : Exchanges (g.R.Read.remaining l.fn.reader.inner.now) (g.R.Read.remaining l.reader.inner.now)
-      (g.O.Outlet.contents l.fn.outlet) (g.O.Outlet.contents l.outlet) (λ came sent.
-      (first : ServesFirst (session_rules (desk_rules g.D.Desk l.policy) (g.O.Outlet.HadGot l.fn.outlet))
+      (sent_to g.W.Write l.fn.outlet) (sent_to g.W.Write l.outlet) (λ came sent.
+      (first : ServesFirst (rules_at (desk_rules g.D.Desk l.policy) g.W.Write l.fn.outlet)
       (point (g.D.Desk.state l.fn.desk) l.fn.self.held) came sent (point (g.D.Desk.state l.desk) l.self.held))
       × HasNoLineFeed first.unserved × IsUnserved l.self.buffer first.unserved);
   given : AreGiven (g.D.Desk.mine (g.D.Desk.state l.desk)) l.self.held;
   counted : l.reader.left ≤ l.fn.reader.left;
   still : HasNotFailed l.fn.reader.state l.reader.state;
   same_reference : l.reader.inner.ghost_name ≡ l.fn.reader.inner.ghost_name;
-  becomes : g.O.Outlet.Becomes l.fn.outlet l.outlet;
+  becomes : Becomes g.W.Write l.fn.outlet l.outlet;
   name : g.D.Desk.name (g.D.Desk.state l.desk) ≡ g.D.Desk.name (g.D.Desk.state l.fn.desk);
 }
 

@@ -2,10 +2,11 @@
 use Rattle.std.proofs.Common.{rules, Option, List, ℕ, sym, ap, subst, ◌∙◌}
 use Rattle.std.specs.Io.KnownBytes.{Consumes, IsAtEnd}
 use Rattle.rb_retry.specs.DeskRules.{desk_rules}
-use Rattle.rb_session.specs.Delivered.{RanDelivered}
 use Rattle.rb_session.specs.Exchange.{Exchanges}
+use Rattle.rb_session.specs.Ran.{Ran}
 use Rattle.rb_session.specs.Rules.{session_rules, HadGotBehind}
-use Rattle.rb_session.proofs.delivered.run_delivered.Goals as goal
+use Rattle.rb_session.specs.declared.delivery.Delivery.TheVariants.{AtOnce}
+use Rattle.rb_session.proofs.run.run_session.Goals as goal
 
 pub returns-clause-ran : goal.returns-clause-ran
 returns-clause-ran g c =
@@ -15,8 +16,8 @@ returns-clause-ran g c =
     let left = g.R.Read.remaining limited.new.reader.inner.now in
     let name = sym (limited.ensures.same_reference ∙ c.new-limited.ensures.same_reference) in
     let whole : Exchanges (g.R.Read.remaining c.args.reader.now) left got (g.W.Write.contents limited.new.writer)
-    (λ came sent. RanDelivered
-    (session_rules (desk_rules g.D.Desk c.args.policy.now) (HadGotBehind g.W.Write.contents got)) c.args.delivery
+    (λ came sent. Ran (session_rules (desk_rules g.D.Desk c.args.policy.now) AtOnce
+    (HadGotBehind g.W.Write.contents got))
     (IsAtEnd left) (g.D.Desk.state c.args.desk.now) (record { came = came; sent = sent; ended = limited.result })
     (g.D.Desk.state limited.new.desk)) = record {
       came = ran.came;

@@ -1,0 +1,139 @@
+-- Wherever the lines stopped, what was held then failed, and what the writer has got and what is held back are the
+-- session's replies, one behind the other.
+use Rattle.std.proofs.Common.{rules, ◌≡◌, ◌≤◌, ℕ, List, [], ◌++◌, Option, Result, Err, refl, sym, ap, subst, ◌∙◌, arith, length}
+use Rattle.std.specs.Io.KnownBytes.{Appends, Consumes, IsAtEnd, append_known}
+use Rattle.rb_delayed.specs.declared.element.Element.{Element}
+use Rattle.rb_retry.specs.DeskRules.{DeskRules, desk_rules}
+use Rattle.rb_session.specs.Closing.{Closes}
+use Rattle.rb_session.specs.Exchange.{Exchanges}
+use Rattle.rb_session.specs.Growth.{KeepsFront}
+use Rattle.rb_session.specs.Ran.{RanUntil}
+use Rattle.rb_session.specs.Reasons.{IsReason}
+use Rattle.rb_session.specs.Rules.{SessionRules, session_rules, HadGotBehind, most_held_back}
+use Rattle.rb_session.specs.Turn.{Point, point}
+use Rattle.rb_session.specs.Progress.{Stops, IsClearAt, end_of}
+use Rattle.rb_session.specs.declared.delivery.Delivery.{Delivery}
+use Rattle.rb_session.specs.declared.ended.Ended.{Ended}
+use Rattle.rb_session.specs.declared.session_fault.SessionFault.{SessionFault}
+use Rattle.rb_session.specs.declared.stop.Stop.{Stop}
+use Rattle.rb_session.specs.declared.stop.Stop.TheVariants as stops
+use Rattle.rb_session.proofs.Gatherings.{known_at_first, all_sent, is_shared}
+use Rattle.rb_session.proofs.Outlets.{reason_to_end}
+use Rattle.rb_session.proofs.run.run_limited.Goals as goal
+
+module _ {S : Type 0} (rules : SessionRules S) (Over : Type 0) (from last to : S) (held : List Element)
+    (lost : ℕ) (closes : Closes rules.desk last held lost to) (left left' old new : Option (List ℕ))
+    (came passed before gathered : List ℕ) (read : Consumes left left' came) (empty : before ≡ [])
+    (few : length gathered ≤ most_held_back rules.delivery) (grows : KeepsFront old new)
+    (all : Appends (append_known old before) (append_known new gathered) passed) where
+  -- where the lines stopped, what was held failed
+  ran : (stop : Stop) → IsClearAt (gathered ≡ []) stop
+      → Stops rules Over (point from []) came passed stop (point last held)
+      → Exchanges left left' old new
+      (λ came sent. RanUntil rules Over from (record { came = came; sent = sent; ended = end_of stop lost })
+      (end_of stop lost) to)
+  ran stops.Quit clear stopped = record {
+    came = came;
+    sent = passed;
+    consumed = read;
+    appended = all_sent old new before gathered passed empty clear all;
+    holds = (point last held, stopped, closes);
+  }
+  ran stops.EndOfInput clear stopped = record {
+    came = came;
+    sent = passed;
+    consumed = read;
+    appended = all_sent old new before gathered passed empty clear all;
+    holds = (point last held, stopped, closes);
+  }
+  ran stops.Read clear stopped = record {
+    came = came;
+    sent = passed;
+    consumed = read;
+    appended = all_sent old new before gathered passed empty clear all;
+    holds = (point last held, stopped, closes);
+  }
+  ran stops.ReadTurns clear stopped = record {
+    came = came;
+    sent = passed;
+    consumed = read;
+    appended = all_sent old new before gathered passed empty clear all;
+    holds = (point last held, stopped, closes);
+  }
+  ran stops.Write clear stopped =
+      let shared = is_shared old new (most_held_back rules.delivery) before gathered passed empty few grows all in record {
+        came = came;
+        sent = shared.sent;
+        consumed = read;
+        appended = shared.got;
+        holds = (
+          point last held,
+          record {
+            passed = passed;
+            fails = stopped;
+            held_back = shared.rest;
+            few = shared.few;
+            parts = shared.parts;
+          },
+          closes,
+        );
+      }
+
+-- an outlet that was just made has its caller's delivery, was sent what its writer had got, and nothing is held yet
+stops_by : {S W : Type 0} (desk : DeskRules S) (contents : W → Option (List ℕ)) (Over : Type 0) (from : S)
+    (to : Point S) (came sent : List ℕ) (stop : Stop) (one other : Delivery) → one ≡ other
+    → (got got' : Option (List ℕ)) → got ≡ got' → (held : List Element) → held ≡ []
+    → Stops (session_rules desk one (HadGotBehind contents got)) Over (point from held) came sent stop to
+    → Stops (session_rules desk other (HadGotBehind contents got')) Over (point from []) came sent stop to
+stops_by desk contents Over from to came sent stop one other same got got' same_got held none stops =
+    subst (λ (h : List Element). Stops (session_rules desk other (HadGotBehind contents got')) Over (point from h) came
+    sent stop to) none
+    (subst (λ (known : Option (List ℕ)). Stops (session_rules desk other (HadGotBehind contents known)) Over
+    (point from held) came sent stop to) same_got
+    (subst (λ (d : Delivery). Stops (session_rules desk d (HadGotBehind contents got)) Over (point from held) came sent
+    stop to) same stops))
+
+pub returns-clause-ran : goal.returns-clause-ran
+returns-clause-ran g c =
+    let made = c.new-outlet.ensures in
+    let stop = c.serve-stop in
+    let last = stop.new.outlet in
+    let did = stop.ensures.stops in
+    let old = g.W.Write.contents c.args.writer.now in
+    let new = g.W.Write.contents last.writer.now in
+    let over = IsAtEnd (g.R.Read.remaining stop.new.reader.inner.now) in
+    let from = g.D.Desk.state c.args.desk.now in
+    let desk = desk_rules g.D.Desk c.args.policy.now in
+    let own_rules = session_rules desk c.args.delivery (HadGotBehind g.W.Write.contents old) in
+    let fresh = ap g.W.Write.contents made.same in
+    let got = known_at_first _ old c.new-outlet.result.gathered.items made.empty fresh in
+    let grows = subst (λ (first : Option (List ℕ)). KeepsFront first new) fresh stop.ensures.becomes.grows in
+    let sent = subst (λ (first : Option (List ℕ)).
+    Appends (append_known first c.new-outlet.result.gathered.items) (append_known new last.gathered.items) did.sent)
+    fresh did.appended in
+    let few = subst (λ (delivery : Delivery). length last.gathered.items ≤ most_held_back delivery)
+    (stop.ensures.becomes.delivery ∙ made.delivery) (omega (arith, last.few, last.gathered.ok.0)) in
+    let stopped =
+    stops_by desk g.W.Write.contents over from (point (g.D.Desk.state stop.new.desk) stop.new.self.held) did.came did.sent
+    stop.result c.new-outlet.result.delivery c.args.delivery made.delivery _ old got _ c.in-Ok-new.ensures.held
+    did.holds in
+    let to = g.D.Desk.state c.fail_all-lost.new.desk in
+    let whole : Exchanges (g.R.Read.remaining c.args.reader.now.inner.now)
+    (g.R.Read.remaining stop.new.reader.inner.now) old new (λ came sent. RanUntil own_rules over from
+    (record { came = came; sent = sent; ended = c.end_of.result }) c.end_of.result to) =
+    subst (λ (ended : Result Ended SessionFault). Exchanges (g.R.Read.remaining c.args.reader.now.inner.now)
+    (g.R.Read.remaining stop.new.reader.inner.now) old new (λ came sent. RanUntil own_rules over
+    from (record { came = came; sent = sent; ended = ended }) ended to)) (sym c.end_of.ensures)
+    (ran own_rules over from (g.D.Desk.state stop.new.desk) to
+    stop.new.self.held c.fail_all-lost.result c.fail_all-lost.ensures.closes _ _ old new did.came did.sent
+    c.new-outlet.result.gathered.items last.gathered.items did.consumed made.empty few grows sent stop.result
+    stop.ensures.clear stopped) in
+    let back = sym (ap g.W.Write.contents c.into_writer.ensures.same) in
+    let name = sym (c.into_writer.ensures.same_reference ∙ stop.ensures.becomes.same_reference ∙ made.same_reference) in
+    search rules
+
+pub returns-clause-reason : goal.returns-clause-reason
+returns-clause-reason g c =
+    subst (λ (r : Result Ended SessionFault). IsReason c.args.reader.now.state c.serve-stop.new.reader r)
+    (sym c.end_of.ensures)
+    (reason_to_end c.args.reader.now.state c.serve-stop.new.reader _ c.serve-stop.result c.fail_all-lost.result c.serve-stop.ensures.reason)
