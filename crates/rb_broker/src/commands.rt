@@ -3,11 +3,11 @@ use rb_arguments::{ReplayOptions, ScriptOptions, ServeOptions, ServerRunOptions}
 use rb_ending::BrokerFault;
 use rb_protocol::LimitedReader;
 use rb_queue::Opening;
-use rb_runs::{opening_in, over_timer, run_replay, run_script_gathered};
+use rb_runs::{opening_in, over_timer, run_replay, run_script_delivered};
 use rb_serving::{
     ServeClock, ServeReport, TcpDoor, end_server, print_listening, serve_door_gathered,
 };
-use rb_session::Ended;
+use rb_session::{Delivery, Ended, HandsOn};
 use rb_timer::Timer;
 use std::fs::File;
 use std::io::Write;
@@ -16,7 +16,7 @@ use std::sync::Wait;
 use std::thread::Threads;
 use std::time;
 
-/// Runs a script from standard input to standard output.
+/// Runs a script from standard input to standard output, which gets the replies before each read and at the end.
 ///
 /// It reads the file `from` before anything else, and creates the file `history` before the
 /// session, so both may be the same. If standard output is closed, it does not create the file.
@@ -30,9 +30,10 @@ pub fn script(
     check_output(rt, history)?;
     let mut device = device_for(rt, history)?;
     let mut input = rt.stdin();
-    run_script_gathered(
+    run_script_delivered(
         rt.alloc(),
         options,
+        Delivery::Gathered(HandsOn::BeforeReads),
         opening,
         &mut LimitedReader::new(&mut input),
         &mut rt.stdout(),

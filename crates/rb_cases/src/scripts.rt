@@ -10,8 +10,8 @@ use rb_arguments::{ScriptOptions, TimerKind, Words, read_words};
 use rb_ending::BrokerFault;
 use rb_protocol::LimitedReader;
 use rb_queue::Opening;
-use rb_runs::{opening_in, run_script_gathered};
-use rb_session::Ended;
+use rb_runs::{opening_in, run_script_delivered};
+use rb_session::{Delivery, Ended, HandsOn};
 use std::alloc::{AllocError, Global};
 
 /// Returns a text about what differs from the case in the first run that does not come out as it
@@ -151,7 +151,17 @@ fn ended(
 ) -> Result<Ended, BrokerFault> {
     let opening = opening_of(alloc, case)?;
     let mut reader = LimitedReader::new(reader);
-    run_script_gathered(alloc, options, opening, &mut reader, writer, recorder).result()
+    let gathered = Delivery::Gathered(HandsOn::BeforeReads);
+    run_script_delivered(
+        alloc,
+        options,
+        gathered,
+        opening,
+        &mut reader,
+        writer,
+        recorder,
+    )
+    .result()
 }
 
 fn source_of(case: &Case, reads: Reads) -> Source<'_> {

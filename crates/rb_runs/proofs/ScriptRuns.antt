@@ -5,10 +5,6 @@ use Rattle.rb_ledger.specs.declared.totals.Totals.{Totals}
 use Rattle.rb_queue.specs.declared.opening.Opening.{Opening}
 use Rattle.rb_kept.specs.Log.{Log}
 use Rattle.rb_retry.specs.KeptSteps.{KeptState}
-use Rattle.rb_session.specs.Delivered.{RanDelivered}
-use Rattle.rb_session.specs.Rules.{SessionRules}
-use Rattle.rb_session.specs.declared.delivery.Delivery.{Delivery}
-use Rattle.rb_session.specs.declared.delivery.Delivery.TheVariants.{AtOnce, Gathered}
 use Rattle.rb_session.specs.declared.ended.Ended.{Ended}
 use Rattle.rb_session.specs.declared.session_fault.SessionFault.{SessionFault}
 use Rattle.rb_session.specs.declared.session_fault.SessionFault.TheVariants.{Memory}
@@ -47,18 +43,13 @@ desk_over name calls opening log share fresh none = record {
   before = ap length fresh.history;
 }
 
--- a session that found no memory did nothing, whichever way its replies go
-unbegun_at : (rules : SessionRules KeptState) (delivery : Delivery) (Over : Type 0) (desk : KeptState)
-    → RanDelivered rules delivery Over desk (record { came = []; sent = []; ended = Err Memory }) desk
-unbegun_at rules AtOnce Over desk = (refl, refl, refl)
-unbegun_at rules (Gathered _) Over desk = (refl, refl, refl)
-
+-- a session that found no memory did nothing
 pub unbegun : (terms : ScriptTerms) (Over : Type 0)
     → RanSession terms Over (record { came = []; sent = []; ended = Err Memory }) (new_desk terms.opening terms.calls)
 unbegun terms Over = record {
   from = new_desk terms.opening terms.calls;
   new = is_new terms.opening terms.calls;
-  ran = unbegun_at terms.rules terms.delivery Over (new_desk terms.opening terms.calls);
+  ran = (refl, refl, refl);
 }
 
 -- where nothing came and was sent

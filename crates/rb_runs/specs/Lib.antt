@@ -4,8 +4,6 @@ pub use Rattle.rb_session.specs.Turn
 pub use Rattle.rb_session.specs.Session
 pub use Rattle.rb_session.specs.Exchange
 pub use Rattle.rb_session.specs.Ran
-pub use Rattle.rb_session.specs.Outlet
-pub use Rattle.rb_session.specs.Gathered
 pub use Rattle.rb_ending.specs.BrokerFault
 pub use Rattle.rb_ending.specs.Recording
 pub use Rattle.rb_ending.specs.AuditText

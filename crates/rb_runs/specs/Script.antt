@@ -6,7 +6,7 @@ use Rattle.rb_kept.specs.Log.{Log}
 use Rattle.rb_retry.specs.KeptSteps.{KeptState}
 use Rattle.rb_retry.specs.DeskRules.{kept_rules}
 use Rattle.rb_retry.specs.declared.policy.Policy.{Policy}
-use Rattle.rb_session.specs.Delivered.{RanDelivered}
+use Rattle.rb_session.specs.Ran.{Ran}
 use Rattle.rb_session.specs.Rules.{SessionRules, session_rules, HadGotBehind}
 use Rattle.rb_session.specs.Served.{Served}
 use Rattle.rb_session.specs.declared.delivery.Delivery.{Delivery}
@@ -33,29 +33,27 @@ pub record IsNew (desk : KeptState) (opening : Opening) (calls : ℕ) : Type 0 w
   pub moment : desk.moment ≡ opening.last_at
   pub before : desk.before ≡ 0
 
--- the rules of a script's session under this policy, whose writer had got this at first
-abbrev pub script_rules : {W : Type 0} → (W → Option (List ℕ)) → Option (List ℕ) → Policy → SessionRules KeptState
-script_rules contents got policy = session_rules (kept_rules policy) (HadGotBehind contents got)
-
--- The terms of a script: the rules of its session, for how many calls its history has room, when its replies are
--- written, and what its queue begins with.
+-- The terms of a script: the rules of its session, for how many calls its history has room, and what its queue begins
+-- with.
 pub record ScriptTerms : Type 1 where
   pub rules : SessionRules KeptState
   pub calls : ℕ
-  pub delivery : Delivery
   pub opening : Opening
 
 -- those of a script whose writer tells its bytes so, and had got these at first
 abbrev pub script_terms : {W : Type 0} → (W → Option (List ℕ)) → Option (List ℕ) → Policy → ℕ → Delivery → Opening
     → ScriptTerms
-script_terms sends got policy calls delivery opening =
-    record { rules = script_rules sends got policy; calls = calls; delivery = delivery; opening = opening }
+script_terms sends got policy calls delivery opening = record {
+  rules = session_rules (kept_rules policy) delivery (HadGotBehind sends got);
+  calls = calls;
+  opening = opening;
+}
 
 -- The session went from a new desk to some other, and was served so.
 pub record RanSession (terms : ScriptTerms) (Over : Type 0) (served : Served) (to : KeptState) : Type 0 where
   pub from : KeptState
   pub new : IsNew from terms.opening terms.calls
-  pub ran : RanDelivered terms.rules terms.delivery Over from served to
+  pub ran : Ran terms.rules Over from served to
 
 -- The device for a history, if there is one: what it tells that it has got, as it was, and as it was left.
 pub record HistoryDevice (H : Type 0) : Type 0 where

@@ -1,20 +1,18 @@
-ghost use Rattle.std.specs.Prelude.{◌≡◌, ◌≤◌, ℕ, Err};
+ghost use Rattle.std.specs.Prelude.{◌≡◌, ◌≤◌};
 ghost use Rattle.std.specs.Io.KnownBytes.{IsAtEnd};
 ghost use Rattle.rb_session.specs.Exchange.{Exchanges};
 ghost use Rattle.rb_session.specs.Reasons.{IsReason};
-ghost use Rattle.rb_session.specs.declared.session_fault.SessionFault.TheVariants.{ReadTurns};
-ghost use Rattle.rb_session.specs.declared.delivery.Delivery.TheVariants.{AtOnce, Gathered};
-ghost use Rattle.rb_session.specs.declared.hands_on.HandsOn.TheVariants.{BeforeReads};
+ghost use Rattle.rb_session.specs.declared.delivery.Delivery.TheVariants.{AtOnce};
 ghost use Rattle.rb_ending.specs.Recording.{lent, given_back};
 ghost use Rattle.rb_runs.specs.Script.{EndsScript, RanScript, script_terms, device_of};
 
 use crate::script_report::ScriptReport;
-use crate::script_run::{run_recorded, run_unrecorded};
+use crate::script_run::{Script, run_recorded, run_unrecorded};
 use rb_arguments::ScriptOptions;
 use rb_ending::BrokerFault;
 use rb_protocol::LimitedReader;
 use rb_queue::Opening;
-use rb_session::{Delivery, Ended, HandsOn};
+use rb_session::{Delivery, Ended};
 use std::alloc::Global;
 use std::io::{Read, Write};
 
@@ -44,44 +42,15 @@ pub fn run_script<R: Read, W: Write, H: Write>(
 {
     let mut limited = LimitedReader::new(reader);
     let reader = &mut limited;
-    let delivery = Delivery::AtOnce;
+    let script = Script {
+        calls: options.calls,
+        policy: &options.policy,
+        delivery: Delivery::AtOnce,
+        opening,
+    };
     match history {
-        Some(device) => {
-            run_recorded(alloc, options, delivery, opening, reader, writer, device).result()
-        }
-        None => run_unrecorded(alloc, options, delivery, opening, reader, writer).result(),
-    }
-}
-
-/// Runs a script like `run_script_delivered`, and gathers its replies: the writer gets them before each
-/// read and at the end, with one write for many of them.
-///
-/// A write that fails may lose the replies to lines that were served, at most 64 KiB of them. All
-/// those lines are in the history.
-pub fn run_script_gathered<R: Read, W: Write, H: Write>(
-    alloc: Global,
-    options: &ScriptOptions,
-    opening: Opening,
-    reader: &mut LimitedReader<'_, R>,
-    writer: &mut W,
-    history: Option<&mut H>,
-) -> ScriptReport
-    ensures ran { Exchanges
-        (R.remaining reader.old.inner.now) (R.remaining reader.new.inner.now)
-        (W.contents writer.old) (W.contents writer.new) (λ came sent.
-        RanScript (script_terms W.contents (W.contents writer.old)
-        options.now.policy options.now.calls (Gathered BeforeReads) opening)
-        (IsAtEnd (R.remaining reader.new.inner.now)) came sent result
-        (device_of H.contents (lent history.entry) (given_back history.exit))) }
-    ensures used_up { (lost : ℕ) → result.session ≡ Err (ReadTurns lost) → reader.new.left ≡ 0 }
-    ensures reason { IsReason reader.old.state reader.new.state result.session }
-    ensures counted { reader.new.left ≤ reader.old.left }
-    ensures same_reference { reader.new.inner.ghost_name ≡ reader.old.inner.ghost_name }
-{
-    let gathered = Delivery::Gathered(HandsOn::BeforeReads);
-    match history {
-        Some(device) => run_recorded(alloc, options, gathered, opening, reader, writer, device),
-        None => run_unrecorded(alloc, options, gathered, opening, reader, writer),
+        Some(device) => run_recorded(alloc, options.timer, script, reader, writer, device).result(),
+        None => run_unrecorded(alloc, options.timer, script, reader, writer).result(),
     }
 }
 
@@ -107,13 +76,18 @@ pub fn run_script_delivered<R: Read, W: Write, H: Write>(
         options.now.policy options.now.calls delivery opening)
         (IsAtEnd (R.remaining reader.new.inner.now)) came sent result
         (device_of H.contents (lent history.entry) (given_back history.exit))) }
-    ensures used_up { (lost : ℕ) → result.session ≡ Err (ReadTurns lost) → reader.new.left ≡ 0 }
-    ensures reason { IsReason reader.old.state reader.new.state result.session }
+    ensures reason { IsReason reader.old.state reader.new result.session }
     ensures counted { reader.new.left ≤ reader.old.left }
     ensures same_reference { reader.new.inner.ghost_name ≡ reader.old.inner.ghost_name }
 {
+    let script = Script {
+        calls: options.calls,
+        policy: &options.policy,
+        delivery,
+        opening,
+    };
     match history {
-        Some(device) => run_recorded(alloc, options, delivery, opening, reader, writer, device),
-        None => run_unrecorded(alloc, options, delivery, opening, reader, writer),
+        Some(device) => run_recorded(alloc, options.timer, script, reader, writer, device),
+        None => run_unrecorded(alloc, options.timer, script, reader, writer),
     }
 }

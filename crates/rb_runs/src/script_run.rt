@@ -1,16 +1,15 @@
-ghost use Rattle.std.specs.Prelude.{◌≡◌, ◌≤◌, ℕ, Err, IfOk, OnErr};
+ghost use Rattle.std.specs.Prelude.{◌≡◌, ◌≤◌, IfOk, OnErr, Some};
 ghost use Rattle.std.specs.Io.KnownBytes.{IsAtEnd};
 ghost use Rattle.rb_kept.specs.declared.kept.TheConstants.{MOST_CALLS};
 ghost use Rattle.rb_session.specs.Exchange.{Exchanges};
 ghost use Rattle.rb_session.specs.Reasons.{IsReason};
-ghost use Rattle.rb_session.specs.declared.session_fault.SessionFault.TheVariants.{ReadTurns};
 ghost use Rattle.rb_runs.specs.Script.{IsRecording, RanScript, script_terms, device_of};
 ghost use Rattle.rb_runs.specs.ScriptRun.{RanOver, RanUnrecorded};
 
 use crate::over_timer;
 use crate::recording::Recording;
 use crate::script_report::ScriptReport;
-use rb_arguments::ScriptOptions;
+use rb_arguments::TimerKind;
 use rb_ending::write_recording;
 use rb_kept::Kept;
 use rb_protocol::LimitedReader;
@@ -21,89 +20,87 @@ use rb_timer::Timer;
 use std::alloc::{AllocError, Global};
 use std::io::{Read, Write};
 
-/// Runs a script over the timer that the options name, and writes its history to a device.
+/// What a script is run with: how many calls its history has room for, when a failed job is offered
+/// again, when replies are written, and what the queue begins with.
+#[derive(Drop)]
+pub(crate) struct Script<'a> {
+    pub(crate) calls: u64,
+    pub(crate) policy: &'a Policy,
+    pub(crate) delivery: Delivery,
+    pub(crate) opening: Opening,
+    ghost from_one: { 1 ≤ calls },
+    ghost in_range: { calls ≤ MOST_CALLS },
+}
+
+/// Runs a script over this timer, and writes its history to a device.
 pub(crate) fn run_recorded<R: Read, W: Write, H: Write>(
     alloc: Global,
-    options: &ScriptOptions,
-    delivery: Delivery,
-    opening: Opening,
+    timer: TimerKind,
+    script: Script<'_>,
     reader: &mut LimitedReader<'_, R>,
     writer: &mut W,
     device: &mut H,
 ) -> ScriptReport
     ensures ran { Exchanges
-        (R.remaining reader.old.inner.now) (R.remaining reader.new.inner.now) (W.contents writer.old) (W.contents writer.new) (λ came sent.
+        (R.remaining reader.old.inner.now) (R.remaining reader.new.inner.now)
+        (W.contents writer.old) (W.contents writer.new) (λ came sent.
         RanScript (script_terms W.contents (W.contents writer.old)
-        options.now.policy options.now.calls delivery opening)
+        script.entry.policy.now script.entry.calls script.entry.delivery script.entry.opening)
         (IsAtEnd (R.remaining reader.new.inner.now)) came sent result
         (device_of H.contents (Some device.old) (Some device.new))) }
-    ensures used_up { (lost : ℕ) → result.session ≡ Err (ReadTurns lost) → reader.new.left ≡ 0 }
-    ensures reason { IsReason reader.old.state reader.new.state result.session }
+    ensures reason { IsReason reader.old.state reader.new result.session }
     ensures counted { reader.new.left ≤ reader.old.left }
     ensures same_reference { reader.new.inner.ghost_name ≡ reader.old.inner.ghost_name }
 {
-    let calls = options.calls;
-    let policy = &options.policy;
     over_timer!(
-        options.timer,
-        recorded_over::<_, R, W, H>(
-            alloc, calls, policy, delivery, opening, reader, writer, device
-        )
+        timer,
+        recorded_over::<_, R, W, H>(alloc, script, reader, writer, device)
     )
 }
 
-/// Runs a script over the timer that the options name. There is no device for its history.
+/// Runs a script over this timer. There is no device for its history.
 pub(crate) fn run_unrecorded<R: Read, W: Write>(
     alloc: Global,
-    options: &ScriptOptions,
-    delivery: Delivery,
-    opening: Opening,
+    timer: TimerKind,
+    script: Script<'_>,
     reader: &mut LimitedReader<'_, R>,
     writer: &mut W,
 ) -> ScriptReport
     ensures ran { Exchanges
-        (R.remaining reader.old.inner.now) (R.remaining reader.new.inner.now) (W.contents writer.old) (W.contents writer.new) (λ came sent.
-        RanUnrecorded
-        (script_terms W.contents (W.contents writer.old) options.now.policy options.now.calls delivery opening)
+        (R.remaining reader.old.inner.now) (R.remaining reader.new.inner.now)
+        (W.contents writer.old) (W.contents writer.new) (λ came sent.
+        RanUnrecorded (script_terms W.contents (W.contents writer.old)
+        script.entry.policy.now script.entry.calls script.entry.delivery script.entry.opening)
         (IsAtEnd (R.remaining reader.new.inner.now)) came sent result) }
-    ensures used_up { (lost : ℕ) → result.session ≡ Err (ReadTurns lost) → reader.new.left ≡ 0 }
-    ensures reason { IsReason reader.old.state reader.new.state result.session }
+    ensures reason { IsReason reader.old.state reader.new result.session }
     ensures counted { reader.new.left ≤ reader.old.left }
     ensures same_reference { reader.new.inner.ghost_name ≡ reader.old.inner.ghost_name }
 {
-    let calls = options.calls;
-    let policy = &options.policy;
     over_timer!(
-        options.timer,
-        unrecorded_over::<_, R, W>(alloc, calls, policy, delivery, opening, reader, writer)
+        timer,
+        unrecorded_over::<_, R, W>(alloc, script, reader, writer)
     )
 }
 
 fn recorded_over<T: Timer, R: Read, W: Write, H: Write>(
     alloc: Global,
-    calls: u64,
-    policy: &Policy,
-    delivery: Delivery,
-    opening: Opening,
+    script: Script<'_>,
     reader: &mut LimitedReader<'_, R>,
     writer: &mut W,
     device: &mut H,
 ) -> ScriptReport
-    requires from_one { 1 ≤ calls }
-    requires in_range { calls ≤ MOST_CALLS }
     ensures ran { Exchanges
-        (R.remaining reader.old.inner.now) (R.remaining reader.new.inner.now) (W.contents writer.old) (W.contents writer.new) (λ came sent.
-        RanScript (script_terms W.contents (W.contents writer.old) policy.now calls delivery opening)
+        (R.remaining reader.old.inner.now) (R.remaining reader.new.inner.now)
+        (W.contents writer.old) (W.contents writer.new) (λ came sent.
+        RanScript (script_terms W.contents (W.contents writer.old)
+        script.entry.policy.now script.entry.calls script.entry.delivery script.entry.opening)
         (IsAtEnd (R.remaining reader.new.inner.now)) came sent result
         (device_of H.contents (Some device.old) (Some device.new))) }
-    ensures used_up { (lost : ℕ) → result.session ≡ Err (ReadTurns lost) → reader.new.left ≡ 0 }
-    ensures reason { IsReason reader.old.state reader.new.state result.session }
+    ensures reason { IsReason reader.old.state reader.new result.session }
     ensures counted { reader.new.left ≤ reader.old.left }
     ensures same_reference { reader.new.inner.ghost_name ≡ reader.old.inner.ghost_name }
 {
-    let Ok((kept, session)) = run_over::<T, R, W>(
-        alloc, calls, policy, delivery, opening, reader, writer,
-    ) else {
+    let Ok((kept, session)) = run_over::<T, R, W>(alloc, script, reader, writer) else {
         return ScriptReport {
             session: Err(SessionFault::Memory),
             recording: Recording::NotBegun,
@@ -115,28 +112,22 @@ fn recorded_over<T: Timer, R: Read, W: Write, H: Write>(
 
 fn unrecorded_over<T: Timer, R: Read, W: Write>(
     alloc: Global,
-    calls: u64,
-    policy: &Policy,
-    delivery: Delivery,
-    opening: Opening,
+    script: Script<'_>,
     reader: &mut LimitedReader<'_, R>,
     writer: &mut W,
 ) -> ScriptReport
-    requires from_one { 1 ≤ calls }
-    requires in_range { calls ≤ MOST_CALLS }
     ensures ran { Exchanges
-        (R.remaining reader.old.inner.now) (R.remaining reader.new.inner.now) (W.contents writer.old) (W.contents writer.new) (λ came sent.
-        RanUnrecorded (script_terms W.contents (W.contents writer.old) policy.now calls delivery opening)
+        (R.remaining reader.old.inner.now) (R.remaining reader.new.inner.now)
+        (W.contents writer.old) (W.contents writer.new) (λ came sent.
+        RanUnrecorded (script_terms W.contents (W.contents writer.old)
+        script.entry.policy.now script.entry.calls script.entry.delivery script.entry.opening)
         (IsAtEnd (R.remaining reader.new.inner.now)) came sent result) }
-    ensures used_up { (lost : ℕ) → result.session ≡ Err (ReadTurns lost) → reader.new.left ≡ 0 }
-    ensures reason { IsReason reader.old.state reader.new.state result.session }
+    ensures reason { IsReason reader.old.state reader.new result.session }
     ensures counted { reader.new.left ≤ reader.old.left }
     ensures same_reference { reader.new.inner.ghost_name ≡ reader.old.inner.ghost_name }
 {
     let recording = Recording::NotAsked;
-    let Ok((_, session)) = run_over::<T, R, W>(
-        alloc, calls, policy, delivery, opening, reader, writer,
-    ) else {
+    let Ok((_, session)) = run_over::<T, R, W>(alloc, script, reader, writer) else {
         return ScriptReport {
             session: Err(SessionFault::Memory),
             recording,
@@ -149,25 +140,22 @@ fn unrecorded_over<T: Timer, R: Read, W: Write>(
 // memory for the queue, the session is not begun.
 fn run_over<T: Timer, R: Read, W: Write>(
     alloc: Global,
-    calls: u64,
-    policy: &Policy,
-    delivery: Delivery,
-    opening: Opening,
+    script: Script<'_>,
     reader: &mut LimitedReader<'_, R>,
     writer: &mut W,
 ) -> Result<(Kept<T>, Result<Ended, SessionFault>), AllocError>
-    requires from_one { 1 ≤ calls }
-    requires in_range { calls ≤ MOST_CALLS }
     ensures ran { Exchanges
-        (R.remaining reader.old.inner.now) (R.remaining reader.new.inner.now) (W.contents writer.old) (W.contents writer.new) (λ came sent.
-        RanOver (script_terms W.contents (W.contents writer.old) policy.now calls delivery opening)
+        (R.remaining reader.old.inner.now) (R.remaining reader.new.inner.now)
+        (W.contents writer.old) (W.contents writer.new) (λ came sent.
+        RanOver (script_terms W.contents (W.contents writer.old)
+        script.entry.policy.now script.entry.calls script.entry.delivery script.entry.opening)
         (IsAtEnd (R.remaining reader.new.inner.now)) came sent result) }
-    ensures used_up { IfOk result (λ ran. (lost : ℕ) → ran.1 ≡ Err (ReadTurns lost) → reader.new.left ≡ 0) }
-    ensures reason { IfOk result (λ ran. IsReason reader.old.state reader.new.state ran.1) }
+    ensures reason { IfOk result (λ ran. IsReason reader.old.state reader.new ran.1) }
     ensures unread { OnErr result (reader.new.state ≡ reader.old.state) }
     ensures counted { reader.new.left ≤ reader.old.left }
     ensures same_reference { reader.new.inner.ghost_name ≡ reader.old.inner.ghost_name }
 {
+    let Script { calls, policy, delivery, opening } = script;
     // The number of calls is in range, so only memory can be missing.
     let Ok((mut kept, mut tally)) = Kept::<T>::new_from(alloc, calls, opening) else {
         return Err(AllocError);

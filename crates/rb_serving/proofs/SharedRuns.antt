@@ -7,7 +7,7 @@ use Rattle.rb_retry.specs.Made.{Made}
 use Rattle.rb_retry.specs.declared.desk_fault.DeskFault.{DeskFault}
 use Rattle.rb_retry.specs.declared.desk_fault.DeskFault.TheVariants.{Full, Memory, Stopped}
 use Rattle.rb_retry.specs.declared.policy.Policy.{Policy}
-use Rattle.rb_session.specs.Delivered.{RanDelivered}
+use Rattle.rb_session.specs.Ran.{Ran}
 use Rattle.rb_session.specs.RunEvents.{MadeByRun}
 use Rattle.rb_session.specs.declared.delivery.Delivery.{Delivery}
 use Rattle.rb_session.specs.Rules.{session_rules}
@@ -66,9 +66,9 @@ module _ {C G : Type 0} where
 
     pub calls_by_run : (policy : Policy) (HadGot : List ℕ → Type 0) (delivery : Delivery) (Over : Type 0)
         (from to : SharedState C G) (served : Served)
-        → RanDelivered (session_rules (shared_rules waits policy) HadGot) delivery Over from served to
+        → Ran (session_rules (shared_rules waits policy) delivery HadGot) Over from served to
         → MadeByRun Over served (λ made. made_of to.pass ≡ made_of from.pass ++ made)
     calls_by_run policy HadGot delivery Over from to served ran =
         let desk = shared_rules waits policy in
-        let run = ends_of (session_rules desk HadGot) delivery Over from to served ran in
+        let run = ends_of (session_rules desk delivery HadGot) Over from to served served.ended ran in
         (made_by_ends desk whole_mine makes_whole refuses_whole stays_whole Over from to served run).0

@@ -2,7 +2,6 @@ pub use Rattle.rb_lock.specs.ClosedQueues
 pub use Rattle.rb_session.specs.Ran
 pub use Rattle.rb_history.specs.Written
 pub use Rattle.rb_ending.specs.BrokerFault
-pub use Rattle.rb_session.specs.Gathered
 pub use Rattle.rb_ending.specs.AuditText
 pub use Rattle.rb_ending.specs.Recording
 pub mod ServeText

@@ -1,5 +1,5 @@
 -- What became of those who came to a door, and of the pass of the worker that served them.
-use Rattle.std.specs.Prelude.{◌≡◌, ℕ, ◌+◌, min, List, [], ◌∷◌, ◌++◌, length, Option, None, Some, Err}
+use Rattle.std.specs.Prelude.{◌≡◌, ℕ, ◌+◌, min, List, [], ◌∷◌, ◌++◌, length, Option, None, Some}
 use Rattle.std.specs.Io.KnownBytes.{Appends, Consumes, IsAtEnd}
 use Rattle.rb_protocol.specs.declared.limited_reader.LimitedReader.{LimitedReader}
 use Rattle.rb_protocol.specs.declared.reader_state.ReaderState.TheVariants.{Open}
@@ -14,9 +14,8 @@ use Rattle.rb_retry.specs.DeskRules.{DeskRules}
 use Rattle.rb_retry.specs.declared.policy.Policy.{Policy}
 use Rattle.rb_session.specs.Rules.{SessionRules, session_rules, HadGotBehind}
 use Rattle.rb_session.specs.Served.{Served}
-use Rattle.rb_session.specs.Delivered.{RanDelivered}
+use Rattle.rb_session.specs.Ran.{Ran}
 use Rattle.rb_session.specs.Reasons.{IsReason}
-use Rattle.rb_session.specs.declared.session_fault.SessionFault.TheVariants.{ReadTurns}
 use Rattle.rb_serving.specs.Terms.{Terms}
 use Rattle.rb_serving.specs.VisitCounts.{lost_in, faults_in}
 use Rattle.rb_serving.specs.declared.visit.Visit.{Visit}
@@ -76,14 +75,8 @@ module _ {I O G C : Type 0} (terms : Terms I O G C) where
   -- the rules of the session of a visit with this writer
   abbrev pub visit_rules : O → SessionRules (SharedState C G)
   visit_rules writer =
-      session_rules (shared_rules visit_waits terms.rules.policy)
+      session_rules (shared_rules visit_waits terms.rules.policy) terms.rules.delivery
       (HadGotBehind terms.contents (terms.contents writer))
-
-  -- At a desk, a session was run over what came until it was over, and its replies were delivered to this writer as
-  -- the rules say.
-  abbrev pub RanSession : O → Type 0 → SharedState C G → Served → SharedState C G → Type 0
-  RanSession writer Over from served to =
-      RanDelivered (visit_rules writer) terms.rules.delivery Over from served to
 
   -- The session of this visit was run at a new desk of the pass. What came was read from the visit's reader, what
   -- was sent went to its writer, and its gate could end the waits. `reader` and `writer` are what is left of the two.
@@ -96,10 +89,9 @@ module _ {I O G C : Type 0} (terms : Terms I O G C) where
     pub from : SharedState C G
     pub begun : IsDeskOf terms.rules.clock visit.gate old from
     pub to : SharedState C G
-    pub ran : RanSession visit.writer (IsAtEnd (terms.remaining reader.inner.now)) from served to
+    pub ran : Ran (visit_rules visit.writer) (IsAtEnd (terms.remaining reader.inner.now)) from served to
     pub seen : to.pass ≡ new
-    pub reason : IsReason Open reader.state served.ended
-    pub used_up : (lost : ℕ) → served.ended ≡ Err (ReadTurns lost) → reader.left ≡ 0
+    pub reason : IsReason Open reader served.ended
 
   -- The session of this visit was run, and the door got back what is left of it.
   pub record LeftVisit (number : VisitNumber) (visit : Visit I O G) (old : Seen) (served : Served) (new : Seen)

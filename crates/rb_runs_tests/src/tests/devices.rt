@@ -5,8 +5,8 @@ use rb_ending::BrokerFault;
 use rb_protocol::LimitedReader;
 use rb_queue::Opening;
 use rb_retry::Policy;
-use rb_runs::{run_script, run_script_gathered};
-use rb_session::Ended;
+use rb_runs::{run_script, run_script_delivered};
+use rb_session::{Delivery, Ended, HandsOn};
 use std::alloc::Global;
 use std::cell::Cell;
 use std::io::{self, ErrorKind, Read, Write};
@@ -341,9 +341,10 @@ pub fn recorded(
     let options = options(rt, timer, calls);
     let opening = Opening::empty(alloc);
     let mut reader = LimitedReader::new(&mut source);
-    let report = run_script_gathered(
+    let report = run_script_delivered(
         alloc,
         &options,
+        Delivery::Gathered(HandsOn::BeforeReads),
         opening,
         &mut reader,
         &mut sink,

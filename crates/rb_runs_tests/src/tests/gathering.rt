@@ -5,8 +5,9 @@ use rb_arguments::TimerKind;
 use rb_binary::BinaryTimer;
 use rb_ending::BrokerFault;
 use rb_kept::Kept;
+use rb_protocol::LimitedReader;
 use rb_retry::{KeptDesk, Policy};
-use rb_session::{Delivery, Ended, HandsOn, SessionFault, run_delivered};
+use rb_session::{Delivery, Ended, HandsOn, SessionFault, run_limited};
 use std::alloc::{AllocError, Global};
 use std::cell::Cell;
 use std::process::Abort;
@@ -140,7 +141,8 @@ fn cut_off(rt: &impl Abort, alloc: Global, script: &[u8], hands_on: HandsOn) -> 
     let mut source = Source::of(script, usize::MAX);
     let mut sink = Sink::bounded(alloc, 5, true);
     let delivery = Delivery::Gathered(hands_on);
-    let ended = run_delivered(alloc, &mut source, &mut sink, &mut desk, &policy, delivery);
+    let mut reader = LimitedReader::new(&mut source);
+    let ended = run_limited(alloc, &mut reader, &mut sink, &mut desk, &policy, delivery);
     Ok(Cut {
         ended,
         bytes: sink.bytes,

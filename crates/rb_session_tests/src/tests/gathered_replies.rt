@@ -1,8 +1,9 @@
 use crate::tests::devices::{Slip, expect_bytes, expect_end};
 use rb_binary::BinaryTimer;
 use rb_kept::Kept;
+use rb_protocol::LimitedReader;
 use rb_retry::{KeptDesk, Policy};
-use rb_session::{Delivery, Ended, HandsOn, SessionFault, run_delivered};
+use rb_session::{Delivery, Ended, HandsOn, SessionFault, run_limited};
 use std::alloc::{AllocError, Global};
 use std::process::Abort;
 use std::test::Fail;
@@ -25,9 +26,9 @@ fn slipped(rt: &impl Abort, alloc: Global, script: &[u8]) -> Result<Slipped, Fai
     let policy = Policy::fixed(1_000, 3).expect(rt, "a policy");
     let mut desk = KeptDesk::new(&mut kept, &mut tally);
     let delivery = Delivery::Gathered(HandsOn::BeforeReads);
-    let ended = run_delivered(
+    let ended = run_limited(
         alloc,
-        &mut reader,
+        &mut LimitedReader::new(&mut reader),
         &mut writer,
         &mut desk,
         &policy,

@@ -10,7 +10,7 @@ pub returns-in_default-clause-ran : goal.returns-in_default-clause-ran
 returns-in_default-clause-ran g c =
     let ran = c.run_over.ensures.ran in
     let over = IsAtEnd (g.R.Read.remaining c.run_over.new.reader.inner.now) in
-    let terms = script_terms g.W.Write.contents (g.W.Write.contents c.args.writer.now) c.args.policy.now c.args.calls c.args.delivery c.args.opening in record {
+    let terms = script_terms g.W.Write.contents (g.W.Write.contents c.args.writer.now) c.args.script.policy.now c.args.script.calls c.args.script.delivery c.args.script.opening in record {
       came = ran.came;
       sent = ran.sent;
       consumed = ran.consumed;
@@ -23,7 +23,7 @@ pub returns-clause-ran : goal.returns-clause-ran
 returns-clause-ran g c =
     let ran = c.run_over.ensures.ran in
     let over = IsAtEnd (g.R.Read.remaining c.run_over.new.reader.inner.now) in
-    let terms = script_terms g.W.Write.contents (g.W.Write.contents c.args.writer.now) c.args.policy.now c.args.calls c.args.delivery c.args.opening in
+    let terms = script_terms g.W.Write.contents (g.W.Write.contents c.args.writer.now) c.args.script.policy.now c.args.script.calls c.args.script.delivery c.args.script.opening in
     let did = subst (λ r. RanOver terms over ran.came ran.sent r) c.in-Ok.is ran.holds in record {
       came = ran.came;
       sent = ran.sent;

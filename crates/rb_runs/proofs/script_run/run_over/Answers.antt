@@ -10,7 +10,7 @@ returns-clause-ran g c =
     let made = c.in-Ok.ensures in
     let did = c.run_limited-ended.ensures.ran in
     let same = c.run_limited-ended.ensures.name ∙ ap (λ (state : KeptState). state.name) c.new-desk.ensures.state in
-    let fresh : IsFresh c.in-Ok.kept c.args.opening c.args.calls = record { opening_is = made.opening; history = made.history; capacity = made.capacity } in record {
+    let fresh : IsFresh c.in-Ok.kept c.args.script.opening c.args.script.calls = record { opening_is = made.opening; history = made.history; capacity = made.capacity } in record {
       came = did.came;
       sent = did.sent;
       consumed = did.consumed;
@@ -19,7 +19,7 @@ returns-clause-ran g c =
         _,
         record {
           from = _;
-          new = subst (λ desk. IsNew desk c.args.opening c.args.calls) (sym c.new-desk.ensures.state) (desk_over _ c.args.calls c.args.opening c.in-Ok.kept c.in-Ok.tally fresh made.tally);
+          new = subst (λ desk. IsNew desk c.args.script.opening c.args.script.calls) (sym c.new-desk.ensures.state) (desk_over _ c.args.script.calls c.args.script.opening c.in-Ok.kept c.in-Ok.tally fresh made.tally);
           ran = did.holds;
         },
         search (rules, same),

@@ -44,9 +44,8 @@ returns-clause-ran g c =
           to = _;
           ran = ran.holds;
           seen = search (rules, same);
-          reason = subst (λ (state : ReaderState). IsReason state session.new.reader.state session.result) limited.unread
+          reason = subst (λ (state : ReaderState). IsReason state session.new.reader session.result) limited.unread
               session.ensures.reason;
-          used_up = session.ensures.used_up;
         };
       },
     )
