@@ -115,3 +115,11 @@ module _ (old new : KeptState) (handed : ℕ) (ask : Ask) where
 pub kept_stays : (old new : KeptState) (moment : ℕ) (result : Option ℕ) → SetsKept old moment result new
     → made_at new ≡ made_at old
 kept_stays old new moment result sets = ap made_at sets.1
+
+pub kept_keeps_name : (old new : KeptState) (asked : ℕ) (ask : Ask) (answer : Result Reply DeskFault)
+    → KeptSteps old asked ask answer new → new.name ≡ old.name
+kept_keeps_name old new asked ask answer steps = ap (λ (state : KeptState). state.name) steps.stays
+
+pub kept_sets_no_name : (old new : KeptState) (moment : ℕ) (result : Option ℕ) → SetsKept old moment result new
+    → new.name ≡ old.name
+kept_sets_no_name old new moment result sets = ap (λ (state : KeptState). state.name) sets.1

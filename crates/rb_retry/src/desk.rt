@@ -47,8 +47,7 @@ pub trait Desk {
     /// Moves the clock to this moment, in nanoseconds, unless it is later already, and returns the moment
     /// that it has then. `None` if such a desk's clock can't be set.
     fn set(&mut self, moment: u64) -> Option<u64>
-        ensures sets { Sets (state self.old) moment result (state self.new) }
-        ensures name { name (state self.new) ≡ name (state self.old) };
+        ensures sets { Sets (state self.old) moment result (state self.new) };
 
     /// Makes one call. A take and a timed poll are made at readings of the desk's clock, and any other
     /// call at the moment `asked`, in nanoseconds, which those two ignore.
@@ -57,7 +56,6 @@ pub trait Desk {
     /// and `Stopped`, only for a take or a timed poll.
     fn call(&mut self, asked: u64, ask: Ask) -> Result<Reply, DeskFault>
         ensures step { Steps (state self.old) asked ask result (state self.new) }
-        ensures name { name (state self.new) ≡ name (state self.old) }
         ensures few { length (mine (state self.new)) ≤ MOST_CALLS };
 
     /// A call that gets a reply makes exactly one event, which has this reply.
@@ -75,4 +73,12 @@ pub trait Desk {
     /// Setting the clock makes no event.
     ghost stays: { (old new : State) (moment : ℕ) (result : Option ℕ) → Sets old moment result new
         → mine new ≡ mine old };
+
+    /// No call changes the name.
+    ghost keeps_name: { (old new : State) (asked : ℕ) (ask : Ask) (answer : Result Reply DeskFault)
+        → Steps old asked ask answer new → name new ≡ name old };
+
+    /// Setting the clock leaves the name.
+    ghost sets_no_name: { (old new : State) (moment : ℕ) (result : Option ℕ) → Sets old moment result new
+        → name new ≡ name old };
 }

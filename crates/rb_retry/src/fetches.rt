@@ -17,7 +17,6 @@ use rb_queue::{Ask, Reply};
 /// A fault is that of the desk's call. Then no event was made, and nothing was fetched.
 pub fn poll<D: Desk>(desk: &mut D, asked: u64) -> Result<Option<Job>, DeskFault>
     ensures step { D.Steps (D.state desk.old) asked asks.Poll (answer_with result) (D.state desk.new) }
-    ensures name { D.name (D.state desk.new) ≡ D.name (D.state desk.old) }
 {
     let reply = desk.call(asked, Ask::Poll)?;
     Ok(polled(&reply))
@@ -29,7 +28,6 @@ pub fn poll<D: Desk>(desk: &mut D, asked: u64) -> Result<Option<Job>, DeskFault>
 pub fn take<D: Desk>(desk: &mut D) -> Result<Job, DeskFault>
     ensures step { D.Steps (D.state desk.old) 0 asks.Take (answer_with_one result) (D.state desk.new) }
     ensures few { length (D.mine (D.state desk.new)) ≤ MOST_CALLS }
-    ensures name { D.name (D.state desk.new) ≡ D.name (D.state desk.old) }
 {
     match desk.call(0, Ask::Take)? {
         Reply::Item(element) => Ok(Job::new(element)),
@@ -43,7 +41,6 @@ pub fn take<D: Desk>(desk: &mut D) -> Result<Job, DeskFault>
 pub fn poll_for<D: Desk>(desk: &mut D, start: u64, timeout: u64) -> Result<Option<Job>, DeskFault>
     ensures step { D.Steps (D.state desk.old) start (asks.PollFor start timeout) (answer_with result)
         (D.state desk.new) }
-    ensures name { D.name (D.state desk.new) ≡ D.name (D.state desk.old) }
 {
     let reply = desk.call(start, Ask::PollFor { start, timeout })?;
     Ok(polled(&reply))
@@ -78,7 +75,6 @@ pub fn drain<D: Desk>(
         (λ fault. (jobs.new.items ≡ jobs.old.items)
         × D.Steps (D.state desk.old) asked (asks.Drain max) (Err fault) (D.state desk.new)) }
     ensures capacity { vec_capacity jobs.new ≡ vec_capacity jobs.old }
-    ensures name { D.name (D.state desk.new) ≡ D.name (D.state desk.old) }
 {
     match desk.call(asked, Ask::Drain(max))? {
         Reply::Drained(items) => {

@@ -24,7 +24,6 @@ pub fn fail<D: Desk>(
     now: u64,
 ) -> Result<Verdict, (Job, CallFault)>
     ensures fails { FailsTo (desk_rules D.Desk policy.now) job now (D.state desk.old) result (D.state desk.new) }
-    ensures name { D.name (D.state desk.new) ≡ D.name (D.state desk.old) }
 {
     match policy.retry_of(job.element(), now) {
         Some(draft) => match offer(desk, draft, now) {
@@ -38,7 +37,6 @@ pub fn fail<D: Desk>(
 // Offers a draft. The desk answers with the element, or that there is no room or no memory for it.
 fn offer<D: Desk>(desk: &mut D, draft: Draft, now: u64) -> Result<Element, CallFault>
     ensures step { D.Steps (D.state desk.old) now (asks.Offer draft) (offer_answer result) (D.state desk.new) }
-    ensures name { D.name (D.state desk.new) ≡ D.name (D.state desk.old) }
 {
     let answer = desk.call(now, Ask::Offer(draft));
     match &answer {

@@ -2,6 +2,7 @@ ghost use Rattle.std.specs.Prelude.{◌≡◌, ℕ, ◌≤◌, length};
 ghost use Rattle.rb_kept.specs.declared.kept.TheConstants.{MOST_CALLS};
 ghost use Rattle.rb_retry.specs.KeptSteps.{KeptState, KeptSteps, SetsKept, made_at, answer_of, asked_at};
 ghost use Rattle.rb_retry.specs.KeptLaws.{kept_makes, kept_gives_once, kept_refuses, kept_stays};
+ghost use Rattle.rb_retry.specs.KeptLaws.{kept_keeps_name, kept_sets_no_name};
 
 use crate::desk::Desk;
 use crate::desk_fault::DeskFault;
@@ -99,6 +100,10 @@ impl<'a, T: Timer> Desk for KeptDesk<'a, T> {
     ghost refuses = { kept_refuses };
 
     ghost stays = { kept_stays };
+
+    ghost keeps_name = { kept_keeps_name };
+
+    ghost sets_no_name = { kept_sets_no_name };
 }
 
 // The moment at which a call is asked.

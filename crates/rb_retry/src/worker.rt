@@ -35,7 +35,6 @@ pub fn work_off<D: Desk, W: Work>(desk: &mut D, policy: &Policy, work: &W) -> Wo
         × D.Steps last 0 asks.Take (Err fault) (D.state desk.new)
         × (result ≡ report_after no_runs runs) }
     ensures sum { IsSum result }
-    ensures name { D.name (D.state desk.new) ≡ D.name (D.state desk.old) }
 {
     let mut report = WorkReport::default();
     while let Ok(job) = take(desk) {
@@ -58,7 +57,6 @@ fn run_job<D: Desk, W: Work>(
         × EndsRun (desk_rules D.Desk policy.now) (W.may work.now) job (D.state desk.old) end (D.state desk.new)
         × (report.new ≡ counted report.old end) }
     ensures sum { IsSum report.new }
-    ensures name { D.name (D.state desk.new) ≡ D.name (D.state desk.old) }
 {
     report.runs += 1;
     if work.run(job.element()) {

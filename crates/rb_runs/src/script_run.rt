@@ -155,7 +155,12 @@ fn run_over<T: Timer, R: Read, W: Write>(
     ensures counted { reader.new.left ≤ reader.old.left }
     ensures same_reference { reader.new.inner.ghost_name ≡ reader.old.inner.ghost_name }
 {
-    let Script { calls, policy, delivery, opening } = script;
+    let Script {
+        calls,
+        policy,
+        delivery,
+        opening,
+    } = script;
     // The number of calls is in range, so only memory can be missing.
     let Ok((mut kept, mut tally)) = Kept::<T>::new_from(alloc, calls, opening) else {
         return Err(AllocError);

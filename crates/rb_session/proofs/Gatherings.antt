@@ -9,9 +9,7 @@ use Rattle.rb_protocol.specs.Sending.{Sends}
 use Rattle.rb_protocol.specs.declared.writing.WriteFault.{WriteFault}
 use Rattle.rb_session.specs.Growth.{KeepsFront, grows_same, grows_on, all_got}
 use Rattle.rb_session.specs.Outlet.{sent_to, Becomes}
-use Rattle.rb_session.specs.Rules.{IsGathered, most_held_back, HadGotBehind}
-use Rattle.rb_session.specs.declared.delivery.Delivery.{Delivery}
-use Rattle.rb_session.specs.declared.delivery.Delivery.TheVariants.{AtOnce, Gathered}
+use Rattle.rb_session.specs.Rules.{HadGotBehind}
 use Rattle.rb_session.specs.declared.outlet.Outlet.{Outlet}
 
 -- what was sent is behind what there was
@@ -37,20 +35,6 @@ sends_past (Ok done) old mid new before gathered line kept none all =
     passed old mid new before gathered line kept none all
 sends_past (Err fault) old mid new before gathered line kept none (sent, unsent, parts, some) =
     (sent, unsent, parts, passed old mid new before gathered sent kept none some)
-
--- what is held back of replies that are written at once is nothing
-pub nothing_held_back : (gathered : List ℕ) (delivery : Delivery) → length gathered ≤ most_held_back delivery
-    → delivery ≡ AtOnce → gathered ≡ []
-nothing_held_back [] delivery few at_once = refl
-nothing_held_back (byte ∷ gathered) delivery few at_once =
-    absurd (omega (arith, subst (λ (d : Delivery). length (byte ∷ gathered) ≤ most_held_back d) at_once few))
-
--- where something is held back, replies are gathered
-pub gathers_some : (gathered : List ℕ) (delivery : Delivery) → length gathered ≤ most_held_back delivery
-    → (gathered ≡ [] → ⊥) → IsGathered delivery
-gathers_some [] delivery few some = absurd (some refl)
-gathers_some (byte ∷ gathered) AtOnce few some = absurd (omega arith)
-gathers_some (byte ∷ gathered) (Gathered hands_on) few some = tt
 
 -- what is sent to an outlet that holds nothing back at first and at last goes to its writer
 nothing_before : (old got : Option (List ℕ)) (before sent : List ℕ) → before ≡ []

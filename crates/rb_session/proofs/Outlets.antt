@@ -74,14 +74,17 @@ module _ {S : Type 0} (rules : SessionRules S) (Over : Type 0) (late : IsGathere
     (came sent : List ℕ) where
   -- the lines before the input broke off
   breaks_late : BreaksOff rules from came sent to → FailsToSend rules Over from came sent to
-  breaks_late breaks = inr (late, inr (inr (record {
-    turns = breaks.turns;
-    unserved = breaks.unserved;
-    split = breaks.split;
-    serves = breaks.serves;
-    waits = breaks.waits;
-    answers = breaks.answers;
-  })))
+  breaks_late breaks = inr (
+    late,
+    inr (inr (record {
+      turns = breaks.turns;
+      unserved = breaks.unserved;
+      split = breaks.split;
+      serves = breaks.serves;
+      waits = breaks.waits;
+      answers = breaks.answers;
+    })),
+  )
 
   -- what was served, where it could not be handed on
   pub stops_late : (stop : Stop) → Stops rules Over from came sent stop to → FailsToSend rules Over from came sent to

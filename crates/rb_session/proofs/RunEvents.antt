@@ -281,6 +281,42 @@ module _ {S : Type 0} (rules : DeskRules S) where
           refl,
         )
 
+  -- a part of the desk's state that neither a call nor setting the clock changes
+  module _ {X : Type 0} (part : S → X)
+      (by_step : (old new : S) (asked : ℕ) (ask : Ask) (answer : Result Reply DeskFault)
+      → rules.Steps old asked ask answer new → part new ≡ part old)
+      (by_setting : (old new : S) (moment : ℕ) (result : Option ℕ) → rules.Sets old moment result new
+      → part new ≡ part old) where
+    way_keeps : (reading : Result Request LineFault) (replies : List LineReply) (old new : S)
+        → Way rules reading replies old new → part new ≡ part old
+    way_keeps reading replies old new (inl leaves) = ap part leaves.same
+    way_keeps reading replies old new (inr (inl calls)) =
+        by_step old new calls.handed calls.ask calls.answer calls.steps
+    way_keeps reading replies old new (inr (inr sets)) = by_setting old new sets.moment sets.result sets.sets
+
+    ways_keep : (old new : S) (turns : List Turn) → WaysAlong old turns new → part new ≡ part old
+    ways_keep old new [] same = ap part same
+    ways_keep old new (turn ∷ turns) (between, way, rest) =
+        ways_keep between new turns rest ∙ way_keeps turn.reading turn.replies old between way
+
+    fails_keep : (element : Element) (now : ℕ) (old new : S) (result : Result Verdict (Element × CallFault))
+        → FailsTo rules element now old result new → part new ≡ part old
+    fails_keep element now old new (Ok (Again again)) (draft, retry, steps) = by_step old new now _ _ steps
+    fails_keep element now old new (Ok (Dead dead)) (retry, is_dead, same) = ap part same
+    fails_keep element now old new (Err (back, fault)) (draft, retry, steps, is_back) = by_step old new now _ _ steps
+
+    closes_keep : (from to : S) (held : List Element) (lost : ℕ) → Closes rules from held lost to → part to ≡ part from
+    closes_keep from to [] lost (zero, same) = ap part same
+    closes_keep from to (element ∷ held) lost (now, is_now, result, between, fails, fewer, rest, sum) =
+        closes_keep between to held fewer rest ∙ fails_keep element now from between result fails
+
+    -- a run keeps it
+    pub run_keeps : {Over : Type 0} {from to : S} {served : Served} {ended : Result Ended SessionFault}
+        → Ends Over from served ended to → part to ≡ part from
+    run_keeps {from = from} {to = to} run =
+        closes_keep run.last.desk to run.last.held run.lost run.closes
+        ∙ ways_keep from run.last.desk run.path.lines run.path.ways
+
 module _ {S : Type 0} (rules : SessionRules S) (Over : Type 0) (from : S) where
   path_to_quit : (to : Point S) (came sent : List ℕ) → ServesToQuit rules (point from []) came sent to
       → Path rules.desk Over from came sent to
@@ -406,41 +442,13 @@ step_opening : (old new : KeptState) (handed : ℕ) (ask : Ask) (result : Result
     → KeptSteps old handed ask result new → new.log.opening ≡ old.log.opening
 step_opening old new handed ask result steps = same_opening old.log new.log _ steps.outcome steps.steps
 
-way_opening : (policy : Policy) (reading : Result Request LineFault) (replies : List LineReply) (old new : KeptState)
-    → Way (kept_rules policy) reading replies old new → new.log.opening ≡ old.log.opening
-way_opening policy reading replies old new (inl leaves) = ap (λ (s : KeptState). s.log.opening) leaves.same
-way_opening policy reading replies old new (inr (inl calls)) =
-    step_opening old new calls.handed calls.ask calls.answer calls.steps
-way_opening policy reading replies old new (inr (inr sets)) = ap (λ (s : KeptState). s.log.opening) sets.sets.1
-
-fails_opening : (policy : Policy) (element : Element) (now : ℕ) (old new : KeptState)
-    (result : Result Verdict (Element × CallFault))
-    → FailsTo (kept_rules policy) element now old result new → new.log.opening ≡ old.log.opening
-fails_opening policy element now old new (Ok (Again again)) (draft, retry, steps) = step_opening old new now _ _ steps
-fails_opening policy element now old new (Ok (Dead dead)) (retry, is_dead, same) =
-    ap (λ (s : KeptState). s.log.opening) same
-fails_opening policy element now old new (Err (back, fault)) (draft, retry, steps, is_back) =
-    step_opening old new now _ _ steps
-
-closes_opening : (policy : Policy) (from to : KeptState) (held : List Element) (lost : ℕ)
-    → Closes (kept_rules policy) from held lost to → to.log.opening ≡ from.log.opening
-closes_opening policy from to [] lost (zero, same) = ap (λ (s : KeptState). s.log.opening) same
-closes_opening policy from to (element ∷ held) lost (now, is_now, result, between, fails, fewer, rest, sum) =
-    closes_opening policy between to held fewer rest ∙ fails_opening policy element now from between result fails
-
--- along these lines the clock comes to the latest moment, and what the log began with stays
+-- along these lines the clock comes to the latest moment
 ways_moment : (policy : Policy) (old new : KeptState) (turns : List Turn) → WaysAlong (kept_rules policy) old turns new
     → new.moment ≡ latest old.moment turns
 ways_moment policy old new [] same = ap (λ (s : KeptState). s.moment) same
 ways_moment policy old new (turn ∷ turns) (between, way, rest) =
     ways_moment policy between new turns rest
     ∙ ap (λ (m : ℕ). latest m turns) (moment_of policy turn.reading turn.replies old between way)
-
-ways_opening : (policy : Policy) (old new : KeptState) (turns : List Turn) → WaysAlong (kept_rules policy) old turns new
-    → new.log.opening ≡ old.log.opening
-ways_opening policy old new [] same = ap (λ (s : KeptState). s.log.opening) same
-ways_opening policy old new (turn ∷ turns) (between, way, rest) =
-    ways_opening policy between new turns rest ∙ way_opening policy turn.reading turn.replies old between way
 
 pub records_by_run : {W : Type 0} (contents : W → Option (List ℕ)) → RecordsByRun kept_rules contents
 records_by_run contents policy got delivery rest from to served ran =
@@ -452,6 +460,6 @@ records_by_run contents policy got delivery rest from to served ran =
       closing_moment policy run.last.desk to run.last.held run.lost run.closes
           ∙ ways_moment policy from run.last.desk run.path.lines run.path.ways
           ∙ ap (latest from.moment) (sym made.1),
-      closes_opening policy run.last.desk to run.last.held run.lost run.closes
-          ∙ ways_opening policy from run.last.desk run.path.lines run.path.ways,
+      run_keeps desk (λ (state : KeptState). state.log.opening) step_opening
+          (λ old new moment result sets. ap (λ (state : KeptState). state.log.opening) sets.1) run,
     )

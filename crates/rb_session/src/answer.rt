@@ -30,9 +30,8 @@ pub(crate) fn answer<W: Write, D: Desk>(
 ) -> LineReply
     requires clear { AsksToWait reading → WritesBeforeWaits _outlet.now.delivery → _outlet.now.gathered.items ≡ [] }
     requires given { AreGiven (D.mine (D.state desk.old)) held.old }
-    ensures turn { IsTurn (desk_rules D.Desk policy.now) (point (D.state desk.old) held.old)
+    ensures { IsTurn (desk_rules D.Desk policy.now) (point (D.state desk.old) held.old)
         reading (replies_of result held.new) (point (D.state desk.new) held.new) }
-    ensures name { D.name (D.state desk.new) ≡ D.name (D.state desk.old) }
 {
     match reading {
         Ok(request) => {
@@ -51,9 +50,8 @@ fn serve<D: Desk>(
     request: Request,
 ) -> LineReply
     requires given { AreGiven (D.mine (D.state desk.old)) held.old }
-    ensures served { IsServed (desk_rules D.Desk policy.now) (point (D.state desk.old) held.old) now
+    ensures { IsServed (desk_rules D.Desk policy.now) (point (D.state desk.old) held.old) now
         request (replies_of result held.new) (point (D.state desk.new) held.new) }
-    ensures name { D.name (D.state desk.new) ≡ D.name (D.state desk.old) }
 {
     match request {
         Request::Offer { delay, payload } => offer(desk, now, delay, payload),
@@ -75,9 +73,8 @@ fn serve<D: Desk>(
 
 // Sets the desk's clock, if it can be set.
 fn set_moment<D: Desk>(desk: &mut D, moment: u64) -> LineReply
-    ensures set { (set_to : Option ℕ) × D.Sets (D.state desk.old) moment set_to (D.state desk.new)
+    ensures { (set_to : Option ℕ) × D.Sets (D.state desk.old) moment set_to (D.state desk.new)
         × (result ≡ moment_line set_to) }
-    ensures name { D.name (D.state desk.new) ≡ D.name (D.state desk.old) }
 {
     match desk.set(moment) {
         Some(now) => LineReply::Now(now),

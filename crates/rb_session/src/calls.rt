@@ -16,9 +16,8 @@ use rb_retry::{Desk, DeskFault};
 
 /// Makes one call that fetches nothing, and returns its reply line.
 pub(crate) fn call<D: Desk>(desk: &mut D, now: u64, ask: Ask) -> LineReply
-    ensures call { (answer : Result Reply DeskFault) × D.Steps (D.state desk.old) now ask answer (D.state desk.new)
+    ensures { (answer : Result Reply DeskFault) × D.Steps (D.state desk.old) now ask answer (D.state desk.new)
         × (result ≡ answer_line answer) }
-    ensures name { D.name (D.state desk.new) ≡ D.name (D.state desk.old) }
 {
     match desk.call(now, ask) {
         Ok(reply) => reply_line(reply),
@@ -28,13 +27,12 @@ pub(crate) fn call<D: Desk>(desk: &mut D, now: u64, ask: Ask) -> LineReply
 
 /// An offer that expires `delay` nanoseconds from now, unless that passes the greatest moment.
 pub(crate) fn offer<D: Desk>(desk: &mut D, now: u64, delay: u64, payload: Payload) -> LineReply
-    ensures offered { MatchBool (nat_le (now + delay) GREATEST_MOMENT)
+    ensures { MatchBool (nat_le (now + delay) GREATEST_MOMENT)
         ((draft : Draft) × IsFirstDraft draft (now + delay) payload
         × (answer : Result Reply DeskFault)
         × D.Steps (D.state desk.old) now (asks.Offer draft) answer (D.state desk.new)
         × (result ≡ answer_line answer))
         ((result ≡ lines.Err words.Range) × (D.state desk.new ≡ D.state desk.old)) }
-    ensures name { D.name (D.state desk.new) ≡ D.name (D.state desk.old) }
 {
     match add_delay(now, delay) {
         Some(expiry) => offer_at(desk, now, expiry, payload),
@@ -44,11 +42,10 @@ pub(crate) fn offer<D: Desk>(desk: &mut D, now: u64, delay: u64, payload: Payloa
 
 /// An offer that expires at this moment.
 pub(crate) fn offer_at<D: Desk>(desk: &mut D, now: u64, expiry: u64, payload: Payload) -> LineReply
-    ensures offered { (draft : Draft) × IsFirstDraft draft expiry payload
+    ensures { (draft : Draft) × IsFirstDraft draft expiry payload
         × (answer : Result Reply DeskFault)
         × D.Steps (D.state desk.old) now (asks.Offer draft) answer (D.state desk.new)
         × (result ≡ answer_line answer) }
-    ensures name { D.name (D.state desk.new) ≡ D.name (D.state desk.old) }
 {
     call(desk, now, Ask::Offer(Draft::first(expiry, payload)))
 }

@@ -14,10 +14,9 @@ use rb_retry::{Desk, DeskFault, Job, poll, poll_for, take};
 /// Fetches the head, if there is one now and room for it.
 pub(crate) fn poll_job<D: Desk>(desk: &mut D, held: &mut HeldJobs, now: u64) -> LineReply
     requires given { AreGiven (D.mine (D.state desk.old)) held.old }
-    ensures fetched { IsFetch D.Steps
+    ensures { IsFetch D.Steps
         (point (D.state desk.old) held.old) now asks.Poll
         (replies_of result held.new) (point (D.state desk.new) held.new) }
-    ensures name { D.name (D.state desk.new) ≡ D.name (D.state desk.old) }
 {
     if held.free() == 0 {
         return LineReply::Err(ErrWord::Held);
@@ -34,10 +33,9 @@ pub(crate) fn poll_job_for<D: Desk>(
     timeout: u64,
 ) -> LineReply
     requires given { AreGiven (D.mine (D.state desk.old)) held.old }
-    ensures fetched { IsFetch D.Steps
+    ensures { IsFetch D.Steps
         (point (D.state desk.old) held.old) now (asks.PollFor now timeout)
         (replies_of result held.new) (point (D.state desk.new) held.new) }
-    ensures name { D.name (D.state desk.new) ≡ D.name (D.state desk.old) }
 {
     if held.free() == 0 {
         return LineReply::Err(ErrWord::Held);
@@ -49,10 +47,9 @@ pub(crate) fn poll_job_for<D: Desk>(
 /// Fetches the head, waiting for it, if there is room for it.
 pub(crate) fn take_job<D: Desk>(desk: &mut D, held: &mut HeldJobs) -> LineReply
     requires given { AreGiven (D.mine (D.state desk.old)) held.old }
-    ensures fetched { IsFetch D.Steps
+    ensures { IsFetch D.Steps
         (point (D.state desk.old) held.old) 0 asks.Take
         (replies_of result held.new) (point (D.state desk.new) held.new) }
-    ensures name { D.name (D.state desk.new) ≡ D.name (D.state desk.old) }
 {
     if held.free() == 0 {
         return LineReply::Err(ErrWord::Held);
@@ -69,10 +66,9 @@ pub(crate) fn drain_jobs<D: Desk>(
     most: u64,
 ) -> LineReply
     requires given { AreGiven (D.mine (D.state desk.old)) held.old }
-    ensures drained { IsCall D.Steps
+    ensures { IsCall D.Steps
         (point (D.state desk.old) held.old) now (asks.Drain (min most (MOST_HELD - length held.old)))
         (replies_of result held.new) (point (D.state desk.new) held.new) }
-    ensures name { D.name (D.state desk.new) ≡ D.name (D.state desk.old) }
 {
     let free = held.free();
     let max = most.min(free as u64) as usize;

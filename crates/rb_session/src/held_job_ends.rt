@@ -36,12 +36,11 @@ pub(crate) fn fail_job<D: Desk>(
     now: u64,
     id: u64,
 ) -> LineReply
-    ensures failed { MatchOption (place_of held.old id)
+    ensures { MatchOption (place_of held.old id)
         (AnswersAlone (lines.Err words.NotHeld)
         (point (D.state desk.old) held.old) (replies_of result held.new) (point (D.state desk.new) held.new))
         (λ place. IsFailure (desk_rules D.Desk policy.now) (point (D.state desk.old) held.old) now place
         (replies_of result held.new) (point (D.state desk.new) held.new)) }
-    ensures name { D.name (D.state desk.new) ≡ D.name (D.state desk.old) }
 {
     let Some(failed) = held.fail(desk, policy, now, id) else {
         return LineReply::Err(ErrWord::NotHeld);
@@ -69,8 +68,7 @@ fn refusal_word(fault: CallFault) -> ErrWord
 /// Lets every job that is held fail at the desk's moment, in the order in which they were fetched.
 /// Returns how many are lost, since their next attempt was refused.
 pub(crate) fn fail_all<D: Desk>(desk: &mut D, policy: &Policy, held: HeldJobs) -> u64
-    ensures closes { Closes (desk_rules D.Desk policy.now) (D.state desk.old) held result (D.state desk.new) }
-    ensures name { D.name (D.state desk.new) ≡ D.name (D.state desk.old) }
+    ensures { Closes (desk_rules D.Desk policy.now) (D.state desk.old) held result (D.state desk.new) }
 {
     let mut lost = 0;
     for job in held.into_vec() {

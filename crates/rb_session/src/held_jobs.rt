@@ -113,11 +113,10 @@ impl HeldJobs {
         now: u64,
         id: u64,
     ) -> Option<Result<Verdict, CallFault>>
-        ensures failed { MatchOption (place_of self.old id)
+        ensures { MatchOption (place_of self.old id)
             ((result ≡ None) × (self.new ≡ self.old) × (D.state desk.new ≡ D.state desk.old))
             (λ place. FailsAt (desk_rules D.Desk policy.now)
             self.old place now (D.state desk.old) result self.new (D.state desk.new)) }
-        ensures name { D.name (D.state desk.new) ≡ D.name (D.state desk.old) }
     {
         let entry = self.jobs.entries.get_mut(&id)?;
         let job = entry.take()?;
@@ -142,12 +141,11 @@ impl HeldJobs {
     ) -> Result<(), DeskFault>
         requires few { length self.old + max ≤ MOST_HELD }
         requires given { AreGiven (D.mine (D.state desk.old)) self.old }
-        ensures drained { MatchResult result
+        ensures { MatchResult result
             (λ _. (items : List Element) × (self.new ≡ self.old ++ items)
             × D.Steps (D.state desk.old) asked (asks.Drain max) (Ok (replies.Drained items)) (D.state desk.new))
             (λ fault. (self.new ≡ self.old)
             × D.Steps (D.state desk.old) asked (asks.Drain max) (Err fault) (D.state desk.new)) }
-        ensures name { D.name (D.state desk.new) ≡ D.name (D.state desk.old) }
     {
         self.jobs.make_room(&mut self.aside, max);
         drain(desk, asked, max as u64, &mut self.aside)?;

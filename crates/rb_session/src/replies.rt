@@ -48,7 +48,10 @@ fn send_lines<W: Write>(
 }
 
 // Sends a line for each job of these entries.
-fn send_items<W: Write>(outlet: &mut Outlet<'_, W>, entries: &[Option<Job>]) -> Result<(), WriteFault>
+fn send_items<W: Write>(
+    outlet: &mut Outlet<'_, W>,
+    entries: &[Option<Job>],
+) -> Result<(), WriteFault>
     ensures sent { Sends result
         (sent_to W.Write outlet.old) (texts_of (map lines.Item (present entries.now))) (sent_to W.Write outlet.new) }
     ensures becomes { Becomes W.Write outlet.old outlet.new }

@@ -63,7 +63,6 @@ impl Session {
         ensures same_reference { reader.new.inner.ghost_name ≡ reader.old.inner.ghost_name }
         ensures clear { IsClearAt (outlet.new.gathered.items ≡ []) result }
         ensures becomes { Becomes W.Write outlet.old outlet.new }
-        ensures name { D.name (D.state desk.new) ≡ D.name (D.state desk.old) }
     {
         let stop = self.serve_reads(reader, outlet, desk, policy);
         match stop {
@@ -95,7 +94,6 @@ impl Session {
         ensures counted { reader.new.left ≤ reader.old.left }
         ensures same_reference { reader.new.inner.ghost_name ≡ reader.old.inner.ghost_name }
         ensures becomes { Becomes W.Write outlet.old outlet.new }
-        ensures name { D.name (D.state desk.new) ≡ D.name (D.state desk.old) }
     {
         while reader.may_read() {
             if outlet.hand_on().is_err() {
@@ -129,7 +127,6 @@ impl Session {
             self.new.buffer (point (D.state desk.new) self.new.held) }
         ensures given { IfNone result (AreGiven (D.mine (D.state desk.new)) self.new.held) }
         ensures becomes { Becomes W.Write outlet.old outlet.new }
-        ensures name { D.name (D.state desk.new) ≡ D.name (D.state desk.old) }
     {
         while let Some(reading) = self.buffer.next_request() {
             if clear_for_wait(outlet, &reading).is_err() {

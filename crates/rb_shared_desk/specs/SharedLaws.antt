@@ -21,7 +21,7 @@ use Rattle.rb_retry.specs.Asked.{MayGet, IsMomentOf, Makes}
 use Rattle.rb_retry.specs.RecordLaws.{recorded_reply, may_wait, made_after-more}
 use Rattle.rb_retry.specs.GivenLaws.{times_given-drop, times_given-filter, legal_gives_once}
 use Rattle.rb_shared_desk.specs.WaitRules.{WaitRules}
-use Rattle.rb_shared_desk.specs.SharedSteps.{SharedState, SharedSteps, SetsShared, made_through}
+use Rattle.rb_shared_desk.specs.SharedSteps.{SharedState, SharedSteps, SetsShared, made_through, name_of}
 use Rattle.rb_retry.specs.declared.desk_fault.DeskFault.{DeskFault}
 use Rattle.rb_retry.specs.declared.desk_fault.DeskFault.TheVariants.{Full, Memory, Stopped}
 
@@ -198,3 +198,23 @@ module _ {C G : Type 0} (rules : WaitRules C G) (old new : SharedState C G) (han
 pub shared_stays : {C G : Type 0} (old new : SharedState C G) (moment : ℕ) (result : Option ℕ)
     → SetsShared old moment result new → made_through new ≡ made_through old
 shared_stays old new moment result sets = ap made_through sets.1
+
+-- what a pass learns changes none of what its desk is named by
+learned_name : {C G : Type 0} (old new : SharedState C G) → new.reference ≡ old.reference → Learns old.pass new.pass
+    → name_of new ≡ name_of old
+learned_name old new reference learns =
+    let table = learns.table in
+    let name = learns.name in
+    let capacity = learns.capacity in
+    let opening = learns.opening in
+    let folded = learns.folded in
+    cc
+
+pub shared_keeps_name : {C G : Type 0} (rules : WaitRules C G) (old new : SharedState C G) (asked : ℕ) (ask : Ask)
+    (answer : Result Reply DeskFault) → SharedSteps rules old asked ask answer new → name_of new ≡ name_of old
+shared_keeps_name rules old new asked ask answer steps =
+    learned_name old new (ap (λ desk. desk.reference) steps.stays) steps.learns
+
+pub shared_sets_no_name : {C G : Type 0} (old new : SharedState C G) (moment : ℕ) (result : Option ℕ)
+    → SetsShared old moment result new → name_of new ≡ name_of old
+shared_sets_no_name old new moment result sets = ap name_of sets.1

@@ -4,6 +4,7 @@ ghost use Rattle.rb_shared_desk.specs.WaitRules.{wait_rules};
 ghost use Rattle.rb_shared_desk.specs.SharedSteps.{SharedState, SharedName, SharedSteps, SetsShared};
 ghost use Rattle.rb_shared_desk.specs.SharedSteps.{fault_of_wait, made_through, name_of};
 ghost use Rattle.rb_shared_desk.specs.SharedLaws.{shared_makes, shared_gives_once, shared_refuses, shared_stays};
+ghost use Rattle.rb_shared_desk.specs.SharedLaws.{shared_keeps_name, shared_sets_no_name};
 
 use rb_blocking::{Bell, Clock, Gate, WaitFault, Waiter, call_and_ring, call_and_wait};
 use rb_kept::Outcome;
@@ -157,4 +158,8 @@ impl<'a, T: Timer, C: Clock, G: Gate, R: Wait + time::Clock> Desk for SharedDesk
     ghost refuses = { shared_refuses (wait_rules C.Clock G.Gate) };
 
     ghost stays = { shared_stays };
+
+    ghost keeps_name = { shared_keeps_name (wait_rules C.Clock G.Gate) };
+
+    ghost sets_no_name = { shared_sets_no_name };
 }

@@ -1,4 +1,5 @@
 ghost use Rattle.rb_retry.specs.KeptLaws.{kept_makes, kept_gives_once, kept_refuses, kept_stays};
+ghost use Rattle.rb_retry.specs.KeptLaws.{kept_keeps_name, kept_sets_no_name};
 ghost use Rattle.rb_retry.specs.KeptSteps.{KeptState, KeptSteps, SetsKept, made_at};
 ghost use Rattle.std.specs.Prelude.{◌≡◌, ℕ};
 
@@ -58,6 +59,10 @@ impl<'a, T: Timer> Desk for CountingDesk<'a, T> {
     ghost refuses = { kept_refuses };
 
     ghost stays = { kept_stays };
+
+    ghost keeps_name = { kept_keeps_name };
+
+    ghost sets_no_name = { kept_sets_no_name };
 }
 
 // The outcome of a session, and the number of times that it read the desk's clock.

@@ -3,14 +3,17 @@ use Rattle.std.proofs.Common.{Some, refl, subst}
 use Rattle.rb_retry.specs.Retry.{IsRetry}
 use Rattle.rb_retry.proofs.job_ends.fail.Goals as goal
 
-pub returns-in-Ok-clause-fails : goal.returns-in-Ok-clause-fails
-returns-in-Ok-clause-fails g c =
-    (c.in-Some.draft, subst (λ element. IsRetry c.args.policy.now element c.args.now (Some c.in-Some.draft)) c.element.ensures c.in-Some.ensures, c.in-Ok.ensures.step)
+pub returns-in-Ok : goal.returns-in-Ok
+returns-in-Ok g c = record {
+  fails = (c.in-Some.draft, subst (λ element. IsRetry c.args.policy.now element c.args.now (Some c.in-Some.draft)) c.element.ensures c.in-Some.ensures, c.in-Ok.ensures.step);
+}
 
-pub returns-in-Err-clause-fails : goal.returns-in-Err-clause-fails
-returns-in-Err-clause-fails g c = (
-  c.in-Some.draft,
-  subst (λ element. IsRetry c.args.policy.now element c.args.now (Some c.in-Some.draft)) c.element.ensures c.in-Some.ensures,
-  c.in-Err.ensures.step,
-  refl,
-)
+pub returns-in-Err : goal.returns-in-Err
+returns-in-Err g c = record {
+  fails = (
+    c.in-Some.draft,
+    subst (λ element. IsRetry c.args.policy.now element c.args.now (Some c.in-Some.draft)) c.element.ensures c.in-Some.ensures,
+    c.in-Err.ensures.step,
+    refl,
+  );
+}

@@ -28,6 +28,5 @@ loop-job-preserved g c =
         ends.2 ∙ ap (λ report. counted report ends.0) along.2 ∙ sym (report_after-append no_runs along.0 (record { element = c.in-Ok.job; end = ends.0 })),
       );
       sum = c.run_job.ensures.sum;
-      name = c.run_job.ensures.name ∙ c.take.ensures.name ∙ c.loop-job.invariant.name;
       few = omega (arith, took, ended, c.loop-job.invariant.few, ap (λ report. report.runs) ends.2, one_more c.loop-job.report ends.0);
     }

@@ -11,7 +11,6 @@ invariant-loop-job g l = record {
   along : (runs : List WorkRun) × RunsAlong (desk_rules g.D.Desk l.policy) (g.W.Work.may l.work) (g.D.Desk.state l.fn.desk) runs (g.D.Desk.state l.desk)
       × (l.report ≡ report_after no_runs runs);
   sum : IsSum l.report;
-  name : g.D.Desk.name (g.D.Desk.state l.desk) ≡ g.D.Desk.name (g.D.Desk.state l.fn.desk);
   few : l.report.runs ≤ length (g.D.Desk.mine (g.D.Desk.state l.desk));
 }
 

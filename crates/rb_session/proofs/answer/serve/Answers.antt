@@ -13,8 +13,8 @@ both_cases : (test : Bool) (One Other One' Other' : Type 0) → (One → One') �
 both_cases true One Other One' Other' first second holds = first holds
 both_cases false One Other One' Other' first second holds = second holds
 
-pub returns-in-Offer-clause-served : goal.returns-in-Offer-clause-served
-returns-in-Offer-clause-served g c =
+pub returns-in-Offer : goal.returns-in-Offer
+returns-in-Offer g c =
     let call = offer_call g.D.Desk.gives g.D.Desk.Steps g.D.Desk.mine g.met.D.Desk.makes
     (g.D.Desk.state c.args.desk.now) (g.D.Desk.state c.offer.new.desk) c.args.now in
     rw c.in-Offer.is (both_cases (nat_le (c.args.now + c.in-Offer.delay) GREATEST_MOMENT) _ _ _ _
@@ -24,13 +24,13 @@ returns-in-Offer-clause-served g c =
       ap
           (λ desk. point desk c.args.held.now) refused.1,
     ))
-    c.offer.ensures.offered)
+    c.offer.ensures)
 
-pub returns-in-OfferAt-clause-served : goal.returns-in-OfferAt-clause-served
-returns-in-OfferAt-clause-served g c =
+pub returns-in-OfferAt : goal.returns-in-OfferAt
+returns-in-OfferAt g c =
     let call = offer_call g.D.Desk.gives g.D.Desk.Steps g.D.Desk.mine g.met.D.Desk.makes
     (g.D.Desk.state c.args.desk.now) (g.D.Desk.state c.offer_at.new.desk) c.args.now in
-    let offered = c.offer_at.ensures.offered in
+    let offered = c.offer_at.ensures in
     rw c.in-OfferAt.is (
       offered.0,
       offered.1,

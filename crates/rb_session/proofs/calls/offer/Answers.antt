@@ -18,11 +18,11 @@ within_range moment Then Else within holds =
     let test : nat_le moment GREATEST_MOMENT ≡ true = grind (arith, nat_tests, within) in
     subst (λ b. MatchBool b Then Else) (sym test) holds
 
-pub returns-in-Some-clause-offered : goal.returns-in-Some-clause-offered
-returns-in-Some-clause-offered g c =
+pub returns-in-Some : goal.returns-in-Some
+returns-in-Some g c =
     within_range (c.args.now + c.args.delay) _ _ c.in-Some.ensures.0
     (subst
     (λ expiry. (draft : Draft) × IsFirstDraft draft expiry c.args.payload
     × (answer : Result Reply DeskFault) × g.D.Desk.Steps (g.D.Desk.state c.args.desk.now) c.args.now
     (asks.Offer draft) answer (g.D.Desk.state c.offer_at.new.desk) × (c.offer_at.result ≡ answer_line answer))
-    c.in-Some.ensures.1 c.offer_at.ensures.offered)
+    c.in-Some.ensures.1 c.offer_at.ensures)

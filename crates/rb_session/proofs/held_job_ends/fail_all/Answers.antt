@@ -29,8 +29,6 @@ loop-job-preserved-then-is_err g c =
       ends = tt;
       closes = more.0;
       counted = more.1;
-      name = c.fail.ensures.name
-          ∙ c.loop-job.invariant.name;
     }
 
 pub loop-job-preserved : goal.loop-job-preserved
@@ -43,6 +41,4 @@ loop-job-preserved g c =
       ends = tt;
       closes = more.0;
       counted = more.1;
-      name = c.fail.ensures.name
-          ∙ c.loop-job.invariant.name;
     }

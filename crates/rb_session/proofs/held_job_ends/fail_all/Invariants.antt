@@ -10,5 +10,4 @@ invariant-loop-job g l = record {
   ends : (goal.iterator-loop-job g).is_finite l.job-iterator;
   closes : Closes (desk_rules g.D.Desk l.policy) (g.D.Desk.state l.fn.desk) l.yielded l.lost (g.D.Desk.state l.desk);
   counted : l.lost ≤ length l.yielded;
-  name : g.D.Desk.name (g.D.Desk.state l.desk) ≡ g.D.Desk.name (g.D.Desk.state l.fn.desk);
 }

@@ -45,23 +45,23 @@ module _ {S : Type 0} (rules : DeskRules S) (held left : List Element) (now : �
     fails.held_on,
   )
 
-pub returns-in-Ok-Again-clause-failed : goal.returns-in-Ok-Again-clause-failed
-returns-in-Ok-Again-clause-failed g c =
+pub returns-in-Ok-Again : goal.returns-in-Ok-Again
+returns-in-Ok-Again g c =
     failed_at (desk_rules g.D.Desk c.args.policy.now) c.args.held.now c.fail.new.self c.args.now
     (g.D.Desk.state c.args.desk.now) (g.D.Desk.state c.fail.new.desk) _ _ c.in-Some.failed _
     (sym (ap (λ (v : Result Verdict CallFault). told_line v ∷ [])
-    (c.in-Ok-Again.is ∙ ap Ok c.in-Ok-Again.field-0-is))) c.in-Some.ensures.failed
+    (c.in-Ok-Again.is ∙ ap Ok c.in-Ok-Again.field-0-is))) c.in-Some.ensures
 
-pub returns-in-Ok-Dead-clause-failed : goal.returns-in-Ok-Dead-clause-failed
-returns-in-Ok-Dead-clause-failed g c =
+pub returns-in-Ok-Dead : goal.returns-in-Ok-Dead
+returns-in-Ok-Dead g c =
     failed_at (desk_rules g.D.Desk c.args.policy.now) c.args.held.now c.fail.new.self c.args.now
     (g.D.Desk.state c.args.desk.now) (g.D.Desk.state c.fail.new.desk) _ _ c.in-Some.failed _
     (sym (ap (λ (v : Result Verdict CallFault). told_line v ∷ [])
-    (c.in-Ok-Dead.is ∙ ap Ok c.in-Ok-Dead.field-0-is))) c.in-Some.ensures.failed
+    (c.in-Ok-Dead.is ∙ ap Ok c.in-Ok-Dead.field-0-is))) c.in-Some.ensures
 
-pub returns-in-Err-clause-failed : goal.returns-in-Err-clause-failed
-returns-in-Err-clause-failed g c =
+pub returns-in-Err : goal.returns-in-Err
+returns-in-Err g c =
     failed_at (desk_rules g.D.Desk c.args.policy.now) c.args.held.now c.fail.new.self c.args.now
     (g.D.Desk.state c.args.desk.now) (g.D.Desk.state c.fail.new.desk) _ _ c.in-Some.failed _
     (ap (λ (word : ErrWord). replies_of (lines.Err word) c.fail.new.self) c.refusal_word.ensures
-    ∙ sym (ap (λ (v : Result Verdict CallFault). told_line v ∷ []) c.in-Err.is)) c.in-Some.ensures.failed
+    ∙ sym (ap (λ (v : Result Verdict CallFault). told_line v ∷ []) c.in-Err.is)) c.in-Some.ensures

@@ -19,7 +19,10 @@ use Rattle.rb_session.specs.declared.stop.Stop.{Stop}
 use Rattle.rb_session.specs.declared.stop.Stop.TheVariants as stops
 use Rattle.rb_session.proofs.Gatherings.{known_at_first, all_sent, is_shared}
 use Rattle.rb_session.proofs.Outlets.{reason_to_end}
+use Rattle.rb_session.proofs.RunEvents.{ends_of, run_keeps}
+use Rattle.rb_session.proofs.run.run_limited.Given.{Over}
 use Rattle.rb_session.proofs.run.run_limited.Goals as goal
+use Rattle.rb_session.proofs.run.run_limited.Goals.{After-end_of}
 
 module _ {S : Type 0} (rules : SessionRules S) (Over : Type 0) (from last to : S) (held : List Element)
     (lost : ℕ) (closes : Closes rules.desk last held lost to) (left left' old new : Option (List ℕ))
@@ -93,8 +96,17 @@ stops_by desk contents Over from to came sent stop one other same got got' same_
     (subst (λ (d : Delivery). Stops (session_rules desk d (HadGotBehind contents got)) Over (point from held) came sent
     stop to) same stops))
 
-pub returns-clause-ran : goal.returns-clause-ran
-returns-clause-ran g c =
+-- the session from the caller's reader to the caller's writer
+whole : (g : Over) (c : After-end_of g)
+    → Exchanges (g.R.Read.remaining c.args.reader.now.inner.now)
+    (g.R.Read.remaining c.serve-stop.new.reader.inner.now) (g.W.Write.contents c.args.writer.now)
+    (g.W.Write.contents c.serve-stop.new.outlet.writer.now) (λ came sent. RanUntil
+    (session_rules (desk_rules g.D.Desk c.args.policy.now) c.args.delivery
+    (HadGotBehind g.W.Write.contents (g.W.Write.contents c.args.writer.now)))
+    (IsAtEnd (g.R.Read.remaining c.serve-stop.new.reader.inner.now)) (g.D.Desk.state c.args.desk.now)
+    (record { came = came; sent = sent; ended = c.end_of.result }) c.end_of.result
+    (g.D.Desk.state c.fail_all-lost.new.desk))
+whole g c =
     let made = c.new-outlet.ensures in
     let stop = c.serve-stop in
     let last = stop.new.outlet in
@@ -118,19 +130,31 @@ returns-clause-ran g c =
     stop.result c.new-outlet.result.delivery c.args.delivery made.delivery _ old got _ c.in-Ok-new.ensures.held
     did.holds in
     let to = g.D.Desk.state c.fail_all-lost.new.desk in
-    let whole : Exchanges (g.R.Read.remaining c.args.reader.now.inner.now)
-    (g.R.Read.remaining stop.new.reader.inner.now) old new (λ came sent. RanUntil own_rules over from
-    (record { came = came; sent = sent; ended = c.end_of.result }) c.end_of.result to) =
     subst (λ (ended : Result Ended SessionFault). Exchanges (g.R.Read.remaining c.args.reader.now.inner.now)
     (g.R.Read.remaining stop.new.reader.inner.now) old new (λ came sent. RanUntil own_rules over
     from (record { came = came; sent = sent; ended = ended }) ended to)) (sym c.end_of.ensures)
     (ran own_rules over from (g.D.Desk.state stop.new.desk) to
-    stop.new.self.held c.fail_all-lost.result c.fail_all-lost.ensures.closes _ _ old new did.came did.sent
+    stop.new.self.held c.fail_all-lost.result c.fail_all-lost.ensures _ _ old new did.came did.sent
     c.new-outlet.result.gathered.items last.gathered.items did.consumed made.empty few grows sent stop.result
-    stop.ensures.clear stopped) in
+    stop.ensures.clear stopped)
+
+pub returns-clause-ran : goal.returns-clause-ran
+returns-clause-ran g c =
+    let ran = whole g (goal.at.returns-clause-ran g c).After-end_of in
     let back = sym (ap g.W.Write.contents c.into_writer.ensures.same) in
-    let name = sym (c.into_writer.ensures.same_reference ∙ stop.ensures.becomes.same_reference ∙ made.same_reference) in
+    let name = sym (c.into_writer.ensures.same_reference ∙ c.serve-stop.ensures.becomes.same_reference ∙ c.new-outlet.ensures.same_reference) in
     search rules
+
+-- no call changed what names the desk
+pub returns-clause-name : goal.returns-clause-name
+returns-clause-name g c =
+    let ran = whole g (goal.at.returns-clause-name g c).After-end_of in
+    run_keeps (desk_rules g.D.Desk c.args.policy.now) g.D.Desk.name g.met.D.Desk.keeps_name g.met.D.Desk.sets_no_name
+    (ends_of (session_rules (desk_rules g.D.Desk c.args.policy.now) c.args.delivery
+    (HadGotBehind g.W.Write.contents (g.W.Write.contents c.args.writer.now)))
+    (IsAtEnd (g.R.Read.remaining c.serve-stop.new.reader.inner.now)) (g.D.Desk.state c.args.desk.now)
+    (g.D.Desk.state c.fail_all-lost.new.desk)
+    (record { came = ran.came; sent = ran.sent; ended = c.end_of.result }) c.end_of.result ran.holds)
 
 pub returns-clause-reason : goal.returns-clause-reason
 returns-clause-reason g c =

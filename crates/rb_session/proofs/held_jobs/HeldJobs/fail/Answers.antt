@@ -36,8 +36,8 @@ back_is : {S : Type 0} (rules : DeskRules S) (element : Element) (now : ℕ) (ol
     (fault : CallFault) → FailsTo rules element now old (Err (back, fault)) new → back ≡ element
 back_is rules element now old new back fault (draft, retry, step, same) = same
 
-pub returns-in_err-entry-clause-failed : goal.returns-in_err-entry-clause-failed
-returns-in_err-entry-clause-failed g c =
+pub returns-in_err-entry : goal.returns-in_err-entry
+returns-in_err-entry g c =
     at_no_place _ _ _
     (is_not_held c.self.inside.jobs c.self.inside.jobs c.args.self.now c.args.id c.self.view_is c.self.invariant.0
     c.get_mut.ensures.unique None (sym c.in_err-entry.ensures.value) (λ element same. absurd (cc)))
@@ -56,9 +56,9 @@ invariant_of-self-in_err-job g c =
       c.self.invariant.4,
     )
 
-pub returns-in_err-job-clause-failed : goal.returns-in_err-job-clause-failed
-returns-in_err-job-clause-failed g c =
-    let found = found_empty g (goal.at.returns-in_err-job-clause-failed g c).After-take c.in_err-job.was in
+pub returns-in_err-job : goal.returns-in_err-job
+returns-in_err-job g c =
+    let found = found_empty g (goal.at.returns-in_err-job g c).After-take c.in_err-job.was in
     let same = writes_same c.self.inside.jobs (record { entries = c.get_mut.follows.lender c.take.new.self })
     c.args.self.now c.args.id c.self.view_is c.self.invariant.0 c.take.new.self found
     (c.get_mut.follows.holds c.take.new.self) in
@@ -87,9 +87,9 @@ invariant_of-self-in-Ok g c =
       c.self.invariant.4,
     )
 
-pub returns-in-Ok-clause-failed : goal.returns-in-Ok-clause-failed
-returns-in-Ok-clause-failed g c =
-    let out = taken g (goal.at.returns-in-Ok-clause-failed g c).After-fail in
+pub returns-in-Ok : goal.returns-in-Ok
+returns-in-Ok g c =
+    let out = taken g (goal.at.returns-in-Ok g c).After-fail in
     at_place _ _ _ out.at.place out.at.is (record {
       element = c.in_ok-job.job;
       there = out.at.there;
@@ -119,16 +119,16 @@ invariant_of-self-in-Err g c =
       c.self.invariant.4,
     )
 
-pub returns-in-Err-clause-failed : goal.returns-in-Err-clause-failed
-returns-in-Err-clause-failed g c =
+pub returns-in-Err : goal.returns-in-Err
+returns-in-Err g c =
     let back = back_is (desk_rules g.D.Desk c.args.policy.now) c.in_ok-job.job c.args.now (g.D.Desk.state c.args.desk.now)
     (g.D.Desk.state c.fail.new.desk) c.in-Err.job c.in-Err.fault c.in-Err.ensures.fails in
     let same = writes_same c.self.inside.jobs (record { entries = c.get_mut.follows.lender (Some c.in-Err.job) })
     c.args.self.now c.args.id c.self.view_is c.self.invariant.0 (Some c.in-Err.job)
-    (put_back g (goal.at.returns-in-Err-clause-failed g c).After-fail c.in-Err.job back)
+    (put_back g (goal.at.returns-in-Err g c).After-fail c.in-Err.job back)
     (c.get_mut.follows.holds (Some c.in-Err.job)) in
     let at = is_at c.self.inside.jobs c.self.inside.jobs c.args.self.now c.args.id c.self.view_is c.self.invariant.0
-    c.in_ok-job.job (found_job g (goal.at.returns-in-Err-clause-failed g c).After-fail) in
+    c.in_ok-job.job (found_job g (goal.at.returns-in-Err g c).After-fail) in
     at_place _ _ _ at.place at.is (record {
       element = c.in_ok-job.job;
       there = at.there;

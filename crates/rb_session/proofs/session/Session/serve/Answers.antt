@@ -44,7 +44,6 @@ returns-in-Ok g c =
       same_reference = served.same_reference;
       clear = now.1;
       becomes = goes_on g.W.Write _ _ _ served.becomes c.hand_on.ensures.becomes;
-      name = served.name;
     }
 
 pub returns-in-Err-clause-becomes : goal.returns-in-Err-clause-becomes

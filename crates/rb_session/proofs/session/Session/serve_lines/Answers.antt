@@ -40,7 +40,7 @@ next_turn g c bytes unserved =
       line = (line.3, line.4);
       waits = λ waits writes. gets g.W.Write c.args.outlet.now c.clear_for_wait.new.outlet at.0 (clear waits (subst (λ (d : Delivery). WritesBeforeWaits d)
           (sym c.loop-reading.invariant.becomes.delivery) writes)) sent;
-      is_turn = c.answer-reply.ensures.turn;
+      is_turn = c.answer-reply.ensures;
       unserved = line.5;
       few = line.6;
     }
@@ -57,7 +57,6 @@ loop-reading-init g c = record {
   );
   given = c.requires.given;
   becomes = stays g.W.Write c.args.outlet.now;
-  name = refl;
 }
 
 -- what answers the lines so far could not be handed on
@@ -102,12 +101,11 @@ loop-reading-preserved g c = record {
       g.met.D.Desk.refuses g.met.D.Desk.stays c.in-Some.reading
       (point (g.D.Desk.state c.loop-reading.desk) c.loop-reading.self.held)
       (point (g.D.Desk.state c.answer-reply.new.desk) c.answer-reply.new.held)
-      (replies_of c.answer-reply.result c.answer-reply.new.held) c.answer-reply.ensures.turn
+      (replies_of c.answer-reply.result c.answer-reply.new.held) c.answer-reply.ensures
       c.loop-reading.invariant.given;
   becomes = goes_on_so g.W.Write _ _ _
       (goes_on_so g.W.Write _ _ _ c.loop-reading.invariant.becomes c.clear_for_wait.ensures.becomes)
       c.send_replies.ensures.becomes;
-  name = c.answer-reply.ensures.name ∙ c.loop-reading.invariant.name;
 }
 
 pub returns-clause-served : goal.returns-clause-served

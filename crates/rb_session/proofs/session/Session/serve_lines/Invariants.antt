@@ -18,7 +18,6 @@ invariant-loop-reading g l = record {
       × IsUnserved l.self.buffer first.unserved;
   given : AreGiven (g.D.Desk.mine (g.D.Desk.state l.desk)) l.self.held;
   becomes : Becomes g.W.Write l.fn.outlet l.outlet;
-  name : g.D.Desk.name (g.D.Desk.state l.desk) ≡ g.D.Desk.name (g.D.Desk.state l.fn.desk);
 }
 
 abbrev pub decreases-loop-reading : goal.decreases-loop-reading

@@ -98,7 +98,6 @@ loop-outlet-init g c = record {
   still = λ failed. failed;
   same_reference = refl;
   becomes = stays g.W.Write c.args.outlet.now;
-  name = refl;
 }
 
 -- the input is over
@@ -156,7 +155,6 @@ loop-outlet-preserved-in-Err g c = record {
   still = λ failed. absurd (interrupted _ _ _ c.in-Err.is (search rules) c.read_from.ensures.state failed);
   same_reference = c.read_from.ensures.same_reference ∙ c.loop-outlet.invariant.same_reference;
   becomes = goes_on g.W.Write _ _ _ c.loop-outlet.invariant.becomes c.hand_on.ensures.becomes;
-  name = c.loop-outlet.invariant.name;
 }
 
 -- a read failed
@@ -218,7 +216,6 @@ loop-outlet-preserved g c = record {
   becomes = goes_on g.W.Write _ _ _
       (goes_on g.W.Write _ _ _ c.loop-outlet.invariant.becomes c.hand_on.ensures.becomes)
       c.serve_lines.ensures.becomes;
-  name = c.serve_lines.ensures.name ∙ c.loop-outlet.invariant.name;
 }
 
 pub returns-clause-stops : goal.returns-clause-stops

@@ -23,7 +23,6 @@ invariant-loop-outlet g l = record {
   still : HasNotFailed l.fn.reader.state l.reader.state;
   same_reference : l.reader.inner.ghost_name ≡ l.fn.reader.inner.ghost_name;
   becomes : Becomes g.W.Write l.fn.outlet l.outlet;
-  name : g.D.Desk.name (g.D.Desk.state l.desk) ≡ g.D.Desk.name (g.D.Desk.state l.fn.desk);
 }
 
 -- each turn reads once
