@@ -7,8 +7,8 @@ use Rattle.clap.specs.declared.builder.value_parser.ValueParser.TheVariants.{Uns
 use Rattle.rb_delayed.specs.declared.element.TheConstants.{GREATEST_ATTEMPT}
 use Rattle.rb_delayed.specs.declared.moment.TheConstants.{GREATEST_MOMENT}
 use Rattle.rb_kept.specs.declared.kept.TheConstants.{MOST_CALLS}
-use Rattle.rb_arguments.specs.declared.serve_options.TheConstants.{GREATEST_PORT, MOST_SESSIONS, MOST_TURNS}
-use Rattle.rb_arguments.specs.declared.server_run_options.TheConstants.{MOST_WORKERS}
+use Rattle.rb_options.specs.declared.serve_options.TheConstants.{GREATEST_PORT, MOST_SESSIONS, MOST_TURNS}
+use Rattle.rb_options.specs.declared.server_run_options.TheConstants.{MOST_WORKERS}
 
 -- `--calls N`: from 1 to 1,000,000, and 10,000 if it is not given
 abbrev pub calls_option : Rule

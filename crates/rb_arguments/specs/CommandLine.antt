@@ -16,10 +16,10 @@ use Rattle.rb_retry.specs.declared.policy.Policy.{Policy}
 use Rattle.rb_arguments.specs.Arguments.{AreTimerNames, attempts_option, calls_option, chains_flag, delay_option}
 use Rattle.rb_arguments.specs.Arguments.{file_argument, from_option, history_option, port_option, rate_option}
 use Rattle.rb_arguments.specs.Arguments.{sessions_option, timer_option, turns_option, workers_option}
-use Rattle.rb_arguments.specs.TimerKind.{timer_name}
-use Rattle.rb_arguments.specs.declared.script_options.ScriptOptions.{ScriptOptions}
-use Rattle.rb_arguments.specs.declared.serve_options.ServeOptions.{ServeOptions}
-use Rattle.rb_arguments.specs.declared.server_run_options.ServerRunOptions.{ServerRunOptions}
+use Rattle.rb_options.specs.TimerKind.{timer_name}
+use Rattle.rb_options.specs.declared.script_options.ScriptOptions.{ScriptOptions}
+use Rattle.rb_options.specs.declared.serve_options.ServeOptions.{ServeOptions}
+use Rattle.rb_options.specs.declared.server_run_options.ServerRunOptions.{ServerRunOptions}
 use Rattle.rb_arguments.specs.declared.words.Words.{Words}
 use Rattle.rb_arguments.specs.declared.words.Words.TheVariants.{Script, Replay, Serve}
 

@@ -1,5 +1,5 @@
 pub use Rattle.rb_retry.specs.Retry
-pub mod TimerKind
+pub use Rattle.rb_options.specs.TimerKind
 pub mod Arguments
 pub mod CommandLine
 pub mod Ranges

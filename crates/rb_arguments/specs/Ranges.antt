@@ -2,11 +2,11 @@
 use Rattle.std.specs.Prelude.{ℕ, ◌≤◌, IfSome}
 use Rattle.rb_kept.specs.declared.kept.TheConstants.{MOST_CALLS}
 use Rattle.rb_retry.specs.Retry.{AreAttempts}
-use Rattle.rb_arguments.specs.declared.script_options.ScriptOptions.{ScriptOptions}
-use Rattle.rb_arguments.specs.declared.serve_options.ServeOptions.{ServeOptions}
-use Rattle.rb_arguments.specs.declared.serve_options.TheConstants.{GREATEST_PORT, MOST_SESSIONS, MOST_TURNS}
-use Rattle.rb_arguments.specs.declared.server_run_options.ServerRunOptions.{ServerRunOptions}
-use Rattle.rb_arguments.specs.declared.server_run_options.TheConstants.{MOST_WORKERS}
+use Rattle.rb_options.specs.declared.script_options.ScriptOptions.{ScriptOptions}
+use Rattle.rb_options.specs.declared.serve_options.ServeOptions.{ServeOptions}
+use Rattle.rb_options.specs.declared.serve_options.TheConstants.{GREATEST_PORT, MOST_SESSIONS, MOST_TURNS}
+use Rattle.rb_options.specs.declared.server_run_options.ServerRunOptions.{ServerRunOptions}
+use Rattle.rb_options.specs.declared.server_run_options.TheConstants.{MOST_WORKERS}
 use Rattle.rb_arguments.specs.declared.words.Words.{Words}
 use Rattle.rb_arguments.specs.declared.words.Words.TheVariants.{Script, Replay, Serve}
 

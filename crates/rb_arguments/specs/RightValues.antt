@@ -4,10 +4,10 @@ use Rattle.clap.specs.Words.{Row, Text, first_of, one_of}
 use Rattle.rb_delayed.specs.declared.element.TheConstants.{GREATEST_ATTEMPT}
 use Rattle.rb_kept.specs.declared.kept.TheConstants.{MOST_CALLS}
 use Rattle.rb_arguments.specs.CommandLine.{HasNumberWithin, HasPace}
-use Rattle.rb_arguments.specs.TimerKind.{timer_name}
-use Rattle.rb_arguments.specs.declared.server_run_options.TheConstants.{MOST_WORKERS}
-use Rattle.rb_arguments.specs.declared.serve_options.TheConstants.{GREATEST_PORT, MOST_SESSIONS, MOST_TURNS}
-use Rattle.rb_arguments.specs.declared.timer_kind.TimerKind.{TimerKind}
+use Rattle.rb_options.specs.TimerKind.{timer_name}
+use Rattle.rb_options.specs.declared.server_run_options.TheConstants.{MOST_WORKERS}
+use Rattle.rb_options.specs.declared.serve_options.TheConstants.{GREATEST_PORT, MOST_SESSIONS, MOST_TURNS}
+use Rattle.rb_options.specs.declared.timer_kind.TimerKind.{TimerKind}
 
 -- a timer is named
 abbrev pub NamesTimer : List Row → Type 0

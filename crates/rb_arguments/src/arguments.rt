@@ -6,13 +6,11 @@ ghost use Rattle.rb_arguments.specs.Arguments.{delay_option, file_argument, from
 ghost use Rattle.rb_arguments.specs.Arguments.{port_option, rate_option, sessions_option, timer_option};
 ghost use Rattle.rb_arguments.specs.Arguments.{turns_option, workers_option};
 
-use crate::serve_options::{GREATEST_PORT, MOST_SESSIONS, MOST_TURNS};
-use crate::server_run_options::MOST_WORKERS;
-use crate::timer_kind::TimerKind;
 use clap::builder::ValueParser;
 use clap::{Arg, ArgAction};
 use rb_delayed::{GREATEST_ATTEMPT, GREATEST_MOMENT};
 use rb_kept::MOST_CALLS;
+use rb_options::{GREATEST_PORT, MOST_SESSIONS, MOST_TURNS, MOST_WORKERS, TimerKind};
 use std::alloc::Global;
 
 /// `--calls N`

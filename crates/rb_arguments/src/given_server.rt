@@ -3,11 +3,12 @@ ghost use Rattle.rb_arguments.specs.CommandLine.{GivesServeOptions, GivesServerR
 ghost use Rattle.rb_arguments.specs.RightValues.{AreServerRunValues, AreServerValues};
 
 use crate::given_values::{given_policy, number_within, text, timer};
-use crate::serve_options::{GREATEST_PORT, MOST_SESSIONS, MOST_TURNS, ServeOptions};
-use crate::server_run_options::{MOST_WORKERS, ServerRunOptions};
 use crate::words::Words;
 use clap::ArgMatches;
 use rb_kept::MOST_CALLS;
+use rb_options::{
+    GREATEST_PORT, MOST_SESSIONS, MOST_TURNS, MOST_WORKERS, ServeOptions, ServerRunOptions,
+};
 use std::alloc::{AllocError, Global};
 
 /// What the values of `serve` ask for. `None` only if one is not there or not in its range.

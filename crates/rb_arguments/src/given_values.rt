@@ -8,11 +8,11 @@ ghost use Rattle.rb_retry.specs.Retry.{AreAttempts};
 ghost use Rattle.rb_arguments.specs.CommandLine.{GivesPolicy, HasNumberWithin, HasPace, given_pace, given_rows};
 ghost use Rattle.rb_arguments.specs.CommandLine.{number_in};
 ghost use Rattle.rb_arguments.specs.RightValues.{HasPolicy, NamesTimer};
-ghost use Rattle.rb_arguments.specs.TimerKind.{timer_name};
+ghost use Rattle.rb_options.specs.TimerKind.{timer_name};
 
-use crate::timer_kind::TimerKind;
 use clap::ArgMatches;
 use clap::parser::ValueSource;
+use rb_options::TimerKind;
 use rb_retry::{Pace, Policy};
 use std::alloc::{AllocError, Global};
 

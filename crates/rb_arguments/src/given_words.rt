@@ -4,11 +4,10 @@ ghost use Rattle.rb_arguments.specs.RightValues.{AreReplayValues, AreRightFor, A
 
 use crate::given_server::serve;
 use crate::given_values::{given_policy, is_given, is_set, number_within, text, timer};
-use crate::replay_options::ReplayOptions;
-use crate::script_options::ScriptOptions;
 use crate::words::Words;
 use clap::ArgMatches;
 use rb_kept::MOST_CALLS;
+use rb_options::{ReplayOptions, ScriptOptions};
 use std::alloc::{AllocError, Global};
 
 /// What a subcommand's name and values ask for. `None` exactly if both a delay and a rate were given, or if a

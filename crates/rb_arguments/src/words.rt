@@ -1,6 +1,4 @@
-use crate::replay_options::ReplayOptions;
-use crate::script_options::ScriptOptions;
-use crate::serve_options::ServeOptions;
+use rb_options::{ReplayOptions, ScriptOptions, ServeOptions};
 
 /// What the words of the command line ask for.
 #[derive(Drop)]

@@ -1,6 +1,6 @@
 use crate::files::{check_output, device_for, make_room_for, text_of};
-use rb_arguments::{ReplayOptions, ScriptOptions, ServeOptions, ServerRunOptions};
 use rb_ending::BrokerFault;
+use rb_options::{ReplayOptions, ScriptOptions, ServeOptions, ServerRunOptions};
 use rb_protocol::LimitedReader;
 use rb_queue::Opening;
 use rb_runs::{opening_in, over_timer, run_replay, run_script_delivered};

@@ -1,7 +1,7 @@
 use crate::flaw::Flaw;
 use crate::numbers::number;
 use crate::timers::timer_of;
-use rb_arguments::TimerKind;
+use rb_options::TimerKind;
 
 /// The greatest numbers of bytes of a script that a read gives. The first value means the whole
 /// script.

@@ -1,6 +1,7 @@
 use crate::case::Case;
 use crate::differences::of_texts;
-use rb_arguments::{ReplayOptions, Words, read_words};
+use rb_arguments::{Words, read_words};
+use rb_options::ReplayOptions;
 use rb_runs::run_replay;
 use std::alloc::{AllocError, Global};
 

@@ -34,7 +34,7 @@ use crate::numbers::number;
 use crate::row::{Block, Line, Row};
 use crate::tables::table_difference;
 use crate::timers::timer_of;
-use rb_arguments::TimerKind;
+use rb_options::TimerKind;
 use std::alloc::{AllocError, Global};
 use std::sync::Wait;
 use std::time;

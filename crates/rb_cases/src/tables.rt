@@ -11,7 +11,7 @@ use crate::text::bytes_of;
 use crate::timer_subject::TimerSubject;
 use crate::timers::{TIMERS, timer_name};
 use crate::word_subject::WordSubject;
-use rb_arguments::TimerKind;
+use rb_options::TimerKind;
 use rb_runs::over_timer;
 use rb_timer::Timer;
 use std::alloc::Global;

@@ -1,5 +1,5 @@
 use crate::flaw::Flaw;
-use rb_arguments::TimerKind;
+use rb_options::TimerKind;
 
 /// The timers over which every script, and every table of a timer or a queue, is run.
 pub const TIMERS: [TimerKind; 4] = [

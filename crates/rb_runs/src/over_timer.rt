@@ -7,16 +7,16 @@
 macro_rules! over_timer {
     ($kind:expr, $function:ident::<_ $(, $type:ty)*>($($argument:expr),* $(,)?) $(,)?) => {
         match $kind {
-            rb_arguments::TimerKind::List => {
+            rb_options::TimerKind::List => {
                 $function::<rb_timer::ListTimer $(, $type)*>($($argument),*)
             }
-            rb_arguments::TimerKind::Heap => {
+            rb_options::TimerKind::Heap => {
                 $function::<rb_binary::BinaryTimer $(, $type)*>($($argument),*)
             }
-            rb_arguments::TimerKind::Pairing => {
+            rb_options::TimerKind::Pairing => {
                 $function::<rb_pairing::PairingTimer $(, $type)*>($($argument),*)
             }
-            rb_arguments::TimerKind::Wheel => {
+            rb_options::TimerKind::Wheel => {
                 $function::<rb_wheel::WheelTimer $(, $type)*>($($argument),*)
             }
         }

@@ -7,8 +7,8 @@ ghost use Rattle.rb_runs.specs.TextVerdict.{IsVerdictOf, IsVerdictOn, Tells};
 ghost use Rattle.rb_runs.specs.declared.text_verdict.TextVerdict.{TextVerdict};
 
 use crate::text_verdict::TextVerdict;
-use rb_arguments::ReplayOptions;
 use rb_ending::BrokerFault;
+use rb_options::ReplayOptions;
 use rb_replay::{ChainFault, History, ReplayFault, TextFault, chains, check, read_history};
 use std::alloc::Global;
 

@@ -8,8 +8,8 @@ ghost use Rattle.rb_runs.specs.Script.{EndsScript, RanScript, script_terms, devi
 
 use crate::script_report::ScriptReport;
 use crate::script_run::{Script, run_recorded, run_unrecorded};
-use rb_arguments::ScriptOptions;
 use rb_ending::BrokerFault;
+use rb_options::ScriptOptions;
 use rb_protocol::LimitedReader;
 use rb_queue::Opening;
 use rb_session::{Delivery, Ended};

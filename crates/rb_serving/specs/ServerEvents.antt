@@ -8,7 +8,7 @@ use Rattle.rb_lock.specs.Records.{AreDifferent}
 use Rattle.rb_retry.specs.Made.{Made, made_after, made_by}
 use Rattle.rb_session.specs.RunEvents.{MadeByRun}
 use Rattle.rb_session.specs.Served.{Served}
-use Rattle.rb_arguments.specs.declared.server_run_options.ServerRunOptions.{ServerRunOptions}
+use Rattle.rb_options.specs.declared.server_run_options.ServerRunOptions.{ServerRunOptions}
 use Rattle.rb_serving.specs.Terms.{Terms}
 use Rattle.rb_serving.specs.Serving.{IsServersRun}
 use Rattle.rb_serving.specs.Visits.{all_visits}

@@ -5,7 +5,7 @@ use Rattle.rb_queue.specs.declared.opening.Opening.{Opening}
 use Rattle.rb_lock.specs.Passes.{Seen, all_records}
 use Rattle.rb_lock.specs.ClosedQueues.{HasCallsOf}
 use Rattle.rb_lock.specs.declared.pass_record.PassRecord.{PassRecord}
-use Rattle.rb_arguments.specs.declared.server_run_options.ServerRunOptions.{ServerRunOptions}
+use Rattle.rb_options.specs.declared.server_run_options.ServerRunOptions.{ServerRunOptions}
 use Rattle.rb_ending.specs.declared.broker_fault.BrokerFault.{BrokerFault}
 use Rattle.rb_ending.specs.declared.broker_fault.BrokerFault.TheVariants as Broker
 use Rattle.rb_session.specs.Served.{Served}

@@ -2,9 +2,8 @@
 
 use clap::Error;
 use clap::error::ErrorKind;
-use rb_arguments::{
-    ReplayOptions, ScriptOptions, ServeOptions, ServerRunOptions, TimerKind, Words, read_words,
-};
+use rb_arguments::{Words, read_words};
+use rb_options::{ReplayOptions, ScriptOptions, ServeOptions, ServerRunOptions, TimerKind};
 use rb_retry::Policy;
 use std::alloc::Global;
 use std::process::Abort;

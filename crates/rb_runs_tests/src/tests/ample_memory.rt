@@ -1,5 +1,5 @@
 use crate::tests::devices::{AT_QUIT, KINDS, Sink, Source, expect_bytes, expect_end, ran};
-use rb_arguments::TimerKind;
+use rb_options::TimerKind;
 use std::alloc::{AllocError, Global};
 use std::process::Abort;
 use std::test::Fail;

@@ -1,7 +1,7 @@
 ghost use Rattle.std.specs.Prelude.{◌≤◌, length, IfOk};
 
-use rb_arguments::{ScriptOptions, TimerKind};
 use rb_ending::BrokerFault;
+use rb_options::{ScriptOptions, TimerKind};
 use rb_protocol::LimitedReader;
 use rb_queue::Opening;
 use rb_retry::Policy;

@@ -1,10 +1,10 @@
 use crate::tests::devices::{
     AT_END, Client, End, Outcome, Sink, Source, expect, expect_bytes, expect_count, expect_end, ran,
 };
-use rb_arguments::TimerKind;
 use rb_binary::BinaryTimer;
 use rb_ending::BrokerFault;
 use rb_kept::Kept;
+use rb_options::TimerKind;
 use rb_protocol::LimitedReader;
 use rb_retry::{KeptDesk, Policy};
 use rb_session::{Delivery, Ended, HandsOn, SessionFault, run_limited};

@@ -2,8 +2,8 @@
 // file, is refused in turn.
 
 use crate::tests::devices::{KINDS, Sink, Source, expect, expect_bytes, recorded};
-use rb_arguments::{ReplayOptions, TimerKind};
 use rb_ending::{BrokerFault, audit_line};
+use rb_options::{ReplayOptions, TimerKind};
 use rb_queue::{Audit, Opening};
 use rb_retry::Policy;
 use rb_runs::{opening_in, read_all, run_replay};

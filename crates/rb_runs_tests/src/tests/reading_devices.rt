@@ -2,8 +2,8 @@ use crate::tests::devices::{
     AT_END, End, Fault, KINDS, Sink, Source, expect_bytes, expect_count, expect_end, feeds_of,
     first_lines, ran, recorded,
 };
-use rb_arguments::TimerKind;
 use rb_ending::BrokerFault;
+use rb_options::TimerKind;
 use std::alloc::{AllocError, Global};
 use std::process::Abort;
 use std::test::Fail;

@@ -1,8 +1,8 @@
 // What a run reports of its session and of its history, each by itself.
 
 use crate::tests::devices::{End, Fault, Sink, Source, expect, expect_bytes, options};
-use rb_arguments::TimerKind;
 use rb_history::HistoryFault;
+use rb_options::TimerKind;
 use rb_protocol::LimitedReader;
 use rb_queue::Opening;
 use rb_runs::{Recording, ScriptReport, run_script_delivered};

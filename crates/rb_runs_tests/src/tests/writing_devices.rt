@@ -1,8 +1,8 @@
 use crate::tests::devices::{
     AT_END, Fault, KINDS, Sink, Source, expect_bytes, expect_count, expect_end, first_lines, ran,
 };
-use rb_arguments::TimerKind;
 use rb_ending::BrokerFault;
+use rb_options::TimerKind;
 use std::alloc::Global;
 use std::process::Abort;
 

@@ -2,9 +2,9 @@
 
 ghost use Rattle.std.specs.Prelude.{◌≡◌, ◌≤◌, ◌↔◌, ◌<◌, true};
 
-use rb_arguments::ServerRunOptions;
 use rb_blocking::{Clock, Gate};
 use rb_ending::{BrokerFault, audit_line};
+use rb_options::ServerRunOptions;
 use rb_protocol::LimitedReader;
 use rb_queue::{Audit, Opening};
 use rb_replay::check;

@@ -5,7 +5,7 @@ ghost use Rattle.std.specs.Prelude.{◌≤◌};
 use crate::tests::devices::{
     Received, at_once, counted, expect_counts, expect_number, expect_text, planned,
 };
-use rb_arguments::ServerRunOptions;
+use rb_options::ServerRunOptions;
 use rb_retry::Policy;
 use std::process::Abort;
 use std::sync::atomic::AtomicU64;

@@ -6,8 +6,8 @@ use crate::tests::devices::{
     Counts, SevenClock, counts_of, expect, expect_audit_line, expect_bytes, expect_counts,
     expect_legal, expect_number, hundred_calls,
 };
-use rb_arguments::ServerRunOptions;
 use rb_blocking::{Clock, MachineClock};
+use rb_options::ServerRunOptions;
 use rb_queue::Opening;
 use rb_serving::{TcpDoor, serve_door};
 use rb_timer::ListTimer;

@@ -1,5 +1,5 @@
 ghost use Rattle.std.specs.Prelude.{◌≤◌};
-ghost use Rattle.rb_arguments.specs.declared.serve_options.TheConstants.{MOST_SESSIONS, MOST_TURNS};
+ghost use Rattle.rb_options.specs.declared.serve_options.TheConstants.{MOST_SESSIONS, MOST_TURNS};
 
 use crate::server_run_options::ServerRunOptions;
 use crate::timer_kind::TimerKind;

@@ -1,6 +1,6 @@
 ghost use Rattle.std.specs.Prelude.{◌≤◌};
 ghost use Rattle.rb_kept.specs.declared.kept.TheConstants.{MOST_CALLS};
-ghost use Rattle.rb_arguments.specs.declared.server_run_options.TheConstants.{MOST_WORKERS};
+ghost use Rattle.rb_options.specs.declared.server_run_options.TheConstants.{MOST_WORKERS};
 
 use rb_retry::Policy;
 

@@ -1,7 +1,7 @@
 -- The names of the kinds of timer.
 use Rattle.std.specs.Prelude.{ℕ, List, codes}
-use Rattle.rb_arguments.specs.declared.timer_kind.TimerKind.{TimerKind}
-use Rattle.rb_arguments.specs.declared.timer_kind.TimerKind.TheVariants as Kind
+use Rattle.rb_options.specs.declared.timer_kind.TimerKind.{TimerKind}
+use Rattle.rb_options.specs.declared.timer_kind.TimerKind.TheVariants as Kind
 
 -- the name on the command line
 abbrev pub timer_name : TimerKind → List ℕ

@@ -1,0 +1,2 @@
+pub use Rattle.rb_retry.specs.Retry
+pub mod TimerKind
