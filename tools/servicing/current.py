@@ -88,7 +88,8 @@ class Current:
         settings = self._parts.settings
         if self._visits is None and is_to_prepare(self._age, settings.every / SECOND):
             sessions = self.watch.looks.sessions
-            self._visits = Visits(settings.port, max(sessions.limit - sessions.used - RESERVE, 0))
+            most = max(sessions.limit - sessions.used - RESERVE, 0)
+            self._visits = Visits(settings.port, most, self._parts.keeping.make_room())
 
     def _cut_silent(self) -> None:
         silent = self._parts.settings.silent

@@ -1,4 +1,5 @@
-"""Cuts sessions of a server from outside, without any right but that over its process.
+"""Reaches into a server from outside, without any right but that over its process: cuts sessions, and makes room for
+more connections that wait for a worker.
 
 The server's own end of a connection is taken from it (pidfd_getfd of Linux 5.6) and closed for reading. The server sees
 the end of what the client sends, and ends the session: its jobs fail, and come back. The client sees a reset. A server
@@ -12,6 +13,7 @@ import socket
 import struct
 from typing import Collection, Iterator, Set, Tuple
 
+ROOM = 512  # connections that may wait for a worker. With more of them a look takes too long
 PIDFD_GETFD = 438  # the number of the call, the same on all machines but Alpha
 RESETS = struct.pack("ii", 1, 0)
 
@@ -31,6 +33,17 @@ def cut_sessions(pid: int, ports: Collection[int], again: Collection[int] = ()) 
     except OSError as fault:
         return done, fault.strerror or repr(fault)
     return done, ""
+
+
+def make_room(pid: int) -> int:
+    """Lets more connections wait for a worker. Returns how many, or 0 if this may not be done."""
+    with contextlib.suppress(OSError):
+        for it in _sockets_of(pid):
+            with it:
+                if it.getsockopt(socket.SOL_SOCKET, socket.SO_ACCEPTCONN):
+                    it.listen(ROOM)
+                    return ROOM
+    return 0
 
 
 def _sockets_of(pid: int) -> Iterator[socket.socket]:

@@ -26,7 +26,7 @@ class Ending:
 
     def run(self) -> None:
         """Ends the run. Raises a `LeftBehind` if an end was asked for that can't be had in time."""
-        run, visits = self._run, Visits(self._parts.settings.port)
+        run, visits = self._run, Visits(self._parts.settings.port, room=self._parts.keeping.make_room())
         try:
             while not run.server.has_ended:
                 self._go_on()

@@ -16,6 +16,7 @@ A request is an object of JSON with `do`; the answer is one too, with `fault` if
     start     with run, words, the first two descriptors and that of the opening: starts the server
     hold      with run, pid and all three: holds what another keeper held, which was killed
     cut       with ports: cuts the sessions of the clients at these ports
+    room      {"room": N}: lets so many connections wait for a worker
     drop      holds nothing any more
     end       the same, and ends
 """
@@ -33,7 +34,7 @@ from typing import Any, Dict, List, Optional, Set, Tuple
 if __name__ == "__main__":
     sys.path.insert(0, os.path.dirname(os.path.dirname(os.path.realpath(__file__))))
 
-from servicing.cutting import cut_sessions  # noqa: E402
+from servicing.cutting import cut_sessions, make_room  # noqa: E402
 
 IDLE = 30.0  # seconds
 
@@ -71,6 +72,8 @@ class Keeper:
             done, why = cut_sessions(self._pid, asked["ports"], self._cut)
             self._cut |= done
             return {"cut": len(done), "why": why}, []
+        elif do == "room":
+            return {"room": make_room(self._pid)}, []
         elif do in ("drop", "end"):
             self._drop()
         status = self._child.poll() if self._child else None

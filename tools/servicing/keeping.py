@@ -113,6 +113,12 @@ class Keeping:
             answer = {"fault": f"the keeper is lost: {fault}"}
         return (0, answer["fault"]) if "fault" in answer else (answer["cut"], answer["why"])
 
+    def make_room(self) -> int:
+        """Lets more connections wait for a worker. Returns how many do, or 0 if it stays as it is."""
+        with contextlib.suppress(KeeperLost):
+            return int(self._ask("room")[0].get("room", 0))
+        return 0
+
     def drop(self) -> None:
         with contextlib.suppress(KeeperLost):  # another one holds nothing
             self._ask("drop")

@@ -66,6 +66,7 @@ class ServedTest(PageTest):
         patch.start()
         self.addCleanup(patch.stop)
         self.addCleanup(self.reports.stop)
+        self.browser.go("about:blank")  # or the page of the test before asks a server that is gone
         self.browser.complaints.clear()
         self.browser.resize(1200, 900)
         self.port = self.begin(0)

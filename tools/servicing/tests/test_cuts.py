@@ -16,7 +16,7 @@ from serving import HOST, PATIENCE
 from serving.server import Server, free_port
 from serving.session import Session
 from serving.testing import ServingTest
-from servicing.cutting import cut_sessions
+from servicing.cutting import ROOM, cut_sessions, make_room
 from servicing.sockets import look_at
 
 # A failed job is back at once.
@@ -104,6 +104,18 @@ class CutsTest(ServingTest):
         server.kill()
         count, why = cut_sessions(server.process.pid, [1])
         self.assertEqual((count, why), (set(), "No such process"))
+        self.assertEqual(make_room(server.process.pid), 0)
+
+    def test_room_for_more_that_wait(self) -> None:
+        """Where no room is left, the system drops connections, which are tried again after a second at the earliest."""
+        server = self.serve("--workers", 1, "--sessions", 300)
+        self.client(server.port).ask("SIZE")
+        self.assertEqual(make_room(server.process.pid), ROOM)
+        for number in range(250):
+            began = time.monotonic()
+            self.client(server.port)
+            self.assertLess(time.monotonic() - began, 1, number)
+        self.assertEqual(len(look_at(server.port).connections), 251)
 
     @unittest.skipIf(os.geteuid() or not shutil.which("setpriv"), "it takes root and setpriv to be another user")
     def test_a_user_who_may_not_cut_is_told_so(self) -> None:

