@@ -137,7 +137,7 @@ class Endings:
         history = self._placing.history
         element = history.element(id)
         is_last = element is not None and element.attempt in self._last_attempts
-        return is_last or (self._is_full and history.rows[history.seats[event]][-1] in (event, *returns))
+        return is_last or (self._is_full and history.last_beside(event) in (event, *returns))
 
     def _take(self, session: Session, event: int, request: Unanswered) -> None:
         index = self._placing.calls.sessions[session.calls[0]]

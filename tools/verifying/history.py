@@ -4,6 +4,7 @@ from __future__ import annotations
 import collections
 import re
 from array import array
+from bisect import bisect_left, bisect_right
 from typing import BinaryIO, Dict, List, Match, NamedTuple, Optional
 
 from histories.faults import Damaged
@@ -75,6 +76,7 @@ class History:
         self.exits = EventsById(next_id)  # which events took an element out, by its id
         self.returns = EventsById(next_id)  # which events offered a job again, by the id of its attempt before
         self.kept: Dict[int, Element] = {}  # the elements of the opening
+        self.files = array("I")  # the first event of each file, whose clock may be another than that of the one before
 
     def __len__(self) -> int:
         return len(self.seats)
@@ -103,6 +105,15 @@ class History:
     def told(self, event: int) -> str:
         """How messages name an event."""
         return f"{self._name}event {event} ({self.act(event)}, seat {self.seat(event)})"
+
+    def file_of(self, event: int) -> int:
+        """The number of the file that has an event, from 0."""
+        return bisect_right(self.files, event) - 1
+
+    def last_beside(self, event: int) -> int:
+        """The last event of an event's file at its seat."""
+        row, following = self.rows[self.seats[event]], self.file_of(event) + 1
+        return row[-1] if following == len(self.files) else row[bisect_left(row, self.files[following]) - 1]
 
     def is_looked_for(self, event: int) -> bool:
         """Whether an event must be the call of somebody."""
@@ -154,6 +165,7 @@ class Series:
         else:
             self._reader.go_on(text.head)
             collections.deque(text.kept(), maxlen=0)
+        self.history.files.append(len(self.history))
         for number, line in text.events():
             self._reader.add(line, number)
 

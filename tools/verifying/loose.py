@@ -51,7 +51,8 @@ class FreeEvents:
         for event in range(len(history)):
             if placing.claims[event] == NONE:
                 self._events.setdefault(_loosely(history.act(event)), []).append(event)
-        self._clocks = self._compared()
+        bounds = [*history.files, len(history)]
+        self._clocks = [self._compared(range(*it)) for it in zip(bounds, bounds[1:])]
 
     def firsts(self, session: Session, within: range, but: Container[int]) -> Iterator[int]:
         """The first event of each row that is what a session's replies say, at one seat and at its time. Rows that
@@ -81,16 +82,18 @@ class FreeEvents:
         return True
 
     def _is_at_its_time(self, call: int, event: int) -> bool:
-        if self._clocks is None:
+        clocks = self._clocks[self._placing.history.file_of(event)]
+        if clocks is None:
             return True
-        least, most = self._clocks
+        least, most = clocks
         asked, calls = self._placing.history.asked(event), self._placing.calls
         return calls.sent[call] - most - SLACK <= asked <= calls.received[call] - least + SLACK
 
-    def _compared(self) -> Optional[Tuple[int, int]]:
-        """Between which two values the clients' clock is ahead of the server's, by the calls that have their event."""
+    def _compared(self, events: range) -> Optional[Tuple[int, int]]:
+        """Between which two values the clients' clock is ahead of the server's, by those of a file's events that have
+        their call."""
         placing = self._placing
-        known = [event for event, call in enumerate(placing.claims) if call != NONE]
+        known = [it for it in events if placing.claims[it] != NONE]
         some = known[::len(known) // LOOKS + 1]
         if not some:
             return None

@@ -40,6 +40,16 @@ class CommandTest(RunTest):
                             parts[1], parts[0], self.record)
         self.expect_refused("there is no RECORD", *parts)
 
+    def test_a_series_of_runs_between_which_time_passed(self) -> None:
+        """The clock of the second server did not go on meanwhile. Its sessions name no element."""
+        first = self.file("first.txt", text_of("1 10 10 offer 0 10 0 10 1 x"))
+        second = self.file("second.txt", "\n".join(
+            ["history 3", "open 1 10 1", "keep 0 10 0 10 1 x", "2 20 20 size 1", "end 1", ""]))
+        record = [line("a", 5, 12, "OFFER 0 x", "OFFERED 0 10"),
+                  line("b", 5_000_000_000, 5_000_000_100, "SIZE", "SIZE 1")]
+        ran = self.verify(first, second, self.file("both.jsonl", record_of(record)), "--all")
+        self.assertEqual((ran.returncode, ran.stdout.splitlines()[-1]), (0, "0 faults"), ran.stdout)
+
     def test_damaged_histories(self) -> None:
         for text, says in [
             ("", "line 1: no `history 1`, `history 2` or `history 3`"),

@@ -99,6 +99,14 @@ class KilledTest(RunTest):
         self.assertEqual(self.found(events, record=record), {"return": 1})
         self.assertEqual(self.found([*events, "2 70 70 size 0"], full, record=record), {"return": 1})
 
+    def test_the_run_that_was_full_is_followed_by_another(self) -> None:
+        full = line("other", 50, 51, "SIZE", "ERR 6 full")
+        first = self.file("first.txt", text_of(*EVENTS[:5]))
+        second = self.file("second.txt", "\n".join(
+            ["history 3", "open 3 40 1", "keep 2 45 0 10 2 x", "2 70 70 size 1", "end 1", ""]))
+        record = self.file("record.jsonl", record_of([*lines()[:2], *lines()[4:], full]))
+        self.assertEqual(self.verify(first, second, record).stdout.splitlines()[-1], "0 faults")
+
     def test_a_job_that_is_given_to_two(self) -> None:
         events = [*EVENTS[:4], "1 35 35 take 1", *EVENTS[4:]]
         taken = line("other", 33, 36, "TAKE", "ITEM 1 30 1 y")
