@@ -1,158 +1,236 @@
-"""The sessions that callers use: blocking, and for asyncio."""
+"""Sessions with a server: for asyncio, and blocking."""
 from __future__ import annotations
 
-import inspect
-from typing import TYPE_CHECKING, Any, Callable, Coroutine, Iterable, List, Optional, Type, TypeVar
+import socket
+import ssl
+from collections.abc import Callable, Coroutine, Iterable
+from contextlib import ExitStack
+from functools import wraps
+from selectors import EVENT_READ, EVENT_WRITE
+from typing import TYPE_CHECKING, Any, ClassVar, TypeVar, Union
 
-from .blocking import Blocking, Result, run
-from .durations import Duration
+from .dialogue import Dialogue
+from .durations import Duration, seconds
+from .errors import (
+    BrokerError, DisconnectedError, NotHeldError, RefusedError, StoppedError, UnknownReplyError,
+)
 from .job import Job, Verdict
-from .looping import Looping
+from .record import Record, RecordTarget
 from .request import Answer, Request
-from .session import Either, Session
+from .waiting import Blocking, Kind, Looping, blocking, run
 
 if TYPE_CHECKING:
-    from typing_extensions import Concatenate, ParamSpec
+    from typing_extensions import Concatenate
 
-    Words = ParamSpec("Words")
+    from .waiting import Words
 
-Held = TypeVar("Held", bound="_Held")
-Method = TypeVar("Method", bound=Callable[..., Any])
+Either = Union[Answer, RefusedError, StoppedError]  # an answer, or the exception in its place
+Method = TypeVar("Method", bound=Callable[..., object])
+
+_NOT_NOW = (BlockingIOError, ssl.SSLWantReadError, ssl.SSLWantWriteError)
 
 
-def _described(method: Method, of: Callable[..., Any], has_self: bool) -> Method:
-    """A method with the name, the text and the words of what it is made of."""
-    signature, me = inspect.signature(of), inspect.Parameter("self", inspect.Parameter.POSITIONAL_OR_KEYWORD)
-    words = [*signature.parameters.values()] if has_self else [me, *signature.parameters.values()]
-    method.__name__, method.__doc__ = of.__name__.lstrip("_"), of.__doc__
-    setattr(method, "__signature__", signature.replace(parameters=words))
+def _like(of: Callable[..., Request[Any]]) -> Callable[[Method], Method]:
+    # The name, the text and the words of the request, where the class stands for `self`.
+    return wraps(getattr(of, "__func__"), ("__name__", "__doc__"))
+
+
+def _asks(of: Callable[Words, Request[Answer]]
+          ) -> Callable[Concatenate[Any, Words], Coroutine[Any, Any, Answer]]:
+    @_like(of)
+    async def method(self: Session, /, *words: Words.args, **options: Words.kwargs) -> Answer:
+        return await self._ask(of(*words, **options))
+
     return method
 
 
-def _asks(of: Callable[Words, Request[Answer]]) -> Callable[Concatenate[Broker, Words], Answer]:
-    """A method that asks such a request and waits for the answer."""
+class Session:
+    """One session with `rb_broker serve`, from the connection to its end.
 
-    def method(self: Broker, /, *words: Words.args, **options: Words.kwargs) -> Answer:
-        return run(self._ask(of(*words, **options)))
+    An exception in the middle of a wait, such as that of a signal handler, loses no byte that was
+    received. The coroutines are those of both kinds. Those of a blocking client never suspend.
+    """
 
-    return _described(method, of, has_self=False)
+    _kind: ClassVar[Kind]
+    _socket: socket.socket  # once it is connected
 
+    def __init__(self, port: int, host: str = "127.0.0.1", patience: Duration | None = None, *,
+                 tls: ssl.SSLContext | None = None, record: RecordTarget | None = None) -> None:
+        """A reply that does not come within `patience` raises `TimeoutError`; it is still due then.
+        With `tls` the connection is encrypted, and the certificates are those of this context. To
+        `record`, a path or an open text file, a line is added for each request and its reply."""
+        self._port, self._host, self._tls = port, host, tls
+        self.patience = None if patience is None else seconds(patience)
+        self._fault: Exception | None = RuntimeError("the broker is not connected")
+        self.is_fed = False  # whether `is_lost` is called whenever something has come
+        recorded, self.at_end = Record(record), ExitStack()
+        self.dialogue = Dialogue(recorded.note)
+        self.at_end.callback(recorded.close)
+        self.at_end.callback(self.dialogue.end)
+        if self._kind is Blocking:
+            run(self._connect())
 
-def _awaits(of: Callable[Words, Request[Answer]]) -> Callable[Concatenate[AsyncBroker, Words],
-                                                              Coroutine[Any, Any, Answer]]:
-    """A coroutine method that asks such a request and waits for the answer."""
+    @property
+    def unanswered(self) -> int:
+        """How many requests were sent whose replies have not been received."""
+        return self.dialogue.unanswered
 
-    async def method(self: AsyncBroker, /, *words: Words.args, **options: Words.kwargs) -> Answer:
-        return await self._ask(of(*words, **options))
+    def fileno(self) -> int:
+        """The descriptor of the connection, for a selector that waits until something comes."""
+        return self._socket.fileno()
 
-    return _described(method, of, has_self=False)
+    def is_lost(self) -> bool:
+        """Whether the server is known to have ended the session. If not, it may have ended it all
+        the same."""
+        try:
+            while self._fault is None:
+                piece = self._socket.recv(65_536)
+                if not piece:
+                    raise DisconnectedError("the server closed the connection")
+                self.dialogue.feed(piece)
+                if self._tls is None:
+                    break  # a selector tells of what is left, as it can't of what is decrypted
+        except _NOT_NOW:
+            pass
+        except OSError as fault:
+            self._fault = fault
+        return self._fault is not None
 
+    def close(self) -> None:
+        """Hangs up. After that the session is of no more use."""
+        self._fault = self._fault or DisconnectedError("this side hung up")
+        self.at_end.close()
 
-def _blocks(of: Callable[Concatenate[Session, Words], Coroutine[Any, Any, Result]]
-            ) -> Callable[Concatenate[Broker, Words], Result]:
-    """A method that runs a coroutine method to its end."""
+    def receive_ready(self) -> list[Any]:
+        """Waits for nothing: the answers whose replies have come, each refusal in its place."""
+        if not self.is_fed:
+            self.is_lost()
+        if not self.dialogue.answers:
+            self._demand()
+        return [self._take() for _ in range(len(self.dialogue.answers))]
 
-    def method(self: Broker, /, *words: Words.args, **options: Words.kwargs) -> Result:
-        return run(of(self, *words, **options))
+    async def _connect(self) -> None:
+        if isinstance(self._fault, RuntimeError):
+            self._socket = await self._kind.apart(self._connected)
+            self.at_end.callback(self._socket.close)
+            self._fault = None
 
-    return _described(method, of, has_self=True)
+    def _connected(self) -> socket.socket:
+        made = socket.create_connection((self._host, self._port), timeout=self.patience)
+        if made.getsockname() == made.getpeername():
+            # Nobody listens, and the system gave this side the very port that it looks for: it
+            # found itself. To stay connected would keep the port from the next server.
+            made.close()
+            raise ConnectionRefusedError(f"nobody listens at {self._host}:{self._port}")
+        made.setsockopt(socket.IPPROTO_TCP, socket.TCP_NODELAY, 1)
+        if self._tls is not None:
+            made = self._tls.wrap_socket(made, server_hostname=self._host)
+        made.setblocking(False)
+        return made
+
+    async def _send(self, *questions: Request[Any]) -> None:
+        """Sends requests in one piece, and waits for no reply. If this raises an `OSError`, some
+        may have been served."""
+        rest = memoryview(self.dialogue.ask(*questions))
+        while rest:
+            self._demand()
+            try:
+                rest = rest[self._socket.send(rest):]
+            except _NOT_NOW:
+                # A server reads no further while its replies are not read, so they are kept.
+                is_read = self.is_fed and self._kind.is_async
+                await self._wait(EVENT_WRITE if is_read else EVENT_READ | EVENT_WRITE)
+
+    async def _receive(self) -> Any:
+        """The answer to the first request that has none yet. A refusal is raised."""
+        answer = await self._receive_either()
+        if isinstance(answer, BrokerError):
+            raise answer
+        return answer
+
+    async def _ask(self, request: Request[Answer]) -> Answer:
+        """Sends a request and gives its answer."""
+        self._demand_none_due()
+        await self._send(request)
+        answer: Answer = await self._receive()
+        return answer
+
+    async def _ask_all(self, questions: Iterable[Request[Answer]]) -> list[Either[Answer]]:
+        """Sends any number of requests in one piece, and gives the answer to each. For a request
+        that was refused, or whose wait was given up, the answer is that exception."""
+        self._demand_none_due()
+        await self._send(*questions)
+        return [await self._receive_either() for _ in range(self.unanswered)]
+
+    async def _quit(self) -> None:
+        """Ends the session, waits until the server has read so, and hangs up."""
+        await self._ask(Request.quit())
+        self.close()
+
+    async def _await_service(self) -> None:
+        """Waits until the server serves this session. One that connects while all of the server's
+        workers are busy is only served when one of them is free. This is no call and changes
+        nothing."""
+        await self._ask(Request.greeting())
+
+    async def _receive_either(self) -> Any:
+        if not self.unanswered:
+            raise RuntimeError("no reply is due")
+        while not self.dialogue.answers:
+            self._demand()
+            await self._wait(EVENT_READ)
+        return self._take()
+
+    def _take(self) -> Any:
+        answer = self.dialogue.answers.popleft()
+        if isinstance(answer, UnknownReplyError):
+            self.close()  # which line answers which request is no longer known
+            raise answer
+        return answer
+
+    def _demand_none_due(self) -> None:
+        if self.unanswered:
+            raise RuntimeError(f"{self.unanswered} replies have to be received first")
+
+    def _demand(self) -> None:
+        if self._fault is not None:
+            raise self._fault
+
+    async def _wait(self, events: int) -> None:
+        if not await self._kind.ready(self._socket, events, self.patience):
+            raise TimeoutError(f"the server did not answer within {self.patience} seconds")
+        self.is_lost()
 
 
 class _Held(Job):
-    """A job that a session holds until it is done or fails, or the session ends."""
+    def __init__(self, session: Session, job: Job) -> None:
+        super().__init__(job.id, job.expires_at_ns, job.attempt, job.payload)
+        vars(self)["_session"] = session  # past the lock of a frozen class
 
-    _session: Session
-
-    @classmethod
-    def of(cls: Type[Held], session: Session, job: Job) -> Held:
-        """The job, which this session was given."""
-        held = cls(job.id, job.expires_at_ns, job.attempt, job.payload)
-        object.__setattr__(held, "_session", session)  # past the lock of a frozen class
-        return held
-
-
-class HeldJob(_Held):
-    """A job that a `Broker` holds until it is done or fails, or its session ends."""
-
-    def done(self) -> None:
-        """The job is finished. Raises `NotHeldError` if it isn't held any more, also if its session has ended."""
-        run(self._session._settle(Request.done, self))
-
-    def fail(self) -> Verdict:
-        """The job failed now. Gives `Again` or `Dead`, and raises what `done` does."""
-        return run(self._session._settle(Request.fail, self))
+    async def _settle(self, request: Callable[[int], Request[Answer]]) -> Answer:
+        session: Session = vars(self)["_session"]
+        if session.is_lost():
+            raise NotHeldError(f"job {self.payload} is no longer held: its session has ended")
+        return await session._ask(request(self.id))
 
 
 class AsyncHeldJob(_Held):
     """A job that an `AsyncBroker` holds until it is done or fails, or its session ends."""
 
     async def done(self) -> None:
-        """The job is finished. Raises `NotHeldError` if it isn't held any more, also if its session has ended."""
-        await self._session._settle(Request.done, self)
+        """The job is finished. Raises `NotHeldError` if it isn't held any more, also if its session
+        has ended."""
+        await self._settle(Request.done)
 
     async def fail(self) -> Verdict:
         """The job failed now. Gives `Again` or `Dead`, and raises what `done` does."""
-        return await self._session._settle(Request.fail, self)
+        return await self._settle(Request.fail)
 
 
-class Broker(Session):
-    """One session with `rb_broker serve`, from the connection to its end. One thread at a time may use it.
+class HeldJob(_Held):
+    """A job that a `Broker` holds until it is done or fails, or its session ends."""
 
-    There is a method for each request, which sends it, waits for the reply and gives that as a value. A refusal
-    is raised as a kind of `RefusedError`, a lost connection as an `OSError`. To send several requests in one piece use
-    `ask_all`, or `send` and then a `receive` for each.
-
-    The jobs that a session holds fail when it ends, by `quit`, by `close` or at the end of a `with`: they come
-    back to other sessions until their attempts are used up.
-    """
-
-    _kind = Blocking
-
-    def _begin(self) -> None:
-        run(self._connect())
-
-    def __enter__(self) -> Broker:
-        return self
-
-    def __exit__(self, *fault: object) -> None:
-        self.close()
-
-    def poll(self) -> Optional[HeldJob]:
-        """Takes a job that has expired, or gives None if there is none."""
-        job = self.ask(Request.poll())
-        return None if job is None else HeldJob.of(self, job)
-
-    def poll_for(self, timeout: Duration) -> Optional[HeldJob]:
-        """Takes a job, waiting for one up to this timeout. Gives None if none has expired by then."""
-        job = self.ask(Request.poll_for(timeout))
-        return None if job is None else HeldJob.of(self, job)
-
-    def take(self) -> HeldJob:
-        """Takes a job, and waits until there is one. Nothing cancels the wait, and a program that is killed meanwhile
-        may cost the next job an attempt, so a loop of `poll_for(1)` is better in a service."""
-        return HeldJob.of(self, self.ask(Request.take()))
-
-    def drain(self, most: int) -> List[HeldJob]:
-        """Takes up to so many jobs that have expired, and no more than the session may hold."""
-        return [HeldJob.of(self, it) for it in self.ask(Request.drain(most))]
-
-    offer, offer_at, peek = _asks(Request.offer), _asks(Request.offer_at), _asks(Request.peek)
-    done, fail, remove = _asks(Request.done), _asks(Request.fail), _asks(Request.remove)
-    clear, size = _asks(Request.clear), _asks(Request.size)
-    send, quit, await_service = _blocks(Session._send), _blocks(Session._quit), _blocks(Session._await_service)
-
-    def ask(self, request: Request[Answer]) -> Answer:
-        """Sends a request and gives its answer."""
-        return run(self._ask(request))
-
-    def ask_all(self, questions: Iterable[Request[Answer]]) -> List[Either[Answer]]:
-        """Sends any number of requests in one piece, and gives the answer to each. For a request that was refused, or
-        whose wait was given up, the answer is that exception."""
-        return run(self._ask_all(questions))
-
-    def receive(self) -> Any:
-        """The answer to the first request that has none yet. A refusal is raised."""
-        return run(self._receive())
+    done, fail = blocking(AsyncHeldJob.done), blocking(AsyncHeldJob.fail)
 
 
 class AsyncBroker(Session):
@@ -161,43 +239,80 @@ class AsyncBroker(Session):
         async with AsyncBroker(7011) as broker:
             await broker.offer("letter-17")
 
-    If a task is cancelled while it waits for a reply, that is still due: `receive` waits for it again, and nothing
-    else can be asked before. So prefer `poll_for` to a `take` with a timeout around it.
+    If a task is cancelled while it waits for a reply, that is still due: `receive` waits for it
+    again, and nothing else can be asked before. So prefer `poll_for` to a `take` with a timeout
+    around it.
     """
 
-    _kind = Looping
+    _kind, _held = Looping, AsyncHeldJob
 
     async def connect(self) -> AsyncBroker:
         """Connects, and gives this broker."""
         await self._connect()
         return self
 
-    async def __aenter__(self) -> AsyncBroker:
-        return await self.connect()
+    __aenter__ = connect
 
     async def __aexit__(self, *fault: object) -> None:
         self.close()
 
-    async def poll(self) -> Optional[AsyncHeldJob]:
-        """Takes a job that has expired, or gives None if there is none."""
+    @_like(Request.poll)
+    async def poll(self) -> AsyncHeldJob | None:
         job = await self._ask(Request.poll())
-        return None if job is None else AsyncHeldJob.of(self, job)
+        return self._held(self, job) if job else None
 
-    async def poll_for(self, timeout: Duration) -> Optional[AsyncHeldJob]:
-        """Takes a job, waiting for one up to this timeout. Gives None if none has expired by then."""
+    @_like(Request.poll_for)
+    async def poll_for(self, timeout: Duration) -> AsyncHeldJob | None:
         job = await self._ask(Request.poll_for(timeout))
-        return None if job is None else AsyncHeldJob.of(self, job)
+        return self._held(self, job) if job else None
 
+    @_like(Request.take)
     async def take(self) -> AsyncHeldJob:
-        """Takes a job, and waits until there is one. Nothing cancels the wait at the server."""
-        return AsyncHeldJob.of(self, await self._ask(Request.take()))
+        return self._held(self, await self._ask(Request.take()))
 
-    async def drain(self, most: int) -> List[AsyncHeldJob]:
-        """Takes up to so many jobs that have expired, and no more than the session may hold."""
-        return [AsyncHeldJob.of(self, it) for it in await self._ask(Request.drain(most))]
+    @_like(Request.drain)
+    async def drain(self, most: int) -> list[AsyncHeldJob]:
+        return [self._held(self, it) for it in await self._ask(Request.drain(most))]
 
-    offer, offer_at, peek = _awaits(Request.offer), _awaits(Request.offer_at), _awaits(Request.peek)
-    done, fail, remove = _awaits(Request.done), _awaits(Request.fail), _awaits(Request.remove)
-    clear, size = _awaits(Request.clear), _awaits(Request.size)
+    offer, offer_at, peek = _asks(Request.offer), _asks(Request.offer_at), _asks(Request.peek)
+    done, fail, remove = _asks(Request.done), _asks(Request.fail), _asks(Request.remove)
+    clear, size = _asks(Request.clear), _asks(Request.size)
     ask, ask_all, send, receive = Session._ask, Session._ask_all, Session._send, Session._receive
     quit, await_service = Session._quit, Session._await_service
+
+
+class Broker(Session):
+    """One session with `rb_broker serve`, from the connection to its end. One thread at a time may
+    use it.
+
+    There is a method for each request, which sends it, waits for the reply and gives that as a
+    value. A refusal is raised as a kind of `RefusedError`, a lost connection as an `OSError`. To
+    send several requests in one piece use `ask_all`, or `send` and then a `receive` for each.
+
+    The jobs that a session holds fail when it ends, by `quit`, by `close` or at the end of a
+    `with`: they come back to other sessions until their attempts are used up.
+    """
+
+    _kind, _held = Blocking, HeldJob
+
+    def __enter__(self) -> Broker:
+        return self
+
+    def __exit__(self, *fault: object) -> None:
+        self.close()
+
+    if TYPE_CHECKING:  # of what the kinds of jobs are
+        def poll(self) -> HeldJob | None: ...
+        def poll_for(self, timeout: Duration) -> HeldJob | None: ...
+        def take(self) -> HeldJob: ...
+        def drain(self, most: int) -> list[HeldJob]: ...
+    else:
+        poll, poll_for = blocking(AsyncBroker.poll), blocking(AsyncBroker.poll_for)
+        take, drain = blocking(AsyncBroker.take), blocking(AsyncBroker.drain)
+    offer, offer_at = blocking(AsyncBroker.offer), blocking(AsyncBroker.offer_at)
+    peek, remove = blocking(AsyncBroker.peek), blocking(AsyncBroker.remove)
+    done, fail = blocking(AsyncBroker.done), blocking(AsyncBroker.fail)
+    clear, size = blocking(AsyncBroker.clear), blocking(AsyncBroker.size)
+    send, receive = blocking(Session._send), blocking(Session._receive)
+    quit, await_service = blocking(Session._quit), blocking(Session._await_service)
+    ask, ask_all = blocking(Session._ask), blocking(Session._ask_all)

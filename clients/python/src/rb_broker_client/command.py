@@ -1,42 +1,35 @@
 """The package as a command: python3 -m rb_broker_client COMMAND .. --port P
 
-    worker MODULE:FUNCTION   takes jobs and calls the function with each, until SIGTERM or Ctrl-C, and a second one ends
-                             it at once. The module is looked for in the current folder too. A coroutine function
-                             runs in an event loop.
-    offer DELAY [PAYLOAD ..] offers jobs that expire after this delay: 5s, 2m, 1h, or a number of seconds. Without a
-                             payload it offers one for each line of standard input
-    size                     counts the elements in the queue, expired or not
-    peek                     shows an element of least expiry, expired or not, and takes nothing out
-    drain [MOST]             takes out the jobs that have expired, shows each, and finishes it
-    remove ID ..             takes the elements of these ids out, expired or not
-    clear                    takes all elements out, expired or not
-    dead FILE [--offer]      shows the dead letters of a file, or offers them again and takes them out of the file
+A worker calls the function with each job, until SIGTERM or Ctrl-C, and a second one ends it at
+once. It logs to standard error, goes on looking for a server until it is stopped, and prints
+finally what became of its jobs. The module is looked for in the current folder too. A coroutine
+function runs in an event loop. The others print the server's replies as docs/PROTOCOL.md has them,
+such as `SIZE 3`. COMMAND --help has an example.
 
-They print the server's replies as docs/PROTOCOL.md has them, such as `SIZE 3`. A worker logs to standard error, and
-prints finally what became of its jobs. COMMAND --help has an example.
-
-Exit status: 0; 1 if there is no server, or it refuses, or a file can't be used, with a line on standard error; 2 if a
-word is wrong. A worker goes on looking for a server until it is stopped.
+Exit status: 0; 1 if there is no server, or it refuses, or a file can't be used, with a line on
+standard error; 2 if a word is wrong.
 """
 from __future__ import annotations
 
 import argparse
 import asyncio
-import importlib
 import inspect
 import logging
+import pkgutil
 import signal
 import sys
+from collections.abc import Callable, Iterator
 from contextlib import contextmanager
-from typing import Any, Callable, Iterator, List, NoReturn, Optional
+from typing import Any, NoReturn
 
+from . import __version__
 from .broker import Broker
 from .dead_letters import payload_of, read_letters, take_letters
-from .durations import read_delay
+from .durations import read_delay, seconds
 from .errors import BrokerError, InDoubtError, NotOfferedError, RefusedError
-from .job import Job
-from .limits import MOST_HELD
+from .job import MOST_HELD, Job
 from .producer import Producer
+from .request import Request
 from .tls import add_tls_words, context_of
 from .worker import AsyncWorker, Worker
 
@@ -51,81 +44,87 @@ class _Parser(argparse.ArgumentParser):
         self.exit(2, f"{NAME}: {message}\n")
 
 
-def main(words: Optional[List[str]] = None) -> int:
+def main(words: list[str] | None = None) -> int:
     """Runs the command that these words ask for. Gives the exit status."""
     asked = _parser().parse_args(words)
+    place = f"{asked.host}:{asked.port}"
     try:
         for line in asked.run(asked):
             print(line, flush=True)
         return 0
     except KeyboardInterrupt:
         status, text = 1, "it was broken off"
+    except RefusedError as fault:
+        status, text = 1, f"the server at {place} refused it: {fault}"
+    except NotOfferedError as fault:
+        status, text = 1, f"not offered at {place}: {fault}"
+    except InDoubtError as fault:
+        status, text = 1, f"it may have been offered at {place} or not: {fault}"
     except (BrokerError, OSError) as fault:
-        status, text = 1, _sentence(fault, f"{asked.host}:{asked.port}")
+        status, text = 1, f"no answer from {place}: {fault}"
+        if isinstance(fault, OSError) and fault.filename is not None:
+            text = f"{fault.filename} can't be used: {fault.strerror}"
     except ValueError as fault:  # a payload that is none, a host that is none
         status, text = 2, str(fault)
     print(f"{NAME}: {text}", file=sys.stderr)
     return status
 
 
-def _sentence(fault: Exception, place: str) -> str:
-    """What went wrong, in one line."""
-    if isinstance(fault, RefusedError):
-        return f"the server at {place} refused it: {fault}"
-    if isinstance(fault, NotOfferedError):
-        return f"not offered at {place}: {fault}"
-    if isinstance(fault, InDoubtError):
-        return f"it may have been offered at {place} or not: {fault}"
-    if isinstance(fault, OSError) and fault.filename is not None:
-        return f"{fault.filename} can't be used: {fault.strerror}"
-    return f"no answer from {place}: {fault}"
-
-
 def _parser() -> argparse.ArgumentParser:
     about, _, rest = (__doc__ or "").partition("\n\n")
     form = argparse.RawDescriptionHelpFormatter
-    parser = _Parser(f"python3 -m {NAME}", description=about, epilog=rest, formatter_class=form, allow_abbrev=False)
-    parser.add_argument("--version", action="version", version=f"{NAME} {_version()}")
+    parser = _Parser(f"python3 -m {NAME}", description=about, epilog=rest, formatter_class=form,
+                     allow_abbrev=False)
+    parser.add_argument("--version", action="version", version=f"{NAME} {__version__}")
     commands = parser.add_subparsers(metavar="COMMAND", required=True)
 
-    def command(run: Callable[[Asked], Iterator[str]], name: str, help: str, example: str,
-                needs_port: bool = True) -> argparse.ArgumentParser:
-        added = commands.add_parser(name, help=help, description=help, allow_abbrev=False, formatter_class=form,
-                                    epilog=f"example: python3 -m {NAME} {name} {example}")
-        added.set_defaults(run=run)
-        added.add_argument("--port", type=_whole(1, 65_535), required=needs_port, metavar="P", help="the server's port")
-        added.add_argument("--host", default="127.0.0.1", metavar="H", help="where it is (default: 127.0.0.1)")
-        added.add_argument("--record", metavar="FILE", help="adds each request and its reply to this file")
+    def command(name: str, example: str, help: str, run: Callable[[Asked], Iterator[str]],
+                **defaults: Any) -> Any:
+        added = commands.add_parser(
+            name, help=help, description=help, allow_abbrev=False, formatter_class=form,
+            epilog=f"example: python3 -m {NAME} {name} {example}--port 7011")
+        added.set_defaults(run=run, **defaults)
+        add = added.add_argument
+        add("--port", type=_whole(1, 65_535), required=name != "dead", metavar="P",
+            help="the server's port")
+        add("--host", default="127.0.0.1", metavar="H", help="where it is (default: 127.0.0.1)")
+        add("--record", metavar="FILE", help="adds each request and its reply to this file")
         add_tls_words(added)
         if name != "worker":
-            added.add_argument("--patience", type=_seconds, default=5.0, metavar="SECONDS",
-                               help="how long a server is looked for, and a reply waited for (default: 5)")
-        return added
+            add("--patience", type=_seconds, default=5.0, metavar="SECONDS",
+                help="how long a server is looked for, and a reply waited for (default: 5)")
+        return add
 
-    worker = command(_work, "worker", "runs a function on each job", "letters:deliver --port 7011 --concurrency 8")
-    worker.add_argument("handler", type=_function, metavar="MODULE:FUNCTION", help="what is called with each job")
-    worker.add_argument("--concurrency", type=_whole(1, MOST_HELD), default=1, metavar="N",
-                        help=f"how many jobs run at the same time, 1 to {MOST_HELD} (default: 1)")
-    worker.add_argument("--session", type=_seconds, default=30.0, metavar="SECONDS",
-                        help="leaves a session that is so old, and begins the next (default: 30)")
-    worker.add_argument("--timeout", type=_seconds, metavar="SECONDS", help="fails a job that takes longer")
-    worker.add_argument("--on-dead", type=_function, metavar="MODULE:FUNCTION",
-                        help="what is called with each job whose last attempt failed")
-    offer = command(_offer, "offer", "offers jobs", "2s letter-17 letter-18 --port 7011")
-    offer.add_argument("delay", type=_delay, metavar="DELAY", help="5s, 2m, 1h, or a number of seconds")
-    offer.add_argument("payloads", nargs="*", metavar="PAYLOAD",
-                       help="1 to 64 characters of printable ASCII, no space (default: the lines of standard input)")
-    command(_size, "size", "counts the elements", "--port 7011")
-    command(_peek, "peek", "shows the next element", "--port 7011")
-    drain = command(_drain, "drain", "takes out and finishes jobs that have expired", "10 --port 7011")
-    drain.add_argument("most", nargs="?", type=_whole(1, 10**9), default=10**9, metavar="MOST",
-                       help="how many (default: all that have expired)")
-    remove = command(_remove, "remove", "takes elements out", "17 18 --port 7011")
-    remove.add_argument("ids", nargs="+", type=_whole(0, 2**64 - 1), metavar="ID", help="what `OFFERED` or `HEAD` told")
-    command(_clear, "clear", "takes all elements out", "--port 7011")
-    dead = command(_dead, "dead", "shows dead letters, or offers them again", "dead.jsonl --offer --port 7011", False)
-    dead.add_argument("file", metavar="FILE", help="what DeadLetters wrote")
-    dead.add_argument("--offer", action="store_true", help="offers each, and takes it out of the file")
+    add = command("worker", "letters:deliver --concurrency 8 ", "calls a function with each job",
+                  _work)
+    add("handler", type=_function, metavar="MODULE:FUNCTION", help="what is called with each job")
+    add("--concurrency", type=_whole(1, MOST_HELD), default=1, metavar="N",
+        help=f"how many jobs run at the same time, 1 to {MOST_HELD} (default: 1)")
+    add("--session", type=_seconds, default=30.0, metavar="SECONDS",
+        help="leaves a session that is so old, and begins the next (default: 30)")
+    add("--timeout", type=_seconds, metavar="SECONDS", help="fails a job that takes longer")
+    add("--on-dead", type=_function, metavar="MODULE:FUNCTION",
+        help="what is called with each job whose last attempt failed")
+    add = command("offer", "2s letter-17 letter-18 ", "offers jobs that expire after this delay",
+                  _offer)
+    add("delay", type=_word(read_delay), metavar="DELAY", help="5s, 2m, 1h, or a number of seconds")
+    add("payloads", nargs="*", metavar="PAYLOAD", help="1 to 64 characters of printable ASCII, no "
+        "space (default: the lines of standard input)")
+    command("size", "", "counts the elements in the queue, expired or not", _ask,
+            requests=lambda asked: [Request.size()])
+    command("peek", "", "shows an element of least expiry, expired or not", _ask,
+            requests=lambda asked: [Request.peek()])
+    add = command("drain", "10 ", "takes out the jobs that have expired, and finishes each", _drain)
+    add("most", nargs="?", type=_whole(1, 10**9), default=10**9, metavar="MOST",
+        help="how many (default: all that have expired)")
+    add = command("remove", "17 18 ", "takes the elements of these ids out, expired or not", _ask,
+                  requests=lambda asked: map(Request.remove, asked.ids))
+    add("ids", nargs="+", type=_whole(0, 2**64 - 1), metavar="ID", help="what `OFFERED` told")
+    command("clear", "", "takes all elements out, expired or not", _ask,
+            requests=lambda asked: [Request.clear()])
+    add = command("dead", "dead.jsonl --offer ", "shows dead letters, or offers them again", _dead)
+    add("file", metavar="FILE", help="what DeadLetters wrote")
+    add("--offer", action="store_true", help="offers each, and takes it out of the file")
     return parser
 
 
@@ -135,8 +134,9 @@ def _work(asked: Asked) -> Iterator[str]:
     if asked.on_dead is not None and inspect.iscoroutinefunction(asked.on_dead) != is_async:
         raise ValueError("either both functions are coroutine functions or none")
     kind: Any = AsyncWorker if is_async else Worker
-    worker = kind(asked.handler, asked.port, asked.host, concurrency=asked.concurrency, session=asked.session,
-                  timeout=asked.timeout, on_dead=asked.on_dead, tls=context_of(asked), record=asked.record)
+    worker = kind(asked.handler, asked.port, asked.host, concurrency=asked.concurrency,
+                  session=asked.session, timeout=asked.timeout, on_dead=asked.on_dead,
+                  tls=context_of(asked), record=asked.record)
 
     def stop(number: int, _: Any) -> None:
         signal.signal(number, signal.SIG_DFL)  # whoever asks twice does not want to wait
@@ -149,47 +149,35 @@ def _work(asked: Asked) -> Iterator[str]:
 
 
 def _offer(asked: Asked) -> Iterator[str]:
-    with _producer(asked) as producer:
+    with _open(Producer, asked) as producer:
         for payload in asked.payloads or (it.rstrip("\r\n") for it in sys.stdin):
             offered = producer.offer(payload, delay=asked.delay)
             yield f"OFFERED {offered.id} {offered.expires_at_ns}"
 
 
-def _size(asked: Asked) -> Iterator[str]:
+def _ask(asked: Asked) -> Iterator[str]:
+    """Shows the line of the reply to each of these requests."""
     with _broker(asked) as broker:
-        yield f"SIZE {broker.size()}"
+        for request in asked.requests(asked):
+            said: list[bytes] = []
 
+            def read(next_line: Callable[[], bytes]) -> None:
+                said.append(next_line())
+                request.read(lambda: said[0])
 
-def _peek(asked: Asked) -> Iterator[str]:
-    with _broker(asked) as broker:
-        head = broker.peek()
-        yield "NONE" if head is None else _line("HEAD", head)
+            broker.ask(Request(request.line, read))
+            yield said[0].decode()
 
 
 def _drain(asked: Asked) -> Iterator[str]:
     count = 0
     with _broker(asked) as broker:
-        while count < asked.most:
-            jobs = broker.drain(min(asked.most - count, MOST_HELD))
+        while count < asked.most and (jobs := broker.drain(min(asked.most - count, MOST_HELD))):
             for job in jobs:
-                yield _line("ITEM", job)
+                yield f"ITEM {job.id} {job.expires_at_ns} {job.attempt} {job.payload}"
                 job.done()  # once it is printed
             count += len(jobs)
-            if not jobs:
-                break
     yield f"DRAINED {count}"
-
-
-def _remove(asked: Asked) -> Iterator[str]:
-    with _broker(asked) as broker:
-        for id in asked.ids:
-            yield f"REMOVED {'yes' if broker.remove(id) else 'no'}"
-
-
-def _clear(asked: Asked) -> Iterator[str]:
-    with _broker(asked) as broker:
-        broker.clear()
-        yield "CLEARED"
 
 
 def _dead(asked: Asked) -> Iterator[str]:
@@ -200,71 +188,58 @@ def _dead(asked: Asked) -> Iterator[str]:
         return
     if asked.port is None:
         raise ValueError("the following arguments are required: --port")
-    with _producer(asked) as producer:
+    with _open(Producer, asked) as producer:
         yield f"offered {take_letters(asked.file, producer.offer)}"
 
 
-def _producer(asked: Asked) -> Producer:
-    return Producer(asked.port, asked.host, patience=asked.patience, tls=context_of(asked), record=asked.record)
+def _open(kind: Any, asked: Asked) -> Any:
+    return kind(asked.port, asked.host, patience=asked.patience, tls=context_of(asked),
+                record=asked.record)
 
 
 @contextmanager
 def _broker(asked: Asked) -> Iterator[Broker]:
     """A session, which is left with `QUIT` if nothing went wrong."""
-    with Broker(asked.port, asked.host, asked.patience, tls=context_of(asked), record=asked.record) as broker:
+    with _open(Broker, asked) as broker:
         broker.await_service()  # a question that is given up before that costs no call
         yield broker
         broker.quit()
 
 
-def _line(keyword: str, job: Job) -> str:
-    return f"{keyword} {job.id} {job.expires_at_ns} {job.attempt} {job.payload}"
+def _word(read: Callable[[str], Any]) -> Callable[[str], Any]:
+    """What reads a word, and says in a sentence what is wrong with it."""
+
+    def convert(word: str) -> Any:
+        try:
+            return read(word)
+        except ValueError as fault:
+            raise argparse.ArgumentTypeError(str(fault)) from None
+
+    return convert
 
 
 def _whole(least: int, most: int) -> Callable[[str], int]:
+    @_word
     def read(word: str) -> int:
         if not word.isascii() or not word.isdecimal() or not least <= int(word) <= most:
-            raise argparse.ArgumentTypeError(f"{word} is not from {least} to {most}")
+            raise ValueError(f"{word} is not from {least} to {most}")
         return int(word)
 
     return read
 
 
+@_word
 def _seconds(word: str) -> float:
-    try:
-        seconds = float(word)
-    except ValueError:
-        seconds = 0.0
-    if not 0 < seconds <= 1e9:
-        raise argparse.ArgumentTypeError(f"{word} is no number of seconds above 0")
-    return seconds
+    return min(seconds(float(word)), 1e9)
 
 
-def _delay(word: str) -> Any:
-    try:
-        return read_delay(word)
-    except ValueError as fault:
-        raise argparse.ArgumentTypeError(str(fault)) from None
-
-
+@_word
 def _function(word: str) -> Callable[[Job], object]:
-    """The function that `MODULE:FUNCTION` names."""
-    module, colon, name = word.partition(":")
-    if not (module and colon and name):
-        raise argparse.ArgumentTypeError(f"{word} is not of the form MODULE:FUNCTION")
     try:
-        found: Any = importlib.import_module(module)
-        for part in name.split("."):
-            found = getattr(found, part)
+        found: Any = pkgutil.resolve_name(word)
     except Exception as fault:  # whatever goes wrong in a module of the caller
-        raise argparse.ArgumentTypeError(f"{word} can't be had: {type(fault).__name__}: {fault}") from None
+        raise ValueError(f"{word} can't be had: {type(fault).__name__}: {fault}") from None
     if not callable(found):
-        raise argparse.ArgumentTypeError(f"{word} is not a function")
+        raise ValueError(f"{word} is not of the form MODULE:FUNCTION")
     function: Callable[[Job], object] = found
     return function
-
-
-def _version() -> str:
-    from . import __version__
-
-    return __version__

@@ -3,25 +3,26 @@ from __future__ import annotations
 
 import json
 import os
+from collections.abc import Callable, Iterator
 from contextlib import contextmanager
 from datetime import datetime, timezone
-from typing import IO, Callable, Iterator, List, Union
+from typing import IO, Union
 
 from .job import Job
 from .producer import AsyncProducer, Producer
 
-
+Path = Union[str, "os.PathLike[str]"]
 _LONGEST = 4_096  # bytes of no line are more
 
 
 class DeadLetters:
     """Keeps dead jobs: `Worker(.., on_dead=DeadLetters("dead.jsonl"))`.
 
-    A file has a line of JSON for each, which is on the disk when the call returns. Several workers may have one file.
-    A producer, of a server that is the queue for such jobs, offers each to it.
+    A file has a line of JSON for each, which is on the disk when the call returns. Several workers
+    may have one file. A producer, of a server that is the queue for such jobs, offers each to it.
     """
 
-    def __init__(self, target: Union[str, "os.PathLike[str]", Producer, AsyncProducer]) -> None:
+    def __init__(self, target: Path | Producer | AsyncProducer) -> None:
         """Raises `OSError` if the file can't be written."""
         self._target = target
         if isinstance(target, (str, os.PathLike)):
@@ -38,15 +39,16 @@ class DeadLetters:
         return None
 
 
-def read_letters(path: str) -> List[bytes]:
+def read_letters(path: str) -> list[bytes]:
     """The lines of a file of dead letters."""
     with _locked(path, "rb") as file:
         return file.read().splitlines()
 
 
 def take_letters(path: str, use: Callable[[str], object]) -> int:
-    """Calls this with each payload, the latest first, and then takes its line out of the file. Gives how many there
-    were. One that is added meanwhile is left, unless it takes the place of one that is."""
+    """Calls this with each payload, the latest first, and then takes its line out of the file.
+    Gives how many there were. One that is added meanwhile is left, unless it takes the place of one
+    that is."""
     count = len(read_letters(path))
     for _ in range(count):
         with _locked(path, "r+b") as file:  # no line is added while one is taken out
@@ -68,8 +70,8 @@ def payload_of(line: bytes) -> str:
 
 
 @contextmanager
-def _locked(path: Union[str, "os.PathLike[str]"], mode: str) -> Iterator[IO[bytes]]:
-    """The file, while no other process and no other thread has it. What is written is on the disk at the end."""
+def _locked(path: Path, mode: str) -> Iterator[IO[bytes]]:
+    """The file, while nobody else has it. What is written is on the disk at the end."""
     import fcntl  # not on each system
 
     with open(path, mode) as file:

@@ -1,27 +1,28 @@
-"""Durations: delays, waits, timeouts and patience."""
+"""Durations as callers give them; those of pauses between tries, and those of sessions."""
 from __future__ import annotations
 
+import random
 import re
+import time
 from datetime import timedelta
 from fractions import Fraction
 from typing import Union
 
-from .limits import GREATEST_NUMBER
+from .job import GREATEST_NUMBER
 
 Duration = Union[int, float, timedelta]
 """Seconds as a number, or a `timedelta`."""
 
+WAITED = 0.1  # seconds after which a session was served late: others may be waiting now
+BRIEF = 3.0  # seconds of a session while others may be waiting
 SECOND = 1_000_000_000  # nanoseconds
-
-UNITS = {"": SECOND, "ns": 1, "us": 1_000, "ms": 1_000_000, "s": SECOND, "m": 60 * SECOND, "h": 3_600 * SECOND,
-         "d": 86_400 * SECOND}
-"""The nanoseconds of each unit. A number without one is seconds."""
-
-_DELAY = re.compile(r"([0-9]+(?:\.[0-9]+)?)(|ns|us|ms|s|m|h|d)", re.ASCII)
+UNITS = {"ns": 1, "us": 1_000, "ms": 1_000_000, "": SECOND, "s": SECOND, "m": 60 * SECOND,
+         "h": 3_600 * SECOND, "d": 86_400 * SECOND}
 
 
-def nanoseconds(duration: Union[Duration, Fraction]) -> int:
-    """A duration as the protocol has it: whole nanoseconds. Raises `ValueError` if it is below 0 or above 2^64 - 1."""
+def nanoseconds(duration: Duration | Fraction) -> int:
+    """A duration as the protocol has it: whole nanoseconds. Raises `ValueError` if it is below 0
+    or above 2^64 - 1."""
     if isinstance(duration, timedelta):
         whole = duration // timedelta(microseconds=1) * 1_000
     elif isinstance(duration, (int, float, Fraction)):
@@ -42,13 +43,66 @@ def seconds(duration: Duration) -> float:
 
 
 def read_delay(text: str) -> Fraction:
-    """The seconds of `5s`, `1.5h` or `250`. Raises `ValueError` with a sentence that says what is wrong."""
-    found = _DELAY.fullmatch(text)
+    """The seconds of `5s`, `1.5h` or `250`. Raises `ValueError` with a sentence."""
+    found = re.fullmatch(r"([0-9]+(?:\.[0-9]+)?)(|ns|us|ms|s|m|h|d)", text, re.ASCII)
     if found is None:
-        raise ValueError(f"{text} is no delay: write 5s, 2m or 1h (ns, us, ms, s, m, h, d), or seconds")
+        raise ValueError(f"{text} is no delay: write seconds, or 5s, 2m or 1h (ns, us, ms, s, m, "
+                         f"h, d)")
     delay = Fraction(found[1]) * UNITS[found[2]]
     if delay.denominator != 1:
         raise ValueError(f"{text} is not a whole number of nanoseconds")
     if delay > GREATEST_NUMBER:
         raise ValueError(f"{text} is longer than 2^64 - 1 nanoseconds")
     return delay / SECOND
+
+
+class Pauses:
+    """The pauses between tries that fail one after the other.
+
+    Each is twice as long as the one before, from `first` up to `longest`. From that a random part
+    is taken off, up to a half: clients that lose their server at the same moment do not all come
+    back at the same moment.
+    """
+
+    def __init__(self, first: Duration = 0.1, longest: Duration = 10.0) -> None:
+        self._first, self._longest = seconds(first), seconds(longest)
+        if self._first > self._longest:
+            raise ValueError("the first pause is at most the longest")
+        self._next = self._first
+
+    def next(self) -> float:
+        """The seconds of the pause before the next try."""
+        pause = self._next * random.uniform(0.5, 1.0)
+        self._next = min(2 * self._next, self._longest)
+        return pause
+
+    def reset(self) -> None:
+        """A try succeeded: the next pause is a first one."""
+        self._next = self._first
+
+
+class Age:
+    """The age of a session that begins now, and is old after so many seconds. None: never."""
+
+    def __init__(self, limit: float | None) -> None:
+        self.end = None if limit is None else time.monotonic() + limit
+
+    def is_over(self) -> bool:
+        return self.end is not None and time.monotonic() >= self.end
+
+
+class Ages:
+    """How old the sessions of a client may become.
+
+    One that was served late is brief, so that each of several clients that wait for a server's
+    workers has its turn. The first one may be brief, since it can't know whether others wait.
+    """
+
+    def __init__(self, limit: Duration | None, first_is_brief: bool) -> None:
+        self._limit = None if limit is None else seconds(limit)
+        self._is_next_brief = first_is_brief
+
+    def next(self, waited: float) -> Age:
+        """That of a session that is served now, after a wait of so many seconds."""
+        is_brief, self._is_next_brief = self._is_next_brief or waited >= WAITED, False
+        return Age(min(self._limit, BRIEF) if self._limit and is_brief else self._limit)

@@ -1,11 +1,8 @@
 """What may become of a request other than its answer, as exceptions.
 
-A connection that is lost raises an `OSError`, of which `DisconnectedError` and `TimeoutError` are kinds. Anything else
-is a `BrokerError`.
+A connection that is lost raises an `OSError`, of which `DisconnectedError` and `TimeoutError` are
+kinds. Anything else is a `BrokerError`.
 """
-from __future__ import annotations
-
-from typing import Dict, Type
 
 
 class BrokerError(Exception):
@@ -25,11 +22,12 @@ class StoppedError(BrokerError):
 
 
 class NotOfferedError(BrokerError):
-    """A producer found no server, or none with a free worker, in time. The job was not offered."""
+    """A producer found no server, or none with a free worker, in time. Nothing was offered."""
 
 
 class InDoubtError(BrokerError):
-    """A producer lost the connection between an offer and its reply. The job may have been offered or not."""
+    """A producer lost the connection between an offer and its reply. The job may have been offered
+    or not."""
 
 
 class RefusedError(BrokerError):
@@ -57,7 +55,8 @@ class NotHeldError(RefusedError):
 
 
 class FullError(RefusedError):
-    """`ERR 6`: the run has made as many calls as it has room for. Each further call will be refused too."""
+    """`ERR 6`: the run has made as many calls as it has room for. Each further call will be refused
+    too."""
 
 
 class OutOfMemoryError(RefusedError):
@@ -72,14 +71,9 @@ class HeldTooManyError(RefusedError):
     """`ERR 9`: the session already holds 64 jobs."""
 
 
-REFUSALS: Dict[bytes, Type[RefusedError]] = {
-    b"ERR 1 syntax": SyntaxRefusedError,
-    b"ERR 2 number": NumberRefusedError,
-    b"ERR 3 range": RangeRefusedError,
-    b"ERR 4 payload": PayloadRefusedError,
-    b"ERR 5 not-held": NotHeldError,
-    b"ERR 6 full": FullError,
-    b"ERR 7 memory": OutOfMemoryError,
-    b"ERR 8 line": LineRefusedError,
-    b"ERR 9 held": HeldTooManyError,
+REFUSALS = {
+    b"ERR 1 syntax": SyntaxRefusedError, b"ERR 2 number": NumberRefusedError,
+    b"ERR 3 range": RangeRefusedError, b"ERR 4 payload": PayloadRefusedError,
+    b"ERR 5 not-held": NotHeldError, b"ERR 6 full": FullError, b"ERR 7 memory": OutOfMemoryError,
+    b"ERR 8 line": LineRefusedError, b"ERR 9 held": HeldTooManyError,
 }

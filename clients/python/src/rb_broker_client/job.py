@@ -1,8 +1,13 @@
-"""The values that replies have: jobs, and what became of them. Moments are nanoseconds of the server's clock."""
+"""The values of requests and replies: their limits, jobs, and what became of jobs."""
 from __future__ import annotations
 
-from dataclasses import dataclass
-from typing import Tuple, Union
+from dataclasses import astuple, dataclass
+from typing import Union
+
+GREATEST_NUMBER = 2**64 - 1  # that a request or a reply may have
+LONGEST_PAYLOAD = 64  # characters, each of which is printable ASCII and none a space
+LONGEST_REPLY = 117  # bytes of a line, its line feed included
+MOST_HELD = 64  # jobs that a session may hold
 
 
 @dataclass(frozen=True)
@@ -15,30 +20,24 @@ class Offered:
 
 @dataclass(frozen=True, eq=False)
 class Job:
-    """An element of the queue: one that was given, or one that `peek` shows."""
+    """An element of the queue: one that was given, or one that `peek` shows. Its `attempt` is 1 for
+    the first attempt. Jobs of the same values are equal, whoever holds them."""
 
     id: int
     expires_at_ns: int
     attempt: int
-    """1 for the first attempt."""
     payload: str
 
     def __eq__(self, other: object) -> bool:
-        return isinstance(other, Job) and self._values() == other._values()  # whoever holds it
+        return isinstance(other, Job) and astuple(self) == astuple(other)
 
     def __hash__(self) -> int:
-        return hash(self._values())
-
-    def _values(self) -> Tuple[int, int, int, str]:
-        return self.id, self.expires_at_ns, self.attempt, self.payload
+        return hash(astuple(self))
 
 
 @dataclass(frozen=True)
-class Again:
-    """A job that failed and was offered again: the id of its next attempt, and when that expires."""
-
-    id: int
-    expires_at_ns: int
+class Again(Offered):
+    """A job that failed and was offered again: the id and the expiry of its next attempt."""
 
 
 @dataclass(frozen=True)
@@ -50,3 +49,20 @@ class Dead:
 
 Verdict = Union[Again, Dead]
 """What became of a job that failed."""
+
+
+@dataclass
+class Report:
+    """What became of the jobs that a worker took.
+
+    `done`: the handler returned, and the server was told. `again`: the handler raised an exception,
+    and the job was offered again. `dead`: it raised one in the last attempt. `lost`: it raised one
+    in a full run, which takes no job back, so that nobody will try it again. `unheard`: what the
+    server made of it is not known; unless it was told in time that the job is done, it comes back.
+    """
+
+    done: int = 0
+    again: int = 0
+    dead: int = 0
+    lost: int = 0
+    unheard: int = 0

@@ -1,19 +1,70 @@
-"""The requests of a client of servers, each with the line that asks it and the reader of its reply."""
+"""The requests of a client of servers, each with its line and the reader of its reply, which is as
+strict as the protocol: what is not the reply that is due raises `UnknownReplyError`."""
 from __future__ import annotations
 
 import re
+from collections.abc import Callable, Mapping
 from dataclasses import dataclass
-from typing import Callable, Generic, List, Optional, TypeVar
+from typing import Generic, NoReturn, Optional, TypeVar
 
-from . import replies
 from .durations import Duration, nanoseconds
-from .job import Job, Offered, Verdict
-from .limits import LONGEST_PAYLOAD
-from .replies import NextLine
+from .errors import REFUSALS, BrokerError, StoppedError, UnknownReplyError
+from .job import GREATEST_NUMBER, LONGEST_PAYLOAD, Again, Dead, Job, Offered, Verdict
 
 Answer = TypeVar("Answer")
+NextLine = Callable[[], bytes]
 
-_PAYLOAD = re.compile(r"[!-~]{1,%d}" % LONGEST_PAYLOAD)
+_NONE = {b"NONE": None}
+_PAYLOAD = "[!-~]{1,%d}" % LONGEST_PAYLOAD
+_WAITS: Mapping[bytes, type[BrokerError]] = {**REFUSALS, b"STOPPED": StoppedError}
+
+
+def _unknown(line: bytes) -> NoReturn:
+    raise UnknownReplyError(line.decode("ascii", "backslashreplace"))
+
+
+def _number(word: bytes) -> int:
+    number = int(word)
+    return number if number <= GREATEST_NUMBER else _unknown(word)
+
+
+_WORDS: Mapping[str, tuple[str, Callable[[bytes], object]]] = {
+    "#": ("(0|[1-9][0-9]{0,19})", _number),
+    "@": ("([1-9][0-9]{0,2}|1000)", int),  # an attempt
+    "%": ("([0-9]|[1-5][0-9]|6[0-4])", int),  # how many jobs a session may hold
+    "*": (f"({_PAYLOAD})", bytes.decode),
+}
+
+
+def _form(text: str, make: Callable[..., Answer]) -> Callable[[bytes], Answer]:
+    # Makes the answer of a line of this form, from the words that vary.
+    pattern = re.compile("".join(_WORDS[it][0] if it in _WORDS else it for it in text).encode())
+    converts = [_WORDS[it][1] for it in text if it in _WORDS]
+
+    def read(line: bytes) -> Answer:
+        found = pattern.fullmatch(line) or _unknown(line)
+        return make(*[convert(word) for convert, word in zip(converts, found.groups())])
+
+    return read
+
+
+def _reader(exact: Mapping[bytes, Answer], form: Callable[[bytes], Answer] = _unknown,
+            refusals: Mapping[bytes, type[BrokerError]] = REFUSALS) -> Callable[[NextLine], Answer]:
+    # Of a reply that is one of these lines, or of this form.
+    def read(next_line: NextLine) -> Answer:
+        line = next_line()
+        if line in exact:
+            return exact[line]
+        if line in refusals:
+            raise refusals[line](line.decode())
+        return form(line)
+
+    return read
+
+
+_item, _head = _form("ITEM # # @ *", Job), _form("HEAD # # @ *", Job)
+_offered, _again = _form("OFFERED # #", Offered), _form("AGAIN # #", Again)
+_count, _size = _reader({}, _form("DRAINED %", int)), _form("SIZE #", int)
 
 
 @dataclass
@@ -31,84 +82,87 @@ class Request(Generic[Answer]):
     def __str__(self) -> str:
         return self.line.decode("utf-8", "replace")
 
-    @staticmethod
-    def offer(payload: str, *, delay: Duration = 0) -> Request[Offered]:
-        """Offers an element that expires this delay from now, in seconds or as a `timedelta`. Raises `ValueError` for
-        a payload that is not 1 to 64 characters of printable ASCII without a space."""
-        return Request(b"OFFER %d %s" % (nanoseconds(delay), _payload(payload)), replies.read_offered)
+    @classmethod
+    def offer(cls, payload: str, *, delay: Duration = 0) -> Request[Offered]:
+        """Offers an element that expires this delay from now. Raises `ValueError` for a payload
+        that is not 1 to 64 characters of printable ASCII without a space."""
+        line = b"OFFER %d %s" % (nanoseconds(delay), _checked(payload))
+        return Request(line, _reader({}, _offered))
 
-    @staticmethod
-    def offer_at(payload: str, *, expires_at_ns: int) -> Request[Offered]:
-        """Offers an element that expires at this moment of the server's clock, which may have passed."""
-        return Request(b"OFFERAT %d %s" % (expires_at_ns, _payload(payload)), replies.read_offered)
+    @classmethod
+    def offer_at(cls, payload: str, *, expires_at_ns: int) -> Request[Offered]:
+        """Offers an element that expires at this moment of the server's clock, even a past one."""
+        line = b"OFFERAT %d %s" % (expires_at_ns, _checked(payload))
+        return Request(line, _reader({}, _offered))
 
-    @staticmethod
-    def poll() -> Request[Optional[Job]]:
+    @classmethod
+    def poll(cls) -> Request[Optional[Job]]:
         """Takes a job that has expired, or gives None if there is none."""
-        return Request(b"POLL", replies.read_given)
+        return Request(b"POLL", _reader(_NONE, _item))
 
-    @staticmethod
-    def poll_for(timeout: Duration) -> Request[Optional[Job]]:
-        """Takes a job, waiting for one up to this timeout. Gives None if none has expired by then."""
-        return Request(b"POLLFOR %d" % nanoseconds(timeout), replies.read_awaited)
+    @classmethod
+    def poll_for(cls, timeout: Duration) -> Request[Optional[Job]]:
+        """Takes a job, waiting for one up to this timeout. Gives None if none has expired."""
+        return Request(b"POLLFOR %d" % nanoseconds(timeout), _reader(_NONE, _item, _WAITS))
 
-    @staticmethod
-    def take() -> Request[Job]:
-        """Takes a job, and waits until there is one. Nothing cancels the wait, and a program that is killed meanwhile
-        may cost the next job an attempt, so a loop of `poll_for(1)` is better in a service."""
-        return Request(b"TAKE", replies.read_taken)
+    @classmethod
+    def take(cls) -> Request[Job]:
+        """Takes a job, and waits until there is one. Nothing cancels the wait, and a program that
+        is killed meanwhile may cost the next job an attempt, so a loop of `poll_for(1)` is better
+        in a service."""
+        return Request(b"TAKE", _reader({}, _item, _WAITS))
 
-    @staticmethod
-    def peek() -> Request[Optional[Job]]:
-        """Shows an element of least expiry, expired or not, or gives None if the queue is empty."""
-        return Request(b"PEEK", replies.read_head)
+    @classmethod
+    def peek(cls) -> Request[Optional[Job]]:
+        """Shows an element of least expiry, expired or not, or gives None if there is none."""
+        return Request(b"PEEK", _reader(_NONE, _head))
 
-    @staticmethod
-    def drain(most: int) -> Request[List[Job]]:
+    @classmethod
+    def drain(cls, most: int) -> Request[list[Job]]:
         """Takes up to so many jobs that have expired, and no more than the session may hold."""
-        return Request(b"DRAIN %d" % most, replies.read_drained)
+        return Request(b"DRAIN %d" % most, lambda next_line: [
+            _item(next_line()) for _ in range(_count(next_line))])
 
-    @staticmethod
-    def done(id: int) -> Request[None]:
+    @classmethod
+    def done(cls, id: int) -> Request[None]:
         """The job that is held under this id is finished."""
-        return Request(b"DONE %d" % id, replies.reader_of(b"DONE %d" % id))
+        return Request(b"DONE %d" % id, _reader({b"DONE %d" % id: None}))
 
-    @staticmethod
-    def fail(id: int) -> Request[Verdict]:
+    @classmethod
+    def fail(cls, id: int) -> Request[Verdict]:
         """The job that is held under this id failed now. Gives `Again` or `Dead`."""
-        return Request(b"FAIL %d" % id, replies.failed_reader(id))
+        return Request(b"FAIL %d" % id, _reader({b"DEAD %d" % id: Dead(id)}, _again))
 
-    @staticmethod
-    def remove(id: int) -> Request[bool]:
-        """Takes the element of this id out of the queue, expired or not. Gives whether it was there."""
-        return Request(b"REMOVE %d" % id, replies.read_removed)
+    @classmethod
+    def remove(cls, id: int) -> Request[bool]:
+        """Takes the element of this id out, expired or not. Gives whether it was there."""
+        return Request(b"REMOVE %d" % id, _reader({b"REMOVED yes": True, b"REMOVED no": False}))
 
-    @staticmethod
-    def clear() -> Request[None]:
+    @classmethod
+    def clear(cls) -> Request[None]:
         """Takes all elements out of the queue, expired or not."""
-        return Request(b"CLEAR", replies.reader_of(b"CLEARED"))
+        return Request(b"CLEAR", _reader({b"CLEARED": None}))
 
-    @staticmethod
-    def size() -> Request[int]:
+    @classmethod
+    def size(cls) -> Request[int]:
         """Counts the elements in the queue, expired or not."""
-        return Request(b"SIZE", replies.read_size)
+        return Request(b"SIZE", _reader({}, _size))
 
-    @staticmethod
-    def quit() -> Request[None]:
+    @classmethod
+    def quit(cls) -> Request[None]:
         """Ends the session. Nothing after it is served."""
-        return Request(b"QUIT", replies.reader_of(b"BYE"))
+        return Request(b"QUIT", _reader({b"BYE": None}))
 
-    @staticmethod
-    def greeting() -> Request[None]:
-        """Asks what each server refuses, so that nothing changes and no call is made. Its reply tells that the session
-        is served."""
-        return Request(b"AT 0", replies.reader_of(b"ERR 1 syntax"))
+    @classmethod
+    def greeting(cls) -> Request[None]:
+        """Asks what each server refuses, which is no call. The reply tells that it is served."""
+        return Request(b"AT 0", _reader({b"ERR 1 syntax": None}))
 
 
-def _payload(payload: str) -> bytes:
-    # What is no text could be written as one all the same: None would be offered as `None`.
-    if not isinstance(payload, str):
+def _checked(payload: str) -> bytes:
+    if not isinstance(payload, str):  # as None, which could be written as a text all the same
         raise TypeError(f"a payload is a str, not {type(payload).__name__}")
-    if not _PAYLOAD.fullmatch(payload):
-        raise ValueError(f"a payload is 1 to {LONGEST_PAYLOAD} characters of printable ASCII, no space: {payload!r}")
+    if not re.fullmatch(_PAYLOAD, payload):
+        raise ValueError(f"a payload is 1 to {LONGEST_PAYLOAD} characters of printable ASCII, "
+                         f"no space: {payload!r}")
     return payload.encode()

@@ -1,31 +1,38 @@
-"""Whether a server still has the run that a client knows."""
+"""What a client has seen of its server: whether it is there, and still has its run."""
 from __future__ import annotations
 
 import logging
-from typing import Dict, Tuple
 
-SHARDS = 64
-"""A broker on Redis may have so many queues under one name. Its ids count by this number, from that of the queue."""
-
-_PIECE, _MOST_PIECES = 1_024, 4_096  # ids of one number, of which each bit is an id, and how many numbers are kept
+SHARDS = 64  # queues that a broker on Redis may have under one name, by whose number ids count
+_PIECE, _MOST_PIECES = 1_024, 4_096  # ids of one number, of each a bit, and how many are kept
 
 
 class Run:
-    """What a client has seen of the run of a server. It logs an error when the server has lost that run.
-
-    A lost run begins again from where it had begun: its ids are given again, and its clock goes back.
-    """
+    """The run of a server. It logs an error when the server has lost that run, which begins again
+    then from where it had begun: its ids are given again, and its clock goes back. It also tells
+    the log when the server is away, and when it serves again, each once."""
 
     def __init__(self, log: logging.Logger, place: str) -> None:
         """`place` is what the log calls the server."""
-        self._log, self._place = log, place
+        self._log, self.place, self._is_away = log, place, False
         self._begin()
 
     def _begin(self) -> None:
-        self._offers: Dict[int, Tuple[int, int]] = {}  # of each queue: the last id of an offer, and its moment
+        self._offers: dict[int, tuple[int, int]] = {}  # of each queue: its last id and moment
         self._offered = 0  # offers of this client that were accepted
         self._given, self._returned = _Once(), _Once()
         self._greatest = -1  # the greatest id that was seen
+
+    def away(self, text: str, fault: OSError) -> None:
+        """There is no session. The text says so of a place and a reason."""
+        self._log.log(logging.DEBUG if self._is_away else logging.WARNING, text, self.place, fault)
+        self._is_away = True
+
+    def served(self) -> None:
+        """There is a session, and the server serves it."""
+        if self._is_away:
+            self._log.info("served again at %s", self.place)
+        self._is_away = False
 
     def offered(self, id: int, moment: int = 0) -> None:
         """An offer was accepted under this id, at this moment if that is known."""
@@ -53,9 +60,10 @@ class Run:
 
     def _lost(self, sign: str) -> None:
         self._log.error(
-            "the server at %s has lost its run: %s, and ids up to %d were known. What stood in its queue is gone, with "
-            "what was not done of the %d jobs that this client had offered, and ids of that run name other jobs now",
-            self._place, sign, self._greatest, self._offered)
+            "the server at %s has lost its run: %s, and ids up to %d were known. What stood in its "
+            "queue is gone, with what was not done of the %d jobs that this client had offered, "
+            "and ids of that run name other jobs now",
+            self.place, sign, self._greatest, self._offered)
         self._begin()
 
 
@@ -63,7 +71,7 @@ class _Once:
     """Ids that are seen once, in whatever order. Those that were seen long ago are forgotten."""
 
     def __init__(self) -> None:
-        self._pieces: Dict[int, int] = {}
+        self._pieces: dict[int, int] = {}
 
     def add(self, id: int) -> bool:
         """Sees an id. Gives whether it was not seen before."""

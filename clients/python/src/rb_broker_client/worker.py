@@ -1,279 +1,323 @@
 """Takes jobs and runs a handler on each."""
 from __future__ import annotations
 
+import asyncio
+import inspect
 import logging
+import math
 import ssl
 import threading
 import time
-from typing import ClassVar, Generic, List, Optional, Type, TypeVar
+from collections import deque
+from collections.abc import Awaitable, Callable
+from contextlib import ExitStack
+from dataclasses import dataclass
+from typing import ClassVar, Generic, Optional, TypeVar
 
-from . import handlers
-from .age import Ages
-from .blocking import Blocking, run, thread_of
-from .broker import AsyncBroker, Broker
-from .connection import Kind
-from .durations import Duration, seconds
-from .handlers import AsyncHandler, Handler, Handlers, OnDead
-from .looping import Looping
-from .pauses import Pauses
-from .presence import Presence
+from .broker import AsyncBroker, Broker, Session
+from .durations import Ages, Duration, Pauses, seconds
+from .job import MOST_HELD, Job, Report
 from .record import RecordTarget, check_record
-from .report import Report
 from .request import Request
 from .run import Run
-from .session import Session
-from .work import Terms, Work
+from .waiting import FOR_EVER, run, start_thread
+from .work import Work
 
 log = logging.getLogger(__name__)
 
-BESIDE = 1.0
-"""Seconds within which a session is to be connected while another one goes on, whose jobs end meanwhile."""
+BESIDE = 1.0  # seconds within which a session is to be connected beside another, whose jobs may end
+LONG = 60.0  # seconds after which a handler that runs is logged, and may hang
 
+Handler = Callable[[Job], object]
+"""Does a job, which is done when this returns, and fails when it raises an `Exception`."""
+AsyncHandler = Callable[[Job], Awaitable[object]]
+"""Does a job, as a `Handler`, for asyncio."""
+OnDead = Callable[[Job], object]
+"""Is told of a job that failed in its last attempt, and that the server no longer has. For an
+`AsyncWorker` it may be a coroutine function."""
 AnyHandler = TypeVar("AnyHandler", Handler, AsyncHandler)
 
 
-class _Visit:
-    """A session of a worker, from the moment at which it is connected."""
+@dataclass(eq=False)
+class _Call:
+    """A handler that runs, or what is told of a dead job, which is of no session any more."""
 
-    def __init__(self, session: Session) -> None:
-        self.session, self.began = session, time.monotonic()
-        self.work: Optional[Work] = None  # once the session is served
-        self.late = 0.0  # when the reply that is due is too late
+    function: Callable[[Job], object]
+    job: Job
+    work: Work | None
+    began: float
+    is_told: bool = False  # whether it has ended as far as the server is told
+    is_logged: bool = False
+    cancel: Callable[[], object] = lambda: None
 
 
 class BaseWorker(Generic[AnyHandler]):
-    """What `Worker` and `AsyncWorker` have in common. The coroutines are those of both kinds."""
+    """What `Worker` and `AsyncWorker` have in common. The coroutines are those of both."""
 
-    _kind: ClassVar[Kind]
-    _session_of: ClassVar[Type[Session]]
+    _session_of: ClassVar[type[Session]]
 
-    def __init__(self, handler: AnyHandler, port: int, host: str = "127.0.0.1", *, concurrency: int = 1,
-                 wait: Duration = 1.0, patience: Duration = 10.0, session: Optional[Duration] = 30.0,
-                 timeout: Optional[Duration] = None, on_dead: Optional[OnDead] = None,
-                 tls: Optional[ssl.SSLContext] = None, pauses: Optional[Pauses] = None,
-                 record: Optional[RecordTarget] = None) -> None:
+    def __init__(self, handler: AnyHandler, port: int, host: str = "127.0.0.1", *,
+                 concurrency: int = 1, wait: Duration = 1.0, patience: Duration = 10.0,
+                 session: Duration | None = 30.0, timeout: Duration | None = None,
+                 on_dead: OnDead | None = None, tls: ssl.SSLContext | None = None,
+                 pauses: Pauses | None = None, record: RecordTarget | None = None) -> None:
         """Connects to nothing yet. Durations are seconds or a `timedelta`.
 
-        `wait` is how long the worker waits for a job at a time, and so how long a stop takes at most while it is idle.
-        It makes a call each time. While jobs run a wait is a fifth of that, since a server reads nothing behind a wait:
-        the end of a job is told so much later at most. A reply that is `patience` late is taken for a lost session.
-        `session` is the age beyond which a session is left; None keeps each as long as it can be had. A job whose
-        handler takes longer than `timeout` fails; its place is free once the handler returns.
+        `wait` is how long the worker waits for a job at a time, and so how long a stop takes at
+        most while it is idle. It makes a call each time. While jobs run a wait is a fifth of that,
+        since a server reads nothing behind a wait: the end of a job is told so much later at most.
+        A reply that is `patience` late is taken for a lost session. `session` is the age beyond
+        which a session is left; None keeps each as long as it can be had. A job whose handler takes
+        longer than `timeout` fails; its place is free once the handler returns.
 
-        `on_dead` is called with each job whose failure the server answered with `DEAD`, and is the place to keep it.
-        It isn't called for a job whose last attempt ended with its session, of which no reply tells. An `Exception`
-        that it raises is logged. With `tls` the connection is encrypted, and the certificates are those of this
-        context. `record` is a path or an open text file to which a line is added for each request.
+        `on_dead` is called with each job whose failure the server answered with `DEAD`, and is the
+        place to keep it. It isn't called for a job whose last attempt ended with its session, of
+        which no reply tells. An `Exception` that it raises is logged. With `tls` the connection is
+        encrypted, and the certificates are those of this context. `record` is a path or an open
+        text file to which a line is added for each request.
         """
-        self._terms = Terms(concurrency, seconds(wait), f"{host}:{port}")
+        if not 1 <= concurrency <= MOST_HELD:
+            raise ValueError(f"from 1 to {MOST_HELD} jobs can run at the same time")
+        self._handler: Callable[[Job], object] = handler
+        self._on_dead, self._concurrency = on_dead, concurrency
         self._port, self._host, self._tls, self._record = port, host, tls, check_record(record)
-        self._patience, self._ages = seconds(patience), Ages(session, first_is_brief=True)
-        self._pauses = pauses or Pauses()
-        self._presence, self._run_known = Presence(log, self._terms.place), Run(log, self._terms.place)
-        self._wakeup = self._kind.wakeup()
-        self._handlers = Handlers(self._kind, handler, on_dead, timeout, concurrency, self._wakeup)
+        self._wait, self._patience = seconds(wait), seconds(patience)
+        self._timeout = math.inf if timeout is None else seconds(timeout)
+        self._ages, self._pauses = Ages(session, first_is_brief=True), pauses or Pauses()
+        self._run_known = Run(log, f"{host}:{port}")
+        self._runner = self._session_of._kind.runner(concurrency > 1 or timeout is not None)
         self._is_stopping = False
-        self._visits: List[_Visit] = []  # two at most, the older one first
+        self._visits: dict[Work, Session] = {}  # two at most, the older one first
         self._next_visit = self._last_end = 0.0  # when the next may begin, and when one has ended
+        self._calls: set[_Call] = set()  # that run
+        self._ends: deque[tuple[_Call, bool, Optional[BaseException]]] = deque()
+        self._next_look = math.inf  # when one of them may have been running for too long
         self.report = Report()
 
     def stop(self, *_: object) -> None:
-        """Lets `run` end once the jobs in hand are settled. Other threads and signal handlers may call it, and it can
-        be a signal's handler itself: `signal.signal(signal.SIGTERM, worker.stop)`."""
+        """Lets `run` end once the jobs in hand are settled. Other threads and signal handlers may
+        call it, and it can be a signal's handler itself: `signal.signal(signal.SIGTERM,
+        worker.stop)`."""
         self._is_stopping = True
-        self._wakeup.wake()
+        self._runner.wake()
 
     async def _work(self) -> Report:
-        """Works until `stop`. At the end no job is held, and each session has ended."""
         try:
-            while not self._is_finished():
-                await self._step()
+            # Handlers that took too long are not waited for.
+            while not self._is_stopping or self._visits or not all(
+                    it.is_told for it in self._calls):
+                now = time.monotonic()
+                await self._begin(now)
+                await self._runner.wait(self._pause(now))
+                self._settle()
+                for work, session in [*self._visits.items()]:
+                    try:
+                        self._receive(work, session)
+                        await self._attend(work, session)
+                    except OSError as fault:
+                        self._run_known.away("the session at %s was lost: %s", fault)
+                        self._end(work, self._pauses.next())
         finally:
-            for visit in [*self._visits]:
-                self._end(visit)
-            await self._handlers.close()
+            for work in [*self._visits]:
+                self._end(work)
+            await self._runner.close()
         return self.report
 
-    def _is_finished(self) -> bool:
-        return self._is_stopping and not self._visits and self._handlers.are_settled()
-
-    async def _step(self) -> None:
-        """Tells and asks what is to be told and asked, waits until something happens, and takes what has come."""
-        self._handlers.settle()
-        if self._may_begin():
-            await self._begin()
-        for visit in [*self._visits]:
-            try:
-                await self._attend(visit)
-            except OSError as fault:
-                self._lose(visit, fault)
-        await self._wakeup.wait(self._pause())
-        for visit in [*self._visits]:
-            try:
-                self._receive(visit)
-            except OSError as fault:
-                self._lose(visit, fault)
-
-    def _may_begin(self) -> bool:
-        """Whether a session is to be begun: there is none, or the one that there is fetches no more since it is old,
-        and waits for jobs that may take long."""
-        if self._is_stopping or self._handlers.running >= self._terms.concurrency or time.monotonic() < self._next_visit:
-            return False
-        works = [it.work for it in self._visits]
-        return not works or len(works) == 1 and works[0] is not None and works[0].is_old and works[0].is_holding
-
-    async def _begin(self) -> None:
-        """Begins a session. Nothing is fetched before it is served: a `POLLFOR` that waits for a busy server can't be
-        taken back, and if the worker left meanwhile it would cost a job one attempt."""
+    async def _begin(self, now: float) -> None:
+        """Begins a session if there is none, or the one that there is fetches no more since it is
+        old, and waits for jobs that may take long. Nothing is fetched before it is served: a
+        `POLLFOR` that waits for a busy server can't be taken back, and if the worker left meanwhile
+        it would cost a job one attempt."""
+        if self._visits and not (len(self._visits) == 1 and [*self._visits][0].is_lingering):
+            return
+        if self._is_stopping or now < self._next_visit or len(self._calls) >= self._concurrency:
+            return
+        patience = min(self._patience, BESIDE) if self._visits else self._patience
         try:
-            session = await self._greeted(min(self._patience, BESIDE) if self._visits else self._patience)
+            session = self._session_of(self._port, self._host, patience, tls=self._tls,
+                                       record=self._record)
+            with ExitStack() as undo:
+                undo.callback(session.close)
+                await session._connect()
+                await session._send(Request.greeting())
+                undo.pop_all()
         except OSError as fault:
-            self._presence.lost("no server at %s: %s", fault)
+            self._run_known.away("no server at %s: %s", fault)
             self._next_visit = time.monotonic() + self._pauses.next()
-        else:
-            session.connection.patience = self._patience
-            self._visits.append(_Visit(session))
-            self._wakeup.watch(session.connection)
-
-    async def _greeted(self, patience: float) -> Session:
-        session = self._session_of(self._port, self._host, patience, tls=self._tls, record=self._record)
-        try:
-            await session._connect()
-            await session._send(Request.greeting())
-        except BaseException:
-            session.close()
-            raise
-        return session
-
-    async def _attend(self, visit: _Visit) -> None:
-        """Sends what is to be sent in a session now, or leaves it."""
-        work, running, was_due = visit.work, self._handlers.running, visit.session.unanswered > 0
-        if work is None:
-            if self._is_stopping:
-                self._end(visit)
             return
-        if not work.is_over(self._is_stopping):
-            fetching = sum(it.work.fetching for it in self._visits if it.work is not None)
-            free = self._terms.concurrency - running - fetching
-            questions = work.ask(free, running, self._is_stopping, self._stays(visit))
-            if questions:
-                await visit.session._send(*questions)
-            if not was_due:
-                visit.late = self._late()
-        if work.is_over(self._is_stopping):
-            await visit.session._quit()
-            self._end(visit)
-            if work.is_used_up:
-                self._next_visit = time.monotonic() + self._pauses.next()
+        session.patience, session.is_fed = self._patience, True
+        self._runner.watch(session)
+        self._visits[Work(self._wait, self.report, self._pauses, self._run_known)] = session
 
-    def _stays(self, visit: _Visit) -> bool:
-        """Whether a session fetches on though it is old: there are two already, or the next one is not served and this
-        one can't end soon. In that case others would not have its place either."""
-        if len(self._visits) == 1 or visit is self._visits[1]:
-            return len(self._visits) == 2
-        return self._visits[1].work is None and visit.work is not None and self._handlers.take_long(visit.work)
+    def _pause(self, now: float) -> float:
+        """Within how many seconds something is to be done though nothing happens."""
+        pause = min(self._next_look - now, FOR_EVER)
+        if self._next_visit > now:
+            pause = min(self._next_visit - now, pause)
+        for work, session in self._visits.items():
+            pause = min(self._late(work, session) - now, work.pause(), pause)
+        return max(pause, 0)
 
-    def _receive(self, visit: _Visit) -> None:
-        """Takes the answers that have come in a session."""
-        answers = visit.session.receive_ready()
-        if visit.work is None:
-            for it in answers:
-                self._serve(visit, it)
-            return
-        if answers:
-            visit.late = self._late()
-        elif visit.session.unanswered and time.monotonic() >= visit.late:
+    def _late(self, work: Work, session: Session) -> float:
+        # Even a reply to a wait.
+        late = session.dialogue.due_since + self._patience + self._wait
+        return late if work.is_served else math.inf
+
+    def _receive(self, work: Work, session: Session) -> None:
+        for answer in session.receive_ready():
+            if work.is_served:
+                work.answered(answer)
+            elif isinstance(answer, Exception):
+                raise answer
+            else:  # to the greeting: the server has a worker for this session
+                self._run_known.served()
+                waited = time.monotonic() - max(work.began, self._last_end)  # for others
+                work.age, work.is_served = self._ages.next(waited), True
+        if time.monotonic() >= self._late(work, session):
             raise TimeoutError(f"the server did not answer within {self._patience} seconds")
-        for it in answers:
-            visit.work.answered(it)
-        self._handlers.start(visit.work)
+        for job in work.given:
+            self._start(self._handler, job, work)
+        if self._on_dead is not None:
+            for job in work.dead:
+                self._start(self._on_dead, job, None)
+        work.given, work.dead = [], []
+        self._settle()
 
-    def _serve(self, visit: _Visit, answer: object) -> None:
-        """The server has a worker for a session, as the answer to the greeting tells."""
-        if isinstance(answer, Exception):
-            raise answer
-        self._presence.served()
-        waited = time.monotonic() - max(visit.began, self._last_end)  # not while this worker itself took the place
-        visit.work = Work(self._terms, self.report, self._pauses, self._ages.next(waited), self._run_known)
+    async def _attend(self, work: Work, session: Session) -> None:
+        if work.is_served and not work.is_over(self._is_stopping):
+            running = len(self._calls)
+            free = self._concurrency - running - sum(it.fetching for it in self._visits)
+            questions = work.ask(free, running, self._is_stopping, self._stays(work))
+            if questions:
+                await session._send(*questions)
+        if work.is_over(self._is_stopping):
+            if work.is_served:
+                await session._quit()
+            self._end(work, self._pauses.next() if work.is_used_up else 0)
 
-    def _late(self) -> float:
-        """When a reply is too late whose request is read now, even one to a wait."""
-        return time.monotonic() + self._patience + self._terms.wait
+    def _stays(self, work: Work) -> bool:
+        # Though a session is old it fetches on if there are two already, or if the next one is not
+        # served and this one can't end soon: others would not have its place either.
+        if len(self._visits) < 2:
+            return False
+        _, last = self._visits
+        limit = time.monotonic() - LONG
+        return work is last or not last.is_served and any(
+            it.work is work and not it.is_told and it.began <= limit for it in self._calls)
 
-    def _lose(self, visit: _Visit, fault: OSError) -> None:
-        self._presence.lost("the session at %s was lost: %s", fault)
-        self._end(visit)
-        self._next_visit = time.monotonic() + self._pauses.next()
-
-    def _end(self, visit: _Visit) -> None:
-        """Hangs up. The end of what runs is told to nobody."""
-        if visit.work is not None:
-            visit.work.lost()
-        visit.session.close()
-        self._visits.remove(visit)
+    def _end(self, work: Work, pause: float = 0) -> None:
+        work.lost()
+        self._visits.pop(work).close()
         self._last_end = time.monotonic()
+        self._next_visit = max(self._next_visit, self._last_end + pause)
 
-    def _pause(self) -> Optional[float]:
-        """Within how many seconds something is to be done though nothing happens. None: never."""
-        if self._is_finished() or self._may_begin():
-            return 0
-        now = time.monotonic()
-        times = [self._next_visit - now] if self._next_visit > now else []
-        for visit in self._visits:
-            if visit.work is not None:
-                times += [visit.late - now] if visit.session.unanswered else []
-                times += [it for it in [visit.work.pause()] if it is not None]
-        times += [it for it in [self._handlers.pause()] if it is not None]
-        return max(min(times), 0) if times else None
+    def _start(self, function: Callable[[Job], object], job: Job, work: Work | None) -> None:
+        call = _Call(function, job, work, time.monotonic())
+        self._next_look = min(self._next_look, call.began + min(LONG, self._timeout))
+        self._calls.add(call)
+        call.cancel = self._runner.start(self._run(call), len(self._calls) - 1)
 
-
-class Worker(BaseWorker[Handler]):
-    """Takes jobs and runs the handler on each, up to `concurrency` of them at the same time.
-
-    With a `concurrency` of 1 and no `timeout` the handler runs in the thread of `run`, and else in up to 64 threads of
-    its own: it must bear to be called by several at a time.
-
-    It has one session at a time. One that is older than `session` fetches no more and ends with its last job; if that
-    may take long the next begins beside it. So a server which is to be replaced can end, and other clients have their
-    turn. Where others may be waiting a session is left after three seconds. When a session is lost the worker connects
-    again, after pauses that grow while no server answers. So a job may be handled more than once, even if its handler
-    returned: when the session is lost before the server has read that the job is done, it comes back as its next
-    attempt.
-
-    It never fetches more jobs than it can start at once. Each session keeps one of the server's workers busy.
-    """
-
-    _kind, _session_of = Blocking, Broker
-
-    def run(self) -> Report:
-        """Works until `stop`, once for each worker. At the end no job is held, and the session has ended."""
-        is_over = threading.Event()
-
-        def watch() -> None:  # while a handler runs in the thread of `run`, nothing else does there
-            while not is_over.wait(handlers.LONG / 4):
-                self._handlers.log_long()
-
-        if self._handlers.are_here:
-            thread_of(watch, "rb_broker_client-watches")
+    async def _run(self, call: _Call) -> None:
+        job, is_done, fault = call.job, False, None
         try:
-            return run(self._work())
-        finally:
-            is_over.set()
+            called = call.function(job)
+            if self._session_of._kind.is_async and inspect.isawaitable(called):
+                await called
+            is_done = True
+        except Exception:
+            if call.work is None:
+                log.error("on_dead failed for job %s", job.payload, exc_info=True)
+            else:
+                log.warning("attempt %d of job %s failed", job.attempt, job.payload, exc_info=True)
+        except asyncio.CancelledError:
+            if call.work is not None and not call.is_told:
+                log.warning("attempt %d of job %s was cancelled", job.attempt, job.payload)
+        except BaseException as raised:  # for the caller of `run`
+            fault = raised
+        self._ends.append((call, is_done, fault))
+
+    def _settle(self) -> None:
+        while self._ends:
+            call, is_done, fault = self._ends.popleft()
+            self._calls.discard(call)
+            if fault is not None:
+                raise fault
+            if call.work is not None and not call.is_told:
+                call.work.ended(call.job, is_done)
+        if time.monotonic() >= self._next_look:
+            self._look()
+
+    def _look(self) -> None:
+        now = time.monotonic()
+        for it in [*self._calls]:  # which another thread may do too
+            if it.work is None:
+                continue
+            if it.began + LONG <= now and not it.is_logged:
+                it.is_logged = True
+                log.warning("the handler of job %s, attempt %d, has been running for %g seconds",
+                            it.job.payload, it.job.attempt, LONG)
+            if it.began + self._timeout <= now and not it.is_told:
+                log.error("the handler of job %s, attempt %d, takes longer than %g seconds: "
+                          "the job fails", it.job.payload, it.job.attempt, self._timeout)
+                it.is_told = True
+                it.work.ended(it.job, False)
+                it.cancel()
+        looks = [it.began + limit for it in [*self._calls] for limit in (LONG, self._timeout)]
+        self._next_look = min((it for it in looks if it > now), default=math.inf)
 
 
 class AsyncWorker(BaseWorker[AsyncHandler]):
-    """Takes jobs and runs the handler on each, up to `concurrency` of them at the same time, as `Worker`, for asyncio.
+    """Takes jobs and runs the handler on each, up to `concurrency` of them at the same time, as
+    `Worker`, for asyncio.
 
         worker = AsyncWorker(deliver, 7011, concurrency=64)
         asyncio.get_running_loop().add_signal_handler(signal.SIGTERM, worker.stop)
         report = await worker.run()
 
-    Each job is a task of the loop, which is cancelled after `timeout`. If `run` is cancelled so are these tasks, and
-    the session ends with their jobs.
+    Each job is a task of the loop, which is cancelled after `timeout`. If `run` is cancelled so are
+    these tasks, and the session ends with their jobs.
     """
 
-    _kind, _session_of = Looping, AsyncBroker
+    _session_of = AsyncBroker
 
     async def run(self) -> Report:
-        """Works until `stop`, once for each worker. At the end no job is held, and the session has ended."""
+        """Works until `stop`, once for each worker. At the end no job is held, and the session has
+        ended."""
         return await self._work()
+
+
+class Worker(BaseWorker[Handler]):
+    """Takes jobs and runs the handler on each, up to `concurrency` of them at the same time.
+
+    With a `concurrency` of 1 and no `timeout` the handler runs in the thread of `run`, and else in
+    up to 64 threads of its own: it must bear to be called by several at a time.
+
+    It has one session at a time. One that is older than `session` fetches no more and ends with its
+    last job; if that may take long the next begins beside it. So a server which is to be replaced
+    can end, and other clients have their turn. Where others may be waiting a session is left after
+    three seconds. When a session is lost the worker connects again, after pauses that grow while no
+    server answers. So a job may be handled more than once, even if its handler returned: when the
+    session is lost before the server has read that the job is done, it comes back as its next
+    attempt.
+
+    It never fetches more jobs than it can start at once. Each session keeps one of the server's
+    workers busy.
+    """
+
+    _session_of = Broker
+
+    def run(self) -> Report:
+        """Works until `stop`, once for each worker. At the end no job is held, and the session has
+        ended."""
+        is_over = threading.Event()
+
+        def watch() -> None:  # while a handler runs in the thread of `run`, nothing else does there
+            while not is_over.wait(LONG / 4):
+                self._look()
+
+        if not self._runner.is_apart:
+            start_thread(watch, "watches")
+        try:
+            return run(self._work())
+        finally:
+            is_over.set()

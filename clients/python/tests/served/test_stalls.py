@@ -87,7 +87,7 @@ class HangTest(ServedTest):
 
     def test_where_the_server_has_no_worker_for_the_next(self):
         """The session that it has fetches on, once it is clear that its job takes long."""
-        with unittest.mock.patch("rb_broker_client.handlers.LONG", 2 * AGE):
+        with unittest.mock.patch("rb_broker_client.worker.LONG", 2 * AGE):
             server = self.serve("--workers", 1, "--sessions", 100)
             worker, thread = self.work(server, Worker, session=0.2)
             with Producer(server.port, session=None) as producer:

@@ -8,7 +8,7 @@ import rb_broker_client
 
 SOURCE = os.path.dirname(rb_broker_client.__file__)
 TOP = os.path.realpath(os.path.join(SOURCE, *[os.pardir] * 4))
-STANDS_ON = {"session": "dialogue", "producer": "tries", "worker": "work"}  # what both kinds of client are made of
+STANDS_ON = {"broker": "dialogue", "producer": "durations", "worker": "work"}  # what both kinds of client are made of
 DEVICES = {"asyncio", "select", "selectors", "signal", "socket", "ssl", "subprocess", "threading"}
 
 
@@ -39,7 +39,7 @@ def all_below(module):
 
 class LayersTest(unittest.TestCase):
     def test_the_protocol_knows_no_socket_thread_or_loop(self):
-        for module in ("dialogue", "work", "tries"):
+        for module in ("dialogue", "work", "durations"):
             for it in all_below(module):
                 self.assertEqual(imports_of(it)[1] & DEVICES, set(), f"{it}, below {module}")
 

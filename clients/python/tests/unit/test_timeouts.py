@@ -68,7 +68,7 @@ class LongTest(WorkerCase):
     def setUp(self):
         logging.disable(logging.NOTSET)
         self.addCleanup(logging.disable, logging.CRITICAL)
-        patch = unittest.mock.patch("rb_broker_client.handlers.LONG", LIMIT)
+        patch = unittest.mock.patch("rb_broker_client.worker.LONG", LIMIT)
         patch.start()
         self.addCleanup(patch.stop)
         super().setUp()

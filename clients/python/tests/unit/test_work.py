@@ -6,9 +6,9 @@ import unittest.mock
 from rb_broker_client import (
     Again, Dead, FullError, HeldTooManyError, Job, NotHeldError, OutOfMemoryError, Pauses, Report, StoppedError,
 )
-from rb_broker_client.age import Age
+from rb_broker_client.durations import Age
 from rb_broker_client.run import Run
-from rb_broker_client.work import Terms, Work
+from rb_broker_client.work import Work
 
 A, B = Job(0, 5, 1, "a"), Job(1, 6, 1, "b")
 WAIT, BRIEF = "POLLFOR 1000000000", "POLLFOR 200000000"
@@ -20,16 +20,15 @@ class WorkTest(unittest.TestCase):
         logging.disable(logging.CRITICAL)
         self.addCleanup(logging.disable, logging.NOTSET)
         self.moment = 1_000.0
-        for module in ("work", "age"):
+        for module in ("work", "durations"):
             patch = unittest.mock.patch(f"rb_broker_client.{module}.time")
             patch.start().monotonic.side_effect = lambda: self.moment
             self.addCleanup(patch.stop)
         self.report = Report()
 
     def begin(self, concurrency=1, age=None, pauses=None):
-        terms = Terms(concurrency, 1.0, "a place")
         run = Run(logging.getLogger("rb_broker_client.worker"), "a place")
-        self.work = Work(terms, self.report, pauses or Pauses(first=PAUSE, longest=PAUSE), Age(age), run)
+        self.work = Work(1.0, self.report, pauses or Pauses(first=PAUSE, longest=PAUSE), run, Age(age))
         self.concurrency = concurrency
 
     def asked(self, running=0, is_stopping=False):
@@ -61,6 +60,15 @@ class WorkTest(unittest.TestCase):
             self.assertEqual(self.asked(), [WAIT])
             self.moment += PAUSE + 0.01
             self.work.answered(StoppedError("STOPPED"))
+
+    def test_what_falls_due_between_a_look_and_the_pause_behind_it_is_not_slept_over(self):
+        self.begin()
+        self.asked()
+        self.work.answered(StoppedError("STOPPED"))
+        self.assertEqual(self.asked(), [])
+        self.moment += PAUSE + 0.01
+        self.assertEqual(self.work.pause(), 0)
+        self.assertEqual(self.asked(), [WAIT])
 
     def test_pauses_between_waits_grow_only_while_each_is_given_up_at_once(self):
         self.begin(pauses=Pauses(first=0.1, longest=100.0))

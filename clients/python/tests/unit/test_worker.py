@@ -163,14 +163,14 @@ class AgeTest(WorkerCase):
     def test_without_being_told_it_is_thirty_seconds(self):
         sessions = [GIVES_A, ("DONE 0", "DONE 0"), GIVES_A, ("DONE 0", "DONE 0"), GOODBYE]
         seconds = iter([2.5, 0.5, 29.5, 0.5])  # the first session is brief
-        with unittest.mock.patch("rb_broker_client.age.time") as clock:
+        with unittest.mock.patch("rb_broker_client.durations.time") as clock:
             clock.monotonic.return_value = 1_000.0
             worker = self.work(sessions, sessions, self.last(), handler=lambda _: pass_on(clock, next(seconds)))
             self.assertEqual(worker.run(), Report(done=4))
 
     def test_none_keeps_it(self):
         sessions = [[GIVES_A, ("DONE 0", "DONE 0"), *self.last()]]
-        with unittest.mock.patch("rb_broker_client.age.time") as clock:
+        with unittest.mock.patch("rb_broker_client.durations.time") as clock:
             clock.monotonic.return_value = 1_000.0
             worker = self.work(*sessions, handler=lambda _: pass_on(clock, 1e9), session=None)
             self.assertEqual(worker.run(), Report(done=1))
