@@ -164,7 +164,8 @@ class BaseWorker(Generic[AnyHandler]):
         return late if work.is_served else math.inf
 
     def _receive(self, work: Work, session: Session) -> None:
-        for answer in session.receive_ready():
+        answers = session.receive_ready()
+        for answer in answers:
             if work.is_served:
                 work.answered(answer)
             elif isinstance(answer, Exception):
@@ -173,7 +174,7 @@ class BaseWorker(Generic[AnyHandler]):
                 self._run_known.served()
                 waited = time.monotonic() - max(work.began, self._last_end)  # for others
                 work.age, work.is_served = self._ages.next(waited), True
-        if time.monotonic() >= self._late(work, session):
+        if not answers and time.monotonic() >= self._late(work, session):
             raise TimeoutError(f"the server did not answer within {self._patience} seconds")
         for job in work.given:
             self._start(self._handler, job, work)
