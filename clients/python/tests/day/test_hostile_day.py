@@ -187,7 +187,7 @@ class HostileDayTest(ServedTest):
     def judge(self, said):
         for number in range(len(self.histories)):
             self.verify(number)
-        history, told = History(*self.histories), ends_in(self.records)
+        history, told, told_to_killed = History(*self.histories), ends_in(self.records), ends_in(self.killed)
         attempts, given = history.attempts(), {}
         for it in map(history.elements.get, history.given):
             given.setdefault(it.payload, []).append(it.attempt)
@@ -200,7 +200,7 @@ class HostileDayTest(ServedTest):
             self.assertLessEqual(told[payload, offered[-1]].count("DONE"), 1, payload)
             if not done:
                 named.append(int(payload))
-                if "ITEM" not in told[payload, offered[-1]]:
+                if "ITEM" not in told_to_killed[payload, offered[-1]]:
                     unseen.append(int(payload))
         self.assertEqual({*range(JOBS)} - {*map(int, attempts)} - {*self.doubted}, set())
         self.assertLessEqual(len(unseen), self.lost, unseen)
