@@ -39,8 +39,8 @@ import org.junit.rules.Timeout;
 public class HostileDayTest {
     private static final int JOBS = Integer.getInteger("rbbroker.jobs", 2_000);
     private static final int WORKERS = 3;
-    /** Those of a server. More than a run uses, and no more, as it takes time to use up the rest. */
-    private static final int SESSIONS = 1_500 + JOBS / 8;
+    /** Those of a server. More than a run uses on a busy machine, and no more, as it takes time to use up the rest. */
+    private static final int SESSIONS = 1_500 + JOBS / 4;
     private static final Object[] POLICY = {"--delay", 2_000_000, "--attempts", 1_000};
 
     @Rule
@@ -192,7 +192,7 @@ public class HostileDayTest {
 
     private void waitUntilFull() throws Exception {
         while (!ask("SIZE").equals("ERR 6 full")) {
-            Thread.sleep(200);
+            Thread.sleep(500);
         }
     }
 

@@ -46,6 +46,7 @@ final class Nuisance extends Thread {
                 if (socket.getLocalPort() != port) {
                     sessions.incrementAndGet();
                     play(socket);
+                    pause(random(800)); // a server has only so many sessions
                 }
             } catch (IOException gone) {
                 pause(100); // the server ends, or another follows it
