@@ -162,8 +162,9 @@ class AgeTest(WorkerCase):
 
     def test_without_being_told_it_is_thirty_seconds(self):
         sessions = [GIVES_A, ("DONE 0", "DONE 0"), GIVES_A, ("DONE 0", "DONE 0"), GOODBYE]
-        seconds = iter([2.5, 0.5, 29.5, 0.5])  # the first session is brief
-        with unittest.mock.patch("rb_broker_client.durations.time") as clock:
+        seconds = iter([2.5, 0.5, 29.5, 0.5])  # the first session is brief, and none is served late
+        with unittest.mock.patch("rb_broker_client.durations.time") as clock, \
+                unittest.mock.patch("rb_broker_client.durations.WAITED", PATIENCE):
             clock.monotonic.return_value = 1_000.0
             worker = self.work(sessions, sessions, self.last(), handler=lambda _: pass_on(clock, next(seconds)))
             self.assertEqual(worker.run(), Report(done=4))
