@@ -8,7 +8,8 @@
     clock.py, opening.py                     what a run begins with: its moment, its ids and its elements
     deciding.py                              how a service begins, when a run ends, and which old ones are dropped
     keeper.py, keeping.py                    the process that holds a server and its history, and how it is found
-    server.py, visits.py, cutting.py         a server, how its sessions are used up, and how they are cut
+    server.py, cutting.py                    a server, and how its sessions are cut
+    visits.py, crowd.py                      how its sessions are used up, and its clients come to leave soon
     watch.py, sockets.py, session.py, looking.py  what is seen of a server
     signals.py, saying.py, notifying.py      how others ask for the end, and what they are told
     showing.py       what the service shows of itself

@@ -5,6 +5,7 @@ import time
 from typing import Optional, Tuple
 
 from servicing.clock import elapsed, read_clock
+from servicing.crowd import STAYS, Crowd
 from servicing.deciding import Seen, is_to_prepare, why_to_end
 from servicing.durations import SECOND, text_of
 from servicing.looking import Limits, silent_ports
@@ -29,6 +30,7 @@ class Current:
         self.watch = Watch(settings.port, Limits(settings.workers, record.calls, settings.sessions, record.next_id,
                                                  record.moment, record.opening), parts.showing)
         self._visits: Optional[Visits] = None  # which use up most sessions in the last part of the run
+        self._crowd: Optional[Crowd] = None  # so that clients come to leave soon
         self.why = Reason.UNKNOWN  # it ends
         self.closed: Optional[float] = None  # since when new clients are served no longer, by the monotonic clock
         self.held_by: Tuple[str, ...] = ()
@@ -60,6 +62,13 @@ class Current:
             if self._visits is not None:
                 self._visits.stop()
 
+    def leave(self) -> None:
+        """Ends the service's own sessions. Until the run has ended the crowd stays: whoever comes while the last
+        sessions are used up has to wait, too."""
+        self.watch.own.drop()
+        if self._crowd is not None:
+            self._crowd.stop()
+
     def _see_beginning(self) -> None:
         """Writes down since when the server's clock goes, as soon as the server has shown it."""
         record, began = self.record, self.watch.looks.began
@@ -78,18 +87,23 @@ class Current:
         return why_to_end(Seen(
             age=self._age, every=settings.every / SECOND, ending=settings.stop_within / SECOND, calls=looks.calls,
             sessions=looks.sessions, is_full=own.is_full, unanswered=own.waits,
-            free_workers=settings.workers - looks.served, waiting=looks.waiting,
+            free_workers=settings.workers - looks.served, waiting=looks.waiting_long,
             elements=looks.queue.elements if looks.queue else None, moment=looks.moment, aside=self.record.aside,
             first_aside=self._first_aside, leaving=looks.leaving,
             is_prepared=self._visits is not None and self._visits.are_made))
 
     def _prepare_end(self) -> None:
-        """In the last part of a run, uses up most of its sessions, so that its end takes no time."""
-        settings = self._parts.settings
-        if self._visits is None and is_to_prepare(self._age, settings.every / SECOND):
-            sessions = self.watch.looks.sessions
-            most = max(sessions.limit - sessions.used - RESERVE, 0)
-            self._visits = Visits(settings.port, most, self._parts.keeping.make_room())
+        """In the last part of a run, uses up most of its sessions, and lets clients come to leave soon, so that its end
+        takes no time."""
+        settings, every, looks = self._parts.settings, self._parts.settings.every / SECOND, self.watch.looks
+        free = settings.workers - looks.served
+        if self._visits is None and is_to_prepare(self._age, every):
+            crowded = max(free, 1) / STAYS * (every - self._age)  # sessions that the crowd takes
+            most = max(looks.sessions.limit - looks.sessions.used - RESERVE - int(crowded), 0)
+            self._visits, self._crowd = Visits(settings.port, most, self._parts.keeping.make_room()), Crowd(settings.port)
+            looks.crowd = self._crowd.ports
+        if self._crowd is not None:
+            self._crowd.free = free
 
     def _cut_silent(self) -> None:
         silent = self._parts.settings.silent

@@ -90,6 +90,7 @@ class Looks:
 
     def __init__(self, limits: Limits, own: OwnSession) -> None:
         self._limits, self._own = limits, own
+        self.crowd: Set[int] = set()  # the ports of sessions that the service begins beside its own
         self._unread: Set[str] = set()  # the connections with a queue to the client at the last look
         self._seen: Set[str] = set()  # the connections that were served at the last look
         self._used_sessions = self._used_calls = 0
@@ -105,12 +106,13 @@ class Looks:
 
     def see(self, sockets: Sockets) -> None:
         """Takes what the system tells of the connections."""
-        own = self._own.own_port
-        served = {it.key for it in sockets.connections if it.is_served}
+        crowd = {*self.crowd}
+        own = {self._own.own_port, *crowd}
+        served = {it.key for it in sockets.connections if it.is_served and it.port not in crowd}
         self._used_sessions += len(served - self._seen)
         self._seen = served
-        self._time_sessions({it.key for it in sockets.connections if it.is_served and it.port != own})
-        self.connections = [it for it in sockets.connections if it.port != own]
+        self._time_sessions({it.key for it in sockets.connections if it.is_served and it.port not in own})
+        self.connections = [it for it in sockets.connections if it.port not in own]
         clients = [client_of(it, it.key in self._unread) for it in self.connections if not has_given_up(it)]
         self._unread = {it.key for it in sockets.connections if it.send_queue}
         clients.sort(key=lambda it: (ORDER.index(it.doing), -(it.seconds or 0)))
@@ -161,6 +163,12 @@ class Looks:
     def waiting(self) -> int:
         """The clients that wait for a worker, and have not given up."""
         return sum(not it.is_served and not it.has_hung_up for it in self.connections)
+
+    @property
+    def waiting_long(self) -> int:
+        """Those among them that have waited for more than a moment."""
+        return sum(not it.is_served and not it.has_hung_up and (it.told is None or it.told >= BRIEF)
+                   for it in self.connections)
 
     @property
     def served(self) -> int:

@@ -95,4 +95,4 @@ class Service:
             self._showing.enter(Phase.ENDING, why, clients=current.watch.looks.served)
             Ending(parts, current).run()
         finally:
-            current.watch.own.drop()
+            current.leave()

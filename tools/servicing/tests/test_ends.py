@@ -39,7 +39,7 @@ class EndsTest(ServiceTest):
             began = time.monotonic()
             self.assertEqual(service.stop(), 0)
             self.assertGreaterEqual(time.monotonic() - began, 2)
-            self.assertLess(time.monotonic() - began, 10)
+            self.assertLess(time.monotonic() - began, 20)  # and not the minute that is usual
             self.assertTrue(it.is_cut())
         saved = service.all("saved")[0]
         self.assertEqual((saved["left"], saved["cut"]), ("1", "1"))
