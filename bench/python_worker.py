@@ -21,7 +21,7 @@ import threading
 import time
 
 TOP = os.path.dirname(os.path.dirname(os.path.realpath(__file__)))
-sys.path[:0] = [f"{TOP}/tools", f"{TOP}/clients/python/src"]
+sys.path[:0] = [f"{TOP}/dev/lib", f"{TOP}/tools", f"{TOP}/clients/python/src"]
 
 from common.program import add_program_option, built_program  # noqa: E402
 from rb_broker_client import AsyncWorker, Broker, Producer, Request, Worker  # noqa: E402

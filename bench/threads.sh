@@ -30,8 +30,9 @@ is_outdated() {
     [[ -n $(find "${sources[@]}" \( -name out -o -name must-fail -o -name attacks \) -prune -o -type f -newer "$program" -print -quit) ]]
 }
 
-# Builds the program as a crate of a copy of the checkout, for rt reads no sources outside the crates that are
-# listed. What rt keeps stays in the checkout, so that it does not prove all again.
+# Builds the program as a crate of a copy of the checkout. Here its sources are no crate, which every gate would prove,
+# and end with .rattle, since the gate refuses files outside crates/ that end with .rt. What rt keeps stays in the
+# checkout, so that it does not prove all again.
 build() {
     local began name source kept=${program%/*} crate=$room/crates/rb_bench
     # What changes while the build runs may not be in it, so the program counts as made when it began.

@@ -1,11 +1,11 @@
-"""The tables of cases/*.rows, which say what the protocol and the queue answer."""
+"""The tables of crates/rb_cases/data, which say what the protocol and the queue answer."""
 from __future__ import annotations
 
 import re
 from pathlib import Path
 from typing import NamedTuple
 
-CASES = Path(__file__).resolve().parents[2] / "cases"
+CASES = Path(__file__).resolve().parents[2] / "crates" / "rb_cases" / "data"
 
 _ESCAPE = re.compile(r"\\(?:x(?P<byte>[0-9A-Fa-f]{2})|(?P<mark>[\\rn])|\((?P<times>[0-9]+) (?P<unit>[^)]*)\))")
 _MARKS = {"\\": "\\", "r": "\r", "n": "\n"}

@@ -20,7 +20,7 @@ LONG = 65_536
 
 
 def script_difference(program: Program, case: Case, timers: list[str]) -> str | None:
-    """What differs from the case in the first of its runs that is not as it must be."""
+    """What differs from the case in the first of its runs that fails."""
     for timer in timers or [""]:
         if case.value("timer") in ("", timer):
             told = over_timer(program, case, ["--timer", timer] if timer else [])

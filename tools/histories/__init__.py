@@ -13,5 +13,5 @@ tools/report takes the columns, in which all must be as a queue does it. tools/v
 take the lines, which may say what no queue does. The columns are `array`s, so that 1,000,000 events take tens of
 megabytes and no object each.
 
-The tests are below tests/; `tools/run_tests histories` runs them.
+The tests are below tests/; `dev/check tools` runs them.
 """

@@ -14,5 +14,5 @@ on a terminal and on a page.
     page.js, lives.js, jobs.js, readings.js, plots.js  what it does in a browser
     progress.py                                   a line that says how far a long report is
 
-The tests are below tests/, with a maker of large histories; tools/check_report runs them.
+The tests are below tests/, with a maker of large histories; `dev/check report` runs them.
 """

@@ -7,8 +7,8 @@ import subprocess
 import sys
 from unittest import mock
 
+from checking.testing import RoomTest
 from common.program import PROGRAM, TESTED, TOP, built_program, program_named, test_with, tested_program
-from common.testing import RoomTest
 
 
 class ProgramTest(RoomTest):

@@ -3,8 +3,8 @@ from __future__ import annotations
 
 import sys
 
+from checking.testing import run_tool
 from common.program import TOP
-from common.testing import run_tool
 
 WRONG = [sys.executable, f"{TOP}/tools/conforming/tests/wrong_broker.py"]
 

@@ -9,15 +9,15 @@ from conforming.tests.support import WRONG, conform, counts_of
 
 
 class ProgramTest(unittest.TestCase):
-    def test_our_program_is_as_it_must_be(self):
+    def test_our_program_passes(self):
         status, lines, errors = conform("--timer", "all", "--only", "s.case", tested_program())
-        passed, failed, passed_over = counts_of(lines[-1])
+        passed, failed, skipped = counts_of(lines[-1])
         self.assertEqual((status, failed, errors), (0, 0, ""), lines)
-        names = [name for path in glob.glob(f"{TOP}/cases/*s.case") for name in names_in(path)]
-        self.assertEqual(passed + passed_over, len(names))
-        self.assertEqual(sum("passed over: " in line for line in lines), passed_over)
+        names = [name for path in glob.glob(f"{TOP}/crates/rb_cases/data/*s.case") for name in names_in(path)]
+        self.assertEqual(passed + skipped, len(names))
+        self.assertEqual(sum("skipped: " in line for line in lines), skipped)
 
-    def test_a_wrapper_without_a_flaw_is_as_it_must_be(self):
+    def test_a_wrapper_without_a_flaw_passes(self):
         status, lines, _ = self.run_flaw("no flaw", "refusals.case")
         self.assertEqual((status, counts_of(lines[-1])[1:]), (0, [0, 0]), lines)
 
@@ -45,12 +45,12 @@ class ProgramTest(unittest.TestCase):
     def test_a_program_that_hangs_is_ended(self):
         self.expect("it hangs", "no input has no replies", "it had to be ended", "--patience", "2")
 
-    def test_a_case_of_one_timer_is_passed_over(self):
+    def test_a_case_of_one_timer_is_skipped(self):
         status, lines, _ = self.run_flaw("no flaw", "the heap is used")
-        self.assertEqual((status, lines[-1]), (0, "0 as they must be, 0 not, 1 passed over"))
-        self.assertIn("the heap is used: passed over: ", lines[0])
+        self.assertEqual((status, lines[-1]), (0, "0 passed, 0 failed, 1 skipped"))
+        self.assertIn("the heap is used: skipped: ", lines[0])
         status, lines, _ = self.run_flaw("no flaw", "the heap is used", "--timer", "heap", "--timer", "list")
-        self.assertEqual((status, lines[-1]), (0, "1 as they must be, 0 not, 0 passed over"))
+        self.assertEqual((status, lines[-1]), (0, "1 passed, 0 failed, 0 skipped"))
 
     def run_flaw(self, flaw: str, only: str, *words: str) -> tuple[int, list[str], str]:
         """Runs the tool over the wrong program."""

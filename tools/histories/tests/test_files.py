@@ -3,7 +3,7 @@ from __future__ import annotations
 
 import gzip
 
-from common.testing import RoomTest, call_tool
+from checking.testing import RoomTest, call_tool
 from histories.files import open_history
 from histories.tests.support import RUN
 

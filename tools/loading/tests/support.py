@@ -3,7 +3,7 @@ from __future__ import annotations
 
 import re
 
-from common.testing import run_tool
+from checking.testing import run_tool
 
 
 def load(*words: object) -> tuple[int, list[str], str]:

@@ -7,7 +7,7 @@ import re
 import subprocess
 import time
 
-from common.testing import tool
+from checking.testing import tool
 from loading.tests.support import counts_in, load, rows_in
 from serving.server import Server
 from serving.session import Session

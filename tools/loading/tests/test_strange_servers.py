@@ -6,7 +6,7 @@ import socket
 import threading
 import unittest
 
-from common.testing import RoomTest
+from checking.testing import RoomTest
 from loading.tests.support import load
 
 

@@ -1,4 +1,4 @@
-"""The tests of the package, which tools/check_package runs in their order: most of them use what those before have made
+"""The tests of the package, which dev/check package runs in their order: most of them use what those before have made
 and installed, so they are no suite of unittest.
 
     program_options.py, page.py, unit.py, shells.py   what must agree with the table of options, packaging/options.json

@@ -6,7 +6,7 @@ import shutil
 import time
 from datetime import datetime, timezone
 
-from common.checking import Tally
+from checking.tally import Tally
 from packaging.tests.machine import SET_DATE, Machine, reason_not_to_boot
 from packaging.tests.running import Told, fault_unless
 from serving.server import free_port
@@ -35,11 +35,11 @@ def try_units(tally: Tally, package: str, folder: str) -> None:
     """Boots a systemd and runs the unit in it."""
     reason = reason_not_to_boot()
     if reason:
-        tally.pass_over("the unit under systemd", reason)
+        tally.skip("the unit under systemd", reason)
         return
     with Machine(folder) as machine:
         if not machine.is_up():
-            tally.pass_over("the unit under systemd", f"it does not start: {machine.console()[-200:]}")
+            tally.skip("the unit under systemd", f"it does not start: {machine.console()[-200:]}")
             return
         shutil.copy(package, f"{folder}/upper/rb-broker.deb")
         told = machine.run(*DPKG, "--install", "/rb-broker.deb")
@@ -183,7 +183,7 @@ def try_dates(tally: Tally, service: Service) -> None:
     and no run ends for that."""
     machine = service.machine
     if not machine.can_set_date():
-        tally.pass_over("a date that is set under systemd", "there is no C compiler")
+        tally.skip("a date that is set under systemd", "there is no C compiler")
         return
     machine.write(f"/run/units/{service.name}.d/date.conf", f"[Service]\nEnvironment=LD_PRELOAD={SET_DATE}\n")
     machine.run("systemctl", "daemon-reload")

@@ -8,15 +8,17 @@ import shutil
 import signal
 import subprocess
 import sys
+from pathlib import Path
 
-from common.checking import Tally
+from checking.docs import links
+from checking.tally import Tally
 from common.program import TOP
 from packaging.pages import PAGES
 from packaging.tests.running import PATIENCE, Told, fault_unless, run
 from packaging.tests.service import Serving
 from packaging.tree import COMMANDS, DOCUMENTS, PYTHON
 
-OF_A_CHECKOUT = {"package", "conform", "run_tests"}  # beside the checks
+OF_A_CHECKOUT = {"package", "conform"}
 
 # Fails each job for the first seconds of the run, and then does it; ends when all are done.
 RAISES = """
@@ -47,8 +49,8 @@ def python(root: str, *words: str) -> Told:
 
 def try_installed(tally: Tally, root: str, folder: str) -> None:
     """Runs each of the installed commands once, and follows the links of the installed pages."""
-    told = run(f"{TOP}/tools/check_docs", "links", "--folder", f"{root}/{DOCUMENTS}")
-    tally.count("the links of the installed pages", fault_unless(told.status == 0, told))
+    found = links.find(Path(root, DOCUMENTS))
+    tally.count("the links of the installed pages", fault_unless(found.right > 0 and not found.faults, found.faults))
     check_commands(tally, root)
     check_changelog(tally, root, folder)
     try_load(tally, root, f"{folder}/load")
@@ -62,7 +64,7 @@ def check_commands(tally: Tally, root: str) -> None:
     for page in PAGES:
         with open(f"{root}/{DOCUMENTS}/{page}", encoding="utf-8") as it:
             named |= set(re.findall(r"\btools/([a-z_]+)\b(?!/)", it.read()))
-    wanted = {it for it in named - OF_A_CHECKOUT if not it.startswith("check_")}
+    wanted = named - OF_A_CHECKOUT
     fault = fault_unless(wanted == set(COMMANDS), f"they are {wanted}, and the commands {set(COMMANDS)}")
     tally.count("the tools that the pages name", fault)
     for name in COMMANDS:
@@ -80,7 +82,7 @@ def check_changelog(tally: Tally, root: str, folder: str) -> None:
     is_right = len(found) == len(wanted) > 0
     tally.count("Debian's changelog", fault_unless(is_right, f"it has {len(found)} changes, not {len(wanted)}"))
     if not shutil.which("dpkg-parsechangelog"):
-        tally.pass_over("dpkg-parsechangelog", "it is not installed")
+        tally.skip("dpkg-parsechangelog", "it is not installed")
         return
     with open(f"{folder}/changelog", "w", encoding="utf-8") as copy:
         copy.write(text)
@@ -107,7 +109,7 @@ def try_load(tally: Tally, root: str, folder: str) -> None:
 def try_examples(tally: Tally, root: str, folder: str) -> None:
     """The worker in Perl finds its server."""
     if not shutil.which("perl"):
-        tally.pass_over("the worker in Perl", "perl is not installed")
+        tally.skip("the worker in Perl", "perl is not installed")
         return
     with Serving(root, folder, {}) as service:
         replies = service.talk("OFFER 0 one", "QUIT")

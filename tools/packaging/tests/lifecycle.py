@@ -4,7 +4,7 @@ from __future__ import annotations
 import os
 import shutil
 
-from common.checking import Tally
+from checking.tally import Tally
 from common.program import TOP
 from packaging import Fault
 from packaging.table import Table

@@ -4,7 +4,7 @@ from __future__ import annotations
 import re
 import shutil
 
-from common.checking import Tally
+from checking.tally import Tally
 from packaging import SOURCES
 from packaging.table import HELP_OPTIONS, Option, Table
 from packaging.tests.running import fault_unless, run
@@ -82,4 +82,4 @@ def check_layout(tally: Tally, path: str) -> None:
         told = run("mandoc", "-T", "lint", path)
         tally.count("mandoc -T lint of the page", told.said + told.errors)
     else:
-        tally.pass_over("mandoc -T lint of the page", "it is not installed")
+        tally.skip("mandoc -T lint of the page", "it is not installed")

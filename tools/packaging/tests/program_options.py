@@ -5,7 +5,7 @@ import re
 from dataclasses import replace
 from typing import Optional
 
-from common.checking import Tally
+from checking.tally import Tally
 from packaging.table import HELP_COMMAND, HELP_OPTIONS, Command, Option, Table
 from packaging.tests.running import fault_unless, run
 

@@ -3,7 +3,7 @@ from __future__ import annotations
 
 import os
 
-from common.checking import Tally
+from checking.tally import Tally
 from common.program import TOP
 from packaging.tests.running import fault_unless, run
 

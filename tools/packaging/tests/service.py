@@ -10,7 +10,7 @@ from collections.abc import Mapping
 from types import TracebackType
 from typing import Optional
 
-from common.checking import Tally
+from checking.tally import Tally
 from packaging.tests.commands import start_of
 from packaging.tests.running import PATIENCE, Told, fault_unless
 from serving.server import free_port, started

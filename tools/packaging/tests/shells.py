@@ -5,7 +5,7 @@ import re
 import shlex
 import shutil
 
-from common.checking import Tally
+from checking.tally import Tally
 from packaging.table import Command, Option, Table
 from packaging.tests.running import fault_unless, run
 
@@ -68,7 +68,7 @@ def candidates_of(option: Option) -> list[str]:
 def check_zsh(tally: Tally, file: str, table: Table) -> None:
     """zsh is told each option of a command, with its value, range, default and choices. Needs zsh."""
     if not shutil.which("zsh"):
-        tally.pass_over("the completions for zsh", "it is not installed")
+        tally.skip("the completions for zsh", "it is not installed")
         return
     asked = "".join(f"_rb_broker_{it.name}\n" for it in table.commands)
     told = run("zsh", "-f", "-c", ZSH + asked, "zsh", file)

@@ -4,7 +4,7 @@ from __future__ import annotations
 import re
 import shutil
 
-from common.checking import Tally
+from checking.tally import Tally
 from common.program import TOP
 from packaging import SOURCES
 from packaging.tests.page import options_in
@@ -52,7 +52,7 @@ def joined(text: str) -> str:
 def check_by_systemd(tally: Tally, root: str, folder: str) -> None:
     """systemd reads the unit that is installed below a root: a copy of it in a folder, whose commands are there too."""
     if not shutil.which("systemd-analyze"):
-        tally.pass_over("systemd-analyze verify", "it is not installed")
+        tally.skip("systemd-analyze verify", "it is not installed")
         return
     unit = text_of(f"{root}/usr/lib/systemd/system/{NAME}")
     with open(f"{folder}/{NAME}", "w", encoding="utf-8") as it:

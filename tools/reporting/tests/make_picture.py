@@ -14,10 +14,11 @@ import subprocess
 import sys
 import tempfile
 
-sys.path.insert(0, os.path.dirname(os.path.dirname(os.path.dirname(os.path.realpath(__file__)))))
+TOOLS = os.path.dirname(os.path.dirname(os.path.dirname(os.path.realpath(__file__))))
+sys.path[:0] = [TOOLS, f"{os.path.dirname(TOOLS)}/dev/lib"]
 
+from checking.testing import tool  # noqa: E402
 from common.program import TOP  # noqa: E402
-from common.testing import tool  # noqa: E402
 from reporting.tests import MAKE_HISTORY  # noqa: E402
 from reporting.tests.browser import Browser  # noqa: E402
 

@@ -7,7 +7,7 @@ import tempfile
 import unittest
 from typing import List, Tuple
 
-from common.testing import RoomTest, call_tool, run_tool
+from checking.testing import RoomTest, call_tool, run_tool
 from histories.tests.support import read
 from reporting import tests
 from reporting.figures import Figures, figures_of
@@ -49,7 +49,7 @@ class PageTest(unittest.TestCase):
     @classmethod
     def setUpClass(cls) -> None:
         if not tests.BROWSER:
-            raise unittest.SkipTest("there is no chromium, and none was named")
+            raise unittest.SkipTest("there is no chromium on the path")
         room = tempfile.TemporaryDirectory(prefix="rb-report-")
         cls.addClassCleanup(room.cleanup)
         cls.room = room.name

@@ -7,7 +7,7 @@ import unittest
 from typing import Tuple
 from unittest import mock
 
-from common.testing import tool
+from checking.testing import tool
 from histories.tests.support import RUN, offer, text_of
 from reporting.progress import Progress
 from reporting.tests.support import ReportTest, run

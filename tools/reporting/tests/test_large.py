@@ -13,7 +13,7 @@ import unittest
 from concurrent.futures import Future, ThreadPoolExecutor
 from typing import Dict, List, NamedTuple
 
-from common.testing import tool
+from checking.testing import tool
 from reporting import tests
 
 MOST_BYTES = 200 * 10**6
@@ -59,9 +59,10 @@ _threads = ThreadPoolExecutor(len(LARGE))
 _reports: Dict[str, Future[Measured]] = {}
 
 
-def begin() -> None:
+def setUpModule() -> None:
     """Begins all reports, each in a thread of its own."""
-    _reports.update({name: _threads.submit(measured, _room.name, name) for name in LARGE})
+    if tests.EVENTS:
+        _reports.update({name: _threads.submit(measured, _room.name, name) for name in LARGE})
 
 
 def tearDownModule() -> None:
@@ -72,9 +73,7 @@ def tearDownModule() -> None:
 class LargeTest(unittest.TestCase):
     def test_time_and_memory(self) -> None:
         if not tests.EVENTS:
-            self.skipTest("left out by --quick")
-        if not _reports:
-            begin()
+            self.skipTest("RB_BROKER_EVENTS is 0")
         for name, report in _reports.items():
             told = report.result()
             print(f"{name}, {tests.EVENTS:,} events: {told.passed:.1f} s, {told.seconds:.1f} s of a processor, "

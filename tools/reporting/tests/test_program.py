@@ -5,8 +5,8 @@ import json
 import subprocess
 import time
 
+from checking.testing import RoomTest
 from common.program import TOP, tested_program
-from common.testing import RoomTest
 from reporting.dates import nanoseconds_of
 from reporting.tests.support import made, run
 

@@ -1,3 +1,1 @@
-"""The tests of tools/service, which tools/check_service runs."""
-
-NEEDS_PROGRAM = True
+"""The tests of tools/service, which `dev/check service` runs."""

@@ -1,12 +1,12 @@
 """Jobs that are due after real time, through many rollovers and over a minute without a server. They take two minutes,
-so `tools/check_service --long` alone runs them."""
+so `dev/check service --long` alone runs them."""
 from __future__ import annotations
 
 import contextlib
 import time
 
-from serving.session import Session
 from servicing.tests.process import Service, ServiceTest
+from serving.session import Session
 
 ROLLOVERS = 10
 LATEST = 5.0  # seconds by which a job may come late, on a machine that does much else

@@ -21,7 +21,7 @@ import time
 from typing import Any, Callable, List
 
 TOOLS = os.path.dirname(os.path.dirname(os.path.dirname(os.path.realpath(__file__))))
-sys.path[:0] = [TOOLS, f"{os.path.dirname(TOOLS)}/clients/python/src"]
+sys.path[:0] = [TOOLS, *(f"{os.path.dirname(TOOLS)}/{it}" for it in ("dev/lib", "clients/python/src"))]
 
 from common.program import TOP, test_with  # noqa: E402
 from rb_broker_client import BrokerError, Job, Producer, Worker  # noqa: E402

@@ -14,11 +14,11 @@ import threading
 import time
 from typing import Callable, Dict, List, Optional, Sequence
 
+from checking.testing import RoomTest
 from common.program import TOP, tested_program
 from serving import HOST, PATIENCE
 from serving.server import free_port
 from serving.session import Session
-from common.testing import RoomTest
 
 WORD = re.compile(r'([a-z_]+)=(?:"((?:[^"\\]|\\.)*)"|(\S+))')
 

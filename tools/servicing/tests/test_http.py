@@ -13,7 +13,7 @@ from http import HTTPStatus
 from typing import List, Optional, Tuple
 from unittest import mock
 
-from common.testing import RoomTest
+from checking.testing import RoomTest
 from servicing import http as served
 from servicing.address import Address, address_of
 from servicing.http import Answer, HttpServer

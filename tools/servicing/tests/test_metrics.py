@@ -7,8 +7,8 @@ import shutil
 import subprocess
 from typing import Any, Dict
 
+from checking.testing import RoomTest
 from common.program import TOP
-from common.testing import RoomTest
 from servicing.metrics import metrics
 from servicing.state import Alert, Queue, State
 from servicing.tests.states import AT, first_state, state, troubled_state

@@ -10,17 +10,17 @@ import tempfile
 import unittest
 from typing import Tuple
 
+from checking.testing import run_tool
 from common.program import tested_program
-from common.testing import run_tool
 from reporting import tests as browsing
 from reporting.tests.browser import Browser
-from serving.server import free_port
 from servicing.looking import Limits, Looks, client_of
 from servicing.session import OwnSession
 from servicing.sockets import Connection, Sockets
 from servicing.state import Doing
 from servicing.tests.process import Service, ServiceTest
 from servicing.tests.test_metrics import PROMTOOL, promtool
+from serving.server import free_port
 
 PATIENCE = 30
 

@@ -8,7 +8,7 @@ import time
 from typing import Any, List
 from unittest import mock
 
-from common.testing import RoomTest
+from checking.testing import RoomTest
 from histories.tests.support import RUN
 from servicing import reports as making
 from servicing import site as served

@@ -14,8 +14,8 @@ import unittest
 from typing import List, Tuple
 from unittest import mock
 
+from checking.testing import RoomTest
 from common.program import TOP
-from common.testing import RoomTest
 from servicing.pages import Pages
 from servicing.state import Board, Client, Clients, Doing, Head, Queue, State
 from servicing.status_view import frame, show

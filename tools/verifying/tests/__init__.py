@@ -1,16 +1,13 @@
-"""The tests of tools/verify, which tools/check_verify runs. What they expect follows from docs/HISTORY.md and
+"""The tests of tools/verify, which `dev/check verify` runs. What they expect follows from docs/HISTORY.md and
 docs/PROTOCOL.md, from runs that were written by hand, and from runs of a simulated queue that were changed on purpose.
-
-tools/check_verify may set another number of EVENTS.
 """
 from __future__ import annotations
 
+import os
 import sys
 
 from common.program import TOP
 
 sys.path.append(f"{TOP}/clients/python/src")
 
-NEEDS_PROGRAM = True
-
-EVENTS = 200_000  # of the large run
+EVENTS = int(os.environ.get("RB_BROKER_EVENTS", 200_000))  # of the large run

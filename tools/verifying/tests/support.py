@@ -7,7 +7,7 @@ import re
 import subprocess
 from typing import Any, Dict, List, Tuple
 
-from common.testing import RoomTest, run_tool
+from checking.testing import RoomTest, run_tool
 from verifying.history import read_history
 from verifying.judge import judge
 from verifying.record import read_record

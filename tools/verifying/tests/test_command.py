@@ -5,7 +5,7 @@ import json
 import os
 import subprocess
 
-from common.testing import tool
+from checking.testing import tool
 from histories.tests.support import text_of
 from verifying.tests.support import EVENTS, Line, RunTest, line, lines, record_of
 

@@ -4,7 +4,7 @@ from __future__ import annotations
 import os
 import subprocess
 
-from common.testing import tool
+from checking.testing import tool
 from verifying import tests
 from verifying.tests.support import RunTest
 

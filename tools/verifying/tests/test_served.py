@@ -9,7 +9,7 @@ import time
 from typing import List
 
 import verifying.tests  # noqa: F401  # which says where the client package is
-from common.testing import run_tool, tool
+from checking.testing import run_tool, tool
 from rb_broker_client import Job, Producer, Worker
 from serving.server import Server
 from serving.testing import ServingTest

@@ -1,0 +1,1 @@
+"""Builds the program's crates side by side, for dev/build."""

@@ -1,0 +1,44 @@
+"""The picture docs/request.svg, compared with the table of hops in docs/ARCHITECTURE.md.
+
+The picture has the name of each crate above a column, and in the columns the number and the file of each hop, in the
+order of the table. It is changed by hand.
+"""
+from __future__ import annotations
+
+import re
+from pathlib import Path
+
+from checking.docs.found import Found, Missing
+
+PAGE, PICTURE = "docs/ARCHITECTURE.md", "docs/request.svg"
+HEADING = "\n## The way of a request\n"
+HOP = re.compile(r"^\| (\d+) \| `(rb_\w+)/src/(\w+\.rt)` \| ", re.M)
+TEXT = re.compile(r'<text x="(\d+)"[^>]*>([^<]*)</text>')
+
+
+def find(top: Path) -> Found:
+    """Compares the picture and the table below a folder, hop by hop."""
+    page, picture, found = text_of(top / PAGE), text_of(top / PICTURE), Found()
+    table = HOP.findall(page.partition(HEADING)[2].partition("\n## ")[0])
+    if not table or [int(number) for number, _, _ in table] != list(range(1, len(table) + 1)):
+        raise Missing(f"{top / PAGE} has no table of hops, numbered from 1, below 'The way of a request'")
+    drawn = drawn_in(picture)
+    for at, hop in enumerate(table):
+        found.add(drawn[at:at + 1] == [hop], f"{PICTURE} does not show hop {' '.join(hop)} of {PAGE}")
+    for hop in drawn[len(table):]:
+        found.add(False, f"{PICTURE} shows hop {' '.join(hop)}, which is not in {PAGE}")
+    return found
+
+
+def text_of(path: Path) -> str:
+    """The text of a file, or nothing if there is none."""
+    return path.read_text(encoding="utf-8") if path.is_file() else ""
+
+
+def drawn_in(picture: str) -> list[tuple[str, str, str]]:
+    """The hops of a picture: the number, the crate in whose column it stands, and the file below it."""
+    texts = TEXT.findall(picture)
+    crates = {place: words for place, words in texts if words.startswith("rb_")}
+    hops = zip(texts, texts[1:])
+    return [(number, crates.get(place, ""), file) for (place, number), (at, file) in hops
+            if number.isdigit() and at == place]

@@ -1,0 +1,70 @@
+"""What docs/HEADLINE.md quotes of src/ and specs/, compared with these.
+
+Above each block of code the page links the file. Each paragraph of the block must be a whole definition of that file,
+or a function's head with its clauses, line by line. `..` stands for lines that are left out; comments may be left out
+without a sign. Each definition of these crates that the quoted lines name must be quoted too, or the page must link its
+name to its file. A name of a library must stand in code between the blocks. The page has at most 5,000 words.
+"""
+from __future__ import annotations
+
+import re
+from pathlib import Path
+from typing import Optional
+
+from checking.docs.found import Found, Missing
+from defining.items import Item, dedented
+from defining.tree import SourceFile, Tree
+
+PAGE = "docs/HEADLINE.md"
+MOST_WORDS = 5_000
+FILE = re.compile(r"\]\(\.\./(crates/[\w/]+\.(?:rt|antt))\)")
+LINK = re.compile(r"\[`([\w:]+)`" + FILE.pattern)
+CODE = re.compile(r"`([^`\n]+)`")
+COMMENTS = r"(?: *(?:--|//).*\n)*"
+
+
+def find(top: Path) -> Found:
+    """Compares the page below a folder. The fault of a quotation is `docs/HEADLINE.md:LINE: REASON`."""
+    if not (top / PAGE).is_file():
+        raise Missing(f"{top} has no {PAGE}")
+    text, tree, found = (top / PAGE).read_text(encoding="utf-8"), Tree(top), Found()
+    found.add((count := len(text.split())) <= MOST_WORDS, f"{PAGE} has {count:,} words, of at most {MOST_WORDS:,}")
+    prose, quotes = parted(text)
+    links = {(path, name) for name, path in LINK.findall(prose)}
+    for path, name in sorted(links):
+        file = tree.files.get(path)
+        found.add(file is not None and name in file.named, f"{PAGE}: {path} has no {name}")
+    items = [quoted(tree.files.get(path), lines) for _, path, lines in quotes]
+    reached = links | {(item.path, item.name) for item in items if item}
+    said = {word for code in CODE.findall(prose) for word in re.split(r"[\s().]+", code)}
+    for (place, path, lines), item in zip(quotes, items):
+        found.add(item is not None, f"{place}: {path} has nothing that is so: {lines[0]}")
+        cited, outside = tree.cited_by(item, lines) if item else ([], [])
+        for it in cited:
+            found.add((it.path, it.name) in reached, f"{place}: {it.name} of {it.path} is neither quoted nor linked")
+        for name in (it.rpartition(".")[2].replace("◌", " ").split()[0] for it in outside):
+            found.add(name in said, f"{place}: the page does not say what {name} is")
+    return found
+
+
+def parted(text: str) -> tuple[str, list[tuple[str, str, list[str]]]]:
+    """The page without its blocks of code, and their paragraphs, each with its place and the file that is linked."""
+    quotes: list[tuple[str, str, list[str]]] = []
+    pieces = re.split(r"^```.*$", text, flags=re.M)
+    path, line = "", 1
+    for prose, block in zip(pieces[::2], pieces[1::2]):
+        path = (FILE.findall(prose) or [path])[-1]
+        line += prose.count("\n")
+        for it in re.finditer(r"(?:.+\n)+", block):
+            place = f"{PAGE}:{line + block.count(chr(10), 0, it.start())}"
+            quotes.append((place, path, dedented(it[0].splitlines())))
+        line += block.count("\n")
+    return "".join(pieces[::2]), quotes
+
+
+def quoted(file: Optional[SourceFile], lines: list[str]) -> Optional[Item]:
+    """The item of a file that these lines quote, if there is one."""
+    parts = ("(?:.*\n)+" if it.strip() == ".." else COMMENTS + re.escape(f"{it}\n") for it in lines)
+    whole = re.compile("".join(parts) + COMMENTS)
+    items = file.items if file else []
+    return next((it for it in items if whole.fullmatch("".join(f"{line}\n" for line in it.comment + it.code))), None)

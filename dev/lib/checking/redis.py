@@ -1,0 +1,67 @@
+"""The broker on Redis, redis/.
+
+The tests start servers of Redis, Sentinels and a Cluster of their own, kill them, the gateways and the clients, and let
+the program judge the histories that the archive writes. Some classes of tests run side by side, each in a process of
+its own: RB_BROKER_AT_ONCE (4 if it is not set). RB_BROKER_JOBS is how many jobs each hostile day has (1,000), and
+RB_BROKER_ROUNDS how often a Redis dies with each setting of its durability (once).
+
+They need redis-server, redis-sentinel and redis-cli of version 7, and the package redis for Python, 4.3.4 or later:
+that of this Python, or of /usr/bin/python3. If one of these is missing, all tests are skipped, and a line names what is
+missing. So is the test of the types where there is no mypy.
+"""
+from __future__ import annotations
+
+import importlib.util
+import os
+import shutil
+import subprocess
+import sys
+from typing import List
+
+from checking.side_by_side import PLACE, try_side_by_side
+from checking.suites import tests_below
+from checking.tally import Tally
+from common.program import TOP
+
+TESTS = f"{TOP}/redis/tests"
+PATHS = [f"{TOP}/redis/src", TESTS, f"{TOP}/clients/python/src"]
+COMMANDS = ("redis-server", "redis-sentinel", "redis-cli")
+SYSTEM_PYTHON = "/usr/bin/python3"  # for which Debian has the package python3-redis
+AT_ONCE = int(os.environ.get("RB_BROKER_AT_ONCE", 4))
+PORTS = range(26_000, 27_000)  # of which each process has its own
+LONGEST = [
+    f"test_{it}" for it in ("hostile_day", "script", "lost", "cluster", "redis_faults", "gateway", "load", "types")
+]
+
+
+def has_package(python: str) -> bool:
+    """Whether a Python has the package redis."""
+    return subprocess.run([python, "-c", "import redis.asyncio"], stderr=subprocess.DEVNULL, check=False).returncode == 0
+
+
+def missing() -> List[str]:
+    """What is not installed that the tests need. This process may become another Python's."""
+    absent = [it for it in COMMANDS if shutil.which(it) is None]
+    if importlib.util.find_spec("redis") is None:
+        if os.path.exists(SYSTEM_PYTHON) and sys.executable != SYSTEM_PYTHON and has_package(SYSTEM_PYTHON):
+            room = os.environ["TMPDIR"]  # of this run, which the other one makes anew
+            os.environ["TMPDIR"] = os.path.dirname(room)
+            os.rmdir(room)
+            os.execv(SYSTEM_PYTHON, [SYSTEM_PYTHON, "-B", *sys.argv])
+        absent.append("the package redis for Python")
+    return absent
+
+
+def check(tally: Tally) -> None:
+    """Runs the tests."""
+    sys.path[:] = [*PATHS, *(it for it in sys.path if not it.startswith((f"{TOP}/tools", f"{TOP}/dev")))]
+    absent = missing()
+    if absent:
+        tally.skip("redis", f"there is no {' and no '.join(absent)}")
+        return
+    os.environ.update({"PYTHONPATH": os.pathsep.join(PATHS), "PYTHONDONTWRITEBYTECODE": "1"})
+    if PLACE in os.environ:
+        place, at_once = map(int, os.environ[PLACE].split("/"))
+        first, count = PORTS.start + len(PORTS) // at_once * place, len(PORTS) // at_once
+        os.environ["RB_BROKER_PORTS"] = f"{first}-{first + count}"
+    try_side_by_side(tally, tests_below(TESTS, TESTS, tally.only), AT_ONCE, LONGEST)

@@ -1,0 +1,103 @@
+"""A server with 200 clients, many of which behave badly: what each of them saw, compared with the history of the run.
+
+Clients offer, take, finish and fail jobs; they hang up and reset the connection while they hold jobs, leave while a
+call waits, send half a line or noise, send byte by byte, say nothing, or stop reading. Then the server must have ended
+by itself, `replay --chains` must accept its history, and tools/verify must find each reply that a client saw in it, at
+its place among the events of one seat, and no events of nobody. No element may have left twice or been given before its
+expiry, and each job must have been finished, or have come back unless it was given its last attempt. RB_BROKER_SEED is
+what the clients' choices follow from.
+"""
+from __future__ import annotations
+
+import concurrent.futures
+import os
+import subprocess
+import tempfile
+from typing import Iterator, List, Tuple
+
+from checking.server.clients import Client, early, run_client
+from checking.tally import Tally
+from checking.testing import run_tool
+from common.program import tested_program
+from histories import acts
+from histories.faults import Damaged
+from histories.history import NONE, History
+from histories.reader import read_history
+from serving.server import Server
+
+SEED = os.environ.get("RB_BROKER_SEED", "1")
+SESSIONS, WORKERS = 200, 16
+DELAY, ATTEMPTS, TURNS = 5_000_000, 3, 50  # nanoseconds after which a failed job comes back, and turns of a wait
+REFUSALS = {"ERR 1 syntax", "ERR 5 not-held", "ERR 8 line", "ERR 9 held"}
+AT_ONCE = 40  # clients that are connected at the same time, or wait to be served
+
+
+def check_end(tally: Tally, server: Server, clients: List[Client], history: str) -> None:
+    """The server's end, its last lines, and the verdict on its history."""
+    status, lines, errors = server.end()
+    tally.count("the server's status", f"{status}, {errors}" if status != 0 or errors else None)
+    surely = sum(it.is_reset for it in clients)
+    perhaps = sum(it.is_reset or not it.is_heard for it in clients)
+    allowed = [f"sessions {len(clients)} faults {it} lost 0" for it in range(surely, perhaps + 1)]
+    fault = f"{lines[0]!r}, not from {allowed[0]!r} to {allowed[-1]!r}"
+    tally.count("its count of sessions", None if lines[0] in allowed else fault)
+    words = [tested_program(), "replay", "--chains", "--delay", str(DELAY), "--attempts", str(ATTEMPTS), history]
+    verdict = subprocess.run(words, capture_output=True, encoding="utf-8")
+    tally.count("the replay", None if verdict.returncode == 0 else verdict.stdout + verdict.stderr)
+    told = verdict.stdout.splitlines()
+    tally.count("the audit line", None if lines[1:] == told else f"{lines[1:]}, but the replay's is {told}")
+
+
+def check_clients(tally: Tally, runs: List[Tuple[Client, str]], history: str, room: str) -> None:
+    """What each client saw."""
+    for client, fault in runs:
+        tally.count(f"client {client.number}, which {client.kind_name}", fault)
+    clients = [client for client, _ in runs]
+    record = f"{room}/record"
+    with open(record, "w", encoding="ascii") as file:
+        file.writelines(line for client in clients for line in client.whole_record())
+    verdict = run_tool("verify", history, record, "--all")
+    tally.count("the records of the clients", f"{verdict.stdout}{verdict.stderr}" if verdict.returncode else None)
+    refused = {lines[0] for client in clients for _, lines in client.answers if lines[0].startswith("ERR ")} - REFUSALS
+    tally.count("refusals", ", ".join(sorted(refused)))
+    tally.count("the machine's clock", "\n    ".join(early(clients)))
+
+
+def check_jobs(tally: Tally, clients: List[Client], path: str) -> None:
+    """What became of elements and jobs. That none left twice or early is tested as the history is read."""
+    try:
+        with open(path, "rb") as file:
+            history = read_history(file)
+    except (Damaged, OSError) as fault:
+        tally.count("the history", fault)
+        return
+    seats = {*history.events.seats}
+    tally.count("seats", f"{sorted(seats)} of {WORKERS} workers" if len(seats) > WORKERS else None)
+    tally.count("jobs", "\n    ".join(jobs_that_differ(history, clients)))
+
+
+def jobs_that_differ(history: History, clients: List[Client]) -> Iterator[str]:
+    """Which jobs were given, neither done nor at their last attempt, and did not come back, or came back all the same."""
+    done = {int(lines[0][5:]) for client in clients for _, lines in client.answers if lines[0].startswith("DONE ")}
+    elements = [history.elements.element(row) for row in range(len(history.elements))]
+    attempts = {(it.origin, it.attempt) for it in elements}
+    for element, left in zip(elements, history.elements.left_in):
+        if left == NONE or history.events.acts[left] not in acts.GIVES_ONE | {acts.DRAIN}:
+            continue
+        came_back = (element.origin, element.attempt + 1) in attempts
+        if came_back != (element.id not in done and element.attempt < ATTEMPTS):
+            yield f"job {element}: done {element.id in done}, came back {came_back}"
+
+
+def check(tally: Tally) -> None:
+    """Runs the server with its clients, and counts what is right."""
+    with tempfile.TemporaryDirectory() as room:
+        words = ["--sessions", SESSIONS, "--workers", WORKERS, "--calls", 1_000_000]
+        words += ["--delay", DELAY, "--attempts", ATTEMPTS, "--turns", TURNS, "--history", f"{room}/history"]
+        server = Server(words)
+        with concurrent.futures.ThreadPoolExecutor(AT_ONCE) as pool:
+            runs = list(pool.map(lambda it: run_client(it, server.port, SEED), range(SESSIONS)))
+        clients = [client for client, _ in runs]
+        check_end(tally, server, clients, f"{room}/history")
+        check_clients(tally, runs, f"{room}/history", room)
+        check_jobs(tally, clients, f"{room}/history")

@@ -1,0 +1,289 @@
+"""Clients of a server, good and bad, which keep what they sent and what they were answered."""
+from __future__ import annotations
+
+import json
+import random
+import socket
+import time
+from collections import deque
+from typing import Callable, Deque, Dict, Iterable, Iterator, List, Optional, Tuple
+
+from serving.session import Session
+
+# A client's first request removes the element of this id and its own number. There is none, so nothing changes,
+# but the history tells by that event where the client's own begin.
+FIRST_MARK = 2**63
+
+
+class Client:
+    """One client's session: what it sent, and what it was answered."""
+
+    def __init__(self, number: int, kind: Optional[Callable[[Client], None]] = None, seed: str = "") -> None:
+        self.number, self.kind, self.rng = number, kind, random.Random(f"{seed} {number}")
+        self.record: List[str] = []  # a line for each request that was answered, as tools/verify reads it
+        self.answers: List[Tuple[bytes, List[str]]] = []  # these requests, each with its reply lines
+        self.unanswered: Deque[Tuple[bytes, int]] = deque()  # the others, each with the time at which it was sent
+        # By payloads, of their first attempts: when they were offered, with which delay, and when they were got.
+        self.sent_at: Dict[str, Tuple[int, int]] = {}
+        self.got_at: Dict[str, int] = {}
+        self.is_heard = True  # whether it read all that it was answered
+        self.is_reset = False  # whether its session surely ended by a fault
+        self.offered = 0
+
+    @property
+    def kind_name(self) -> str:
+        """What it does."""
+        return self.kind.__name__ if self.kind else ""
+
+    def connect(self, port: int) -> None:
+        self.session = Session(port)
+        self.socket = self.session.socket
+
+    def note(self, *requests: bytes) -> None:
+        """Notes requests that are sent next."""
+        now = time.monotonic_ns()
+        self.unanswered += [(request, now) for request in requests]
+
+    def send(self, *requests: bytes) -> None:
+        """Sends requests in one piece."""
+        self.note(*requests)
+        self.session.send(*requests)
+
+    def read(self) -> List[str]:
+        """Reads the reply to the first request that has none yet. Returns the words of its first line."""
+        request, sent = self.unanswered[0]
+        try:
+            replies = self.session.reply()
+        except EOFError:
+            raise EOFError(f"the connection ended where the reply to {request!r} was due") from None
+        received = time.monotonic_ns()
+        for line in replies:
+            if line.startswith("ITEM ") and line.split(" ")[3] == "1":
+                self.got_at[line.split(" ")[4]] = received
+        self.unanswered.popleft()
+        self.answers.append((request, replies))
+        self.record.append(self.line(request, sent, received, replies))
+        return replies[0].split(" ")
+
+    def line(self, request: bytes, sent: int, received: Optional[int], replies: List[str]) -> str:
+        """The line of a record on a request."""
+        told = {"session": self.number, "sent": sent, "received": received}
+        return json.dumps({**told, "request": request.decode("latin-1"), "reply": replies}) + "\n"
+
+    def whole_record(self) -> List[str]:
+        """The lines on all requests."""
+        return [*self.record, *(self.line(request, sent, None, []) for request, sent in self.unanswered)]
+
+    def ask(self, request: bytes) -> List[str]:
+        self.send(request)
+        return self.read()
+
+    def read_all(self) -> None:
+        while self.unanswered:
+            self.read()
+
+    def offer(self, delay: int) -> bytes:
+        """A request that offers an element, whose payload nobody else offers."""
+        payload = f"{self.number}-{self.offered}"
+        self.offered += 1
+        self.sent_at[payload] = (time.monotonic_ns(), delay)
+        return b"OFFER %d %s" % (delay, payload.encode())
+
+    def any_offer(self) -> bytes:
+        if self.rng.random() < 0.1:
+            return b"OFFERAT %d %s" % (self.rng.randrange(10**10), self.offer(0).split(b" ")[2])
+        return self.offer(self.rng.choice([0, 10**6, 10**7, 10**8]) * self.rng.randrange(1, 5))
+
+    def fetch(self) -> Optional[int]:
+        """Asks for a job in some way. Returns its id, if there was one."""
+        request = self.rng.choice([b"TAKE", b"TAKE", b"POLL", b"POLLFOR 20000000", b"DRAIN 1"])
+        words = self.ask(request)
+        if words[0] == "DRAINED" and words[1] == "1":
+            words = self.answers[-1][1][1].split(" ")
+        return int(words[1]) if words[0] == "ITEM" else None
+
+    def settle(self, job: int, chance_of_done: float) -> None:
+        """Finishes a job or fails it."""
+        self.ask(b"%s %d" % (b"DONE" if self.rng.random() < chance_of_done else b"FAIL", job))
+
+    def quit(self) -> None:
+        self.ask(b"QUIT")
+        self.expect_end()
+
+    def end_input(self) -> None:
+        """Closes its side, and reads to the end of the other's."""
+        self.socket.shutdown(socket.SHUT_WR)
+        self.read_all()
+        self.expect_end()
+
+    def expect_end(self) -> None:
+        rest = self.session.rest()
+        if rest:
+            raise AssertionError(f"bytes behind the last reply: {rest[:100]!r}")
+        self.hang_up()
+
+    def hang_up(self) -> None:
+        self.session.hang_up()
+
+    def reset(self) -> None:
+        """Hangs up so that the server's next read or write fails."""
+        self.is_reset = True
+        self.session.reset()
+
+
+# What a client does, after its mark. Each ends its session in its own way.
+
+
+def gives(client: Client) -> None:
+    for _ in range(client.rng.randrange(5, 20)):
+        client.ask(client.any_offer())
+    client.quit()
+
+
+def gives_in_batches(client: Client) -> None:
+    for _ in range(4):
+        client.send(*[client.any_offer() for _ in range(client.rng.randrange(1, 33))])
+        client.read_all()
+    client.end_input()
+
+
+def works(client: Client) -> None:
+    for _ in range(client.rng.randrange(5, 30)):
+        job = client.fetch()
+        if job is None:
+            client.ask(client.any_offer())
+        else:
+            client.settle(job, 0.7)
+    client.quit()
+
+
+def works_in_batches(client: Client) -> None:
+    for _ in range(5):
+        client.send(*[client.offer(0) for _ in range(8)], b"SIZE", b"DRAIN 40", b"PEEK", b"DRAIN 0")
+        client.read_all()
+        held = [int(it.split(" ")[1]) for it in client.answers[-3][1][1:]]
+        client.send(*[b"DONE %d" % it for it in held[::2]], *[b"FAIL %d" % it for it in held[1::2]])
+        client.read_all()
+    client.end_input()
+
+
+def holds_too_many(client: Client) -> None:
+    client.send(*[client.offer(0) for _ in range(70)], b"DRAIN 1000", b"DRAIN 1", b"POLL", b"TAKE", b"POLLFOR 5")
+    client.read_all()
+    client.end_input()
+
+
+def looks(client: Client) -> None:
+    for _ in range(10):
+        client.ask(client.rng.choice([b"SIZE", b"PEEK", b"POLLFOR 0", b"AT 5", b"DONE 7", b"FAIL 7", b"poll", b""]))
+    client.ask(b"REMOVE %d" % client.rng.randrange(500))
+    client.quit()
+
+
+def clears(client: Client) -> None:
+    client.ask(b"CLEAR")
+    client.quit()
+
+
+def says_nothing(client: Client) -> None:
+    time.sleep(client.rng.random() / 5)
+    client.hang_up()
+
+
+def dribbles(client: Client) -> None:
+    for request in (client.any_offer(), b"POLL", client.any_offer(), b"SIZE"):
+        client.note(request)
+        for byte in request + b"\n":
+            client.socket.sendall(bytes([byte]))
+        client.read()
+    client.quit()
+
+
+def hangs_up(client: Client) -> None:
+    """It holds jobs, has read all its replies, and sends nothing more."""
+    client.send(*[client.offer(0) for _ in range(5)], b"TAKE", b"POLL", b"DRAIN 3")
+    client.read_all()
+    client.hang_up()
+
+
+def hangs_up_on_its_replies(client: Client) -> None:
+    client.is_heard = False
+    client.send(*[client.offer(0) for _ in range(5)], b"TAKE", b"TAKE", *[b"SIZE"] * 50)
+    for _ in range(client.rng.randrange(8)):
+        client.read()
+    client.hang_up()
+
+
+def leaves_while_it_waits(client: Client) -> None:
+    client.is_heard = False
+    client.send(b"TAKE")
+    time.sleep(client.rng.random() / 50)
+    client.hang_up()
+
+
+def resets(client: Client) -> None:
+    client.send(client.offer(0), b"TAKE", b"DRAIN 4")
+    client.read_all()
+    client.reset()
+
+
+def resets_while_it_waits(client: Client) -> None:
+    client.is_heard = False
+    client.send(client.offer(0), b"TAKE", b"OFFER 5000000 last", b"TAKE")
+    client.read()
+    client.reset()
+
+
+def sends_half_a_line(client: Client) -> None:
+    client.send(client.offer(0), b"TAKE")
+    client.read_all()
+    client.note(b"DONE (half)")
+    client.socket.sendall(b"DONE")
+    client.end_input()
+
+
+def sends_noise(client: Client) -> None:
+    noise = client.rng.randbytes(client.rng.randrange(1, 100_000)) + b"\n" + b"x" * 100_000 + b"\nOFFER 1 \xff"
+    client.note(*noise.split(b"\n"))
+    client.socket.sendall(noise)
+    client.end_input()
+
+
+def reads_no_more(client: Client) -> None:
+    """It sends until the server stops reading, because nobody reads what the server writes."""
+    client.is_heard = False
+    client.send(client.offer(0), b"TAKE")
+    client.session.fill()
+    client.reset()
+
+
+KINDS = [
+    gives, gives_in_batches, works, works, works_in_batches, holds_too_many, looks, clears, says_nothing, dribbles,
+    hangs_up, hangs_up_on_its_replies, leaves_while_it_waits, resets, resets_while_it_waits, sends_half_a_line,
+    sends_noise, works, gives, works,
+]
+
+
+def run_client(number: int, port: int, seed: str) -> Tuple[Client, str]:
+    """Runs a client to its end. Returns the client, and what went wrong; nothing if all went well."""
+    kind = reads_no_more if number % 50 == 25 else KINDS[number % len(KINDS)]
+    client = Client(number, kind, seed)
+    try:
+        client.connect(port)
+        if kind is not says_nothing:
+            client.ask(b"REMOVE %d" % (FIRST_MARK + number))
+        kind(client)
+        return client, ""
+    except Exception as fault:  # whatever it is, it is told
+        client.is_heard = False
+        return client, f"{type(fault).__name__}: {fault}"
+
+
+def early(clients: Iterable[Client]) -> Iterator[str]:
+    """Which payloads came before their delay had passed, by the machine's clock."""
+    sent = {payload: it for client in clients for payload, it in client.sent_at.items()}
+    for client in clients:
+        for payload, got in client.got_at.items():
+            at, delay = sent.get(payload, (0, 0))
+            if got - at < delay:
+                yield f"{payload} was got {got - at} ns after it was offered with a delay of {delay}"

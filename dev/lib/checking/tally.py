@@ -1,0 +1,36 @@
+"""What passed, failed and was skipped."""
+from __future__ import annotations
+
+from typing import Optional, Sequence
+
+
+class Tally:
+    """Counts what passes of a part, and prints what does not. If `only` has words, only what has one in its name is
+    tried."""
+
+    def __init__(self, only: Sequence[str] = (), part: str = "") -> None:
+        self.only, self.part = only, part
+        self.passed = self.failed = self.skipped = 0
+
+    def wants(self, name: str) -> bool:
+        """Whether something of this name is tried."""
+        return not self.only or any(word in name for word in self.only)
+
+    def count(self, name: str, fault: Optional[object]) -> None:
+        """Counts something of this name. The fault is what is wrong with it, if anything is."""
+        if fault:
+            self.failed += 1
+            print(f"{name}: {fault}", flush=True)
+        else:
+            self.passed += 1
+
+    def skip(self, name: str, reason: str) -> None:
+        """Counts what can't be tried here, and says so."""
+        self.skipped += 1
+        print(f"{name}: skipped: {reason}", flush=True)
+
+    def end(self) -> bool:
+        """Prints the count, and returns whether something was tried or skipped, and nothing failed."""
+        rest = f", {self.skipped} skipped" if self.skipped else ""
+        print(f"{self.passed} passed, {self.failed} failed{rest}", flush=True)
+        return self.failed == 0 and self.passed + self.skipped > 0

@@ -1,0 +1,72 @@
+"""What tests of several tools need: a folder of their own, and a tool as a command or within this process."""
+from __future__ import annotations
+
+import functools
+import importlib.util
+import io
+import os
+import subprocess
+import sys
+import tempfile
+import unittest
+from importlib.machinery import SourceFileLoader
+from types import ModuleType
+from typing import List, Tuple
+from unittest import mock
+
+from common.program import TOP
+
+PATIENCE = 600  # seconds after which a command has failed
+
+
+class RoomTest(unittest.TestCase):
+    """A test with a folder of its own, which is gone at its end."""
+
+    def setUp(self) -> None:
+        room = tempfile.TemporaryDirectory(prefix="rb-test-")
+        self.addCleanup(room.cleanup)
+        self.room = room.name
+
+    def path(self, name: str) -> str:
+        return os.path.join(self.room, name)
+
+    def file(self, name: str, text: str) -> str:
+        """Writes a file, and returns its path."""
+        with open(self.path(name), "w", encoding="utf-8") as file:
+            file.write(text)
+        return self.path(name)
+
+
+def tool(name: str) -> List[str]:
+    """The first words of a command that runs one of tools/."""
+    return [sys.executable, "-B", f"{TOP}/tools/{name}"]
+
+
+def run_tool(name: str, *words: object, given: str = "") -> subprocess.CompletedProcess[str]:
+    """Runs a tool to its end."""
+    return subprocess.run([*tool(name), *map(str, words)], input=given, capture_output=True, encoding="utf-8",
+                          timeout=PATIENCE, check=False)
+
+
+@functools.lru_cache(None)
+def module_of(name: str) -> ModuleType:
+    """A tool as a module."""
+    loader = SourceFileLoader(f"{name}_command", f"{TOP}/tools/{name}")
+    spec = importlib.util.spec_from_loader(loader.name, loader)
+    assert spec is not None
+    module = importlib.util.module_from_spec(spec)
+    sys.modules[loader.name] = module  # where dataclasses look for it
+    loader.exec_module(module)
+    return module
+
+
+def call_tool(name: str, *words: str) -> Tuple[int, bytes, str]:
+    """Runs a tool within this process, which is quicker: its status, what it writes, and standard error."""
+    streams = [io.TextIOWrapper(io.BytesIO(), "utf-8", write_through=True) for _ in range(2)]
+    with mock.patch.multiple(sys, argv=[name, *words], stdout=streams[0], stderr=streams[1]):
+        try:
+            status = module_of(name).main()
+        except SystemExit as end:
+            status = end.code
+    written, errors = (it.detach().getvalue() for it in streams)
+    return status, written, errors.decode()

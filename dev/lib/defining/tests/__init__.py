@@ -1,0 +1,1 @@
+"""The tests of dev/definitions, on crates that they make and on those of this repository."""

@@ -1,0 +1,106 @@
+"""The crates of a repository: the definition that a name in a file means."""
+from __future__ import annotations
+
+import re
+from pathlib import Path
+from typing import Optional
+
+from defining.cited_file import CitedFile
+from defining.items import Item, rust_items, spec_items
+from defining.words import words_of
+
+USE = re.compile(r"^ *(?:pub )?use (\w+)::([^;]+);", re.M)
+USED = re.compile(r"(\w+)(?: as (\w+))?(?=\s*(?:[,}]|$))")
+SMALL_CONSTRUCTORS = {"true", "false", "zero", "suc", "pos"}
+TYPES = ("struct", "enum", "trait", "const", "type")
+
+
+class Unknown(Exception):
+    """A name leads nowhere, or to several things: in lines for the user."""
+
+
+class SourceFile:
+    """A file of src/ or specs/: its items, and what it imports."""
+
+    def __init__(self, top: Path, path: str) -> None:
+        place, folder = top / path, top.joinpath(*Path(path).parts[:2])
+        text, imports = place.read_text(encoding="utf-8"), CitedFile(folder.name, place, folder)
+        self.crate, self.modules, self.imported = folder.name, imports.renamed_modules, imports.imported
+        self.operators = {part: it for it in self.imported for part in it.split("◌") if part and "◌" in it}
+        # What the code sees: each name with the crate that it is from, and its name there.
+        self.uses = {alias or name: (root, name) for root, it in USE.findall(text) for name, alias in USED.findall(it)}
+        self.items = [*(rust_items if path.endswith(".rt") else spec_items)(path, text)]
+        self.named = {it.name: it for it in self.items}
+        kinds = [it for it in self.items if it.kind == "data"]
+        self.variants = {line.split()[0]: it for it in kinds for line in it.code[1:] if " : " in line}
+
+
+class Tree:
+    """The files of src/ and specs/ of all crates below a folder, by their paths from there, without tests."""
+
+    def __init__(self, top: Path) -> None:
+        found = [it for part in ("src/**/*.rt", "specs/**/*.antt") for it in top.glob(f"crates/*/{part}")]
+        paths = sorted(it.relative_to(top).as_posix() for it in found)
+        self.files = {it: SourceFile(top, it) for it in paths if not re.search(r"/tests[/.]", it)}
+        self.crates = {it.crate for it in self.files.values()}
+
+    def cited_by(self, item: Item, code: list[str]) -> tuple[list[Item], list[str]]:
+        """The definitions that these lines of an item name, and the names of libraries with their modules."""
+        file = self.files[item.path]
+        words = words_of(item, code, lambda name: self.is_constructor(file, name))
+        meant = [it for it in map(lambda word: self.meaning(file, word), words) if it]
+        found = {(it.path, it.name): it for it in meant if isinstance(it, Item)}
+        found.pop((item.path, item.name), None)
+        return list(found.values()), list(dict.fromkeys(it for it in meant if isinstance(it, str)))
+
+    def is_constructor(self, file: SourceFile, name: str) -> bool:
+        """Whether a name in a pattern is that of a constructor."""
+        known = name in SMALL_CONSTRUCTORS or name[0].isupper()
+        return known or isinstance(meant := self.meaning(file, name), Item) and meant.kind in ("data", "enum")
+
+    def meaning(self, file: SourceFile, word: str) -> Item | str | None:
+        """What a word means in a file: a definition, the name of a library with its module, or nothing of these."""
+        head, _, rest = word.partition(".")
+        local = file.operators.get(head, head)
+        if local in file.imported:
+            return self._imported(*file.imported[local])
+        if rest and head in file.modules:
+            return self._imported(file.modules[head], rest.partition(".")[0])
+        if head in file.uses:
+            root, name = file.uses[head]
+            return self._used(file.crate if root in ("crate", "super") else root, name)
+        return file.variants.get(head) or file.named.get(head)
+
+    def _imported(self, module: str, name: str) -> Item | str:
+        root, crate, part, *path = [*module.split("."), "", ""]
+        if root != "Rattle" or crate not in self.crates or part != "specs":
+            return f"{module.removeprefix('Rattle.')}.{name}"
+        declared = path[0] in ("declared", "contracts")
+        found = (self._declared if declared else self._specified)(crate, path[declared:-2], name)
+        if not found:
+            raise Unknown(f"{module}.{name} is nowhere in src/ and specs/")
+        return found
+
+    def _declared(self, crate: str, path: list[str], name: str) -> Optional[Item]:
+        """The type or constant of src/ for which a generated module stands."""
+        at = next((at for at, it in enumerate(path) if it.startswith("The")), len(path))
+        is_constant = path[at:at + 1] == ["TheConstants"]  # followed by the type, if it is one of a type's
+        modules, names = (path[:at], [*path[at + 1:], name]) if is_constant else (path[:at - 1], path[at - 1:at])
+        paths = [f"crates/{crate}/src/{it}.rt" for it in (["/".join(modules)] if modules else ["lib", "main"])]
+        found = (self.files[it].named.get("::".join(names)) for it in paths if it in self.files)
+        return next(filter(None, found), None)
+
+    def _specified(self, crate: str, path: list[str], name: str) -> Optional[Item]:
+        """The definition of specs/, there or where that file or the crate's Lib.antt has it from."""
+        file, lib = (self.files.get(f"crates/{crate}/specs/{it}.antt") for it in ("/".join(path), "Lib"))
+        if file and (name in file.named or name in file.variants):
+            return file.named.get(name) or file.variants[name]
+        module, further = file.imported.get(name, ("", name)) if file else (lib.modules[path[0]] if lib else "", name)
+        meant = self._imported(module, further)
+        return meant if isinstance(meant, Item) else None
+
+    def _used(self, crate: str, name: str) -> Optional[Item]:
+        """The type or constant of this name in a crate, or in one from which that hands it on."""
+        found = [it for file in self.files.values() for it in file.items if it.name == name and it.kind in TYPES]
+        found.sort(key=lambda it: not it.path.startswith(f"crates/{crate}/"))
+        return found[0] if found and crate in self.crates else None

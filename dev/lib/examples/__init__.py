@@ -1,0 +1,1 @@
+"""The tests of examples/, whose programs are for users: `dev/check worker` runs them."""

@@ -1,0 +1,1 @@
+"""The tests of the worker in Perl, examples/worker.pl."""

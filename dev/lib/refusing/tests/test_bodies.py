@@ -1,0 +1,59 @@
+"""Each wrong body is planted into a copy of the checkout, in which dev/refuse_allocations then has to find it."""
+from __future__ import annotations
+
+import os
+import re
+import shutil
+import subprocess
+import sys
+from pathlib import Path
+
+from checking.testing import PATIENCE, RoomTest
+from common.program import TOP
+
+BODIES = Path(TOP, "dev/lib/refusing/tests/bodies")
+LEFT_OUT = shutil.ignore_patterns("out", "must-fail", "attacks", "__pycache__")
+
+
+class BodyTest(RoomTest):
+    def plant(self, body: str) -> None:
+        """Copies what the tool reads, and applies the edit of this name."""
+        for name in ("crates.txt", "HANDLES"):
+            shutil.copy2(f"{TOP}/{name}", self.room)
+        for name in ("crates", "dev", "tools"):
+            shutil.copytree(f"{TOP}/{name}", self.path(name), ignore=LEFT_OUT)
+        crate = Path(self.path("crates"), os.path.dirname(body))
+        source, old = crate, ""
+        for line in (BODIES / f"{body}.edit").read_text("utf-8").splitlines():
+            word, _, text = line.partition(": ")
+            if word == "file":
+                source = crate / text
+            elif word == "old":
+                old = text
+            else:
+                before = source.read_text("utf-8")
+                self.assertEqual(("new", 1), (word, before.count(old)), line)
+                source.write_text(before.replace(old, text), "utf-8")
+
+    def expect(self, crate: str, body: str, said: str) -> None:
+        """Expects that with this body the tests of the crate fail, and why."""
+        self.plant(body)
+        command = [sys.executable, "-B", self.path("dev/refuse_allocations"), crate]
+        ran = subprocess.run(command, capture_output=True, encoding="utf-8", timeout=PATIENCE, check=False)
+        self.assertEqual((1, ""), (ran.returncode, ran.stderr), ran.stdout)
+        self.assertRegex(ran.stdout, re.compile(rf"^{crate}: {said}$", re.M))
+        self.assertRegex(ran.stdout, r"\n0 passed, \d failed\n\Z")
+
+    def test_a_split_that_waits_once_memory_is_refused(self) -> None:
+        # The split is behind all growths.
+        said = r"with allocation 27 of 27 refused \(\d+ s\): it did not end within 240 seconds"
+        self.expect("rb_lock_tests", "rb_lock/split_waits_for_memory", said)
+
+    def test_an_act_that_asks_for_memory_in_vain(self) -> None:
+        said = r"\d+ allocations without the calls, \d+ with them \(\d+ s\): the calls take memory"
+        self.expect("rb_kept_tests", "rb_kept/act_asks_in_vain", said)
+
+    def test_an_offer_that_asks_for_memory_in_vain(self) -> None:
+        # The test makes 28 calls.
+        said = r"each of 54 allocations refused in turn, 25 refusals met \(\d+ s\): 29 are not met, and 1 must not be"
+        self.expect("rb_lock_tests", "rb_kept/act_asks_in_vain", said)

@@ -1,0 +1,6 @@
+"""The program as a server, and a client's session, for all tests that need some."""
+
+HOST = "127.0.0.1"
+
+# Seconds that a client waits for a reply.
+PATIENCE = 60

@@ -1,1 +1,0 @@
-"""Builds the program's crates side by side, for tools/build."""

@@ -1,1 +1,0 @@
-"""The tests of examples/, whose programs are for users: tools/check_worker runs them."""

@@ -1,3 +1,0 @@
-"""The tests of the worker in Perl, examples/worker.pl, which tools/check_worker runs."""
-
-NEEDS_PROGRAM = True
