@@ -163,7 +163,9 @@ class Sentinels:
 
     def __init__(self, folder: Path, watched: Replicas, name: str = "main") -> None:
         self.name, self.watched = name, watched
-        self.ports = [free_port() for _ in range(3)]
+        self.ports: List[int] = []
+        while len(self.ports) < 3:  # nobody listens at them yet, so the same one may be found again
+            self.ports = [*{*self.ports, free_port()}]
         self._processes = []
         for port in self.ports:
             place = folder / f"sentinel-{port}"
