@@ -37,6 +37,7 @@ def leaving_nothing() -> Iterator[str]:
         if signal.getsignal(number) is not signal.SIG_IGN:  # as under nohup
             signal.signal(number, interrupt)
     room = tempfile.mkdtemp(prefix="rb-")
+    os.chmod(room, 0o711)  # a test may run a process as another user, whose files lie below
     os.environ["TMPDIR"] = tempfile.tempdir = room
     try:
         yield room

@@ -21,7 +21,7 @@ SEATS_OF_A_GATEWAY = 10**9
 
 FETCHES = (b"POLL", b"TAKE", b"POLLFOR", b"DRAIN")
 
-MOST_IN_FLIGHT = 1
+MOST_IN_FLIGHT = 2
 """How many commands are under way at once. While they are, further calls are gathered."""
 
 SECONDS_BETWEEN_TRIES = 0.05
