@@ -2,6 +2,7 @@
 
     words.py      the words of a command line; also those of the tools that the package of the system brings
     program.py    the program that is run: this checkout's, built if it has to be, or another that --program names
+    progress.py   how far long work is, on a terminal
 
 The tests are below tests/; `dev/check tools` runs them.
 """

@@ -17,15 +17,13 @@ from histories.history import History, Run
 from histories.reported_queue import ElementWords, ReportedQueue
 from histories.text import Text
 
-LINES_BETWEEN_LOOKS = 8192
-
 TOO_LARGE = "a number passes 2^64 - 1"
 
 
-def read_history(file: BinaryIO, look: Callable[[], None] = lambda: None) -> History:
-    """The history in a file. `look` is called now and then, so that progress can be shown."""
+def read_history(file: BinaryIO) -> History:
+    """The history in a file."""
     reader = Reader()
-    reader.read("", Text(file), look)
+    reader.read("", Text(file))
     return reader.history
 
 
@@ -36,7 +34,7 @@ class Reader:
         self.history = History()
         self._queue = ReportedQueue(self.history)
 
-    def read(self, name: str, text: Text, look: Callable[[], None]) -> None:
+    def read(self, name: str, text: Text) -> None:
         """Adds a run, of whose text no more than the head has been read."""
         history, head = self.history, text.head
         keep = self._open(head, text.head_lines)
@@ -44,7 +42,7 @@ class Reader:
         _read_kept(text, keep)
         run.first_row = len(history.elements)
         history.runs.append(run)
-        _read_events(text, EventReader(history, self._queue), look)
+        _read_events(text, EventReader(history, self._queue))
         run.events = len(history.events) - run.first_event
         run.offered = len(history.elements) - run.first_row
         run.left = len(self._queue)
@@ -71,14 +69,12 @@ def _read_kept(text: Text, keep: Callable[[ElementWords], None]) -> None:
             _refuse(number, fault)
 
 
-def _read_events(text: Text, reader: EventReader, look: Callable[[], None]) -> None:
+def _read_events(text: Text, reader: EventReader) -> None:
     for number, match in text.events():
         try:
             reader.read(match)
         except (Wrong, OverflowError) as fault:
             _refuse(number, fault)
-        if not number % LINES_BETWEEN_LOOKS:
-            look()
 
 
 def _refuse(number: int, fault: Exception) -> NoReturn:

@@ -31,7 +31,7 @@ BESIDE_PAGES = ("docs/*.png", "docs/*.svg", "examples/*", "clients/python/exampl
 
 # The tools that become commands, each with the folder of its modules, and what several of them import.
 COMMANDS = {"service": "servicing", "report": "reporting", "verify": "verifying", "load": "loading"}
-SHARED = ("common/__init__.py", "common/program.py", "common/words.py", "histories/*.py")
+SHARED = ("common/*.py", "histories/*.py")
 
 
 def write(root: str, place: str, content: bytes, is_command: bool = False) -> None:

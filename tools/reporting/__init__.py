@@ -12,7 +12,6 @@ on a terminal and on a page.
     lives.py                                      the lives of jobs, as the page has them
     head.py, page.py, page_parts.py, page.css     the page
     page.js, lives.js, jobs.js, readings.js, plots.js  what it does in a browser
-    progress.py                                   a line that says how far a long report is
 
 The tests are below tests/, with a maker of large histories; `dev/check report` runs them.
 """

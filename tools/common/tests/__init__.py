@@ -1,1 +1,1 @@
-"""The tests of tools/common: which program is run, and the words of a command line."""
+"""The tests of tools/common: which program is run, the words of a command line, and how far long work is."""

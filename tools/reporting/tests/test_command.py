@@ -3,14 +3,12 @@ from __future__ import annotations
 
 import os
 import subprocess
-import unittest
 from typing import Tuple
-from unittest import mock
 
 from checking.testing import tool
+from common.tests.support import long_work_at_terminal
 from histories.tests.support import RUN, offer, text_of
-from reporting.progress import Progress
-from reporting.tests.support import ReportTest, run
+from reporting.tests.support import ReportTest, call, run
 
 
 class CommandTest(ReportTest):
@@ -102,21 +100,11 @@ class CommandTest(ReportTest):
         os.close(writing)
         self.assertEqual((ran.returncode, ran.stderr), (2, "report: cannot write output\n"))
 
-
-class ProgressTest(unittest.TestCase):
-    def written(self, is_terminal: bool, seconds: float) -> str:
-        """What a report writes that says something after so many seconds."""
-        with mock.patch("sys.stderr") as stderr, mock.patch("time.monotonic", side_effect=[0.0, seconds]):
-            stderr.isatty.return_value = is_terminal
-            progress = Progress()
-            progress.say("reading: 40 %")
-            progress.end()
-            return "".join(call.args[0] for call in stderr.write.call_args_list)
-
-    def test_only_a_long_report_at_a_terminal_says_how_far_it_is(self) -> None:
-        self.assertIn("reading: 40 %", self.written(True, 2.5))
-        self.assertEqual(self.written(True, 1.5), "")
-        with mock.patch("sys.stderr") as stderr:
-            stderr.isatty.return_value = False
-            Progress().say("reading: 40 %")
-            self.assertFalse(stderr.write.called)
+    def test_a_long_report_says_at_a_terminal_how_far_it_is(self) -> None:
+        with long_work_at_terminal():
+            status, told, errors = call(self.history, "--html", self.path("page.html"))
+        self.assertEqual((status, told), (0, run(self.history).stdout))
+        lines = [line.strip() for line in errors.split("\r")]
+        for line in (f"reading {self.history}: 0 %", "counting", "drawing"):
+            self.assertIn(line, lines)
+        self.assertEqual(lines[-2:], ["", ""])

@@ -7,7 +7,6 @@ from histories.faults import Damaged
 from histories.series import read_series
 from histories.tests.support import offer, text_of
 from reporting.dates import Dates, date_text, nanoseconds_of
-from reporting.progress import Progress
 from reporting.tests.support import ReportTest
 
 # Three runs in which job 0 has an attempt each, the last of which is given at the very end.
@@ -91,7 +90,7 @@ class SeriesTest(RunsTest):
             with self.subTest(says=says):
                 other = self.file("other.txt", text)
                 with self.assertRaises(Damaged) as caught:
-                    read_series([self.paths[0], other], Progress().say_read)
+                    read_series([self.paths[0], other])
                 start = f"{other}: line {line}: it does not continue {self.paths[0]}: "
                 self.assertEqual(str(caught.exception)[:len(start)], start)
                 self.assertIn(says, str(caught.exception))
@@ -128,7 +127,7 @@ class SeriesTest(RunsTest):
         self.assertIn("0 left at the end", self.lines(self.paths[0], cleared)[1])
 
     def test_the_columns_of_all_runs(self) -> None:
-        history = read_series(self.paths, Progress().say_read)
+        history = read_series(self.paths)
         self.assertEqual(list(history.elements.ids), [0, 1, 2, 3])
         self.assertEqual(list(history.elements.roots), [0, 0, 2, 0])
         self.assertEqual(list(history.elements.left_in), [1, 5, 4, 7])
@@ -167,12 +166,12 @@ class DatesTest(RunsTest):
         self.assertIn("2026-11-26 09:00:00.000001000  1 of run 2", life[4])
 
     def test_dates_begin_with_the_run_and_not_with_its_first_event(self) -> None:
-        history = read_series(self.paths[1:], Progress().say_read)
+        history = read_series(self.paths[1:])
         dates = Dates.of(history, [nanoseconds_of("@100")])
         self.assertEqual([dates.date(moment) for moment in (20, 1020)], [100 * 10**9, 100 * 10**9 + 1000])
 
     def test_a_moment_at_which_two_runs_meet(self) -> None:
-        history = read_series(self.paths, Progress().say_read)
+        history = read_series(self.paths)
         dates = Dates.of(history, [1000, 5000, 9000])
         self.assertEqual([dates.date(20, run) for run in (0, 1, 2)], [1020, 1020, 5000])
         self.assertEqual([dates.date(moment) for moment in (0, 21, 1020, 1021)], [1000, 5001, 6000, 9001])
