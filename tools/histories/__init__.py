@@ -2,11 +2,8 @@
 
     grammar.py, text.py      the lines of a text, one after the other, each of which must be of its form
     acts.py, given.py        what an event may be, and what it gave
-    element.py               an element as a text tells of it
-    history.py, reader.py, events.py, reported_queue.py  a history in columns, with the queue that it describes
-    series.py, continuation.py                           the histories of runs that follow one another, in one
-    next_run.py              how the run begins that continues a history, without reading all of it
-    files.py                 the file of a history, which may be compressed
+    history.py, reader.py, reported_queue.py  a history in columns, with the queue that it describes
+    files.py, series.py      a file, which may be compressed, and those of runs that follow one another
     faults.py                why a history can't be read
 
 tools/report takes the columns, in which all must be as a queue does it. tools/verify and the tests

@@ -1,37 +1,20 @@
 """The acts that an event may be, by small numbers, so that a column of them has a byte for each event."""
 from __future__ import annotations
 
-from typing import NamedTuple, Tuple
+from typing import Dict, Tuple
 
 (OFFER, POLL, POLL_NONE, TAKE, POLLFOR, POLLFOR_NONE, PEEK, PEEK_NONE,
  REMOVE, REMOVE_NONE, DRAIN, CLEAR, SIZE) = range(13)
 
+# The acts by their keywords in the text. One that finds an element or none is two.
+BY_KEYWORD: Dict[str, Tuple[int, ...]] = {
+    "offer": (OFFER,), "poll": (POLL, POLL_NONE), "take": (TAKE,), "pollfor": (POLLFOR, POLLFOR_NONE),
+    "peek": (PEEK, PEEK_NONE), "remove": (REMOVE, REMOVE_NONE), "drain": (DRAIN,), "clear": (CLEAR,), "size": (SIZE,),
+}
 
-class Act(NamedTuple):
-    """What an act is called in the text, and whether it was answered with an element, with none, or with neither."""
+KEYWORDS: Tuple[str, ...] = tuple(keyword for keyword, told in BY_KEYWORD.items() for _ in told)  # of each act
 
-    keyword: str
-    answer: str
-
-
-ELEMENT, NOTHING, NEITHER = "element", "nothing", ""
-
-ACTS: Tuple[Act, ...] = (
-    Act("offer", NEITHER),
-    Act("poll", ELEMENT), Act("poll", NOTHING),
-    Act("take", ELEMENT),
-    Act("pollfor", ELEMENT), Act("pollfor", NOTHING),
-    Act("peek", ELEMENT), Act("peek", NOTHING),
-    Act("remove", ELEMENT), Act("remove", NOTHING),
-    Act("drain", NEITHER),
-    Act("clear", NEITHER),
-    Act("size", NEITHER),
-)
-
-KEYWORDS: Tuple[str, ...] = tuple(dict.fromkeys(act.keyword for act in ACTS))
-
-# Acts that gave the one element that they name. A drain gives as many as it says.
 GIVES_ONE = frozenset((POLL, TAKE, POLLFOR))
-
-# Acts that found nothing to give.
-GIVES_NONE = frozenset((POLL_NONE, POLLFOR_NONE))
+GIVES = GIVES_ONE | {DRAIN}  # a drain as many as it says
+FINDS_ONE = GIVES_ONE | {PEEK, REMOVE}
+FINDS_NONE = frozenset((POLL_NONE, POLLFOR_NONE, PEEK_NONE, REMOVE_NONE))

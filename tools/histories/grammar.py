@@ -41,8 +41,7 @@ class Head(NamedTuple):
     kept: int = 0
 
 
-# The groups of an element's words, in a `keep` line and in an event.
-KEPT_GROUPS, OFFERED_GROUPS = tuple(range(1, 7)), tuple(range(4, 10))
+OFFERED_GROUPS = tuple(range(4, 10))  # of an element's words in an event; in a `keep` line there are no others
 
 OPEN: Pattern[bytes] = re.compile(rb"open " + b" ".join([_NUMBER] * 3) + rb"\n")
 END: Pattern[bytes] = re.compile(rb"end " + _NUMBER + rb"\n")

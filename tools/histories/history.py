@@ -9,28 +9,44 @@ from __future__ import annotations
 from array import array
 from bisect import bisect_left, bisect_right
 from dataclasses import dataclass, field
-from typing import Dict, List, Optional
+from typing import Any, Dict, Iterator, List, NamedTuple, Optional, Tuple
 
-from histories.element import Element
+from histories.acts import DRAIN, GIVES, GIVES_ONE
 
 # Takes the place of a row or an event if there is none.
 NONE = -1
+
+
+def column(kind: str) -> Any:
+    """The field of a column, which is empty at first."""
+    return field(default_factory=lambda: array(kind))
+
+
+class Element(NamedTuple):
+    """The words of a `keep` line or of an offer. The expiry and the job's first one are moments of the server."""
+
+    id: int
+    expiry: int
+    origin: int
+    first: int
+    attempt: int
+    payload: str
 
 
 @dataclass
 class Elements:
     """The columns of the elements. The act of the event in which an element left shows how it left."""
 
-    ids: array[int] = field(default_factory=lambda: array("Q"))
-    expiries: array[int] = field(default_factory=lambda: array("Q"))
-    origins: array[int] = field(default_factory=lambda: array("Q"))
-    firsts: array[int] = field(default_factory=lambda: array("Q"))
-    attempts: array[int] = field(default_factory=lambda: array("H"))
-    roots: array[int] = field(default_factory=lambda: array("i"))  # the first row of the same job
-    offered_in: array[int] = field(default_factory=lambda: array("i"))  # an event, or NONE for one of the opening
-    left_in: array[int] = field(default_factory=lambda: array("i"))  # an event, or NONE for one that is left at the end
+    ids: array[int] = column("Q")
+    expiries: array[int] = column("Q")
+    origins: array[int] = column("Q")
+    firsts: array[int] = column("Q")
+    attempts: array[int] = column("H")
+    roots: array[int] = column("i")  # the first row of the same job
+    offered_in: array[int] = column("i")  # an event, or NONE for one of the opening
+    left_in: array[int] = column("i")  # an event, or NONE for one that is left at the end
     payloads: bytearray = field(default_factory=bytearray)  # one after the other
-    payload_ends: array[int] = field(default_factory=lambda: array("I"))
+    payload_ends: array[int] = column("I")
 
     def __len__(self) -> int:
         return len(self.ids)
@@ -49,12 +65,12 @@ class Events:
     """The columns of the events. A subject is the element's row, the number that a drain gave or a size counted, or
     NONE."""
 
-    seats: array[int] = field(default_factory=lambda: array("Q"))
-    moments: array[int] = field(default_factory=lambda: array("Q"))  # at which the calls took effect
+    seats: array[int] = column("Q")
+    moments: array[int] = column("Q")  # at which the calls took effect
     acts: bytearray = field(default_factory=bytearray)
-    subjects: array[int] = field(default_factory=lambda: array("i"))
-    late: array[int] = field(default_factory=lambda: array("i"))  # the events of later attempts that were asked before
-    late_asked: array[int] = field(default_factory=lambda: array("Q"))  # and when each was asked
+    subjects: array[int] = column("i")
+    late: array[int] = column("i")  # the events of later attempts that were asked before
+    late_asked: array[int] = column("Q")  # and when each was asked
 
     def __len__(self) -> int:
         return len(self.acts)
@@ -65,37 +81,31 @@ class Events:
         found = place < len(self.late) and self.late[place] == event
         return self.late_asked[place] if found else self.moments[event]
 
-    def all_of(self, act: int) -> array[int]:
-        """The indices of all events with this act."""
-        found, event = array("i"), self.acts.find(act)
-        while event >= 0:
-            found.append(event)
-            event = self.acts.find(act, event + 1)
-        return found
+    def given(self, part: slice) -> int:
+        """How many elements these events gave."""
+        acts = self.acts[part]
+        drained = sum(number for act, number in zip(acts, self.subjects[part]) if act == DRAIN)
+        return drained + sum(map(acts.count, GIVES_ONE))
 
 
-@dataclass
-class Run:
+class Run(NamedTuple):
     """The part of a history that one text tells."""
 
     name: str
     version: int
     opened_at: int  # the moment of the last event before, or a later one
+    end: int  # the moment of the last event, or the opening's if there is none
+    events: slice
     kept: int  # how many elements its opening has
-    first_event: int
-    first_row: int  # of the elements that it offers
-    events: int = 0
-    offered: int = 0
-    left: int = 0  # how many elements are in the queue at its end
+    offered: int
+    left: int  # how many elements are in the queue at its end
 
 
 @dataclass
 class History:
     """A history as its texts describe it, and how its elements form jobs. The opening is that of the first run."""
 
-    version: int = 3
     next_id: int = 0  # the opening's
-    opened_at: int = 0  # the moment of the last event before, or a later one
     kept: int = 0  # how many elements the opening has
     elements: Elements = field(default_factory=Elements)
     events: Events = field(default_factory=Events)
@@ -105,17 +115,12 @@ class History:
     @property
     def start(self) -> int:
         """The moment of the first event, or the opening's if there is none."""
-        return self.events.moments[0] if self.events.moments else self.opened_at
+        return self.events.moments[0] if self.events.moments else self.runs[0].opened_at
 
     @property
     def end(self) -> int:
         """The moment of the last event, or the last opening's if there is none behind it."""
-        opened_at = self.runs[-1].opened_at if self.runs else self.opened_at
-        return max(self.events.moments[-1], opened_at) if self.events.moments else opened_at
-
-    def end_of(self, run: Run) -> int:
-        """The moment of a run's last event, or its opening's if it has none."""
-        return self.events.moments[run.first_event + run.events - 1] if run.events else run.opened_at
+        return self.runs[-1].end
 
     def row_of(self, id: int) -> Optional[int]:
         """The row of the element of this id, whether it is in the queue or has left."""
@@ -135,4 +140,17 @@ class History:
 
     def run_of(self, event: int) -> int:
         """Which of the runs an event belongs to, from 1."""
-        return bisect_right([run.first_event for run in self.runs], event)
+        return bisect_right([run.events.start for run in self.runs], event)
+
+    def gifts(self) -> Iterator[Tuple[int, int, int]]:
+        """The rows of the elements that were given, in their order, each with the event and how late that was."""
+        moments, acts = self.events.moments, self.events.acts
+        for row, (expiry, event) in enumerate(zip(self.elements.expiries, self.elements.left_in)):
+            if event != NONE and acts[event] in GIVES:
+                yield row, event, moments[event] - expiry
+
+    def returns(self) -> Iterator[Tuple[int, int]]:
+        """The rows of the later attempts that were offered, in their order, each with the event."""
+        for row, (attempt, event) in enumerate(zip(self.elements.attempts, self.elements.offered_in)):
+            if attempt > 1 and event != NONE:
+                yield row, event

@@ -3,21 +3,23 @@
 Beside what its form requires, a text is refused at its first line that says what no queue does: an id out of order, an
 element that leaves without being there, one that is given before its expiry, a moment that goes back, a wrong size.
 Figures would mean nothing then. Whether an element of an earlier expiry was passed over is not tested: `rb_broker
-replay` does that. A run behind another one is refused if it does not begin with what that one left.
+replay` does that. A run behind another one is refused if it does not begin with what that one left: the next id, the
+same elements, and the last moment or, where the time between the two counts, a later one.
 """
 from __future__ import annotations
 
-from typing import BinaryIO, Callable, NoReturn
+from typing import BinaryIO, Callable, Iterable, Match, Tuple, TypeVar
 
-from histories.continuation import Continuation
-from histories.events import EventReader
+from histories.acts import BY_KEYWORD, CLEAR, DRAIN, GIVES_ONE, OFFER, PEEK, PEEK_NONE, REMOVE, SIZE
 from histories.faults import Damaged, Wrong
-from histories.grammar import KEPT_GROUPS, Head
-from histories.history import History, Run
-from histories.reported_queue import ElementWords, ReportedQueue
+from histories.grammar import GREATEST, OFFERED_GROUPS, Head
+from histories.history import NONE, History, Run
+from histories.reported_queue import ReportedQueue
 from histories.text import Text
 
-TOO_LARGE = "a number passes 2^64 - 1"
+Line = TypeVar("Line")
+
+NOTHING = (b"none", b"no")  # the answers of calls that found no element
 
 
 def read_history(file: BinaryIO) -> History:
@@ -33,50 +35,114 @@ class Reader:
     def __init__(self) -> None:
         self.history = History()
         self._queue = ReportedQueue(self.history)
+        self._last = 0  # the moment of the last event
 
     def read(self, name: str, text: Text) -> None:
         """Adds a run, of whose text no more than the head has been read."""
         history, head = self.history, text.head
-        keep = self._open(head, text.head_lines)
-        run = Run(name, head.version, head.opened_at, head.kept, len(history.events), 0)
-        _read_kept(text, keep)
-        run.first_row = len(history.elements)
-        history.runs.append(run)
-        _read_events(text, EventReader(history, self._queue))
-        run.events = len(history.events) - run.first_event
-        run.offered = len(history.elements) - run.first_row
-        run.left = len(self._queue)
+        first = len(history.events)
+        if history.runs:
+            _take([(text.head_lines, head)], self._continue)
+            _take(text.kept(), self._keeper(head.version))
+        else:
+            history.next_id = head.next_id
+            _take(text.kept(), self._queue.keep)
+        self._last, rows = head.opened_at, len(history.elements)
+        _take(text.events(), self._add)
+        history.runs.append(Run(
+            name, head.version, head.opened_at, self._last, slice(first, len(history.events)), head.kept,
+            len(history.elements) - rows, len(self._queue)))
 
-    def _open(self, head: Head, line: int) -> Callable[[ElementWords], None]:
-        """Begins a run, the first one or one that continues. Returns what takes its kept elements."""
-        history = self.history
-        if not history.runs:
-            history.version, history.next_id, history.opened_at = head[:3]
-            return self._queue.keep
-        continuation = Continuation(history, self._queue, head.version)
+    def _continue(self, head: Head) -> None:
+        """Tests an `open` line against what the run before left."""
+        next_id, kept = self._queue.next_id, len(self._queue)
+        if head.next_id != next_id:
+            raise self._other(f"opens with the next id {head.next_id}", next_id)
+        if head.kept != kept:
+            raise self._other(f"opens with a count of {head.kept}", kept)
+        if head.opened_at < self._last:
+            raise self._other(f"opens at moment {head.opened_at}", f"{self._last} or a later one")
+
+    def _keeper(self, version: int) -> Callable[[Match[bytes]], None]:
+        """What tests the `keep` lines of a run that continues. There are as many as elements in the queue."""
+        rows, element = self._queue.rows(), self.history.elements.element
+        # A first expiry that a text leaves out is that of the text's earliest line, which need not be the job's.
+        tells_first = all(it == 3 for it in (version, *(run.version for run in self.history.runs)))
+
+        def keep(line: Match[bytes]) -> None:
+            here, there = [word.decode() for word in line.groups() if word], [*map(str, element(next(rows)))]
+            if not tells_first:
+                del there[3], here[3:-2]
+            if here != there:
+                raise self._other(f"keeps {' '.join(here)}", " ".join(there))
+
+        return keep
+
+    def _other(self, here: str, there: object) -> Wrong:
+        return Wrong(f"it does not continue {self.history.runs[-1].name}: it {here}, and {there} would follow")
+
+    def _add(self, line: Match[bytes]) -> None:
+        """Adds an event."""
+        events = self.history.events
+        event = len(events.acts)
+        seat, asked, at = line.group(1, 2, 3)
+        moment = int(at)
+        if asked != at or moment < self._last:
+            latest = max(int(asked), self._last)
+            if moment != latest:
+                raise Wrong(f"the moment is {moment}, and has to be {latest}, the greater of the one asked and the"
+                            " last")
+        act, subject = self._told(line, moment, event)
+        if asked != at and act == OFFER and self.history.elements.attempts[subject] > 1:
+            events.late.append(event)
+            events.late_asked.append(int(asked))
+        events.seats.append(int(seat))
+        events.moments.append(moment)
+        events.acts.append(act)
+        events.subjects.append(subject)
+        self._last = moment
+
+    def _told(self, line: Match[bytes], moment: int, event: int) -> Tuple[int, int]:
+        """What an event does to the queue: its act and its subject. The last group that matched has the act's name."""
+        queue, keyword = self._queue, line.lastgroup or ""
+        if keyword == "offer":
+            return OFFER, queue.offer(line.group(*OFFERED_GROUPS), event)
+        answer, subject = line[keyword], NONE
+        act = BY_KEYWORD[keyword][answer in NOTHING]
+        if keyword == "pollfor":
+            in_range(line["start"])
+            in_range(line["timeout"])
+        if act in GIVES_ONE:
+            return act, queue.give(int(answer), moment, event)
+        if act == PEEK:
+            subject = queue.stands(int(answer))
+        elif act == PEEK_NONE:
+            queue.count(0)
+        elif keyword == "remove":
+            subject = queue.remove(in_range(line["removed"]), act == REMOVE, event)
+        elif act == DRAIN:
+            subject = queue.drain(in_range(line["most"]), answer.split(), moment, event)
+        elif act == CLEAR:
+            subject = queue.clear(event)
+        elif act == SIZE:
+            subject = queue.count(int(answer))
+        return act, subject
+
+
+def in_range(word: bytes) -> int:
+    """A number that no column stores, and so would not refuse."""
+    number = int(word)
+    if number > GREATEST:
+        raise OverflowError
+    return number
+
+
+def _take(lines: Iterable[Tuple[int, Line]], take: Callable[[Line], None]) -> None:
+    """Takes one line after the other, each with its number. Refuses the text for one that says what can't be."""
+    for number, line in lines:
         try:
-            continuation.open(head)
+            take(line)
         except Wrong as fault:
-            _refuse(line, fault)
-        return continuation.keep
-
-
-def _read_kept(text: Text, keep: Callable[[ElementWords], None]) -> None:
-    for number, match in text.kept():
-        try:
-            keep(match.group(*KEPT_GROUPS))
-        except (Wrong, OverflowError) as fault:
-            _refuse(number, fault)
-
-
-def _read_events(text: Text, reader: EventReader) -> None:
-    for number, match in text.events():
-        try:
-            reader.read(match)
-        except (Wrong, OverflowError) as fault:
-            _refuse(number, fault)
-
-
-def _refuse(number: int, fault: Exception) -> NoReturn:
-    """Refuses a text for what its line of this number says."""
-    raise Damaged(number, str(fault) if isinstance(fault, Wrong) else TOO_LARGE) from None
+            raise Damaged(number, str(fault)) from None
+        except OverflowError:
+            raise Damaged(number, "a number passes 2^64 - 1") from None

@@ -1,7 +1,7 @@
 """The queue of a history while it is read: which elements are in it, and what may happen to them."""
 from __future__ import annotations
 
-from typing import Iterator, Optional, Tuple
+from typing import Iterator, Match, Sequence, Tuple
 
 from histories.faults import Wrong
 from histories.history import NONE, History
@@ -20,7 +20,6 @@ class ReportedQueue:
     def __init__(self, history: History) -> None:
         self._history, self._elements = history, history.elements
         self._left_in, self._expiries = history.elements.left_in, history.elements.expiries
-        self._strays = history.strays
         self._rows = self._number = 0
         self._cleared = 0  # all rows before this one have left
 
@@ -36,17 +35,17 @@ class ReportedQueue:
         """The rows of the elements that are in the queue, in rising order of their ids."""
         return (row for row in range(self._cleared, self._rows) if self._left_in[row] == NONE)
 
-    def keep(self, words: ElementWords) -> None:
+    def keep(self, line: Match[bytes]) -> None:
         """Adds an element of the opening. The ids rise, and are below the next one."""
-        ids, id = self._elements.ids, int(words[0])
+        ids, id = self._elements.ids, int(line[1])
         if id >= self._history.next_id or (ids and id <= ids[-1]):
             raise Wrong("the id of a `keep` line is above the one before, and below the next")
         self._history.kept += 1
-        self._add(id, words, NONE)
+        self._add(id, line.groups(), NONE)
 
     def offer(self, words: ElementWords, event: int) -> int:
         """Adds an element that was offered. Returns its row."""
-        id, due = int(words[0]), self._history.next_id + self._rows - self._history.kept
+        id, due = int(words[0]), self.next_id
         if id != due:
             raise Wrong(f"element {id} is offered, and the next id is {due}")
         return self._add(id, words, event)
@@ -60,6 +59,14 @@ class ReportedQueue:
         self._number -= 1
         return row
 
+    def drain(self, most: int, ids: Sequence[bytes], moment: int, event: int) -> int:
+        """Several elements leave because they have expired. Returns how many."""
+        if len(ids) > most:
+            raise Wrong(f"a drain of at most {most} gives {len(ids)}")
+        for id in ids:
+            self.give(int(id), moment, event)
+        return len(ids)
+
     def remove(self, id: int, found: bool, event: int) -> int:
         """An element is taken out, or was not there. Returns its row, or NONE if there never was one."""
         row = self._history.row_of(id)
@@ -72,17 +79,17 @@ class ReportedQueue:
 
     def clear(self, event: int) -> int:
         """All elements leave. Returns how many there were."""
-        for row in range(self._cleared, self._rows):
-            if self._left_in[row] == NONE:
-                self._left_in[row] = event
+        for row in self.rows():
+            self._left_in[row] = event
         self._cleared = self._rows
         were, self._number = self._number, 0
         return were
 
-    def count(self, size: int) -> None:
+    def count(self, size: int) -> int:
         """Checks that this many elements are in the queue, possibly none."""
         if size != self._number:
             raise Wrong(f"the queue holds {self._number}, not {size}")
+        return size
 
     def stands(self, id: int) -> int:
         """Checks that an element is in the queue. Returns its row."""
@@ -92,14 +99,14 @@ class ReportedQueue:
         return row
 
     def _add(self, id: int, words: ElementWords, event: int) -> int:
-        own, expiry_word, origin_word, first, attempt, payload = words
+        own, expiry, origin_word, first, attempt, payload = words
         elements, row = self._elements, self._rows
-        expiry, origin = int(expiry_word), id if origin_word == own else int(origin_word)
+        origin = id if origin_word == own else int(origin_word)
         elements.ids.append(id)
-        elements.expiries.append(expiry)
+        elements.expiries.append(int(expiry))
         elements.origins.append(origin)
         # Most elements are the first of their job, and nothing has to be looked up.
-        root = row if origin == id and not self._strays else self._root(row, origin)
+        root = row if origin == id and not self._history.strays else self._root(row, origin)
         elements.roots.append(root)
         # The versions that do not tell a first expiry mean that of the job's earliest line.
         elements.firsts.append(int(first) if first else self._expiries[root])
@@ -114,7 +121,5 @@ class ReportedQueue:
 
     def _root(self, row: int, origin: int) -> int:
         """The first row with this origin, which may be the new one."""
-        root: Optional[int] = self._history.root_of(origin)
-        if root is None:
-            self._strays[origin] = root = row
-        return root
+        root = self._history.root_of(origin)
+        return self._history.strays.setdefault(origin, row) if root is None else root

@@ -5,15 +5,12 @@ tells another number of lines than there is. What the lines say is for their rea
 """
 from __future__ import annotations
 
-import collections
 from functools import partial
 from typing import BinaryIO, Iterator, Match, Tuple
 
-from histories.element import Element
 from histories.faults import Damaged
 from histories.grammar import (
-    END, GRAMMARS, GREATEST, GREATEST_OPENING_ID, HEADERS, LONGEST_LINE, MOST_EVENTS, MOST_OPENING_ELEMENTS,
-    OFFERED_GROUPS, OPEN, Head,
+    END, GRAMMARS, GREATEST, GREATEST_OPENING_ID, HEADERS, LONGEST_LINE, MOST_EVENTS, MOST_OPENING_ELEMENTS, OPEN, Head,
 )
 
 TOO_SHORT = "the text ends before the history does"
@@ -41,10 +38,10 @@ class Text:
 
     def events(self) -> Iterator[Numbered]:
         """The events. Behind the last one, the last line is read too."""
-        pattern, first = GRAMMARS[self.head.version].event, self.head_lines + self.head.kept + 1
+        fullmatch, first = GRAMMARS[self.head.version].event.fullmatch, self.head_lines + self.head.kept + 1
         number = first - 1
         for number, line in enumerate(self._lines, first):
-            match = pattern.fullmatch(line)
+            match = fullmatch(line)
             if match is None:
                 self._read_end(_whole(line, number), number, number - first)
                 return
@@ -86,12 +83,3 @@ def _whole(line: bytes, number: int) -> bytes:
     if not line.endswith(b"\n"):
         raise Damaged(number, TOO_SHORT)
     return line
-
-
-def offers_in(text: Text) -> Iterator[Element]:
-    """The elements that are offered in a text of the third version."""
-    collections.deque(text.kept(), maxlen=0)
-    for _, line in text.events():
-        if line.lastgroup == "offer":
-            *numbers, payload = line.group(*OFFERED_GROUPS)
-            yield Element(*map(int, numbers), payload.decode())

@@ -1,16 +1,14 @@
 """The parts of tools/report: the figures of a history, which tools/histories reads into columns, and how they are shown
 on a terminal and on a page.
 
-    policy.py, dates.py                           what the report is told about a history
-    depth.py, rates.py, lateness.py, jobs.py, retries.py, seats.py  figures
-    findings.py, figures.py                       what looks wrong, and all figures of a history
-    faults.py                                     why there is no report on what was asked for
-    buckets.py, columns.py, units.py              long series made short or sorted, and numbers as people read them
-    tables.py, terminal.py                        the report as text
-    svg.py, time_axis.py, span_axis.py            the axes of plots, and what else they are drawn with
-    plot.py, *_plot.py, *_plots.py                the plots of the page
-    lives.py                                      the lives of jobs, as the page has them
-    head.py, page.py, page_parts.py, page.css     the page
+    calls.py, depth.py, lateness.py, jobs.py, retries.py  figures
+    findings.py, figures.py                    what looks wrong, and all figures of a history
+    columns.py, dates.py, units.py             long series sorted or made short, and numbers as people read them
+    tables.py, terminal.py                     the report as text
+    svg.py, time_axis.py, span_axis.py         the axes of plots, and what else they are drawn with
+    time_plots.py, bar_plots.py                the plots of the page
+    lives.py                                   the lives of jobs, as the page has them
+    head.py, page.py, page_parts.py, page.css  the page
     page.js, lives.js, jobs.js, readings.js, plots.js  what it does in a browser
 
 The tests are below tests/, with a maker of large histories; `dev/check report` runs them.

@@ -1,10 +1,13 @@
-"""Columns of numbers put in order, with few of the numbers as objects at one time."""
+"""Columns of numbers put in order, and those of moments cut into equal stretches of time, the buckets."""
 from __future__ import annotations
 
 from array import array
-from bisect import bisect_right
+from bisect import bisect_left, bisect_right
+from typing import List, NamedTuple, Tuple
 
 PARTS, SAMPLE = 8, 1000
+
+Point = Tuple[int, float]
 
 
 def in_rising_order(values: array[int]) -> array[int]:
@@ -19,3 +22,42 @@ def in_rising_order(values: array[int]) -> array[int]:
     for part in parts:
         ordered.extend(sorted(part))
     return ordered
+
+
+class Buckets(NamedTuple):
+    """The edges of buckets, one more than there are buckets. A bucket has its first edge and lacks its second."""
+
+    edges: List[int]
+
+    @classmethod
+    def over(cls, start: int, end: int, most: int) -> Buckets:
+        """At most `most` buckets from the moment `start` to the moment `end`, which the last one includes."""
+        behind = end + 1
+        number = max(1, min(most, behind - start))
+        return cls([start + (behind - start) * place // number for place in range(number + 1)])
+
+    def __len__(self) -> int:
+        return len(self.edges) - 1
+
+    @property
+    def width(self) -> float:
+        return (self.edges[-1] - self.edges[0]) / len(self)
+
+    def slices(self, moments: array[int]) -> List[slice]:
+        """The places of each bucket's entries in a column of rising moments."""
+        places = [bisect_left(moments, edge) for edge in self.edges]
+        return [slice(low, high) for low, high in zip(places, places[1:])]
+
+
+def thinned(moments: array[int], values: array[int], buckets: Buckets) -> List[Point]:
+    """The points of a series that are drawn: all of them if they are few, otherwise of each bucket the first and the
+    last value, the least and the greatest, in their order. So no peak is cut off and no valley filled."""
+    if len(moments) <= 4 * len(buckets):
+        return list(zip(moments, values))
+    points: List[Point] = []
+    for part in buckets.slices(moments):
+        some = values[part]
+        if some:
+            places = {0, some.index(min(some)), some.index(max(some)), len(some) - 1}
+            points += [(moments[part.start + place], some[place]) for place in sorted(places)]
+    return points

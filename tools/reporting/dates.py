@@ -65,7 +65,7 @@ class Dates(NamedTuple):
     def of(cls, history: History, began: Sequence[Optional[int]]) -> Dates:
         """The dates of a history whose runs began then: the first one, or each of them. None stands for a run whose
         moments are dates."""
-        leaves_out = any(after.opened_at == history.end_of(run) for run, after in zip(history.runs, history.runs[1:]))
+        leaves_out = any(after.opened_at == run.end for run, after in zip(history.runs, history.runs[1:]))
         return cls([Part(run.opened_at, 0 if date is None else date - run.opened_at)
                     for run, date in zip(history.runs, began)],
                    leaves_out and len(began) < len(history.runs) and None not in began)

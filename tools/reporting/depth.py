@@ -2,11 +2,11 @@
 from __future__ import annotations
 
 from array import array
-from dataclasses import dataclass, field
+from dataclasses import dataclass
 from typing import Tuple
 
 from histories import acts
-from histories.history import NONE, History
+from histories.history import NONE, History, column
 from reporting.columns import in_rising_order
 
 
@@ -14,51 +14,46 @@ from reporting.columns import in_rising_order
 class Depth:
     """A series with an entry wherever one of the two numbers may have changed."""
 
-    moments: array[int] = field(default_factory=lambda: array("Q"))
-    standing: array[int] = field(default_factory=lambda: array("i"))
-    expired: array[int] = field(default_factory=lambda: array("i"))
+    moments: array[int] = column("Q")
+    standing: array[int] = column("i")
+    expired: array[int] = column("i")
 
     def note(self, moment: int, standing: int, expired: int) -> None:
         self.moments.append(moment)
         self.standing.append(standing)
         self.expired.append(expired)
 
-    @staticmethod
-    def _greatest(moments: array[int], values: array[int]) -> Tuple[int, int]:
-        greatest = max(values)
-        return greatest, moments[values.index(greatest)]
-
     @property
     def deepest(self) -> Tuple[int, int]:
         """The greatest number of elements, and the moment at which it was first reached."""
-        return self._greatest(self.moments, self.standing)
+        return self._greatest(self.standing)
 
     @property
     def most_expired(self) -> Tuple[int, int]:
         """The greatest number of expired elements, and the moment at which it was first reached."""
-        return self._greatest(self.moments, self.expired)
+        return self._greatest(self.expired)
+
+    def _greatest(self, values: array[int]) -> Tuple[int, int]:
+        greatest = max(values)
+        return greatest, self.moments[values.index(greatest)]
 
 
 def _expiries_on_the_way(history: History) -> array[int]:
     """When elements in the queue that had been offered before expired, in rising order."""
-    elements, moments, end = history.elements, history.events.moments, history.end
-    found = array("Q")
-    for expiry, offered, left in zip(elements.expiries, elements.offered_in, elements.left_in):
-        since = history.start if offered == NONE else moments[offered]
-        if since < expiry <= (end if left == NONE else moments[left]):
-            found.append(expiry)
-    return in_rising_order(found)
+    elements, moments, start, end = history.elements, history.events.moments, history.start, history.end
+    return in_rising_order(array("Q", (
+        expiry for expiry, offered, left in zip(elements.expiries, elements.offered_in, elements.left_in)
+        if (start if offered == NONE else moments[offered]) < expiry <= (end if left == NONE else moments[left]))))
 
 
 def depth_of(history: History) -> Depth:
     """Follows the queue from event to event. An element that expires between two events counts from that moment on."""
-    depth, expiries, start = Depth(), history.elements.expiries, history.start
+    depth, events, expiries = Depth(), history.events, history.elements.expiries
     note = depth.note
-    standing, expired = history.kept, sum(it <= start for it in expiries[:history.kept])
-    note(start, standing, expired)
+    standing, expired = history.kept, sum(it <= history.start for it in expiries[:history.kept])
+    note(history.start, standing, expired)
     coming = _expiries_on_the_way(history)
     place, count = 0, len(coming)
-    events = history.events
     for moment, act, subject in zip(events.moments, events.acts, events.subjects):
         while place < count and coming[place] <= moment:
             expired += 1
@@ -67,10 +62,9 @@ def depth_of(history: History) -> Depth:
         if act == acts.OFFER:
             standing += 1
             expired += expiries[subject] <= moment
-        elif act in acts.GIVES_ONE:
-            standing, expired = standing - 1, expired - 1
-        elif act == acts.DRAIN:
-            standing, expired = standing - subject, expired - subject
+        elif act in acts.GIVES:
+            given = subject if act == acts.DRAIN else 1
+            standing, expired = standing - given, expired - given
         elif act == acts.REMOVE:
             standing -= 1
             expired -= expiries[subject] <= moment

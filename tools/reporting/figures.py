@@ -2,35 +2,16 @@
 from __future__ import annotations
 
 from dataclasses import dataclass
-from typing import Callable, List, NamedTuple, Optional
+from typing import Callable, Dict, List, Optional
 
-from histories import acts
-from histories.history import History, Run
+from histories.history import History
+from reporting.calls import Calls, Seats, calls_of, seats_of
 from reporting.dates import Dates
 from reporting.depth import Depth, depth_of
 from reporting.findings import Finding, findings_of
 from reporting.jobs import Jobs, jobs_of
 from reporting.lateness import Lateness, lateness_of
-from reporting.policy import Policy
-from reporting.retries import Retries, retries_of
-from reporting.seats import Seats, seats_of
-
-
-class RunFigures(NamedTuple):
-    """One of several runs, from the moment of its opening to that of its last event."""
-
-    run: Run
-    end: int
-    given: int
-
-
-class Calls(NamedTuple):
-    """The calls of one kind: how many there were, how many elements they gave or took out, how many found nothing."""
-
-    keyword: str
-    calls: int
-    elements: int
-    nothing: int
+from reporting.retries import Policy, Retries, retries_of
 
 
 @dataclass(frozen=True)
@@ -41,7 +22,7 @@ class Figures:
     history: History
     policy: Policy
     dates: Optional[Dates]
-    calls: List[Calls]
+    calls: Dict[str, Calls]  # by keyword
     depth: Depth
     lateness: Lateness
     jobs: Jobs
@@ -57,28 +38,6 @@ class Figures:
     def given(self) -> int:
         return len(self.lateness.rising)
 
-    @property
-    def runs(self) -> List[RunFigures]:
-        return [_run(self.history, run) for run in self.history.runs]
-
-
-def _run(history: History, run: Run) -> RunFigures:
-    events, stop = history.events, run.first_event + run.events
-    given = sum(events.acts.count(act, run.first_event, stop) for act in acts.GIVES_ONE)
-    given += sum(events.subjects[event] for event in events.all_of(acts.DRAIN) if run.first_event <= event < stop)
-    return RunFigures(run, history.end_of(run), given)
-
-
-def _calls(history: History, keyword: str) -> Calls:
-    events = history.events
-    counts = {act: events.acts.count(act) for act, told in enumerate(acts.ACTS) if told.keyword == keyword}
-    found = sum(count for act, count in counts.items() if acts.ACTS[act].answer == acts.ELEMENT)
-    nothing = sum(count for act, count in counts.items() if acts.ACTS[act].answer == acts.NOTHING)
-    for act in (acts.DRAIN, acts.CLEAR):
-        if act in counts:
-            found = sum(subject for it, subject in zip(events.acts, events.subjects) if it == act)
-    return Calls(keyword, sum(counts.values()), found, nothing)
-
 
 def figures_of(
     name: str, history: History, look: Callable[[], None] = lambda: None, policy: Policy = Policy(),
@@ -91,8 +50,7 @@ def figures_of(
     look()
     lateness = lateness_of(history)
     look()
-    seats = seats_of(history)
+    seats, calls = seats_of(history), calls_of(history)
     look()
-    calls = [_calls(history, keyword) for keyword in acts.KEYWORDS]
-    findings = findings_of(history, depth, jobs, policy, retries)
+    findings = list(findings_of(history, calls, depth, jobs, policy, retries))
     return Figures(name, history, policy, dates, calls, depth, lateness, jobs, retries, seats, findings)

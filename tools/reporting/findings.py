@@ -6,14 +6,13 @@ from __future__ import annotations
 
 from array import array
 from heapq import nsmallest
-from typing import List, NamedTuple, Optional, Sequence
+from typing import Dict, Iterator, NamedTuple, Sequence
 
-from histories import acts
 from histories.history import NONE, History
+from reporting.calls import Calls
 from reporting.depth import Depth
 from reporting.jobs import Jobs, given_events, lives
-from reporting.policy import Policy
-from reporting.retries import AT_ONCE, Retries
+from reporting.retries import AT_ONCE, Policy, Retries
 from reporting.units import counted, percent, span
 
 BURST_GIFTS, BURST_SPAN = 3, 1_000_000  # a job given this often within this many nanoseconds
@@ -30,113 +29,80 @@ class Finding(NamedTuple):
     origins: Sequence[int] = ()
 
 
-def _bursts(history: History, jobs: Jobs) -> List[int]:
-    """The roots of jobs that were given three times within a millisecond."""
-    moments = history.events.moments
+def findings_of(
+    history: History, calls: Dict[str, Calls], depth: Depth, jobs: Jobs, policy: Policy, retries: Retries
+) -> Iterator[Finding]:
+    """All that looks wrong."""
+    yield from _bursts(history, jobs)
+    yield from _returns(history, policy, retries)
+    yield from _left(history)
+    yield from _calls(calls["clear"], calls["poll"])
+    at_end, (deepest, _) = depth.standing[-1], depth.deepest
+    if at_end >= max(DEEP_END, DEEP_SHARE * deepest):
+        yield Finding(f"the queue was about as deep at the end ({at_end:,}) as ever ({deepest:,}): more came than left")
+
+
+def _bursts(history: History, jobs: Jobs) -> Iterator[Finding]:
+    """Jobs that were given three times within a millisecond."""
+    moments, roots = history.events.moments, []
     often = [root for root, count in enumerate(jobs.given) if count >= BURST_GIFTS]
-    found = []
     for root, rows in lives(history, often).items():
         when = [moments[event] for event, _ in given_events(history, rows)]
         if any(last - first <= BURST_SPAN for first, last in zip(when, when[BURST_GIFTS - 1:])):
-            found.append(root)
-    return found
+            roots.append(root)
+    if roots:
+        says = f"{_were(len(roots), 'job')} given {BURST_GIFTS} times or more within {span(BURST_SPAN)}"
+        yield Finding(says, _named(history, roots))
 
 
-def _burst_finding(history: History, jobs: Jobs) -> Optional[Finding]:
-    roots = _bursts(history, jobs)
-    if not roots:
-        return None
-    were = "was" if len(roots) == 1 else "were"
-    says = f"{counted(len(roots), 'job')} {were} given {BURST_GIFTS} times or more within {span(BURST_SPAN)}"
-    return Finding(says, _named(history, roots))
+def _returns(history: History, policy: Policy, retries: Retries) -> Iterator[Finding]:
+    """Jobs that came back at once, of which a few do not look wrong if no delay was told; and returns and attempts that
+    the report's own options contradict."""
+    jobs, is_tiny = retries.jobs_at_once, policy.delay is not None and policy.delay <= AT_ONCE
+    if len(jobs) >= (1 if is_tiny else JOBS_AT_ONCE):
+        why = "either the delay is tiny, or the next moment of their rate had passed"
+        if policy.delay is not None:
+            why = f"the delay of {span(policy.delay)} leaves no time for what failed to recover"
+        elif policy.rate is not None:
+            why = "the next moment of their rate had passed or was near"
+        yield Finding(
+            f"{counted(len(jobs), 'job')} came back at once, {counted(retries.at_once, 'time')} in all, at most"
+            f" {span(retries.greatest_wait)} after failing; {retries.reached_by:,} reached attempt {retries.reached},"
+            f" the quickest {span(retries.soonest)} after its first gift; {why}", _named(history, jobs))
+    if retries.misfits:
+        option = f"--delay {policy.delay}" if policy.rate is None else f"--rate {policy.rate}"
+        yield Finding(f"{retries.misfits:,} of {counted(retries.returns, 'return')} have another expiry than {option}"
+                      " gives: the run had another policy, or is not chained")
+    if retries.beyond:
+        yield Finding(f"{counted(len(retries.beyond), 'job')} had attempts beyond --attempts {policy.attempts}: the run"
+                      " allowed more", _named(history, retries.beyond))
 
 
-def _left_finding(history: History) -> Optional[Finding]:
+def _left(history: History) -> Iterator[Finding]:
+    """Elements that never left, of which those are named that had expired first."""
     elements, end = history.elements, history.end
-    left = array("i", (row for row, event in enumerate(elements.left_in) if event == NONE))
-    if not left:
-        return None
-    overdue = array("i", (row for row in left if elements.expiries[row] <= end))
-    longest = nsmallest(MOST_NAMED, overdue, key=elements.expiries.__getitem__)
-    says = f"{counted(len(left), 'element')} never left the queue; {len(overdue):,} of them had expired at the end"
-    if longest:
-        says += f", the earliest {span(end - elements.expiries[longest[0]])} before"
-    return Finding(says, list(dict.fromkeys(elements.origins[row] for row in longest)))
+    expired = array("i", (row for row, event in enumerate(elements.left_in)
+                          if event == NONE and elements.expiries[row] <= end))
+    left = elements.left_in.count(NONE)
+    if left:
+        longest = nsmallest(MOST_NAMED, expired, key=elements.expiries.__getitem__)
+        since = f", the earliest {span(end - elements.expiries[longest[0]])} before" if longest else ""
+        yield Finding(f"{counted(left, 'element')} never left the queue; {len(expired):,} of them had expired at the"
+                      f" end{since}", list(dict.fromkeys(elements.origins[row] for row in longest)))
 
 
-def _discard_finding(history: History) -> Optional[Finding]:
-    events = history.events
-    calls = events.acts.count(acts.CLEAR)
-    if not calls:
-        return None
-    cleared = sum(count for act, count in zip(events.acts, events.subjects) if act == acts.CLEAR)
-    if not cleared:
-        return None
-    were = "was" if cleared == 1 else "were"
-    return Finding(f"{counted(cleared, 'element')} {were} discarded by {counted(calls, 'clear')}")
+def _calls(clears: Calls, polls: Calls) -> Iterator[Finding]:
+    """Elements that were discarded, and polls in vain."""
+    if clears.elements:
+        yield Finding(f"{_were(clears.elements, 'element')} discarded by {counted(clears.calls, 'clear')}")
+    if polls.calls >= IDLE_POLLS and polls.nothing >= IDLE_SHARE * polls.calls:
+        yield Finding(f"{percent(polls.nothing, polls.calls)} of {polls.calls:,} polls found nothing; a take or a timed"
+                      " poll waits, and is one call")
 
 
-def _idle_finding(history: History) -> Optional[Finding]:
-    all_acts = history.events.acts
-    none = all_acts.count(acts.POLL_NONE)
-    polls = none + all_acts.count(acts.POLL)
-    if polls < IDLE_POLLS or none < IDLE_SHARE * polls:
-        return None
-    says = f"{percent(none, polls)} of {polls:,} polls found nothing; a take or a timed poll waits, and is one call"
-    return Finding(says)
-
-
-def _deep_finding(depth: Depth) -> Optional[Finding]:
-    at_end, (deepest, _) = depth.standing[-1], depth.deepest
-    if at_end < DEEP_END or at_end < DEEP_SHARE * deepest:
-        return None
-    return Finding(f"the queue was about as deep at the end ({at_end:,}) as ever ({deepest:,}): more came than left")
+def _were(number: int, noun: str) -> str:
+    return f"{counted(number, noun)} {'was' if number == 1 else 'were'}"
 
 
 def _named(history: History, roots: Sequence[int]) -> Sequence[int]:
     return [history.elements.origins[root] for root in roots[:MOST_NAMED]]
-
-
-def _soon_finding(history: History, policy: Policy, retries: Retries) -> Optional[Finding]:
-    """Jobs that came back at once. If no delay was told, a few do not look wrong."""
-    jobs = retries.jobs_at_once
-    is_tiny = policy.delay is not None and policy.delay <= AT_ONCE
-    if len(jobs) < (1 if is_tiny else JOBS_AT_ONCE):
-        return None
-    says = (f"{counted(len(jobs), 'job')} came back at once, {counted(retries.at_once, 'time')} in all, at most"
-            f" {span(retries.greatest_wait)} after failing; {retries.reached_by:,} reached attempt {retries.reached},"
-            f" the quickest {span(retries.soonest)} after its first gift; ")
-    if policy.delay is not None:
-        says += f"the delay of {span(policy.delay)} leaves no time for what failed to recover"
-    elif policy.rate is not None:
-        says += "the next moment of their rate had passed or was near"
-    else:
-        says += "either the delay is tiny, or the next moment of their rate had passed"
-    return Finding(says, _named(history, jobs))
-
-
-def _misfit_finding(policy: Policy, retries: Retries) -> Optional[Finding]:
-    """Returns that the report's own options contradict."""
-    if not retries.misfits:
-        return None
-    option = f"--delay {policy.delay}" if policy.rate is None else f"--rate {policy.rate}"
-    return Finding(f"{retries.misfits:,} of {counted(retries.returns, 'return')} have another expiry than {option}"
-                   " gives: the run had another policy, or is not chained")
-
-
-def _beyond_finding(history: History, policy: Policy, retries: Retries) -> Optional[Finding]:
-    if not retries.beyond:
-        return None
-    jobs = counted(len(retries.beyond), "job")
-    says = f"{jobs} had attempts beyond --attempts {policy.attempts}: the run allowed more"
-    return Finding(says, _named(history, retries.beyond))
-
-
-def findings_of(history: History, depth: Depth, jobs: Jobs, policy: Policy, retries: Retries) -> List[Finding]:
-    """All that looks wrong."""
-    found = [
-        _burst_finding(history, jobs), _soon_finding(history, policy, retries), _misfit_finding(policy, retries),
-        _beyond_finding(history, policy, retries), _left_finding(history), _discard_finding(history),
-        _idle_finding(history), _deep_finding(depth),
-    ]
-    return [it for it in found if it]

@@ -6,11 +6,14 @@ from __future__ import annotations
 
 from array import array
 from collections import Counter
-from typing import Dict, Iterable, List, NamedTuple, Tuple
+from typing import Dict, Iterable, Iterator, List, NamedTuple, Tuple
 
+from histories.acts import GIVES
 from histories.history import NONE, History
-from reporting.faults import NoJob
-from reporting.lateness import GIVES
+
+
+class NoJob(Exception):
+    """There is no such job."""
 
 
 class Attempts(NamedTuple):
@@ -34,14 +37,13 @@ class Jobs(NamedTuple):
 def jobs_of(history: History) -> Jobs:
     """Counts the elements of each job, and the attempts of all."""
     elements, acts = history.elements, history.events.acts
-    counts, given = array("i", bytes(4 * len(elements))), array("i", bytes(4 * len(elements)))
-    attempts_given: Counter[int] = Counter()
+    counts, given = (array("i", bytes(4 * len(elements))) for _ in range(2))
+    offered, attempts_given = Counter(elements.attempts), Counter[int]()
     for root, attempt, left in zip(elements.roots, elements.attempts, elements.left_in):
         counts[root] += 1
         if left != NONE and acts[left] in GIVES:
             given[root] += 1
             attempts_given[attempt] += 1
-    offered = Counter(elements.attempts)
     attempts = [Attempts(it, offered[it], attempts_given[it]) for it in sorted(offered)]
     roots = array("i", (row for row, count in enumerate(counts) if count))
     again = sorted((root for root in roots if counts[root] > 1), key=lambda root: -counts[root])
@@ -82,6 +84,29 @@ def with_payload(history: History, text: str) -> List[int]:
 
 def given_events(history: History, rows: Iterable[int]) -> List[Tuple[int, int]]:
     """The events that gave these rows, each with the row, in their order."""
-    elements, acts = history.elements, history.events.acts
-    found = [(elements.left_in[row], row) for row in rows]
-    return sorted((event, row) for event, row in found if event != NONE and acts[event] in GIVES)
+    found = ((history.elements.left_in[row], row) for row in rows)
+    return sorted((event, row) for event, row in found if event != NONE and history.events.acts[event] in GIVES)
+
+
+class Job(NamedTuple):
+    """What tables tell of a job."""
+
+    origin: int
+    payload: str
+    elements: int
+    given: int
+    latest: int  # how late it was given at most, or -1 if it was not
+    passed: int  # from its first expiry to its last gift, or -1 if it was not given, or before the first expiry
+    left_in: int  # the event in which its last element left, or NONE
+
+
+def told_jobs(history: History, roots: Iterable[int]) -> Iterator[Job]:
+    """What is told of these jobs."""
+    elements, moments = history.elements, history.events.moments
+    for root, rows in lives(history, roots).items():
+        given = given_events(history, rows)
+        latest = max((moments[event] - elements.expiries[row] for event, row in given), default=-1)
+        # A text may tell any first expiry, also one that comes after all were given.
+        passed = max(-1, moments[given[-1][0]] - elements.firsts[root]) if given else -1
+        yield Job(elements.origins[root], elements.payload(root), len(rows), len(given), latest, passed,
+                  elements.left_in[rows[-1]])

@@ -5,15 +5,28 @@ was done and one that is dead both end with a gift, and have the same bytes.
 """
 from __future__ import annotations
 
-from array import array
 from dataclasses import dataclass, field
-from typing import Iterator, Tuple
+from typing import List, NamedTuple, Optional, Set
 
+from histories.grammar import GREATEST
 from histories.history import NONE, History
-from reporting.lateness import GIVES
-from reporting.policy import Policy
 
 AT_ONCE = 1_000_000  # a return that is due at most this many nanoseconds after the failure
+
+
+class Policy(NamedTuple):
+    """The server's own options, as far as the report was told. None stands for one that was not told. Of delay and rate
+    one is told at most, in nanoseconds."""
+
+    attempts: Optional[int] = None
+    delay: Optional[int] = None
+    rate: Optional[int] = None
+
+    def fits(self, expiry: int, asked: int, first: int, attempt: int) -> bool:
+        """Whether a later attempt may have this expiry, by the moment asked of its offer and the job's first expiry."""
+        if self.rate is not None:
+            return expiry == min(GREATEST, first + (attempt - 1) * self.rate)
+        return self.delay is None or expiry == min(GREATEST, asked + self.delay)
 
 
 @dataclass
@@ -21,67 +34,47 @@ class Retries:
     """Jobs are named by their roots, each once, in rising order."""
 
     returns: int = 0
+    misfits: int = 0  # returns with another expiry than the policy's
     at_once: int = 0  # returns
-    jobs_at_once: array[int] = field(default_factory=lambda: array("i"))  # that came back at once
+    jobs_at_once: List[int] = field(default_factory=list)  # that came back at once
     greatest_wait: int = 0  # of the returns at once
     reached: int = 0  # the greatest attempt among them
     reached_by: int = 0  # how many jobs came back at once as that attempt
     soonest: int = 0  # the least time from a first gift until that attempt was offered
-    last_given: array[int] = field(default_factory=lambda: array("i"))  # jobs that were given their last attempt
-    beyond: array[int] = field(default_factory=lambda: array("i"))  # jobs with an attempt beyond the last one
-    misfits: int = 0  # returns with another expiry than the policy's
+    last_given: List[int] = field(default_factory=list)  # jobs that were given their last attempt
+    beyond: List[int] = field(default_factory=list)  # jobs with an attempt beyond the last one
 
 
 def retries_of(history: History, policy: Policy) -> Retries:
     """Looks at each return, and at each last attempt if the policy tells which that is."""
-    retries = Retries()
-    _count_returns(history, policy, retries)
-    if policy.attempts is not None:
-        _find_last(history, policy.attempts, retries)
+    elements, retries = history.elements, Retries()
+    came: Set[int] = set()
+    for row, event in history.returns():
+        expiry, attempt, asked = elements.expiries[row], elements.attempts[row], history.events.asked(event)
+        retries.returns += 1
+        retries.misfits += not policy.fits(expiry, asked, elements.firsts[row], attempt)
+        wait = max(0, expiry - asked)
+        if wait <= AT_ONCE:
+            came.add(elements.roots[row])
+            retries.at_once += 1
+            retries.greatest_wait = max(retries.greatest_wait, wait)
+            _note_reached(history, retries, row, event)
+    retries.jobs_at_once = sorted(came)
+    last = policy.attempts
+    if last is not None:
+        roots, attempts = elements.roots, elements.attempts
+        retries.last_given = sorted({roots[row] for row, _, _ in history.gifts() if attempts[row] == last})
+        retries.beyond = sorted({root for root, attempt in zip(roots, attempts) if attempt > last})
     return retries
 
 
-def _returns(history: History) -> Iterator[Tuple[int, int]]:
-    """The rows of the returns, each with the event of its offer."""
-    elements = history.elements
-    for row, (attempt, offered) in enumerate(zip(elements.attempts, elements.offered_in)):
-        if attempt > 1 and offered != NONE:
-            yield row, offered
-
-
-def _count_returns(history: History, policy: Policy, retries: Retries) -> None:
+def _note_reached(history: History, retries: Retries, row: int, event: int) -> None:
+    """Notes which attempt a job reached that came back at once."""
     elements, moments = history.elements, history.events.moments
-    came = bytearray(len(elements))  # 1 at the roots of jobs that came back at once
-    for row, event in _returns(history):
-        retries.returns += 1
-        expiry, attempt, root = elements.expiries[row], elements.attempts[row], elements.roots[row]
-        asked = history.events.asked(event)
-        if policy.paces and expiry != policy.expiry(asked, elements.firsts[row], attempt):
-            retries.misfits += 1
-        wait = max(0, expiry - asked)
-        if wait > AT_ONCE:
-            continue
-        retries.at_once += 1
-        retries.greatest_wait = max(retries.greatest_wait, wait)
-        came[root] = 1
-        if attempt > retries.reached:
-            retries.reached, retries.reached_by, retries.soonest = attempt, 0, moments[event]
-        if attempt == retries.reached:
-            retries.reached_by += 1
-            first_gift = elements.left_in[root]
-            if first_gift != NONE:
-                retries.soonest = min(retries.soonest, moments[event] - moments[first_gift])
-    retries.jobs_at_once = array("i", (root for root, is_one in enumerate(came) if is_one))
-
-
-def _find_last(history: History, last: int, retries: Retries) -> None:
-    elements, acts = history.elements, history.events.acts
-    given, beyond = bytearray(len(elements)), bytearray(len(elements))
-    for attempt, root, left in zip(elements.attempts, elements.roots, elements.left_in):
-        if attempt >= last:
-            if attempt > last:
-                beyond[root] = 1
-            elif left != NONE and acts[left] in GIVES:
-                given[root] = 1
-    retries.last_given = array("i", (root for root, is_one in enumerate(given) if is_one))
-    retries.beyond = array("i", (root for root, is_one in enumerate(beyond) if is_one))
+    attempt, first_gift = elements.attempts[row], elements.left_in[elements.roots[row]]
+    if attempt > retries.reached:
+        retries.reached, retries.reached_by, retries.soonest = attempt, 0, moments[event]
+    if attempt == retries.reached:
+        retries.reached_by += 1
+        if first_gift != NONE:
+            retries.soonest = min(retries.soonest, moments[event] - moments[first_gift])

@@ -8,10 +8,11 @@ narrow page has no room are hidden there by their class.
 from __future__ import annotations
 
 import itertools
+from dataclasses import dataclass
 from html import escape
 from typing import Iterable, List, NamedTuple, Sequence, Tuple
 
-from reporting.buckets import Point
+from reporting.columns import Point
 from reporting.units import compact, unit_of
 
 HEIGHT, TOP, BOTTOM = 270, 28, 222
@@ -133,15 +134,20 @@ def stairs(points: Sequence[Point], x: Scale, y: Scale) -> str:
     return "".join([*path, f"H{x.at(x.high)}"])
 
 
-def area_below(path: str, x: Scale, y: Scale, start: int) -> str:
-    """The path of what lies between stairs that begin at a moment and the bottom."""
-    return f"{path}L{x.stop} {y.start}H{x.at(start)}Z"
-
-
 def bar(place: float, width: float, y: float, kind: str, told: str) -> str:
     """A bar from the bottom up to `y`, so many shares wide."""
     mark = f'<rect class="{kind}" x="{share(place)}" y="{y}" width="{share(width)}" height="{round(BOTTOM - y, 1)}">'
     return f"{mark}<title>{escape(told)}</title></rect>"
+
+
+def line_path(kind: str, path: str) -> str:
+    return f'<path class="line {kind}" d="{path}"/>'
+
+
+def filled(kind: str, points: Sequence[Point], x: Scale, y: Scale) -> str:
+    """The stairs of a value, with the area between them and the bottom."""
+    path = stairs(points, x, y)
+    return f'<path class="area {kind}" d="{path}L{x.stop} {y.start}H{x.at(points[0][0])}Z"/>{line_path(kind, path)}'
 
 
 def marks(parts: Iterable[str], height: float = HEIGHT) -> str:
@@ -150,7 +156,28 @@ def marks(parts: Iterable[str], height: float = HEIGHT) -> str:
             f' height="{height}">{"".join(parts)}</svg>')
 
 
-def drawing(name: str, about: str, parts: Iterable[str], height: float = HEIGHT) -> str:
-    """A drawing, which tells a screen reader what it shows."""
-    return (f'<div class="drawing" id="plot-{name}"><svg height="{height}" role="img" aria-label="{escape(about)}">'
-            f'{"".join(parts)}</svg></div>')
+class Reading(NamedTuple):
+    """What a drawing shows from one place on, in shares, until the next one. Nothing is said of an empty part."""
+
+    place: float
+    says: str
+
+
+@dataclass(frozen=True)
+class Plot:
+    """A drawing with its name, its title, its legend (a mark's class and what it stands for), a caption, what the page
+    says of each place, and what a screen reader is told that it shows."""
+
+    name: str
+    title: str
+    about: str
+    legend: Sequence[Tuple[str, str]]
+    parts: Sequence[str]
+    caption: str
+    readings: Sequence[Reading]
+    height: float = HEIGHT
+
+    @property
+    def drawing(self) -> str:
+        return (f'<div class="drawing" id="plot-{self.name}"><svg height="{self.height}" role="img"'
+                f' aria-label="{escape(self.about)}">{"".join(self.parts)}</svg></div>')

@@ -7,7 +7,7 @@ from histories import acts
 from histories.history import NONE, History
 from reporting.dates import Dates
 from reporting.figures import Figures
-from reporting.jobs import given_events, lives
+from reporting.jobs import told_jobs
 from reporting.tables import table
 from reporting.units import counted, number, percent, span
 
@@ -15,36 +15,34 @@ MOST_ATTEMPTS = 20
 MOST_JOBS = 10
 MOST_LISTED = 1000  # jobs that were asked for
 
-LEAVES_OUT = "The time between two runs is left out, so later dates are too early by it."
-DONE_OR_DEAD = "  Each is done or dead: the end of a job has no event, so a history does not tell which."
+DONE_OR_DEAD = "Each is done or dead: the end of a job has no event, so a history does not tell which."
 
 
 def report(figures: Figures) -> List[str]:
     """The lines of a report."""
     parts = [_head(figures), _runs(figures), _calls(figures), _depth(figures), _lateness(figures), _attempts(figures),
              _again(figures), _seats(figures), _findings(figures), _last_attempts(figures)]
-    lines: List[str] = []
-    for part in filter(None, parts):
-        lines += [*part, ""]
-    return lines[:-1]
+    return "\n\n".join("\n".join(part) for part in parts if part).split("\n")
 
 
 def _head(figures: Figures) -> List[str]:
-    history, dates = figures.history, figures.dates
-    lasted = span(history.end - history.start)
-    runs = len(history.runs)
-    kind = f"history {history.version}" if runs == 1 else counted(runs, "run")
-    lines = [
-        f"{figures.name}: {kind}, {counted(len(history.events), 'event')}, "
-        f"{counted(figures.seats.total, 'seat')}, from {history.start} to {history.end} ns ({lasted})",
+    history, runs = figures.history, figures.history.runs
+    kind = f"history {runs[0].version}" if len(runs) == 1 else counted(len(runs), "run")
+    return [
+        f"{figures.name}: {kind}, {counted(len(history.events), 'event')}, {counted(figures.seats.total, 'seat')}, "
+        f"from {history.start} to {history.end} ns ({span(history.end - history.start)})",
         f"{counted(history.kept, 'element')} at the start, {figures.offered:,} offered, {figures.given:,} given, "
-        f"{figures.depth.standing[-1]:,} left at the end",
-    ]
-    if dates:
-        lines.append(f"from {dates.text(history.start)} to {dates.text(history.end, run=runs)} UTC")
-    if dates and dates.leaves_out:
-        lines.append(LEAVES_OUT)
-    return lines
+        f"{figures.depth.standing[-1]:,} left at the end", *dates_of(figures)]
+
+
+def dates_of(figures: Figures) -> List[str]:
+    """From when to when the history is, if the report was told."""
+    history, dates = figures.history, figures.dates
+    if dates is None:
+        return []
+    left_out = "The time between two runs is left out, so later dates are too early by it."
+    return [f"from {dates.text(history.start)} to {dates.text(history.end, run=len(history.runs))} UTC",
+            *([left_out] if dates.leaves_out else [])]
 
 
 def _runs(figures: Figures) -> List[str]:
@@ -55,79 +53,68 @@ def _runs(figures: Figures) -> List[str]:
 def runs_table(figures: Figures) -> Tuple[Sequence[str], List[Sequence[str]]]:
     """A heading, and a row for each run."""
     dates = figures.dates
-    rows: List[Sequence[str]] = []
-    for place, (run, end, given) in enumerate(figures.runs, 1):
-        began = dates.text(run.opened_at, run=place) if dates else str(run.opened_at)
-        rows.append((str(place), run.name, began, span(end - run.opened_at), number(run.events), number(run.kept),
-                     number(run.offered), number(given), number(run.left)))
     heading = ("run", "history", "began (UTC)" if dates else "began at (ns)", "lasted", "events", "at the start",
                "offered", "given", "left")
-    return heading, rows
+    return heading, [(
+        str(place), run.name, dates.text(run.opened_at, run=place) if dates else str(run.opened_at),
+        span(run.end - run.opened_at), *map(number, (
+            run.events.stop - run.events.start, run.kept, run.offered, figures.history.events.given(run.events),
+            run.left))) for place, run in enumerate(figures.history.runs, 1)]
 
 
 def _calls(figures: Figures) -> List[str]:
     rows = []
-    for keyword, calls, elements, nothing in figures.calls:
-        found = keyword in ("poll", "take", "pollfor", "peek", "remove", "drain", "clear")
-        may_fail = keyword in ("poll", "pollfor", "peek", "remove")
-        rows.append((keyword, number(calls), number(elements) if found else "", number(nothing) if may_fail else ""))
+    for keyword, (calls, elements, nothing) in figures.calls.items():
+        finds, may_fail = keyword not in ("offer", "size"), len(acts.BY_KEYWORD[keyword]) > 1
+        rows.append((keyword, number(calls), number(elements) if finds else "", number(nothing) if may_fail else ""))
     return ["Calls", *table(("", "calls", "elements", "found nothing"), rows)]
 
 
 def _depth(figures: Figures) -> List[str]:
     depth = figures.depth
-    (deepest, when), (expired, since) = depth.deepest, depth.most_expired
-    rows = [
-        ("elements in the queue", number(deepest), f"{when} ns", number(depth.standing[-1])),
-        ("of these expired", number(expired), f"{since} ns", number(depth.expired[-1])),
-    ]
+    rows = [(name, number(greatest), f"{first} ns", number(series[-1])) for name, (greatest, first), series in (
+        ("elements in the queue", depth.deepest, depth.standing), ("of these expired", depth.most_expired, depth.expired))]
     return ["Depth", *table(("", "greatest", "first at", "at the end"), rows)]
 
 
 def _lateness(figures: Figures) -> List[str]:
-    title = "Lateness of what was given (its moment less its expiry)"
-    lateness = figures.lateness
-    if not lateness.rising:
-        return [title, "  nothing was given"]
-    rows = [("median", lateness.median), ("99th percentile", lateness.high), ("greatest", lateness.greatest)]
-    return [title, *table(("", "", ""), [(name, span(it), f"{it} ns") for name, it in rows])[1:]]
+    rows = [(name, span(it), f"{it} ns")
+            for name, it in zip(("median", "99th percentile", "greatest"), figures.lateness[1:])]
+    told = table(("", "", ""), rows)[1:] if figures.given else ["  nothing was given"]
+    return ["Lateness of what was given (its moment less its expiry)", *told]
 
 
 def _attempts(figures: Figures) -> List[str]:
     attempts = figures.jobs.attempts
-    rows = [(number(it.attempt), number(it.offered), number(it.given)) for it in attempts[:MOST_ATTEMPTS]]
-    lines = ["Attempts", *table(("attempt", "offered or kept", "given"), rows, left=0)]
-    return lines + _more(len(attempts), MOST_ATTEMPTS, "attempt")
+    rows = [[*map(number, it)] for it in attempts[:MOST_ATTEMPTS]]
+    return ["Attempts", *table(("attempt", "offered or kept", "given"), rows, left=0),
+            *_more(len(attempts) - MOST_ATTEMPTS, "attempt")]
 
 
-def _more(all_rows: int, shown: int, noun: str) -> List[str]:
-    return [f"  and {counted(all_rows - shown, f'{noun} more', f'{noun}s more')}"] if all_rows > shown else []
+def _more(number_left: int, noun: str) -> List[str]:
+    """How many more there are than were told, if there are."""
+    return [f"  and {counted(number_left, f'{noun} more', f'{noun}s more')}"] if number_left > 0 else []
 
 
 def _again(figures: Figures) -> List[str]:
-    jobs, elements = figures.jobs, figures.history.elements
-    again, roots = jobs.again, len(jobs.roots)
-    lines = [f"Jobs: {roots:,}; offered again: {len(again):,} ({percent(len(again), roots)})"]
-    rows = [(number(elements.origins[root]).replace(",", ""), elements.payload(root), number(jobs.elements[root]),
-             number(jobs.given[root])) for root in again[:MOST_JOBS]]
-    if rows:
-        lines += table(("origin", "payload", "elements", "given"), rows, left=2)
-    return lines + _more(len(again), MOST_JOBS, "job")
+    again, roots = figures.jobs.again, len(figures.jobs.roots)
+    rows = [(str(it.origin), it.payload, number(it.elements), number(it.given))
+            for it in told_jobs(figures.history, again[:MOST_JOBS])]
+    return [f"Jobs: {roots:,}; offered again: {len(again):,} ({percent(len(again), roots)})",
+            *(table(("origin", "payload", "elements", "given"), rows, left=2) if rows else []),
+            *_more(len(again) - MOST_JOBS, "job")]
 
 
 def _seats(figures: Figures) -> List[str]:
-    rows = [(str(it.number), number(it.calls), number(it.offered), number(it.given), number(it.nothing),
-             number(it.others), span(it.last - it.first)) for it in figures.seats.busiest]
+    rows = [(str(it.number), *map(number, it[1:6]), span(it.last - it.first)) for it in figures.seats.busiest]
     heading = ("seat", "calls", "offered", "given", "found nothing", "other calls", "first to last call")
-    return ["Seats", *table(heading, rows, left=0), *_more(figures.seats.total, len(rows), "seat")]
+    return ["Seats", *table(heading, rows, left=0), *_more(figures.seats.more, "seat")]
 
 
 def _findings(figures: Figures) -> List[str]:
-    lines = ["What looks wrong"]
-    for finding in figures.findings:
-        origins = ", ".join(map(str, finding.origins))
-        lines.append(f"  - {finding.says}" + (f" (origins {origins})" if origins else ""))
-    return lines if figures.findings else [*lines, "  nothing"]
+    lines = [f"  - {says}" + (f" (origins {', '.join(map(str, origins))})" if origins else "")
+             for says, origins in figures.findings]
+    return ["What looks wrong", *(lines or ["  nothing"])]
 
 
 def _last_attempts(figures: Figures) -> List[str]:
@@ -135,8 +122,8 @@ def _last_attempts(figures: Figures) -> List[str]:
     last, roots = figures.policy.attempts, figures.retries.last_given
     if last is None:
         return []
-    lines = [f"Given attempt {last}, the last: {counted(len(roots), 'job')}", *([DONE_OR_DEAD] if roots else [])]
-    return [*lines, *_jobs(figures.history, roots)]
+    return [f"Given attempt {last}, the last: {counted(len(roots), 'job')}",
+            *([f"  {DONE_OR_DEAD}", *_jobs(figures.history, roots)] if roots else [])]
 
 
 def found_jobs(history: History, payload: str, roots: Sequence[int]) -> List[str]:
@@ -146,16 +133,13 @@ def found_jobs(history: History, payload: str, roots: Sequence[int]) -> List[str
 
 def _jobs(history: History, roots: Sequence[int]) -> List[str]:
     """A table of jobs, and how many more there are."""
-    elements, rows = history.elements, []
-    for root, life in lives(history, roots[:MOST_LISTED]).items():
-        given, left = given_events(history, life), elements.left_in[life[-1]]
-        rows.append((str(elements.origins[root]), elements.payload(root), number(len(life)), number(len(given)),
-                     "in the queue" if left == NONE else acts.ACTS[history.events.acts[left]].keyword,
-                     "" if left == NONE else str(history.events.moments[left])))
-    if not rows:
-        return []
+    events = history.events
+    rows = [(str(it.origin), it.payload, number(it.elements), number(it.given), *(
+        ("in the queue", "") if it.left_in == NONE
+        else (acts.KEYWORDS[events.acts[it.left_in]], str(events.moments[it.left_in]))))
+        for it in told_jobs(history, roots[:MOST_LISTED])]
     heading = ("origin", "payload", "elements", "given", "last left by", "at (ns)")
-    return [*table(heading, rows, left=2), *_more(len(roots), MOST_LISTED, "job")]
+    return [*table(heading, rows, left=2), *_more(len(roots) - MOST_LISTED, "job")]
 
 
 class Life:
@@ -190,6 +174,5 @@ class Life:
         words = [str(elements.attempts[row]), str(elements.ids[row]), *came, self._moment(expiry)]
         if left == NONE:
             return [*words, "", "", "still there", ""]
-        act = events.acts[left]
-        late = "" if act in (acts.REMOVE, acts.CLEAR) else span(events.moments[left] - expiry)
-        return [*words, *self._event(left), acts.ACTS[act].keyword, late]
+        late = span(events.moments[left] - expiry) if events.acts[left] in acts.GIVES else ""
+        return [*words, *self._event(left), acts.KEYWORDS[events.acts[left]], late]

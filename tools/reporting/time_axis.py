@@ -2,13 +2,13 @@
 from __future__ import annotations
 
 import math
-from typing import Iterator, List, Optional
+from typing import Iterable, Iterator, List, Optional
 
 from histories.history import History
 from reporting import svg
-from reporting.buckets import Buckets
+from reporting.columns import Buckets
 from reporting.dates import Dates, date_text
-from reporting.svg import BOTTOM, SHARES, TOP, Scale, Tick
+from reporting.svg import BOTTOM, SHARES, TOP, Reading, Scale, Tick
 from reporting.units import SECOND, SIZES
 
 MINUTE, HOUR, DAY = 60 * SECOND, 3600 * SECOND, 86_400 * SECOND
@@ -26,14 +26,12 @@ DATE_STEPS = (
 class TimeAxis:
     """Places moments, and tells them: as dates if they are known, otherwise as time since the first event."""
 
-    def __init__(self, history: History, dates: Optional[Dates]) -> None:
-        self.scale = Scale(history.start, history.end, 0, SHARES)
+    def __init__(self, history: History, dates: Optional[Dates], most_buckets: int = 1) -> None:
+        self.scale, self.buckets = (
+            Scale(history.start, history.end, 0, SHARES), Buckets.over(history.start, history.end, most_buckets))
         self._history, self._dates = history, dates
         self._ticks, self._unit = svg.time_ticks(self.scale)
         self._size = next(size for size, unit in SIZES if unit == self._unit)
-
-    def buckets(self, most: int) -> Buckets:
-        return Buckets.over(self._history.start, self._history.end, most)
 
     def drawn(self, bottom: float = BOTTOM) -> str:
         """The axis, and a line where each further run begins."""
@@ -52,6 +50,11 @@ class TimeAxis:
             digits = max(0, math.ceil(math.log10(self._size / max(1.0, width))))
             return f"{(moment - self._history.start) / self._size:,.{digits}f} {self._unit}"
         return self._dates.text(moment, 0 if width >= SECOND else 3 if width >= 1_000_000 else 9) + " UTC"
+
+    def readings(self, lines: Iterable[Iterable[str]]) -> List[Reading]:
+        """What is said of each bucket: its moment, and these lines."""
+        return [Reading(self.scale.at(edge), "\n".join([self.told(edge, self.buckets.width), *some]))
+                for edge, some in zip(self.buckets.edges, lines)]
 
     def _date_ticks(self, dates: Dates) -> List[Tick]:
         step = next(it for it in DATE_STEPS if it * MOST_TICKS >= self._history.end - self._history.start)

@@ -84,7 +84,8 @@ class ReaderTest(unittest.TestCase):
     def test_columns(self) -> None:
         history = read(RUN)
         elements, events = history.elements, history.events
-        self.assertEqual((history.version, history.next_id, history.opened_at, history.kept), (3, 3, 100, 2))
+        run = history.runs[0]
+        self.assertEqual((run.version, history.next_id, run.opened_at, history.kept), (3, 3, 100, 2))
         self.assertEqual(list(elements.ids), [0, 2, 3, 4])
         self.assertEqual(list(elements.expiries), [90, 150, 100, 300])
         self.assertEqual(list(elements.origins), [0, 1, 3, 3])

@@ -5,12 +5,12 @@ import io
 import unittest
 from typing import List, Tuple
 
-from histories.element import Element
 from histories.faults import Damaged
 from histories.given import given_ids
 from histories.grammar import Head
-from histories.tests.support import RUN
-from histories.text import Text, offers_in
+from histories.history import Element
+from histories.tests.support import RUN, offers_in
+from histories.text import Text
 
 
 def text(content: str) -> Text:

@@ -22,7 +22,7 @@ from typing import Dict, Iterator, List, TextIO, Tuple
 
 sys.path.insert(0, os.path.dirname(os.path.dirname(os.path.dirname(os.path.realpath(__file__)))))
 
-from histories.element import Element  # noqa: E402
+from histories.history import Element  # noqa: E402
 
 RETRY_DELAY, ATTEMPTS = 50_000_000, 3
 MOST_HELD = 64  # of a seat

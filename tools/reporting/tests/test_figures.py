@@ -6,14 +6,12 @@ from array import array
 from typing import List
 
 from histories.tests.support import RUN, offer, read, text_of
-from reporting.attempts_plot import grouped
-from reporting.buckets import Buckets, thinned
+from reporting.bar_plots import bins_of, grouped
+from reporting.calls import calls_over_time
+from reporting.columns import Buckets, thinned
 from reporting.depth import depth_of
-from reporting.faults import NoJob
-from reporting.jobs import Attempts, life
+from reporting.jobs import Attempts, NoJob, life
 from reporting.lateness import rank
-from reporting.lateness_plots import bins_of
-from reporting.seats import calls_over_time
 from reporting.tests.support import figures
 from reporting.units import percent, span
 
@@ -54,8 +52,7 @@ class FiguresTest(unittest.TestCase):
         self.assertEqual([rank([7], share) for share in (0.0, 0.5, 0.99, 1.0)], [7, 7, 7, 7])
 
     def test_calls(self) -> None:
-        told = {it.keyword: (it.calls, it.elements, it.nothing) for it in figures(RUN).calls}
-        self.assertEqual(told, {
+        self.assertEqual(figures(RUN).calls, {
             "offer": (2, 0, 0), "poll": (2, 1, 1), "take": (1, 1, 0), "pollfor": (1, 1, 0), "peek": (1, 1, 0),
             "remove": (1, 0, 1), "drain": (1, 1, 0), "clear": (1, 0, 0), "size": (1, 0, 0),
         })
@@ -77,12 +74,11 @@ class FiguresTest(unittest.TestCase):
         self.assertEqual(one, (1, 7, 2, 1, 0, 4, 100, 310))
         self.assertEqual(two, (2, 4, 0, 3, 1, 0, 120, 170))
 
-
     def test_of_many_seats_the_busiest_are_told(self) -> None:
         told = figures(text_of("7 0 0 size 0", *[f"{seat} 0 0 size 0" for seat in range(100)]))
         self.assertEqual((told.seats.total, len(told.seats.busiest), told.seats.more), (100, 16, 84))
         self.assertIn(7, [seat.number for seat in told.seats.busiest])
-        _, others = calls_over_time(told.history, Buckets.over(0, 0, 9), [seat.number for seat in told.seats.busiest])
+        _, others = calls_over_time(told.history, Buckets.over(0, 0, 9), told.seats)
         self.assertEqual(others, [84])
 
 

@@ -7,17 +7,13 @@ from typing import List
 
 from histories.tests.support import RUN, offer, read, text_of
 from reporting import svg
-from reporting.buckets import Buckets
+from reporting.columns import Buckets
 from reporting.dates import Dates, nanoseconds_of
-from reporting.depth_plot import depth_plot
-from reporting.lateness_plots import lateness_plot
-from reporting.rates import rates_of
-from reporting.rates_plot import rates_plot
-from reporting.seats_plot import seats_plot
 from reporting.span_axis import SpanAxis
 from reporting.svg import ROOMS, SHARES, Scale, Tick
 from reporting.tests.support import figures
 from reporting.time_axis import TimeAxis
+from reporting.time_plots import depth_plot, lateness_plot, rates_of, rates_plot, seats_plot
 from reporting.units import compact, mark
 
 SECOND = 10**9

@@ -8,7 +8,7 @@ from typing import List
 from histories.reader import read_history
 from histories.tests.support import offer, text_of
 from reporting.figures import Figures, figures_of
-from reporting.policy import Policy
+from reporting.retries import Policy
 from reporting.tests.support import ReportTest
 
 MILLISECOND = 1_000_000

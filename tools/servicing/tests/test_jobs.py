@@ -9,8 +9,9 @@ from pathlib import Path
 from typing import List
 
 from examples.tests.processes import Worker
-from histories.element import Element
-from histories.text import Text, offers_in
+from histories.history import Element
+from histories.tests.support import offers_in
+from histories.text import Text
 from serving import PATIENCE
 from servicing.opening import PROBE
 from servicing.tests.process import ServiceTest

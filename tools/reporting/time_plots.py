@@ -1,0 +1,170 @@
+"""The plots over time: the depth of the queue, rates, lateness, and the calls of each seat."""
+from __future__ import annotations
+
+import math
+from array import array
+from bisect import bisect_left
+from typing import Iterator, List, NamedTuple, Optional, Sequence, Tuple
+
+from histories.acts import OFFER
+from histories.history import History
+from reporting import svg
+from reporting.calls import calls_over_time
+from reporting.columns import Buckets, thinned
+from reporting.figures import Figures
+from reporting.lateness import lateness_in, rank
+from reporting.span_axis import SpanAxis
+from reporting.svg import TOP, Plot, Scale
+from reporting.time_axis import TimeAxis
+from reporting.units import SECOND, counted, number, span
+
+MOST_BUCKETS, MOST_DEEP = 180, 400  # and those of the depth
+
+# Rates are told in the longest of these that a run lasted.
+PACES = ((SECOND, "second"), (1_000_000, "millisecond"), (1_000, "microsecond"), (1, "nanosecond"))
+
+LEAST_DASH = 2.0  # shares
+ROW_HEIGHT = 34
+MOST_DIGITS = 5  # of a seat's number beside its row
+
+
+def depth_plot(figures: Figures) -> Plot:
+    """Elements in the queue over time, and those of them that had expired."""
+    depth, axis = figures.depth, TimeAxis(figures.history, figures.dates, MOST_DEEP)
+    y, buckets = svg.count_scale(depth.standing), axis.buckets
+    series = {"standing": depth.standing, "expired": depth.expired}
+    points = {kind: thinned(depth.moments, values, buckets) for kind, values in series.items()}
+    told = ", ".join(f"{kind} {counted(len(some), 'point')}" for kind, some in points.items())
+    caption = f"{told}, of {counted(len(depth.moments), 'change')}."
+    if len(depth.moments) > 4 * len(buckets):
+        caption += (f" Of each {span(round(buckets.width))} the first, the least, the greatest and the last value are"
+                    " drawn, so that no peak is lost.")
+    areas = [svg.filled(kind, some, axis.scale, y) for kind, some in points.items()]
+    ranges = zip(*(_ranges(depth.moments, values, buckets) for values in series.values()))
+    return Plot(
+        "depth", "Depth of the queue", "depth over time",
+        (("standing", "in the queue"), ("expired", "of these expired, and not given yet")),
+        [svg.y_axis(svg.count_ticks(y), "elements"), svg.marks(areas), axis.drawn()], caption,
+        axis.readings((f"{standing} in the queue", f"{expired} of these expired") for standing, expired in ranges))
+
+
+def _ranges(moments: array[int], values: array[int], buckets: Buckets) -> Iterator[str]:
+    """The least and the greatest value of each bucket. The last value before a bucket stands when it begins."""
+    for part in buckets.slices(moments):
+        some = values[max(0, part.start - 1):part.stop]
+        yield " to ".join(map(number, sorted({min(some), max(some)})))
+
+
+class Rates(NamedTuple):
+    """For each bucket, how many jobs were offered first, how many elements were given, and how many jobs came back."""
+
+    offers: List[int]
+    gifts: List[int]
+    returns: List[int]
+
+
+def rates_of(history: History, buckets: Buckets) -> Rates:
+    """Counts the events of each bucket."""
+    events, returned = history.events, array("i", (event for _, event in history.returns()))
+    rates = Rates([], [], [])
+    for part in buckets.slices(events.moments):
+        returns = bisect_left(returned, part.stop) - bisect_left(returned, part.start)
+        rates.offers.append(events.acts[part].count(OFFER) - returns)
+        rates.gifts.append(events.given(part))
+        rates.returns.append(returns)
+    return rates
+
+
+def rates_plot(figures: Figures) -> Plot:
+    """Offers, gifts and returns a second, each counted in the same short stretches of time."""
+    history, axis = figures.history, TimeAxis(figures.history, figures.dates, MOST_BUCKETS)
+    buckets, edges = axis.buckets, axis.buckets.edges
+    unit, name = next(it for it in PACES if it[0] <= max(1, history.end - history.start))
+    counts = rates_of(history, buckets)
+    rates = Rates(*([count * unit / (after - before) for count, before, after in zip(some, edges, edges[1:])]
+                    for some in counts))
+    y = svg.count_scale(math.ceil(it) for values in rates for it in values)
+    lines = [svg.line_path(kind, svg.stairs(list(zip(edges, values)), axis.scale, y))
+             for kind, values in rates._asdict().items()]
+    total = [counted(sum(some), noun) for some, noun in zip(counts, ("offer", "gift", "return"))]
+    return Plot(
+        "rates", f"Offers, gifts and returns a {name}", f"offers, gifts and returns a {name} over time",
+        (("offers", "offers (first attempts)"), ("gifts", "gifts"), ("returns", "returns (later attempts)")),
+        [svg.y_axis(svg.count_ticks(y), f"a {name}"), svg.marks(lines), axis.drawn()],
+        f"{counted(len(lines), 'line')} of {counted(len(buckets), 'point')}: what happened in each"
+        f" {span(round(buckets.width))}. In all {total[0]}, {total[1]} and {total[2]}.",
+        axis.readings((f"{_rate(offers)} offers", f"{_rate(gifts)} gifts", f"{_rate(returns)} returns a {name}")
+                      for offers, gifts, returns in zip(*rates)))
+
+
+def _rate(rate: float) -> str:
+    """A rate, with a digit behind the point if it is small."""
+    return number(round(rate)) if rate >= 100 or rate == round(rate) else f"{rate:.1f}"
+
+
+class Late(NamedTuple):
+    """How late what was given in one stretch of time was."""
+
+    gifts: int
+    median: int
+    greatest: int
+
+
+def lateness_plot(figures: Figures) -> Plot:
+    """How late elements were given, over time: the median and the greatest of each bucket."""
+    lateness, axis = figures.lateness, TimeAxis(figures.history, figures.dates, MOST_BUCKETS)
+    buckets = axis.buckets
+    found = [Late(len(it), rank(it, 0.5), it[-1]) if it else None for it in lateness_in(buckets, figures.history)]
+    some = [it for it in found if it]
+    y = SpanAxis(min((it.median for it in some), default=0), lateness.greatest)
+    places = [axis.scale.at(edge) for edge in buckets.edges]
+    dashes = ["".join(f"M{low} {y.at(getattr(it, kind))}h{max(LEAST_DASH, round(high - low, 1))}"
+                      for low, high, it in zip(places, places[1:], found) if it) for kind in ("greatest", "median")]
+    paths = [f'<path class="dash {kind}" d="{path}"/>' for kind, path in zip(("greatest", "median"), dashes)]
+    return Plot(
+        "lateness", "Lateness over time", "lateness over time", (("median", "median"), ("greatest", "greatest")),
+        [svg.y_axis(y.ticks(), "lateness"), svg.marks(paths), axis.drawn()],
+        f"{counted(len(some), 'median')} and as many greatest values, of {counted(figures.given, 'gift')}: one of each"
+        f" {span(round(buckets.width))} in which something was given. Equal steps are equal ratios.",
+        axis.readings(map(_late, found)))
+
+
+def _late(late: Optional[Late]) -> Sequence[str]:
+    if late is None:
+        return ("nothing was given",)
+    return f"median {span(late.median)}", f"greatest {span(late.greatest)}", f"of {counted(late.gifts, 'gift')}"
+
+
+def seats_plot(figures: Figures) -> Plot:
+    """The calls of each seat over time, one below the other, all at one scale."""
+    axis = TimeAxis(figures.history, figures.dates, MOST_BUCKETS)
+    rows = _seat_rows(figures, axis.buckets)
+    most = max([1, *(max(counts) for _, counts in rows)])
+    bottom, paths, labels = TOP, [], []
+    for name, counts in rows:
+        y = Scale(0, most, bottom + ROW_HEIGHT - 4, bottom)
+        paths.append(svg.filled("seat", list(zip(axis.buckets.edges, counts)), axis.scale, y))
+        labels.append(svg.text(-8, y.start - 8, name, "y"))
+        bottom += ROW_HEIGHT
+    height = bottom + 48
+    told = ([f"{name}: {counted(counts[place], 'call')}" for name, counts in rows]
+            for place in range(len(axis.buckets)))
+    return Plot(
+        "seats", "Calls of each seat", "calls of each seat over time", (("seat", "calls"),),
+        [*labels, svg.marks(paths, height), axis.drawn(bottom)],
+        f"{counted(len(rows), 'row')} of {counted(len(axis.buckets), 'point')}: the calls in each "
+        f"{span(round(axis.buckets.width))}. The height of a row is {counted(most, 'call')}.",
+        axis.readings(told), height)
+
+
+def _seat_rows(figures: Figures, buckets: Buckets) -> List[Tuple[str, List[int]]]:
+    """The busiest seats, in rising order, and all others together."""
+    told, others = calls_over_time(figures.history, buckets, figures.seats)
+    rows = [(f"seat {_short(seat)}", counts) for seat, counts in told.items()]
+    return rows + [(f"{number(figures.seats.more)} more", others)] if figures.seats.more else rows
+
+
+def _short(seat: int) -> str:
+    """A seat's number, or its last digits if it has many, as seats of a history that no server made may."""
+    digits = str(seat)
+    return digits if len(digits) <= MOST_DIGITS else "…" + digits[1 - MOST_DIGITS:]
