@@ -1,9 +1,7 @@
 """The clients of a hostile day: producers and workers in processes of their own, of three kinds."""
 from __future__ import annotations
 
-import os
 import shutil
-import signal
 import subprocess
 import sys
 from pathlib import Path
@@ -15,6 +13,8 @@ from nodes import Process
 FOLDER = Path(__file__).resolve().parent
 JAVA = FOLDER.parents[1] / "clients" / "java"
 JAVA_WORKER = JAVA / "tests" / "rbbroker" / "client" / "HostileWorker.java"
+
+RECORD = ".jsonl"  # the end of the name of a file of sessions
 
 
 def compiled_java(room: Path) -> Optional[Path]:
@@ -29,14 +29,14 @@ def compiled_java(room: Path) -> Optional[Path]:
 class Worker(Process):
     """A worker, which notes what becomes of its jobs."""
 
-    def __init__(self, words: list[str], notes: Path, is_record: bool = False) -> None:
-        super().__init__(words, notes.with_suffix(".log"), {"PYTHONPATH": os.environ["PYTHONPATH"]})
-        self._notes, self._is_record = notes, is_record
+    def __init__(self, words: list[str], notes: Path) -> None:
+        super().__init__(words, notes.with_suffix(".log"))
+        self._notes = notes
         notes.touch()
         self.start()
 
     def noted(self) -> Iterator[Noted]:
-        return (notes_in_record if self._is_record else notes_in)(self._notes)
+        return (notes_in_record if self._notes.suffix == RECORD else notes_in)(self._notes)
 
     @property
     def has_worked(self) -> bool:
@@ -45,7 +45,7 @@ class Worker(Process):
     def stop(self) -> None:
         """Ends it in good order."""
         self.give("")
-        self.signal(signal.SIGTERM)
+        self.end()
 
 
 class Crew:
@@ -59,52 +59,44 @@ class Crew:
     def start_worker(self, kind: str) -> Worker:
         """A worker of this kind: `plain`, `package` or `java`."""
         number = len(self.started)
-        notes, port = self._room / f"{kind}-{number}.notes", str(self._ports[number % len(self._ports)])
-        record = notes.with_suffix(".jsonl")
-        if kind == "plain":
-            worker = Worker(self._plain("worker", record, notes), notes)
-        elif kind == "package":
-            worker = Worker([sys.executable, "-B", "-m", "rb_broker_client", "worker", "hostile_client:handle", "--port",
-                             port, "--concurrency", "4", "--record", str(record)], record, is_record=True)
+        notes, port = self._room / f"{kind}-{number}{RECORD}", str(self._ports[number % len(self._ports)])
+        if kind == "java":
+            notes = notes.with_suffix(".notes")
+            words = ["java", "-cp", str(self._java), "rbbroker.client.HostileWorker", port, str(notes)]
         else:
-            worker = Worker(["java", "-cp", str(self._java), "rbbroker.client.HostileWorker", port, str(notes)], notes)
-        if kind != "java":
-            self.records.append(record)
-        self.started.append(worker)
-        return worker
+            self.records.append(notes)
+            words = self.plain("worker", notes, notes) if kind == "plain" else [
+                sys.executable, "-B", "-m", "rb_broker_client", "worker", "hostile_client:handle", "--port", port,
+                "--concurrency", "4", "--record", str(notes)]
+        self.started.append(Worker(words, notes))
+        return self.started[-1]
 
     @property
     def kinds(self) -> list[str]:
         return ["plain", "package", *(["java"] if self._java else [])]
 
-    def _plain(self, kind: str, record: Path, notes: Path) -> list[str]:
+    def plain(self, kind: str, record: Path, notes: Path) -> list[str]:
+        """The words of a hostile_client.py."""
         return [sys.executable, "-B", str(FOLDER / "hostile_client.py"), kind, str(record), str(notes),
                 *map(str, self._ports)]
 
 
-class Producer:
+class Producer(Process):
     """Offers payloads, each once, by a process that is started again after a kill."""
 
     def __init__(self, crew: Crew, room: Path, name: str, payloads: list[str]) -> None:
         self._notes, self._payloads = room / f"{name}.notes", payloads
         self._notes.touch()
-        record = room / f"{name}.jsonl"
+        record = room / f"{name}{RECORD}"
         crew.records.append(record)
-        self._process = Process(crew._plain("producer", record, self._notes), room / f"{name}.log")
+        super().__init__(crew.plain("producer", record, self._notes), room / f"{name}.log")
         self.start()
 
     def start(self) -> None:
         """Offers those of which it was not noted that they were offered, or were to be."""
         seen = self._noted("offer")
-        self._process.start()
-        self._process.give("".join(f"{it}\n" for it in self._payloads if it not in seen))
-
-    def kill(self) -> None:
-        self._process.kill()
-
-    @property
-    def is_over(self) -> bool:
-        return not self._process.is_alive
+        super().start()
+        self.give("".join(f"{it}\n" for it in self._payloads if it not in seen))
 
     def offered(self) -> set[str]:
         """The payloads whose offers were answered."""

@@ -1,15 +1,20 @@
 """Gateways for tests: processes at ports that stay theirs, which may be killed at any moment."""
 from __future__ import annotations
 
+import contextlib
 import socket
 import sys
 from pathlib import Path
 from typing import Sequence
 
-from nodes import HOST, PATIENCE, Process, free_port, wait_until
+from nodes import PATIENCE, Process, free_port, wait_until
+from serving import HOST
+from talker import Talker
 
 POLICY = ("--delay", "20ms", "--attempts", 1000)
 """So that no job of a hostile day dies, however many clients die with it."""
+
+COMMAND = (sys.executable, "-B", "-m", "rb_broker_redis")
 
 
 class Gateway(Process):
@@ -18,8 +23,7 @@ class Gateway(Process):
     def __init__(self, folder: Path, redis: str, queue: str, options: Sequence[object] = POLICY) -> None:
         folder.mkdir(parents=True)
         self.port = free_port()
-        words = [sys.executable, "-B", "-m", "rb_broker_redis", "serve", "--redis", redis, "--queue", queue,
-                 "--port", self.port, *options]
+        words = [*COMMAND, "serve", "--redis", redis, "--queue", queue, "--port", self.port, *options]
         super().__init__([*map(str, words)], folder / "log")
         self.start()
 
@@ -29,14 +33,11 @@ class Gateway(Process):
 
     def ask(self, *requests: str) -> list[str]:
         """The lines that a session of its own gets for these requests."""
-        with socket.create_connection((HOST, self.port), PATIENCE) as connection:
-            connection.sendall("".join(f"{it}\n" for it in (*requests, "QUIT")).encode())
-            with connection.makefile("r") as replies:
-                return replies.read().splitlines()[:-1]
+        with Talker(self.port) as talker:
+            talker.send("".join(f"{it}\n" for it in (*requests, "QUIT")))
+            return talker.rest()[:-1]
 
     def _listens(self) -> bool:
-        try:
-            socket.create_connection((HOST, self.port), PATIENCE).close()
+        with contextlib.suppress(OSError), socket.create_connection((HOST, self.port), PATIENCE):
             return True
-        except OSError:
-            return False
+        return False

@@ -1,18 +1,13 @@
 """A client in a process of its own, which is killed at any moment: hostile_client.py KIND RECORD NOTES PORT ..
 
 A `producer` offers the payloads that it reads from standard input, a line each, each once. A `worker` does jobs until
-SIGTERM. Each connects to one of the ports, and to another when that one is gone. NOTES gets a line for all that becomes
-of a job, before anything else happens:
-
-    offer PAYLOAD            it is offered now
-    offered PAYLOAD          the reply has come
-    took PAYLOAD ATTEMPT     the worker has the job
-    done PAYLOAD ATTEMPT     the reply to DONE has come; or in place of done
-    failed, late             AGAIN, or ERR 5, since the session had ended
-    doubt, lost              the connection broke before the reply, or before DONE or FAIL was sent
+SIGTERM. Each connects to one of the ports, and to another when that one is gone, and records its sessions. The NOTES of
+a producer get a line before anything else happens: `offer PAYLOAD` when that is offered now, and `offered PAYLOAD` once
+the reply has come.
 """
 from __future__ import annotations
 
+import contextlib
 import random
 import signal
 import sys
@@ -48,8 +43,8 @@ def handle(job: Any) -> None:
 class Client:
     """What both kinds have."""
 
-    def __init__(self, record: str, notes: str, ports: list[int]) -> None:
-        self._record, self.notes, self._ports = Notes(record), Notes(notes), ports
+    def __init__(self, record: str, ports: list[int]) -> None:
+        self._record, self._ports = Notes(record), ports
         self.random = random.Random()
         self.is_over = False
         signal.signal(signal.SIGTERM, self._stop)
@@ -66,19 +61,19 @@ class Client:
         self.is_over = True
 
 
-def produce(client: Client) -> None:
+def produce(client: Client, notes: Notes) -> None:
     session = client.connected()
     for payload in map(str.strip, sys.stdin):
-        client.notes.add(f"offer {payload}")
+        notes.add(f"offer {payload}")
         try:
             reply = session.ask(f"OFFER {client.random.choice(DELAYS)} {payload}")[0]
             if not reply.startswith("OFFERED "):
                 raise ValueError(f"an offer is answered {reply}")
-            client.notes.add(f"offered {payload}")
+            notes.add(f"offered {payload}")
         except Broken:
             session = client.connected()
         time.sleep(client.random.random() * PAUSE)
-    session.leave()
+    session.hang_up()
 
 
 class Worker:
@@ -91,13 +86,9 @@ class Worker:
     def work(self) -> None:
         while not self._client.is_over:
             session = self._client.connected()
-            try:
+            with contextlib.suppress(Broken):
                 self._serve(session)
                 session.ask("QUIT")
-            except Broken as fault:
-                for job in self._held:
-                    in_doubt = fault.request in (f"DONE {job.id}", f"FAIL {job.id}")
-                    self._note("doubt" if in_doubt else "lost", job)
             self._held.clear()
 
     def _serve(self, session: RecordedSession) -> None:
@@ -116,25 +107,18 @@ class Worker:
             if line.startswith("ITEM "):
                 _, id, _, attempt, payload = line.split(" ")
                 self._held.append(Job(id, payload, int(attempt)))
-                self._note("took", self._held[-1])
 
     def _settle(self, session: RecordedSession) -> None:
         """Answers one of the jobs."""
-        place = self._client.random.randrange(len(self._held))
-        job = self._held[place]
-        words = session.ask(f"{'FAIL' if is_to_fail(job) else 'DONE'} {job.id}")[0].split(" ")
-        self._note({"DONE": "done", "AGAIN": "failed", "ERR": "late"}[words[0]], job)
-        del self._held[place]
-
-    def _note(self, what: str, job: Job) -> None:
-        self._client.notes.add(f"{what} {job.payload} {job.attempt}")
+        job = self._held.pop(self._client.random.randrange(len(self._held)))
+        session.ask(f"{'FAIL' if is_to_fail(job) else 'DONE'} {job.id}")
 
 
 def main() -> None:
     kind, record, notes, *ports = sys.argv[1:]
-    client = Client(record, notes, [*map(int, ports)])
+    client = Client(record, [*map(int, ports)])
     if kind == "producer":
-        produce(client)
+        produce(client, Notes(notes))
     else:
         Worker(client).work()
 

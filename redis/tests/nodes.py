@@ -11,11 +11,12 @@ import socket
 import subprocess
 import time
 from pathlib import Path
-from typing import Any, Callable, Dict, List, Optional, Sequence
+from typing import Any, Callable, Dict, Optional, Sequence
 
 import redis
 
-HOST = "127.0.0.1"
+from serving import HOST
+
 PORTS = range(*map(int, os.environ.get("RB_BROKER_PORTS", "26000-27000").split("-")))
 """Of this process alone. A node of a Cluster also has the port that is 10,000 above its own."""
 PATIENCE = 180  # seconds that anything may take, on a busy machine
@@ -72,46 +73,36 @@ class Process:
             self._process.stdin.write(text.encode())
             self._process.stdin.close()
 
-    def wait_for_end(self) -> int:
-        """Waits until it ends by itself, and gives its status."""
+    def end(self, number: int = signal.SIGTERM) -> int:
+        """Ends it by a signal, and gives its status. One that has ended already stays so."""
+        self.signal(number)
         process, self._process = self._process, None
-        assert process and process.stdin
+        if process is None:
+            return 0
         try:
             return process.wait(PATIENCE)
         finally:
             with contextlib.suppress(BrokenPipeError):
                 process.stdin.close()
 
-    def signal(self, number: int) -> int:
-        """Ends it by a signal, and gives its status. One that has ended already stays so."""
-        if self._process is None:
-            return 0
-        self._process.send_signal(number)
-        return self.wait_for_end()
-
     def kill(self) -> None:
         """Ends it at once."""
-        self.signal(signal.SIGKILL)
+        self.end(signal.SIGKILL)
 
     def pause(self) -> None:
         """Lets it do nothing until `go_on`, or until it is killed."""
-        self._send(signal.SIGSTOP)
+        self.signal(signal.SIGSTOP)
 
     def go_on(self) -> None:
-        self._send(signal.SIGCONT)
+        self.signal(signal.SIGCONT)
 
-    def _send(self, number: int) -> None:
+    def signal(self, number: int) -> None:
         if self._process:
             self._process.send_signal(number)
 
     @property
     def is_alive(self) -> bool:
         return self._process is not None and self._process.poll() is None
-
-    def said(self) -> str:
-        """All that it has said."""
-        return self._log.read_text(errors="replace")
-
 
 class Node(Process):
     """A redis-server, which answers once it is started."""
@@ -140,8 +131,23 @@ class Node(Process):
         with self.client() as client:
             return client.execute_command(*words)
 
+    def replication(self) -> Dict[str, Any]:
+        """What it says about its replicas, or as one."""
+        with self.client() as client:
+            return client.info("replication")
 
-class Replicas:
+
+class Nodes:
+    """Servers that end together."""
+
+    nodes: Sequence[Process]
+
+    def kill(self) -> None:
+        for it in self.nodes:
+            it.kill()
+
+
+class Replicas(Nodes):
     """A primary with replicas."""
 
     def __init__(self, folder: Path, count: int, options: Sequence[object] = ALWAYS) -> None:
@@ -149,24 +155,21 @@ class Replicas:
         to = ("--replicaof", HOST, self.primary.port)
         self.replicas = [Node(folder / f"replica-{it}", [*options, *to]) for it in range(count)]
         self.nodes = [self.primary, *self.replicas]
-        wait_until(lambda: self.primary.client().info("replication")["connected_slaves"] == count
-                   and all(it.client().info("replication")["master_link_status"] == "up" for it in self.replicas),
+        wait_until(lambda: self.primary.replication()["connected_slaves"] == count
+                   and all(it.replication()["master_link_status"] == "up" for it in self.replicas),
                    "the replicas do not follow")
 
-    def kill(self) -> None:
-        for it in self.nodes:
-            it.kill()
 
-
-class Sentinels:
+class Sentinels(Nodes):
     """Three Sentinels that watch a primary with its replicas, under a name."""
 
     def __init__(self, folder: Path, watched: Replicas, name: str = "main") -> None:
-        self.name, self.watched = name, watched
-        self.ports: List[int] = []
-        while len(self.ports) < 3:  # nobody listens at them yet, so the same one may be found again
-            self.ports = [*{*self.ports, free_port()}]
-        self._processes = []
+        self.name, self.watched, self.nodes = name, watched, []
+        ports = set()
+        while len(ports) < 3:  # nobody listens at them yet, so the same one may be found again
+            ports.add(free_port())
+        self.ports = list(ports)
+        self.url = f"redis+sentinel://{','.join(f'{HOST}:{it}' for it in ports)}/{name}"
         for port in self.ports:
             place = folder / f"sentinel-{port}"
             place.mkdir(parents=True)
@@ -176,7 +179,7 @@ class Sentinels:
                 f"sentinel down-after-milliseconds {name} 1000\nsentinel failover-timeout {name} 5000\n")
             process = Process(["redis-sentinel", str(place / "conf")], place / "log")
             process.start()
-            self._processes.append(process)
+            self.nodes.append(process)
         wait_until(lambda: all(self._sees_all(it) for it in self.ports), "the Sentinels do not find each other")
 
     def _sees_all(self, port: int) -> bool:
@@ -188,18 +191,15 @@ class Sentinels:
         _, port = redis.Redis(HOST, self.ports[0]).execute_command("SENTINEL", "GET-MASTER-ADDR-BY-NAME", self.name)
         return next(it for it in self.watched.nodes if it.port == int(port))
 
-    def kill(self) -> None:
-        for it in self._processes:
-            it.kill()
 
-
-class Cluster:
+class Cluster(Nodes):
     """A Cluster of three primaries, which share the slots evenly."""
 
     def __init__(self, folder: Path, options: Sequence[object] = ALWAYS) -> None:
         words = [*options, "--cluster-enabled", "yes", "--cluster-node-timeout", 3000]
         self.nodes = [Node(folder / f"node-{it}", words) for it in range(3)]
         addresses = [f"{HOST}:{it.port}" for it in self.nodes]
+        self.url = f"redis+cluster://{','.join(addresses)}"
         subprocess.run(["redis-cli", "--cluster", "create", *addresses, "--cluster-yes"], check=True,
                        stdout=subprocess.DEVNULL, timeout=PATIENCE)
         wait_until(lambda: all(b"cluster_state:ok" in it.ask("CLUSTER", "INFO") for it in self.nodes),
@@ -224,7 +224,3 @@ class Cluster:
             source.ask("MIGRATE", HOST, target.port, "", 0, 5000, "KEYS", *keys)
         for it in (target, source, *self.nodes):
             it.ask("CLUSTER", "SETSLOT", slot, "NODE", ids[target])
-
-    def kill(self) -> None:
-        for it in self.nodes:
-            it.kill()

@@ -2,14 +2,15 @@
 from __future__ import annotations
 
 import io
+import os
 import subprocess
-import sys
 import tempfile
 import time
 import unittest
 from contextlib import redirect_stderr, redirect_stdout
 from pathlib import Path
 
+from gateways import COMMAND
 from nodes import FORGETFUL, Node
 from rb_broker_redis.address import read_address
 from rb_broker_redis.command import main
@@ -19,8 +20,17 @@ SEAT = 1_000_000_000_001
 """That of a session of the first gateway."""
 
 
-class RedisTest(unittest.TestCase):
-    """A test with a folder, and a Redis that all tests of its class share. Each test has a queue of its own."""
+class RoomTest(unittest.TestCase):
+    """A test with a folder of its own."""
+
+    def setUp(self) -> None:
+        room = tempfile.TemporaryDirectory(prefix="rb-test-")
+        self.addCleanup(room.cleanup)
+        self.room = Path(room.name)
+
+
+class RedisTest(RoomTest):
+    """A test with a Redis that all tests of its class share. Each test has a queue of its own."""
 
     options = FORGETFUL
 
@@ -32,9 +42,7 @@ class RedisTest(unittest.TestCase):
         cls.addClassCleanup(cls.node.kill)
 
     def setUp(self) -> None:
-        room = tempfile.TemporaryDirectory(prefix="rb-test-")
-        self.addCleanup(room.cleanup)
-        self.room = Path(room.name)
+        super().setUp()
         self.name = self.id().rpartition(".")[2][:50]
 
     def queue(self, name: str = "") -> Queue:
@@ -54,11 +62,10 @@ class RedisTest(unittest.TestCase):
         more = {"--redis": self.node.url, "--queue": self.name}
         return [*map(str, words), *(it for name in more if name not in words for it in (name, more[name]))]
 
-    def started(self, *words: object) -> subprocess.Popen[str]:
-        """A command of the package for this test's queue, as a process."""
-        command = [sys.executable, "-B", "-m", "rb_broker_redis", *self.words(*words)]
-        process = subprocess.Popen(command, stdout=subprocess.PIPE, stderr=subprocess.PIPE, encoding="utf-8",
-                                   cwd=self.room)
+    def started(self, *words: object, **environment: str) -> subprocess.Popen[str]:
+        """A command of the package for this test's queue, as a process, whose environment has this too."""
+        process = subprocess.Popen([*COMMAND, *self.words(*words)], stdout=subprocess.PIPE, stderr=subprocess.PIPE,
+                                   encoding="utf-8", cwd=self.room, env={**os.environ, **environment})
         self.addCleanup(process.communicate)
         self.addCleanup(process.kill)
         return process
@@ -72,6 +79,14 @@ class RedisTest(unittest.TestCase):
             except SystemExit as end:
                 status = end.code
         return status, said.getvalue().splitlines(), errors.getvalue()
+
+    def assert_wrong_words(self, command: str, *rows: "tuple[list[object], str]") -> None:
+        """A command with the words of each row is refused, for the reason of that row."""
+        for words, why in rows:
+            with self.subTest(words=words):
+                status, lines, errors = self.ran(command, *words)
+                self.assertEqual((status, lines), (2, []))
+                self.assertIn(why, errors)
 
     def assert_prints(self, lines: list[str], *words: object) -> None:
         """A command ends well, and prints these lines."""

@@ -1,28 +1,23 @@
 """A client of tests: sends lines as they are, and reads replies line by line."""
 from __future__ import annotations
 
-import socket
+import select
 import ssl
 from typing import Optional
 
-HOST = "127.0.0.1"
-PATIENCE = 30
+from serving import HOST
+from serving.session import Session
 
 
-class Talker:
-    """A connection."""
+class Talker(Session):
+    """A connection, which may be over TLS."""
 
     def __init__(self, port: int, tls: Optional[ssl.SSLContext] = None) -> None:
-        connection = socket.create_connection((HOST, port), PATIENCE)
-        connection.setsockopt(socket.IPPROTO_TCP, socket.TCP_NODELAY, 1)
-        self.socket = tls.wrap_socket(connection, server_hostname=HOST) if tls else connection
-        self._rest = b""
-
-    def __enter__(self) -> "Talker":
-        return self
-
-    def __exit__(self, *_: object) -> None:
-        self.close()
+        super().__init__(port)
+        if tls:
+            self.replies.close()
+            self.socket = tls.wrap_socket(self.socket, server_hostname=HOST)
+            self.replies = self.socket.makefile("rb")
 
     def send(self, text: str) -> None:
         """Sends this, whether it is whole lines or not."""
@@ -30,19 +25,19 @@ class Talker:
 
     def read(self) -> str:
         """The next reply line, or an empty text at the end."""
-        while b"\n" not in self._rest:
-            data = self.socket.recv(65_536)
-            if not data:
-                assert not self._rest, self._rest
-                return ""
-            self._rest += data
-        line, _, self._rest = self._rest.partition(b"\n")
-        return line.decode()
+        line = self.replies.readline().decode()
+        assert not line or line.endswith("\n"), line
+        return line[:-1]
 
     def ask(self, line: str) -> str:
         """Sends a line, and reads one."""
         self.send(f"{line}\n")
         return self.read()
+
+    def asks(self, *lines: str) -> "list[list[str]]":
+        """Sends lines in one piece. The words of as many that are read."""
+        self.send("".join(f"{it}\n" for it in lines))
+        return [self.read().split() for _ in lines]
 
     def rest(self) -> "list[str]":
         """All reply lines to the end."""
@@ -50,19 +45,4 @@ class Talker:
 
     def is_silent(self, seconds: float) -> bool:
         """Whether nothing comes for so long."""
-        self.socket.settimeout(seconds)
-        try:
-            self._rest += self.socket.recv(65_536)
-            return False
-        except socket.timeout:
-            return True
-        finally:
-            self.socket.settimeout(PATIENCE)
-
-    def reset(self) -> None:
-        """Closes the connection by a reset."""
-        self.socket.setsockopt(socket.SOL_SOCKET, socket.SO_LINGER, b"\x01\0\0\0\0\0\0\0")
-        self.close()
-
-    def close(self) -> None:
-        self.socket.close()
+        return not select.select([self.socket], [], [], seconds)[0]

@@ -5,7 +5,6 @@ import os
 import random
 import signal
 import subprocess
-import unittest
 from pathlib import Path
 
 from nodes import wait_until
@@ -154,7 +153,3 @@ class RefusalTest(ArchiveCommandTest):
         self.assertRegex(text[2], rb"^keep 2 \d{19} 1 \d{19} 2 b$")
         self.assertRegex(text[3], rb"^\d+ \d+ \d+ size 1$")
         self.assertEqual(text[4:], [b"end 1"])
-
-
-if __name__ == "__main__":
-    unittest.main()

@@ -44,7 +44,3 @@ class CutsTest(unittest.TestCase):
         cuts.follow(b"1 5 5 size 1")
         cuts.follow(b"1 5 5 size 1")
         self.assertEqual(cuts.best([], 3), Cut(1, 1))
-
-
-if __name__ == "__main__":
-    unittest.main()

@@ -1,8 +1,6 @@
 """Dead jobs: they are listed, offered again and dropped."""
 from __future__ import annotations
 
-import re
-import unittest
 
 from rb_broker_redis.queue import Queue
 from redis_test import SEAT, RedisTest
@@ -20,6 +18,10 @@ class DeadTest(RedisTest):
             self.assertEqual(replies[2::3], [f"DEAD {number}\n" for number in numbers])
         return queue
 
+    def assert_listed(self, ids: "list[str]", *words: object) -> None:
+        """These are the dead jobs."""
+        self.assertEqual([line.split(" ")[0] for line in self.ran("dead", *words)[1]], ids)
+
     def test_a_list(self) -> None:
         self.with_dead(2)
         status, lines, errors = self.ran("dead")
@@ -36,8 +38,8 @@ class DeadTest(RedisTest):
     def test_an_offer_is_a_new_job(self) -> None:
         queue = self.with_dead(3)
         self.assert_prints(["1: offered as 3"], "dead", "--offer", 1)
-        self.assertTrue(re.fullmatch(r"ITEM 3 \d+ 1 job-1", queue.request("POLL", SEAT)))
-        self.assertEqual([line.split(" ")[0] for line in self.ran("dead")[1]], ["0", "2"])
+        self.assertRegex(queue.request("POLL", SEAT), r"^ITEM 3 \d+ 1 job-1$")
+        self.assert_listed(["0", "2"])
 
     def test_an_offer_with_a_delay(self) -> None:
         queue = self.with_dead(1)
@@ -50,7 +52,7 @@ class DeadTest(RedisTest):
     def test_a_drop(self) -> None:
         queue = self.with_dead(3)
         self.assert_prints(["0: dropped", "2: dropped"], "dead", "--drop", 0, 2)
-        self.assertEqual([line.split(" ")[0] for line in self.ran("dead")[1]], ["1"])
+        self.assert_listed(["1"])
         self.assert_prints(["1: dropped"], "dead", "--drop", "--all")
         self.assertEqual(queue.request("SIZE", SEAT), "SIZE 0")
 
@@ -69,21 +71,14 @@ class DeadTest(RedisTest):
         self.with_dead(2, f"{self.name}.0")
         self.with_dead(1, f"{self.name}.1")
         shards = ("--shards", 2)
-        self.assertEqual([line.split(" ")[0] for line in self.ran("dead", *shards)[1]], ["0", "64", "1"])
+        self.assert_listed(["0", "64", "1"], *shards)
         self.assert_prints(["64: offered as 128"], "dead", *shards, "--offer", 64)
         self.assert_prints(["1: dropped"], "dead", *shards, "--drop", 1)
         self.assert_refused(1, "2: no such dead job", "dead", *shards, "--drop", 2)
 
     def test_words_that_are_refused(self) -> None:
-        for words, why in ((["--offer"], "name the jobs by their ids, or write --all"),
-                           (["--drop", "1", "--all"], "name the jobs by their ids, or write --all"),
-                           (["1"], "jobs are chosen for --offer or --drop"),
-                           (["--offer", "--drop", "1"], "not allowed with"), (["--drop", "-1"], ""),
-                           (["--offer", "1", "--delay", "5x"], "5x is no duration")):
-            status, lines, errors = self.ran("dead", *words)
-            self.assertEqual((status, lines), (2, []), words)
-            self.assertIn(why, errors)
-
-
-if __name__ == "__main__":
-    unittest.main()
+        unnamed = "name the jobs by their ids, or write --all"
+        self.assert_wrong_words(
+            "dead", (["--offer"], unnamed), (["--drop", "1", "--all"], unnamed),
+            (["1"], "jobs are chosen for --offer or --drop"), (["--offer", "--drop", "1"], "not allowed with"),
+            (["--drop", "-1"], ""), (["--offer", "1", "--delay", "5x"], "5x is no duration"))

@@ -8,48 +8,42 @@ its connection before it could know. What the clients saw is what the histories 
 """
 from __future__ import annotations
 
+import contextlib
 import os
 import random
-import re
-import signal
 import subprocess
-import sys
-import tempfile
 import threading
 import time
-import unittest
 from pathlib import Path
 from typing import Callable, Dict, List
 
 from accounts import Attempts, attempts_in, sum_up
 from crew import Crew, Producer, compiled_java
-from gateways import POLICY, Gateway
+from gateways import COMMAND, POLICY, Gateway
+from judging import faults_in, replay_chains, run_tool
 from nodes import ALWAYS, Node, Process, Replicas, Sentinels, wait_until
 from rb_broker_redis.archive_folder import ArchiveFolder
 from rb_broker_redis.shards import shard_names
+from redis_test import RoomTest
 
 JOBS = int(os.environ.get("RB_BROKER_JOBS", 1_000))
-PROGRAM = os.environ["RB_BROKER_PROGRAM"]
-TOP = Path(__file__).resolve().parents[2]
 PATIENCE = 600 + JOBS / 10  # seconds until all jobs are done
 GATEWAYS = 3
 PRODUCERS = 3
 EACH = 2  # workers of each kind
 LEASE = 4  # seconds, which a busy machine may well let pass: then sessions lose their jobs while their gateway lives
 SERVING = (*POLICY, "--wait", "200ms", "--lease", f"{LEASE}s")
-CHAINS = ("--chains", "--delay", "20000000", "--attempts", "1000")
 QUEUE = "jobs"
 
 
-class Day(unittest.TestCase):
+class Day(RoomTest):
     """What all days have."""
 
     shards = 1
 
     def setUp(self) -> None:
-        room = tempfile.TemporaryDirectory(prefix="rb-day-")
-        self.addCleanup(room.cleanup)
-        self.room, self.archive = Path(room.name), Path(room.name) / "archive"
+        super().setUp()
+        self.archive = self.room / "archive"
         self.draw = random.Random()
         self.pauses: List[threading.Timer] = []
         self.kills = {it: 0 for it in ("gateway", "worker", "producer", "archive", "redis", "lease")}
@@ -69,8 +63,8 @@ class Day(unittest.TestCase):
         self.producers = [Producer(self.crew, self.room, f"producer-{it}", payloads[it::PRODUCERS])
                           for it in range(PRODUCERS)]
         self.addCleanup(lambda: [it.kill() for it in self.producers])
-        self.take_events = [sys.executable, "-B", "-m", "rb_broker_redis", "archive", str(self.archive), "--redis", redis,
-                            "--queue", QUEUE, "--shards", str(self.shards)]
+        self.take_events = [*COMMAND, "archive", str(self.archive), "--redis", redis, "--queue", QUEUE,
+                            "--shards", str(self.shards)]
         self.archiving = Process([*self.take_events, "--every", "300ms"], self.room / "archive.log")
         self.archiving.start()
         self.addCleanup(self.archiving.kill)
@@ -81,29 +75,23 @@ class Day(unittest.TestCase):
     def let_all_go_wrong(self, kill_redis: Callable[[], None]) -> None:
         """Kills one after the other until all offers are made, and then waits until all jobs are done."""
         began = time.monotonic()
-        while not all(it.is_over for it in self.producers):
+        while any(it.is_alive for it in self.producers):
             self.assertLess(time.monotonic(), began + PATIENCE, "the offers are not made in time")
             time.sleep(self.draw.uniform(0.1, 0.8))
             self.start_what_has_ended()
             what = self.draw.choices([*self.kills], [2, 5, 1, 1, 1, 0.5])[0]
             self.kills[what] += 1
-            if what == "gateway":
-                gateway = self.draw.choice(self.gateways)
-                gateway.kill()
-                gateway.start()
-            elif what == "lease":
+            if what == "lease":
                 self.let_lease_pass(self.draw.choice(self.gateways))
             elif what == "worker":
                 self.kill_worker()
-            elif what == "producer":
-                producer = self.draw.choice(self.producers)
-                producer.kill()
-                producer.start()
-            elif what == "archive":
-                self.archiving.kill()
-                self.archiving.start()
-            else:
+            elif what == "redis":
                 kill_redis()
+            else:
+                killed = self.draw.choice(
+                    {"gateway": self.gateways, "producer": self.producers, "archive": [self.archiving]}[what])
+                killed.kill()
+                killed.start()
         self.took = time.monotonic() - began
         self.start_what_has_ended()
         for pause in self.pauses:
@@ -144,8 +132,8 @@ class Day(unittest.TestCase):
         for it in self.workers:
             it.stop()
         for it in self.gateways:
-            self.assertEqual(it.signal(signal.SIGTERM), 0)
-        self.archiving.signal(signal.SIGTERM)
+            self.assertEqual(it.end(), 0)
+        self.archiving.end()
         ran = subprocess.run(self.take_events, capture_output=True, text=True, timeout=60, check=False)
         self.assertEqual((ran.returncode, ran.stderr), (0, ""))
 
@@ -153,15 +141,15 @@ class Day(unittest.TestCase):
         queues = self.histories()
         histories = [it for files in queues for it in files]
         for it in histories:
-            ran = subprocess.run([PROGRAM, "replay", str(it), *CHAINS], capture_output=True, text=True, check=False)
-            self.assertEqual(ran.returncode, 0, f"{it}: {ran.stdout}{ran.stderr}")
+            replay_chains(it, 20_000_000, 1_000)
         jobs: Dict[str, Attempts] = {}
         for files in queues:
-            self.assertEqual(self.said("tools/report", *files)[0], 0)
+            self.assertEqual(run_tool("report", *files)[0], 0)
             its_jobs = attempts_in(files)
             self.assertEqual(jobs.keys() & its_jobs.keys(), set(), "a payload is in two queues")
             jobs.update(its_jobs)
-        faults = self.faults_of(histories)
+        faults, said = faults_in(*histories, *[it for it in self.crew.records if it.exists()], "--leases", "--shards",
+                                 self.shards)
         offered = set().union(*(it.offered() for it in self.producers))
         self.assertEqual(offered - jobs.keys(), set(), "offers were answered, and are in no history")
         for payload, attempts in jobs.items():
@@ -177,33 +165,15 @@ class Day(unittest.TestCase):
               f"{day.jobs} made; {day.done_once} jobs done once, {len(day.done_twice)} twice, {len(day.in_doubt)} in "
               f"doubt, of which {len(day.unseen)} without a note; {day.handled_again} handled again, {day.late} answers "
               f"too late; {len(histories)} histories accepted; faults of tools/verify: {faults}", flush=True)
-        self.assertEqual({it: count for it, count in faults.items() if count}, {})
+        self.assertEqual(faults, {}, said)
 
     def histories(self) -> list[list[Path]]:
         """The files of each queue."""
-        folder = ArchiveFolder(self.archive)
-        self.addCleanup(folder.close)
-        queues = [folder.files(it) for it in shard_names(QUEUE, self.shards)]
+        with contextlib.closing(ArchiveFolder(self.archive)) as folder:
+            queues = [folder.files(it) for it in shard_names(QUEUE, self.shards)]
         for files in queues:
             self.assertEqual([it.first for it in files], [0, *(it.end for it in files[:-1])])
         return [[it.path for it in files] for files in queues]
-
-    def faults_of(self, histories: list[Path]) -> dict[str, int]:
-        """The number of faults of each kind that tools/verify finds."""
-        status, said = self.said("tools/verify", *histories, *[it for it in self.crew.records if it.exists()],
-                                 "--leases", "--shards", self.shards)
-        self.assertIn(status, (0, 1), said)
-        found = {kind: int(count) for kind, count in re.findall(r"^(\w+): +(\d+) faults?: ", said, re.MULTILINE)}
-        self.assertEqual({"strange", "gap", "return", "changed", "missing", "twice", "order", "seat", "time"}, {*found})
-        if status:
-            print(said, flush=True)
-        return found
-
-    def said(self, tool: str, *words: object) -> tuple[int, str]:
-        """The status of a tool, and what it prints."""
-        ran = subprocess.run([sys.executable, "-B", str(TOP / tool), *map(str, words)], stdout=subprocess.PIPE,
-                             stderr=subprocess.STDOUT, text=True, check=False)
-        return ran.returncode, ran.stdout
 
 
 class OneNodeTest(Day):
@@ -240,15 +210,8 @@ class SentinelTest(Day):
             primary.kill()
             wait_until(lambda: sentinels.primary() is not primary, "no replica takes over")
             primary.start()
-            wait_until(lambda: sentinels.primary().client().info("replication")["connected_slaves"] == 2,
-                       "the replicas do not follow")
-            wait_until(lambda: all(it["state"] == "online" for name, it in
-                                   sentinels.primary().client().info("replication").items() if name[:5] == "slave"),
-                       "the replicas are not in step")
+            wait_until(lambda: sentinels.primary().replication()["connected_slaves"] == 2, "the replicas do not follow")
+            wait_until(lambda: all(it["state"] == "online" for name, it in sentinels.primary().replication().items()
+                                   if name[:5] == "slave"), "the replicas are not in step")
 
-        places = ",".join(f"127.0.0.1:{it}" for it in sentinels.ports)
-        self.run_day(f"redis+sentinel://{places}/{sentinels.name}", kill_redis, (*SERVING, "--replicas", 1))
-
-
-if __name__ == "__main__":
-    unittest.main()
+        self.run_day(sentinels.url, kill_redis, (*SERVING, "--replicas", 1))

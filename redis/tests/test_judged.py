@@ -3,22 +3,14 @@ a Redis whose reply is lost. Each may come about on any hostile day, and is made
 from __future__ import annotations
 
 import contextlib
-import os
-import re
-import signal
 import socket
-import subprocess
-import sys
 import threading
 import time
-import unittest
-from pathlib import Path
 
 from gateway_test import GatewayTest, Served
-from nodes import HOST
+from judging import faults_in
 from recorded_session import Broken, Notes, RecordedSession
-
-TOP = Path(__file__).resolve().parents[2]
+from serving import HOST
 
 
 class Proxy:
@@ -26,13 +18,10 @@ class Proxy:
 
     def __init__(self, port: int) -> None:
         self._redis, self._listener = port, socket.create_server((HOST, 0))
+        self.url = f"redis://{HOST}:{self._listener.getsockname()[1]}"
         self._sockets: list[socket.socket] = []
         self.is_mute = False
         threading.Thread(target=self._accept, daemon=True).start()
-
-    @property
-    def url(self) -> str:
-        return f"redis://{HOST}:{self._listener.getsockname()[1]}"
 
     def cut(self) -> None:
         """Ends all connections, and lets replies through those that follow."""
@@ -73,40 +62,39 @@ class JudgedTest(GatewayTest):
         self.record = self.room / "record.jsonl"
 
     def session(self, served: Served) -> RecordedSession:
-        return RecordedSession(served.port, Notes(str(self.record)))
+        return RecordedSession(served.port, Notes(self.record))
 
     def ask(self, session: RecordedSession, *requests: str) -> "list[str]":
         """The first words of the replies."""
         return [session.ask(it)[0].split(" ")[0] for it in requests]
 
     def leaves(self, session: RecordedSession, request: str) -> None:
-        """Its client is killed while this request is under way, so its record does not have that."""
+        """Its client is killed while this request is under way, so its record does not have that. The Redis carries it
+        out later."""
         record = self.record.read_bytes()
+        self.node.pause()
         asking = threading.Thread(target=lambda: self.assertRaises(Broken, session.ask, request), daemon=True)
         asking.start()
         time.sleep(0.3)
-        session.reset()
+        session.cut()
         asking.join(30)
         self.record.write_bytes(record)
+        self.node.go_on()
 
     def faults(self, *words: str) -> "dict[str, int]":
         """The number of faults of each kind, in all that the queue keeps."""
         archive = self.room / "archive"
         if not archive.exists():
             self.assertEqual(self.ran("archive", archive)[0], 0)
-        ran = subprocess.run([sys.executable, "-B", str(TOP / "tools" / "verify"), *map(str, archive.iterdir()),
-                              str(self.record), *words], stdout=subprocess.PIPE, encoding="utf-8", check=False)
-        found = {kind: int(count) for kind, count in re.findall(r"^(\w+): +(\d+) faults?: ", ran.stdout, re.MULTILINE)}
-        self.assertEqual(len(found), 9 + ("--all" in words), ran.stdout)
-        return {kind: count for kind, count in found.items() if count}
+        return faults_in(*archive.iterdir(), self.record, *words)[0]
 
     def test_a_lease_that_is_over_while_its_gateway_lives(self) -> None:
         late, other = self.serve("--lease", "2s"), self.serve("--lease", "2s", "--wait", "30s")
         one, heir = self.session(late), self.session(other)
         self.assertEqual(self.ask(one, "OFFER 0 a", "OFFER 0 b", "TAKE", "TAKE"), ["OFFERED"] * 2 + ["ITEM"] * 2)
-        late.process.send_signal(signal.SIGSTOP)
+        late.pause()
         self.assertEqual(self.ask(heir, "TAKE", "TAKE"), ["ITEM"] * 2)
-        threading.Timer(0.2, late.process.send_signal, [signal.SIGCONT]).start()
+        threading.Timer(0.2, late.go_on).start()
         self.assertEqual(one.ask("DONE 1"), ["ERR 5 not-held"])
         self.assertRaises(Broken, one.ask, "DONE 0")
         again = self.session(late)
@@ -117,24 +105,18 @@ class JudgedTest(GatewayTest):
 
     def test_a_failure_under_way_when_its_client_is_killed(self) -> None:
         served = self.serve()
-        pid = self.pid()
         killed = self.session(served)
         self.assertEqual(self.ask(killed, "OFFER 0 a", "OFFER 0 b", "TAKE", "TAKE"), ["OFFERED"] * 2 + ["ITEM"] * 2)
-        os.kill(pid, signal.SIGSTOP)
         self.leaves(killed, "FAIL 1")
-        os.kill(pid, signal.SIGCONT)
         self.assertEqual(self.given(served), ["b", "a"])
         self.assertEqual(self.faults(), {})
         self.assertEqual(self.faults("--all"), {"unrecorded": 1})
 
     def test_a_fetch_under_way_when_its_client_is_killed(self) -> None:
         served = self.serve()
-        pid = self.pid()
         killed = self.session(served)
         self.assertEqual(self.ask(killed, "OFFER 0 a", "OFFER 0 b", "TAKE"), ["OFFERED", "OFFERED", "ITEM"])
-        os.kill(pid, signal.SIGSTOP)
         self.leaves(killed, "POLL")
-        os.kill(pid, signal.SIGCONT)
         self.assertEqual(len(self.given(served)), 2)
         self.assertEqual(self.faults(), {})
 
@@ -163,11 +145,3 @@ class JudgedTest(GatewayTest):
             self.assertEqual(self.ask(session, f"DONE {id}"), ["DONE"])
         self.assertEqual(self.ask(session, "QUIT"), ["BYE"])
         return payloads
-
-    def pid(self) -> int:
-        with self.node.client() as client:
-            return int(client.info("server")["process_id"])
-
-
-if __name__ == "__main__":
-    unittest.main()

@@ -1,7 +1,6 @@
 """Leases of gateways, as the functions of broker.lua keep them."""
 from __future__ import annotations
 
-import unittest
 
 from redis import ResponseError
 
@@ -51,7 +50,3 @@ class LeaseTest(RedisTest):
         gateway = self.join(queue, LONG)
         self.assertEqual(queue.call("rb_leave", gateway), 1)
         self.assert_over(queue, gateway)
-
-
-if __name__ == "__main__":
-    unittest.main()

@@ -255,16 +255,9 @@ class RefusalTest(LoadTest):
             Left.of([run, run], [0, 0])
 
     def test_words(self) -> None:
-        for words, why in (([], "there is a HISTORY, and a --began for each"),
-                           ([self.history], "there is a HISTORY, and a --began for each"),
-                           ([self.history, "--began", "today"], "'today' is no TIME: no date and time"),
-                           ([self.history, "--began", "1795683600"], "is no TIME: no date and time"),
-                           ([self.history, "--began", "1969-12-31T23:59:59Z"], "is no TIME: it is before 1970"),
-                           ([self.history, "--began", "2026-13-01T00:00:00Z"], "is no TIME: month must be in 1..12")):
-            status, lines, errors = self.ran("load", *words)
-            self.assertEqual((status, lines), (2, []), words)
-            self.assertIn(why, errors)
-
-
-if __name__ == "__main__":
-    unittest.main()
+        uneven = "there is a HISTORY, and a --began for each"
+        dates = {"today": "'today' is no TIME: no date and time", "1795683600": "is no TIME: no date and time",
+                 "1969-12-31T23:59:59Z": "is no TIME: it is before 1970",
+                 "2026-13-01T00:00:00Z": "is no TIME: month must be in 1..12"}
+        self.assert_wrong_words("load", ([], uneven), ([self.history], uneven),
+                                *(([self.history, "--began", date], why) for date, why in dates.items()))

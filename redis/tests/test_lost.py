@@ -19,6 +19,7 @@ from typing import Callable, NamedTuple, Sequence
 from gateways import Gateway
 from nodes import ALWAYS, EVERYSEC, FORGETFUL, PATIENCE, Node, Replicas, Sentinels, wait_until
 from recorded_session import Broken, Notes, RecordedSession
+from redis_test import RoomTest
 
 ROUNDS = int(os.environ.get("RB_BROKER_ROUNDS", 1))
 PRODUCERS = 4
@@ -33,7 +34,7 @@ class Offers:
 
     def __init__(self, port: int, record: Path) -> None:
         self.answered: dict[str, float] = {}  # payload to the time of the answer
-        self._threads = [threading.Thread(target=self._offer, args=(port, Notes(str(record)), it), daemon=True)
+        self._threads = [threading.Thread(target=self._offer, args=(port, Notes(record), it), daemon=True)
                          for it in range(PRODUCERS)]
         self.is_over = False
         for it in self._threads:
@@ -50,7 +51,7 @@ class Offers:
         except Broken:
             pass
         finally:
-            session.leave()
+            session.hang_up()
 
     def end(self) -> None:
         self.is_over = True
@@ -67,12 +68,7 @@ class Lost(NamedTuple):
     """How long before the kill the first of the lost ones was answered."""
 
 
-class LostTest(unittest.TestCase):
-    def setUp(self) -> None:
-        room = tempfile.TemporaryDirectory(prefix="rb-test-")
-        self.addCleanup(room.cleanup)
-        self.room = Path(room.name)
-
+class LostTest(RoomTest):
     def tried(self, row: str, round_of: Callable[[Path], Lost]) -> Lost:
         """The sum of some rounds."""
         rounds = [round_of(Path(tempfile.mkdtemp(dir=self.room))) for _ in range(ROUNDS)]
@@ -101,13 +97,14 @@ class LostTest(unittest.TestCase):
         lost = [when for payload, when in offers.answered.items() if payload not in there]
         return Lost(len(offers.answered), len(lost), max((killed - it for it in lost), default=0.0))
 
-
-class OneNodeTest(LostTest):
     def killed(self, options: Sequence[str]) -> Callable[[Path], Lost]:
+        """Rounds in which a node is killed."""
+
         def round_of(room: Path) -> Lost:
-            node = Node(room / "node", options)
+            node = Node(room / "node", options, self.environment())
             try:
                 offers, killed = self.offered_until(room, node.url, node.kill)
+                self.lose_more(room / "node")
                 node.start()
                 return self.missing(offers, killed, node)
             finally:
@@ -115,6 +112,15 @@ class OneNodeTest(LostTest):
 
         return round_of
 
+    def environment(self) -> "dict[str, str]":
+        """That of a node that is killed."""
+        return {}
+
+    def lose_more(self, folder: Path) -> None:
+        """Takes away what else is lost with the node: nothing."""
+
+
+class OneNodeTest(LostTest):
     def test_always_and_a_kill(self) -> None:
         self.assertEqual(self.tried("always, kill", self.killed(ALWAYS)).lost, 0)
 
@@ -126,35 +132,23 @@ class OneNodeTest(LostTest):
         self.assertEqual(total.lost, total.answered)
 
 
+@unittest.skipUnless(shutil.which("cc"), "there is no cc, with which power_cut.c is compiled")
 class PowerCutTest(LostTest):
-    def setUp(self) -> None:
-        super().setUp()
-        if shutil.which("cc") is None:
-            self.skipTest("there is no cc, with which power_cut.c is compiled")
-        self.shim = self.room / "power_cut.so"
-        subprocess.run(["cc", "-shared", "-fPIC", "-o", self.shim, SHIM, "-ldl"], check=True)
+    def environment(self) -> "dict[str, str]":
+        shim = self.room / "power_cut.so"
+        subprocess.run(["cc", "-shared", "-fPIC", "-o", shim, SHIM, "-ldl"], check=True)
+        return {"LD_PRELOAD": str(shim)}
 
-    def cut(self, options: Sequence[str]) -> Callable[[Path], Lost]:
-        def round_of(room: Path) -> Lost:
-            node = Node(room / "node", options, environment={"LD_PRELOAD": str(self.shim)})
-            try:
-                offers, killed = self.offered_until(room, node.url, node.kill)
-                for file in (room / "node" / "appendonlydir").glob("*.incr.aof"):
-                    note = Path(f"{file}.synced")
-                    with open(file, "r+b") as it:
-                        it.truncate(int(note.read_text()) if note.exists() else 0)
-                node.start()
-                return self.missing(offers, killed, node)
-            finally:
-                node.kill()
-
-        return round_of
+    def lose_more(self, folder: Path) -> None:
+        for file in (folder / "appendonlydir").glob("*.incr.aof"):
+            note = Path(f"{file}.synced")
+            os.truncate(file, int(note.read_text()) if note.exists() else 0)
 
     def test_always(self) -> None:
-        self.assertEqual(self.tried("always, power cut", self.cut(ALWAYS)).lost, 0)
+        self.assertEqual(self.tried("always, power cut", self.killed(ALWAYS)).lost, 0)
 
     def test_everysec(self) -> None:
-        total = self.tried("everysec, power cut", self.cut(EVERYSEC))
+        total = self.tried("everysec, power cut", self.killed(EVERYSEC))
         self.assertGreater(total.lost, 0)
         self.assertLess(total.seconds, 3)  # a second, and the sync that is under way
 
@@ -177,10 +171,9 @@ class FailOverTest(LostTest):
                 replica.go_on()
 
             try:
-                places = ",".join(f"127.0.0.1:{it}" for it in sentinels.ports)
-                offers, killed = self.offered_until(room, f"redis+sentinel://{places}/{sentinels.name}", kill, *options)
-                wait_until(lambda: sentinels.primary() is replica and replica.client().info("replication")["role"]
-                           == "master", "the replica does not take over")
+                offers, killed = self.offered_until(room, sentinels.url, kill, *options)
+                wait_until(lambda: sentinels.primary() is replica and replica.replication()["role"] == "master",
+                           "the replica does not take over")
                 return self.missing(offers, killed, replica)
             finally:
                 sentinels.kill()
@@ -201,7 +194,3 @@ class FailOverTest(LostTest):
             total = self.tried(f"--replicas 1, {'cut off for 0.3 s, ' if is_cut_off else ''}kill, fail-over",
                                self.failed_over(is_cut_off, "--replicas", 1))
             self.assertEqual(total.lost, 0)
-
-
-if __name__ == "__main__":
-    unittest.main()

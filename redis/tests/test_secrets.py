@@ -1,18 +1,18 @@
 """Passwords, and TLS between clients, gateways and the Redis."""
 from __future__ import annotations
 
-import os
+import contextlib
 import ssl
 import subprocess
-import sys
 import tempfile
 from pathlib import Path
-from typing import Dict, Optional
+from typing import Optional
 
 from gateway_test import GatewayTest, Served
-from nodes import HOST, Node, free_port
+from nodes import Node, free_port
 from rb_broker_redis.address import read_address
-from redis_test import RedisTest
+from serving import HOST
+from talker import Talker
 
 PASSWORD = "open-sesame"
 
@@ -27,41 +27,36 @@ def make_certificate(folder: Path, name: str, signer: Optional[str] = None) -> N
         check=True, stderr=subprocess.DEVNULL)
 
 
-class PasswordTest(RedisTest):
+class PasswordTest(GatewayTest):
     @classmethod
     def setUpClass(cls) -> None:
         super().setUpClass()
         cls.node.ask("CONFIG", "SET", "requirepass", PASSWORD)
 
-    def serve(self, *words: object, environment: Optional[Dict[str, str]] = None) -> "subprocess.Popen[str]":
-        command = [sys.executable, "-B", "-m", "rb_broker_redis", "serve", "--port", "0", "--queue", self.name]
-        process = subprocess.Popen([*command, *map(str, words)], stdout=subprocess.PIPE, stderr=subprocess.PIPE,
-                                   encoding="utf-8", env={**os.environ, **(environment or {})})
-        self.addCleanup(process.communicate)
-        self.addCleanup(process.kill)
-        return process
+    def setUp(self) -> None:
+        super().setUp()
+        self.url = f"redis://:{PASSWORD}@{HOST}:{self.node.port}"
 
-    @property
-    def url(self) -> str:
-        return f"redis://:{PASSWORD}@{HOST}:{self.node.port}"
+    def words(self, *words: object) -> "list[str]":
+        """Those of a gateway, to which the test or the environment names the Redis."""
+        return ["serve", "--port", "0", "--queue", self.name, *map(str, words)]
 
     def assert_serves_in_secret(self, process: "subprocess.Popen[str]") -> None:
         served = Served(process)
-        with served.talker() as talker:
-            self.assertEqual(talker.ask("SIZE"), "SIZE 0")
+        self.assert_talk(self.talker(served), "SIZE = SIZE 0")
         words = Path(f"/proc/{process.pid}/cmdline").read_text()
         self.assertNotIn(PASSWORD, words + "".join(served.end()[1:]))
 
     def test_a_file_has_the_password(self) -> None:
         file = self.room / "redis.url"
         file.write_text(f"{self.url}\n")
-        self.assert_serves_in_secret(self.serve("--redis", f"@{file}"))
+        self.assert_serves_in_secret(self.started("--redis", f"@{file}"))
 
     def test_the_environment_has_the_password(self) -> None:
-        self.assert_serves_in_secret(self.serve(environment={"RB_BROKER_REDIS": self.url}))
+        self.assert_serves_in_secret(self.started(RB_BROKER_REDIS=self.url))
 
     def test_a_wrong_password_is_not_told(self) -> None:
-        process = self.serve(environment={"RB_BROKER_REDIS": self.url.replace(PASSWORD, "open-barley")})
+        process = self.started(RB_BROKER_REDIS=self.url.replace(PASSWORD, "open-barley"))
         said, errors = process.communicate(timeout=30)
         self.assertEqual((process.returncode, said), (3, ""))
         self.assertIn("WRONGPASS", errors)
@@ -89,43 +84,41 @@ class TlsTest(GatewayTest):
             make_certificate(cls.keys, name, "authority")
         make_certificate(cls.keys, "stranger")
 
-    def context(self, name: str = "") -> ssl.SSLContext:
-        """What a client knows, with a certificate of its own if it has a name."""
+    def talker_over_tls(self, served: Served, name: str = "") -> Talker:
+        """A client that knows the authority, with a certificate of its own if it has a name."""
         context = ssl.create_default_context(cafile=str(self.keys / "authority.pem"))
         if name:
             context.load_cert_chain(self.keys / f"{name}.pem", self.keys / f"{name}.key")
-        return context
+        talker = served.talker(context)
+        self.addCleanup(talker.hang_up)
+        return talker
 
     def served_by_tls(self, *words: object) -> Served:
         return self.serve("--cert", self.keys / "gateway.pem", "--key", self.keys / "gateway.key", *words)
 
     def test_clients_are_served_over_tls(self) -> None:
         served = self.served_by_tls()
-        with served.talker(self.context()) as talker:
-            self.assertEqual(talker.ask("OFFER 0 a").split()[0], "OFFERED")
-            talker.send("TAKE\nDONE 0\nQUIT\n")
-            self.assertEqual([it.split()[0] for it in talker.rest()], ["ITEM", "DONE", "BYE"])
+        talker = self.talker_over_tls(served)
+        self.assert_talk(talker, "OFFER 0 a = OFFERED .*")
+        talker.send("TAKE\nDONE 0\nQUIT\n")
+        self.assert_talk(talker, "= ITEM .*", "= DONE 0", "= BYE", "= ")
         self.assertEqual(served.end()[0], 0)
 
     def test_only_clients_of_the_authority_are_let_in(self) -> None:
         served = self.served_by_tls("--client-ca", self.keys / "authority.pem")
-        with served.talker(self.context("client")) as talker:
-            self.assertEqual(talker.ask("SIZE"), "SIZE 0")
+        self.assert_talk(self.talker_over_tls(served, "client"), "SIZE = SIZE 0")
         for name in ("", "stranger"):
-            with self.subTest(name=name), self.assertRaises(OSError), served.talker(self.context(name)) as talker:
-                if talker.ask("SIZE") == "":
+            with self.subTest(name=name), self.assertRaises(OSError):
+                if self.talker_over_tls(served, name).ask("SIZE") == "":
                     raise ConnectionError
 
     def test_a_client_without_tls_gets_no_reply(self) -> None:
         served = self.served_by_tls()
-        with served.talker() as talker:
-            talker.send("SIZE\n")
-            try:
-                self.assertNotIn(b"SIZE 0", talker.socket.recv(100))
-            except ConnectionError:
-                pass
-        with served.talker(self.context()) as talker:
-            self.assertEqual(talker.ask("SIZE"), "SIZE 0")
+        talker = self.talker(served)
+        talker.send("SIZE\n")
+        with contextlib.suppress(ConnectionError):
+            self.assertNotIn(b"SIZE 0", talker.socket.recv(100))
+        self.assert_talk(self.talker_over_tls(served), "SIZE = SIZE 0")
 
     def test_the_redis_is_reached_over_tls(self) -> None:
         port, keys = free_port(), self.keys
@@ -134,17 +127,9 @@ class TlsTest(GatewayTest):
             "--tls-key-file", keys / "redis.key", "--tls-ca-cert-file", keys / "authority.pem"])
         self.addCleanup(node.kill)
         client = f"ssl_certfile={keys}/client.pem&ssl_keyfile={keys}/client.key"
-        url = f"rediss://{HOST}:{port}?ssl_ca_certs={keys}/authority.pem&{client}"
-        command = [sys.executable, "-B", "-m", "rb_broker_redis", "serve", "--port", "0", "--queue", "q"]
-        process = subprocess.Popen([*command, "--redis", url], stdout=subprocess.PIPE, stderr=subprocess.PIPE,
-                                   encoding="utf-8")
-        self.addCleanup(process.communicate)
-        self.addCleanup(process.kill)
-        with Served(process).talker() as talker:
-            self.assertEqual(talker.ask("SIZE"), "SIZE 0")
+        served = self.serve("--redis", f"rediss://{HOST}:{port}?ssl_ca_certs={keys}/authority.pem&{client}")
+        self.assert_talk(self.talker(served), "SIZE = SIZE 0")
 
     def test_plain_is_said_loudly(self) -> None:
-        process = self.started("serve", "--port", 0, "--plain")
-        self.assertIn("listening 127.0.0.1:", process.stdout.readline())
-        process.terminate()
-        self.assertIn("PLAIN: whoever reaches 127.0.0.1:", process.communicate(timeout=30)[1])
+        _, _, errors = self.serve("--plain").end()
+        self.assertIn("PLAIN: whoever reaches 127.0.0.1:", errors)

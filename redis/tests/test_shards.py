@@ -54,7 +54,3 @@ class IdTest(unittest.TestCase):
         for shard, id in ((0, 0), (63, 0), (5, 2**40)):
             self.assertEqual(inner_id(outer_id(shard, id)), (shard, id))
         self.assertLess(outer_id(63, 2**40), 2**47)
-
-
-if __name__ == "__main__":
-    unittest.main()

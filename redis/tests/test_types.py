@@ -19,7 +19,3 @@ class TypesTest(unittest.TestCase):
         ran = subprocess.run(words, cwd=SOURCES, stdout=subprocess.PIPE, stderr=subprocess.STDOUT, text=True,
                              check=False)
         self.assertEqual(ran.returncode, 0, ran.stdout)
-
-
-if __name__ == "__main__":
-    unittest.main()

@@ -24,7 +24,7 @@ from checking.tally import Tally
 from common.program import TOP
 
 TESTS = f"{TOP}/redis/tests"
-PATHS = [f"{TOP}/redis/src", TESTS, f"{TOP}/clients/python/src"]
+PATHS = [f"{TOP}/redis/src", TESTS, f"{TOP}/clients/python/src", f"{TOP}/dev/lib"]
 COMMANDS = ("redis-server", "redis-sentinel", "redis-cli")
 SYSTEM_PYTHON = "/usr/bin/python3"  # for which Debian has the package python3-redis
 AT_ONCE = int(os.environ.get("RB_BROKER_AT_ONCE", 4))
