@@ -4,8 +4,8 @@ from __future__ import annotations
 import unittest
 
 from case_tables import bytes_of, tables_of
-from rb_broker_redis.errors import ErrorReply
-from rb_broker_redis.lines import LineCutter
+from rb_broker_redis.protocol import ErrorReply
+from rb_broker_redis.request import LineCutter
 from rb_broker_redis.request import Kind, Request, read_request
 
 WAITS = (b"TAKE", b"POLLFOR")

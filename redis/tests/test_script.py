@@ -6,7 +6,6 @@ import random
 import stat
 import subprocess
 import sys
-import unittest
 from pathlib import Path
 
 from nodes import Process, wait_until
@@ -74,12 +73,9 @@ class RandomScriptsTest(RedisTest):
         asked = parser().parse_args(["script", "--redis", self.node.url, *made.words])
         queue = self.queue("random")
         script.begin(queue, FollowedQueue(), asked)
-        session = ScriptSession(script.performer(queue), 0)
-        replies = b"".join(session.carry_out(piece) for piece in made.pieces) + session.end()
+        session = ScriptSession(queue, 0)
+        replies = b"".join(session.carry_out(piece) for piece in made.pieces) + session.come_to_end()
+        session.fail_held()
         history = b"history 3\nopen 0 0 0\n" + b"".join(script.events_of(queue))
         queue.command("UNLINK", *queue.keys)
         return replies, history
-
-
-if __name__ == "__main__":
-    unittest.main()

@@ -6,7 +6,7 @@ import unittest
 from typing import Optional
 
 from rb_broker_redis.calls import Answered
-from rb_broker_redis.limits import SECOND
+from rb_broker_redis.protocol import SECOND
 from rb_broker_redis.session import MOST_AT_ONCE, MOST_WAITING_LINES, SECONDS_BETWEEN_ENDS, Session
 from rb_broker_redis.waits import Waits
 
@@ -77,15 +77,22 @@ class FakeGateway:
 class SessionTest(unittest.IsolatedAsyncioTestCase):
     async def asyncSetUp(self) -> None:
         self.gateway = FakeGateway()
-        self.session, self.transport = Session(self.gateway), FakeTransport()
-        self.session.connection_made(self.transport)
+        self.session, self.transport = self.connected()
+
+    def connected(self) -> "tuple[Session, FakeTransport]":
+        """A session, with the connection of its client."""
+        session, transport = Session(self.gateway), FakeTransport()
+        session.connection_made(transport)
+        return session, transport
 
     def assert_calls(self, *calls: bytes) -> None:
         """These are the calls that were submitted next."""
         self.assertEqual(self.gateway.calls.take(), list(calls))
 
-    def answer(self, *replies: bytes) -> None:
+    def answer(self, *replies: bytes, sends: bytes = b"") -> None:
+        """The calls are answered, and the client is sent this."""
         self.gateway.calls.answered(list(replies))
+        self.assert_sent(sends)
 
     def assert_sent(self, text: bytes) -> None:
         self.assertEqual(self.transport.sent, text)
@@ -102,19 +109,24 @@ class SessionTest(unittest.IsolatedAsyncioTestCase):
         self.assertTrue(self.transport.is_closed)
         self.assertEqual(self.gateway.lost, 2)
 
+    def let_wait(self, *lines: bytes) -> None:
+        """Its client sends a TAKE, which waits, and further lines."""
+        self.session.data_received(b"".join(it + b"\n" for it in (b"TAKE", *lines)))
+        self.assert_calls(b"7 TAKE")
+        self.answer(LATER)
+
     async def test_a_line_is_called_and_its_reply_is_sent(self) -> None:
         self.session.data_received(b"OFFER 5 a\nSI")
         self.assert_calls(b"7 OFFER 5 a")
-        self.answer(b"OFFERED 0 5\n")
-        self.assert_sent(b"OFFERED 0 5\n")
+        self.answer(b"OFFERED 0 5\n", sends=b"OFFERED 0 5\n")
         self.session.data_received(b"ZE\r\n")
         self.assert_calls(b"7 SIZE")
 
     async def test_lines_go_out_together_and_refusals_keep_their_places(self) -> None:
         self.session.data_received(b"x\nSIZE\nAT 5\nAT 05\nPEEK\nOFFER 1 \x80\n" + b"y" * 257 + b"\n")
         self.assert_calls(b"7 SIZE", b"7 PEEK")
-        self.answer(b"SIZE 0\n", b"NONE\n")
-        self.assert_sent(b"ERR 1 syntax\nSIZE 0\nERR 1 syntax\nERR 2 number\nNONE\nERR 4 payload\nERR 8 line\n")
+        self.answer(b"SIZE 0\n", b"NONE\n", sends=(
+            b"ERR 1 syntax\nSIZE 0\nERR 1 syntax\nERR 2 number\nNONE\nERR 4 payload\nERR 8 line\n"))
 
     async def test_refusals_alone_need_no_queue(self) -> None:
         self.session.data_received(b"\n" * 20_000)
@@ -130,16 +142,14 @@ class SessionTest(unittest.IsolatedAsyncioTestCase):
         self.assert_calls(b"7 SIZE")
         self.session.data_received(b"PEEK\nx\n")
         self.assert_idle()
-        self.answer(b"SIZE 0\n")
-        self.assert_sent(b"SIZE 0\n")
+        self.answer(b"SIZE 0\n", sends=b"SIZE 0\n")
         self.assert_calls(b"7 PEEK")
-        self.answer(b"NONE\n")
-        self.assert_sent(b"NONE\nERR 1 syntax\n")
+        self.answer(b"NONE\n", sends=b"NONE\nERR 1 syntax\n")
 
     async def test_no_more_than_so_many_lines_go_out_at_once(self) -> None:
         self.session.data_received(b"SIZE\n" * (MOST_AT_ONCE + 1))
-        self.assertEqual(len(self.gateway.calls.take()), MOST_AT_ONCE)
-        self.answer(*[b"SIZE 0\n"] * MOST_AT_ONCE)
+        self.assert_calls(*[b"7 SIZE"] * MOST_AT_ONCE)
+        self.answer(*[b"SIZE 0\n"] * MOST_AT_ONCE, sends=b"SIZE 0\n" * MOST_AT_ONCE)
         self.assert_calls(b"7 SIZE")
 
     async def test_a_client_that_is_far_ahead_is_not_read_from(self) -> None:
@@ -147,7 +157,7 @@ class SessionTest(unittest.IsolatedAsyncioTestCase):
         self.session.data_received(b"x\n" * (MOST_WAITING_LINES + 1))
         self.assertFalse(self.transport.is_reading)
         self.assert_calls(b"7 TAKE")
-        self.answer(b"ITEM 0 5 1 a\n")
+        self.answer(b"ITEM 0 5 1 a\n", sends=b"ITEM 0 5 1 a\n")
         for _ in range(MOST_WAITING_LINES // MOST_AT_ONCE + 1):
             await asyncio.sleep(0)
         self.assertTrue(self.transport.is_reading)
@@ -159,19 +169,17 @@ class SessionTest(unittest.IsolatedAsyncioTestCase):
         self.assertFalse(self.transport.is_reading)
         self.session.resume_writing()
         self.assert_calls(b"7 SIZE")
-        self.answer(b"SIZE 0\n")
+        self.answer(b"SIZE 0\n", sends=b"SIZE 0\n")
         self.assertTrue(self.transport.is_reading)
 
     async def test_earlier_replies_are_sent_before_a_wait(self) -> None:
         self.session.data_received(b"SIZE\nx\nTAKE\nDONE 5\n")
         self.assert_calls(b"7 SIZE", b"7 TAKE")
-        self.answer(b"SIZE 0\n", LATER)
-        self.assert_sent(b"SIZE 0\nERR 1 syntax\n")
+        self.answer(b"SIZE 0\n", LATER, sends=b"SIZE 0\nERR 1 syntax\n")
         self.assert_idle()
         self.gateway.waits.heard(b"50 60")
         self.assert_calls(b"7 TAKE")
-        self.answer(b"ITEM 0 50 1 a\n")
-        self.assert_sent(b"ITEM 0 50 1 a\n")
+        self.answer(b"ITEM 0 50 1 a\n", sends=b"ITEM 0 50 1 a\n")
         self.assert_calls(b"7 DONE 5")
 
     async def test_a_timed_poll_is_tried_again_from_where_it_began(self) -> None:
@@ -182,11 +190,8 @@ class SessionTest(unittest.IsolatedAsyncioTestCase):
         self.assert_calls(b"7 POLLFOR 5000000000 100")
 
     async def test_a_take_behind_others_fetches_nothing(self) -> None:
-        self.session.data_received(b"TAKE\n")
-        self.gateway.calls.take()
-        self.answer(LATER)
-        other = Session(self.gateway)
-        other.connection_made(FakeTransport())
+        self.let_wait()
+        other, _ = self.connected()
         other.data_received(b"TAKE\n")
         self.assert_calls(b"7 WAIT")
         self.answer(LATER)
@@ -194,11 +199,8 @@ class SessionTest(unittest.IsolatedAsyncioTestCase):
         self.assert_idle()  # it waits
 
     async def test_a_poll_that_does_not_wait_is_tried_at_once(self) -> None:
-        self.session.data_received(b"TAKE\n")
-        self.gateway.calls.take()
-        self.answer(LATER)
-        other = Session(self.gateway)
-        other.connection_made(FakeTransport())
+        self.let_wait()
+        other, _ = self.connected()
         other.data_received(b"POLLFOR 0\n")
         self.assert_calls(b"7 POLLFOR 0")
 
@@ -206,10 +208,8 @@ class SessionTest(unittest.IsolatedAsyncioTestCase):
         self.session.data_received(b"SIZE\nQUIT\nSIZE\n")
         self.assert_calls(b"7 SIZE")
         self.session.data_received(b"PEEK\n")
-        self.answer(b"SIZE 0\n")
-        self.assert_sent(b"SIZE 0\nBYE\n")
+        self.answer(b"SIZE 0\n", sends=b"SIZE 0\nBYE\n")
         self.assert_ends()
-        self.assert_sent(b"")
 
     async def test_a_session_without_calls_has_nothing_to_end(self) -> None:
         self.session.data_received(b"QUIT\n")
@@ -221,28 +221,22 @@ class SessionTest(unittest.IsolatedAsyncioTestCase):
         self.session.data_received(b"SIZE\nPEEK\nSI")
         self.session.eof_received()
         self.assert_calls(b"7 SIZE", b"7 PEEK")
-        self.answer(b"SIZE 0\n", b"NONE\n")
-        self.assert_sent(b"SIZE 0\nNONE\nERR 8 line\n")
+        self.answer(b"SIZE 0\n", b"NONE\n", sends=b"SIZE 0\nNONE\nERR 8 line\n")
         self.assert_ends()
 
     async def test_the_end_of_input_gives_a_wait_up(self) -> None:
-        self.session.data_received(b"TAKE\nSIZE\n")
-        self.gateway.calls.take()
-        self.answer(LATER)
+        self.let_wait(b"SIZE")
         self.session.eof_received()
         self.assert_sent(b"STOPPED\n")
         self.assert_calls(b"7 SIZE")
-        self.answer(b"SIZE 0\n")
+        self.answer(b"SIZE 0\n", sends=b"SIZE 0\n")
         self.assert_ends()
 
     async def test_nothing_is_fetched_for_a_client_that_has_left(self) -> None:
-        self.session.data_received(b"TAKE\nSIZE\n")
-        self.gateway.calls.take()
-        self.answer(LATER)
+        self.let_wait(b"SIZE")
         self.session.connection_lost(None)
         self.gateway.waits.heard(b"50 60")
         self.assert_ends()
-        self.assert_sent(b"")
 
     async def test_a_fetch_that_crosses_a_break_comes_back(self) -> None:
         self.session.data_received(b"TAKE\n")
@@ -250,15 +244,13 @@ class SessionTest(unittest.IsolatedAsyncioTestCase):
         self.session.connection_lost(None)
         self.assertEqual(self.gateway.calls.withheld, self.gateway.calls.answered)
         self.assert_idle()
-        self.answer(b"ITEM 0 50 1 a\n")
-        self.assert_sent(b"")
+        self.answer(b"ITEM 0 50 1 a\n", sends=b"")
         self.assert_ends()
 
     async def test_lines_wait_for_a_seat(self) -> None:
         self.gateway.is_joined = False
-        session, leaving = Session(self.gateway), Session(self.gateway)
+        session, leaving = self.connected()[0], self.connected()[0]
         for it in (session, leaving):
-            it.connection_made(FakeTransport())
             it.data_received(b"SIZE\nPEEK\n")
         leaving.connection_lost(None)
         session.eof_received()
@@ -273,13 +265,17 @@ class SessionTest(unittest.IsolatedAsyncioTestCase):
         self.assertEqual(self.gateway.calls.withheld, self.gateway.calls.submitted[0][1])
         self.assertTrue(self.transport.is_closed)
 
-    async def test_what_is_in_doubt_has_no_reply(self) -> None:
-        self.session.data_received(b"SIZE\nPEEK\n")
-        self.gateway.calls.take()
+    def assert_in_doubt(self) -> None:
+        """What is under way is in doubt: it has no reply, and the session ends."""
         self.gateway.calls.answered(None)
         self.assert_sent(b"")
         self.assertTrue(self.transport.is_closed)
         self.assert_calls(b"7 END")
+
+    async def test_what_is_in_doubt_has_no_reply(self) -> None:
+        self.session.data_received(b"SIZE\nPEEK\n")
+        self.gateway.calls.take()
+        self.assert_in_doubt()
         self.gateway.calls.answered(None)
         await asyncio.sleep(2 * SECONDS_BETWEEN_ENDS)
         self.assert_calls(b"7 END")  # until it is certain
@@ -287,15 +283,10 @@ class SessionTest(unittest.IsolatedAsyncioTestCase):
         self.assertEqual(self.gateway.lost, 0)
 
     async def test_a_wait_that_is_in_doubt_has_no_reply(self) -> None:
-        self.session.data_received(b"TAKE\n")
-        self.gateway.calls.take()
-        self.answer(LATER)
+        self.let_wait()
         self.gateway.waits.heard(b"50 60")
         self.gateway.calls.take()
-        self.gateway.calls.answered(None)
-        self.assert_sent(b"")
-        self.assertTrue(self.transport.is_closed)
-        self.assert_calls(b"7 END")
+        self.assert_in_doubt()
 
     async def test_a_stop_answers_what_is_under_way(self) -> None:
         self.session.data_received(b"SIZE\n")
@@ -303,14 +294,11 @@ class SessionTest(unittest.IsolatedAsyncioTestCase):
         self.session.data_received(b"PEEK\n")
         self.session.stop()
         self.assert_idle()
-        self.answer(b"SIZE 0\n")
-        self.assert_sent(b"SIZE 0\n")
+        self.answer(b"SIZE 0\n", sends=b"SIZE 0\n")
         self.assert_ends()
 
     async def test_a_stop_gives_waits_up(self) -> None:
-        self.session.data_received(b"TAKE\nSIZE\n")
-        self.gateway.calls.take()
-        self.answer(LATER)
+        self.let_wait(b"SIZE")
         self.session.stop()
         self.assert_sent(b"STOPPED\n")
         self.assert_ends()

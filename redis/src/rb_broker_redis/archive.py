@@ -2,46 +2,14 @@
 from __future__ import annotations
 
 import collections
-from typing import Callable, Iterator, NamedTuple, Protocol
+from typing import Callable, Iterator
 
 from .archive_folder import ArchivedFile, ArchiveFolder
 from .cuts import Cut, Cuts
 from .history import MOST_EVENTS, MOST_KEPT, Damaged, FollowedQueue, read_text
+from .queue_events import Conflict, Position, QueueEvents
 
 CHUNK = 10_000  # events that are fetched at a time
-
-
-class Conflict(Exception):
-    """The files and the Redis do not go together. What the Redis has stays there."""
-
-
-class Position(NamedTuple):
-    """How far the events of a queue have been taken out of the Redis."""
-
-    first: int
-    """The number of the first event that it still has, counted from 0."""
-    waiting: int
-    """How many events it has."""
-    in_hand: frozenset[bytes]
-    """The origins of the jobs that are in hand behind them."""
-
-
-class Source(Protocol):
-    """The events of a queue, where they are kept until they are archived."""
-
-    name: str
-
-    def position(self) -> Position:
-        """How far the events have been taken out, and what is in hand then."""
-
-    def opening(self) -> FollowedQueue | None:
-        """The queue in front of the first event that is there, if that is kept."""
-
-    def events(self, start: int, count: int) -> list[bytes]:
-        """`count` events that are there, from the one that has `start` others in front of it."""
-
-    def cut(self, first: int, count: int) -> bool:
-        """Takes out `count` events. Does nothing if `first` is not the number of the first one any more."""
 
 
 class Archive:
@@ -52,7 +20,7 @@ class Archive:
     before it left.
     """
 
-    def __init__(self, source: Source, folder: ArchiveFolder, most: int = MOST_EVENTS) -> None:
+    def __init__(self, source: QueueEvents, folder: ArchiveFolder, most: int = MOST_EVENTS) -> None:
         """`most` is the number of events of a file."""
         self._source, self._folder, self._most = source, folder, most
         self._behind: FollowedQueue | None = None  # the queue behind the last file, once that is known
@@ -125,10 +93,7 @@ class Archive:
         if before is None:
             raise Conflict(f"{self._source.name}: event {first} is next, and no file in {self._folder.path} ends there: "
                            "bring that file back, or begin a new series with --anew")
-        try:
-            return read_text(before.path).queue
-        except Damaged as fault:
-            raise Conflict(f"{before.path}: {fault}") from None
+        return read_text(before.path).queue
 
     def _followed(self, follow: Callable[[bytes], None], first: int, count: int) -> Iterator[bytes]:
         """The events, each of which was followed."""

@@ -9,16 +9,13 @@ import time
 from pathlib import Path
 from typing import Sequence
 
-import redis
-
-from .archive import Archive, Conflict
-from .archive_folder import ArchiveFolder, FolderInUse
-from .ending import ends_with_a_line, fail
+from .archive import Archive
+from .archive_folder import ArchiveFolder
+from .ending import FAULTS, fail
 from .history import MOST_EVENTS
-from .limits import SECOND
+from .protocol import SECOND
 from .queue_events import QueueEvents
-from .queues import add_queues_words, queues_in
-from .words import Parser, add_command, duration, whole
+from .words import Parser, add_command, add_queue_words, duration, queues_in, whole
 
 SOON = 10.0  # seconds after which something is tried again that failed
 
@@ -48,7 +45,7 @@ def add_to(commands: "argparse._SubParsersAction[Parser]") -> None:
     """Adds the command."""
     parser = add_command(commands, "archive", ABOUT, run)
     parser.add_argument("folder", metavar="FOLDER", type=Path, help="where the files are; it is made if it is not there")
-    add_queues_words(parser)
+    add_queue_words(parser)
     parser.add_argument("--events", metavar="N", type=whole(1, MOST_EVENTS), default=MOST_EVENTS,
                         help=f"of a file at most (default: {MOST_EVENTS}, which is the most)")
     parser.add_argument("--every", metavar="TIME", type=duration, help="goes on, and takes what is there that often: 10m")
@@ -56,28 +53,20 @@ def add_to(commands: "argparse._SubParsersAction[Parser]") -> None:
                         help="gives up the events that are there, and begins a new series with the queue as it is")
 
 
-@ends_with_a_line
 def run(asked: argparse.Namespace) -> int:
     """Takes the events once, or again and again."""
-    try:
-        with contextlib.closing(ArchiveFolder(asked.folder)) as folder:
-            return _archive(asked, folder)
-    except FolderInUse as fault:
-        return fail(1, fault)
-
-
-def _archive(asked: argparse.Namespace, folder: ArchiveFolder) -> int:
-    sources = [QueueEvents(it) for it in queues_in(asked)]
-    if asked.anew:
-        for it in sources:
-            print(f"{it.name}: {it.begin_anew()} events are given up", flush=True)
-    archives = [Archive(it, folder, asked.events) for it in sources]
-    if asked.every is None:
-        return _take(archives)
-    signal.signal(signal.SIGTERM, lambda *_: sys.exit(0))
-    seconds = asked.every / SECOND
-    while True:
-        time.sleep(seconds if _take(archives) == 0 else min(seconds, SOON))
+    with contextlib.closing(ArchiveFolder(asked.folder)) as folder:
+        sources = [QueueEvents(it) for it in queues_in(asked)]
+        if asked.anew:
+            for it in sources:
+                print(f"{it.name}: {it.begin_anew()} events are given up", flush=True)
+        archives = [Archive(it, folder, asked.events) for it in sources]
+        if asked.every is None:
+            return _take(archives)
+        signal.signal(signal.SIGTERM, lambda *_: sys.exit(0))
+        seconds = asked.every / SECOND
+        while True:
+            time.sleep(seconds if _take(archives) == 0 else min(seconds, SOON))
 
 
 def _take(archives: Sequence[Archive]) -> int:
@@ -87,10 +76,6 @@ def _take(archives: Sequence[Archive]) -> int:
         try:
             for line in it.take():
                 print(line, flush=True)
-        except Conflict as fault:
-            status = fail(1, fault)
-        except redis.RedisError as fault:
-            status = fail(3, fault)
-        except OSError as fault:
-            status = fail(2, f"{fault.filename}: {fault.strerror}" if fault.filename else fault)
+        except FAULTS as fault:
+            status = fail(fault)
     return status

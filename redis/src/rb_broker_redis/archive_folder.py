@@ -1,22 +1,27 @@
 """The folder of an archive: the history of each queue as a series of files, each of which begins where the one before
-ended.
+ended. A file is there as a whole, and after a power cut too, or not at all.
 
 The file `jobs-000001000000.txt` has the events of the queue `jobs` from number 1,000,000 on, counted from 0.
 """
 from __future__ import annotations
 
+import errno
 import fcntl
 import os
 import re
 from dataclasses import dataclass
+from itertools import chain, count
 from pathlib import Path
 from typing import Iterable, Iterator
 
-from .durable import UNFINISHED, rename_durably, write_durably
+from .ending import Failed
 from .history import HEADER
 
+UNFINISHED = ".part"
+"""The end of the name of a file that is still being written."""
 
-class FolderInUse(Exception):
+
+class FolderInUse(Failed):
     """Another process writes to the folder."""
 
 
@@ -50,18 +55,18 @@ class ArchiveFolder:
         """Makes the folder if there is none. Raises a `FolderInUse`, or an `OSError`."""
         self.path = path
         path.mkdir(parents=True, exist_ok=True)
-        self._lock = os.open(path, os.O_RDONLY | os.O_DIRECTORY)
+        self._opened = os.open(path, os.O_RDONLY | os.O_DIRECTORY)
         try:
-            fcntl.flock(self._lock, fcntl.LOCK_EX | fcntl.LOCK_NB)
+            fcntl.flock(self._opened, fcntl.LOCK_EX | fcntl.LOCK_NB)
         except BlockingIOError:
-            os.close(self._lock)
+            self.close()
             raise FolderInUse(f"{path}: another archive writes to it") from None
         for unfinished in path.glob(f"*.txt{UNFINISHED}"):
             unfinished.unlink()
 
     def close(self) -> None:
         """Gives up the lock."""
-        os.close(self._lock)
+        os.close(self._opened)
 
     def files(self, queue: str) -> list[ArchivedFile]:
         """The files of a queue, in the order of their events."""
@@ -71,26 +76,30 @@ class ArchiveFolder:
                       key=lambda it: it.first)
 
     def write(self, queue: str, first: int, opening: Iterable[bytes], events: Iterable[bytes], count: int) -> Path:
-        """Writes the file of these events, of which there are `count`, each line with its line feed."""
+        """Writes the file of these events, of which there are `count`, each line with its line feed. Once this returns,
+        a crash of the machine leaves it whole."""
         path = self.path / f"{queue}-{first:012}.txt"
-
-        def pieces() -> Iterator[bytes]:
-            yield HEADER
-            yield from opening
-            yield from events
-            yield b"end %d\n" % count
-
-        write_durably(path, pieces())
+        unfinished = path.with_name(path.name + UNFINISHED)
+        with open(unfinished, "wb") as file:
+            file.writelines(chain([HEADER], opening, events, [b"end %d\n" % count]))
+            file.flush()
+            os.fsync(file.fileno())
+        self._rename(unfinished, path)
         return path
 
     def set_aside(self, file: ArchivedFile) -> Path:
         """Renames a file whose events the queue has lost, so that it is none of the series any more."""
-        for number in range(1, 1_000_000):
-            target = file.path.with_suffix(f".lost-{number}")
-            if not target.exists():
-                break
-        rename_durably(file.path, target)
+        targets = (file.path.with_suffix(f".lost-{number}") for number in count(1))
+        target = next(it for it in targets if not it.exists())
+        self._rename(file.path, target)
         return target
+
+    def _rename(self, path: Path, target: Path) -> None:
+        """Renames a file, for good. Raises a `FileExistsError` rather than replace another."""
+        if target.exists():
+            raise FileExistsError(errno.EEXIST, os.strerror(errno.EEXIST), str(target))
+        path.rename(target)
+        os.fsync(self._opened)
 
 
 def _count(path: Path) -> int:

@@ -81,24 +81,25 @@ local function pad(number) return ZEROS[#number] .. number end
 local function plain(digits) return string.match(digits, '^0*(%d+)$') end
 local function whole(number) return string.format('%d', number) end
 
--- The sum as 20 digits, or nil if it passes 2^64 - 1.
-local function add(a, b)
-    local low = tonumber(string.sub(a, 11)) + tonumber(string.sub(b, 11))
-    local high = tonumber(string.sub(a, 1, 10)) + tonumber(string.sub(b, 1, 10))
-    if low >= 1e10 then low, high = low - 1e10, high + 1 end
-    if high >= 1e10 then return nil end
-    local sum = string.format('%010d%010d', high, low)
-    return sum <= LAST and sum or nil
+local function high_of(digits) return tonumber(string.sub(digits, 1, 10)) end
+local function low_of(digits) return tonumber(string.sub(digits, 11)) end
+
+-- The 20 digits of two halves, or nil if they pass 2^64 - 1.
+local function digits_of(high, low)
+    local carry = math.floor(low / 1e10)
+    if high + carry >= 1e10 then return nil end
+    local digits = string.format('%010d%010d', high + carry, low - carry * 1e10)
+    return digits <= LAST and digits or nil
 end
 
--- The product with a number of at most 1,000, as 20 digits, or nil if it passes 2^64 - 1.
-local function multiply(a, times)
-    local low = tonumber(string.sub(a, 11)) * times
-    local carry = math.floor(low / 1e10)
-    local high = tonumber(string.sub(a, 1, 10)) * times + carry
-    if high >= 1e10 then return nil end
-    local product = string.format('%010d%010d', high, low - carry * 1e10)
-    return product <= LAST and product or nil
+local function add(a, b) return digits_of(high_of(a) + high_of(b), low_of(a) + low_of(b)) end
+
+-- The product with a number of at most 1,000.
+local function multiply(a, times) return digits_of(high_of(a) * times, low_of(a) * times) end
+
+-- The bounds of all texts that begin with this one, as ranges of a sorted set take them.
+local function beginning(text)
+    return '[' .. text, '(' .. string.sub(text, 1, -2) .. string.char(string.byte(text, -1) + 1)
 end
 
 local function microseconds()
@@ -111,9 +112,11 @@ local function moment_of(microsecond) return pad(whole(microsecond) .. '000') en
 -- The queue as a step sees it. Events, counters and the wake are written by `close`, once for all calls of a step.
 local FIELDS = { 'next', 'at', 'calls', 'fetched', 'wake', 'pace', 'period', 'attempts', 'limit', 'history', 'loading' }
 
+local function is_loading() return redis.error_reply('LOADING_QUEUE a load into this queue has not ended') end
+
 local function open(keys, moment)
     local state = redis.call('HMGET', keys[4], unpack(FIELDS))
-    if state[11] then return nil, redis.error_reply('LOADING_QUEUE a load into this queue has not ended') end
+    if state[11] then return nil, is_loading() end
     if not state[6] then return nil, redis.error_reply('NOQUEUE there is no such queue') end
     local now = moment == '' and microseconds() or nil
     local asked = now and moment_of(now) or moment
@@ -182,13 +185,15 @@ end
 
 -- How many jobs the session holds.
 local function count_of(queue, seat)
-    local count = queue.counts[seat]
-    if not count then
-        local prefix = pad(seat)
-        count = redis.call('ZLEXCOUNT', queue.keys[3], '[' .. prefix .. ':', '(' .. prefix .. ';')
-        queue.counts[seat] = count
+    if not queue.counts[seat] then
+        queue.counts[seat] = redis.call('ZLEXCOUNT', queue.keys[3], beginning(pad(seat) .. ':'))
     end
-    return count
+    return queue.counts[seat]
+end
+
+-- The session holds one job less.
+local function count_off(queue, seat)
+    if queue.counts[seat] then queue.counts[seat] = queue.counts[seat] - 1 end
 end
 
 -- Takes out the earliest element, if it has expired, and lets the session hold it. -> its id and its ITEM line
@@ -244,14 +249,13 @@ local function fail_job(queue, seat, job)
         reply = 'AGAIN ' .. id .. ' ' .. shown .. '\n'
     end
     redis.call('ZREM', queue.keys[3], job.member)
-    if queue.counts[seat] then queue.counts[seat] = queue.counts[seat] - 1 end
+    count_off(queue, seat)
     return reply
 end
 
 -- Ends a session: what it holds fails in the order of the fetches. -> how many jobs are lost
 local function end_session(queue, seat)
-    local prefix = pad(seat)
-    local members = redis.call('ZRANGEBYLEX', queue.keys[3], '[' .. prefix .. ':', '(' .. prefix .. ';')
+    local members = redis.call('ZRANGEBYLEX', queue.keys[3], beginning(pad(seat) .. ':'))
     local jobs, lost = {}, 0
     for place, member in ipairs(members) do jobs[place] = job_of(member) end
     table.sort(jobs, function(one, other) return one.fetch < other.fetch end)
@@ -271,32 +275,36 @@ local requests = {}
 local HELD, FULL, NOT_HELD = 'ERR 9 held\n', 'ERR 6 full\n', 'ERR 5 not-held\n'
 local MEMORY = 'ERR 7 memory\n'
 
-local function offer_at(queue, seat, expiry, payload)
-    if is_full(queue) then return FULL end
+-- The requests that are refused where the session holds enough, and those that are where no call is left.
+local FETCHES = { POLL = true, TAKE = true, POLLFOR = true, WAIT = true }
+local ARE_CALLS = { POLL = true, TAKE = true, POLLFOR = true, WAIT = true, PEEK = true, REMOVE = true, DRAIN = true,
+    CLEAR = true, SIZE = true, OFFERAT = true }
+
+local function reply_to(queue, seat, word, number, rest)
+    if FETCHES[word] and count_of(queue, seat) >= MOST_HELD then return HELD end
+    if ARE_CALLS[word] and is_full(queue) then return FULL end
+    return requests[word](queue, seat, number, rest)
+end
+
+function requests.OFFERAT(queue, seat, expiry, payload)
     if queue.spare then return MEMORY end
-    local id, shown = insert(queue, seat, expiry, nil, nil, '1', payload)
+    local id, shown = insert(queue, seat, pad(expiry), nil, nil, '1', payload)
     return 'OFFERED ' .. id .. ' ' .. shown .. '\n'
 end
 
 function requests.OFFER(queue, seat, delay, payload)
     local expiry = delay == '0' and queue.asked or add(queue.asked, pad(delay))
     if not expiry then return 'ERR 3 range\n' end
-    return offer_at(queue, seat, expiry, payload)
+    return reply_to(queue, seat, 'OFFERAT', expiry, payload)
 end
 
-function requests.OFFERAT(queue, seat, expiry, payload) return offer_at(queue, seat, pad(expiry), payload) end
-
 function requests.POLL(queue, seat)
-    if count_of(queue, seat) >= MOST_HELD then return HELD end
-    if is_full(queue) then return FULL end
     local id, item = fetch(queue, seat)
-    record(queue, seat, id and 'poll ' .. id or 'poll none')
+    record(queue, seat, 'poll ' .. (id or 'none'))
     return item or 'NONE\n'
 end
 
 function requests.TAKE(queue, seat)
-    if count_of(queue, seat) >= MOST_HELD then return HELD end
-    if is_full(queue) then return FULL end
     local id, item = fetch(queue, seat)
     if not id then return later(queue, queue.plain_asked) end
     record(queue, seat, 'take ' .. id)
@@ -304,8 +312,6 @@ function requests.TAKE(queue, seat)
 end
 
 function requests.POLLFOR(queue, seat, timeout, start)
-    if count_of(queue, seat) >= MOST_HELD then return HELD end
-    if is_full(queue) then return FULL end
     if start == '' then start = queue.plain_asked end
     local id, item = fetch(queue, seat)
     if not id and (add(pad(start), pad(timeout)) or LAST) > queue.at then return later(queue, start) end
@@ -313,41 +319,29 @@ function requests.POLLFOR(queue, seat, timeout, start)
     return item or 'NONE\n'
 end
 
-function requests.WAIT(queue, seat)
-    if count_of(queue, seat) >= MOST_HELD then return HELD end
-    if is_full(queue) then return FULL end
-    return later(queue, queue.plain_asked)
-end
+function requests.WAIT(queue) return later(queue, queue.plain_asked) end
 
 function requests.PEEK(queue, seat)
-    if is_full(queue) then return FULL end
-    local head = head_of(queue)
-    if not head then
-        record(queue, seat, 'peek none')
-        return 'NONE\n'
-    end
-    local expiry, id, attempt, payload = string.match(head, '^0*(%d+):0*(%d+) %d+ %d+ (%d+) (.*)$')
-    record(queue, seat, 'peek ' .. id)
+    local expiry, id, attempt, payload =
+        string.match(head_of(queue) or '', '^0*(%d+):0*(%d+) %d+ %d+ (%d+) (.*)$')
+    record(queue, seat, 'peek ' .. (id or 'none'))
+    if not id then return 'NONE\n' end
     return 'HEAD ' .. id .. ' ' .. expiry .. ' ' .. attempt .. ' ' .. payload .. '\n'
 end
 
 function requests.REMOVE(queue, seat, id)
-    if is_full(queue) then return FULL end
     local expiry = redis.call('HGET', queue.keys[2], id)
-    if not expiry then
-        record(queue, seat, 'remove ' .. id .. ' no')
-        return 'REMOVED no\n'
+    local found = expiry and 'yes' or 'no'
+    record(queue, seat, 'remove ' .. id .. ' ' .. found)
+    if expiry then
+        redis.call('ZREMRANGEBYLEX', queue.keys[1], beginning(expiry .. ':' .. pad(id) .. ' '))
+        redis.call('HDEL', queue.keys[2], id)
+        queue.head = nil
     end
-    local member = expiry .. ':' .. pad(id)
-    redis.call('ZREMRANGEBYLEX', queue.keys[1], '[' .. member .. ' ', '(' .. member .. '!')
-    redis.call('HDEL', queue.keys[2], id)
-    queue.head = nil
-    record(queue, seat, 'remove ' .. id .. ' yes')
-    return 'REMOVED yes\n'
+    return 'REMOVED ' .. found .. '\n'
 end
 
 function requests.DRAIN(queue, seat, most)
-    if is_full(queue) then return FULL end
     if queue.spare then return MEMORY end
     local max = math.min(tonumber(most), MOST_HELD - count_of(queue, seat))
     local act, items = { 'drain ' .. whole(max) }, { '' }
@@ -362,7 +356,6 @@ function requests.DRAIN(queue, seat, most)
 end
 
 function requests.CLEAR(queue, seat)
-    if is_full(queue) then return FULL end
     redis.call('UNLINK', queue.keys[1], queue.keys[2])
     queue.head = false
     record(queue, seat, 'clear')
@@ -370,23 +363,20 @@ function requests.CLEAR(queue, seat)
 end
 
 function requests.SIZE(queue, seat)
-    if is_full(queue) then return FULL end
     local count = whole(redis.call('ZCARD', queue.keys[1]))
     record(queue, seat, 'size ' .. count)
     return 'SIZE ' .. count .. '\n'
 end
 
 function requests.DONE(queue, seat, id)
-    local member = pad(seat) .. ':' .. pad(id)
-    local ended = redis.call('ZREMRANGEBYLEX', queue.keys[3], '[' .. member .. ' ', '(' .. member .. '!')
+    local ended = redis.call('ZREMRANGEBYLEX', queue.keys[3], beginning(pad(seat) .. ':' .. pad(id) .. ' '))
     if ended == 0 then return NOT_HELD end
-    if queue.counts[seat] then queue.counts[seat] = queue.counts[seat] - 1 end
+    count_off(queue, seat)
     return 'DONE ' .. id .. '\n'
 end
 
 function requests.FAIL(queue, seat, id)
-    local member = pad(seat) .. ':' .. pad(id)
-    member = redis.call('ZRANGEBYLEX', queue.keys[3], '[' .. member .. ' ', '(' .. member .. '!')[1]
+    local member = redis.call('ZRANGEBYLEX', queue.keys[3], beginning(pad(seat) .. ':' .. pad(id) .. ' '))[1]
     if not member then return NOT_HELD end
     local job = job_of(member)
     if queue.spare and job.attempt < queue.attempts and not is_full(queue) then return MEMORY end
@@ -396,7 +386,7 @@ end
 function requests.END(queue, seat) return 'ENDED ' .. end_session(queue, seat) .. '\n' end
 
 local function dead_job(queue, id)
-    return redis.call('ZRANGEBYLEX', queue.keys[6], '[' .. pad(id) .. ' ', '(' .. pad(id) .. '!')[1]
+    return redis.call('ZRANGEBYLEX', queue.keys[6], beginning(pad(id) .. ' '))[1]
 end
 
 function requests.REVIVE(queue, seat, id, delay)
@@ -430,7 +420,7 @@ local function perform(keys, args, spare)
     local replies = {}
     for place = 3, #args do
         local seat, word, number, rest = string.match(args[place], '^(%d+) (%u+) ?(%S*) ?(%S*)$')
-        replies[place - 2] = requests[word](queue, seat, number, rest)
+        replies[place - 2] = reply_to(queue, seat, word, number, rest)
     end
     close(queue)
     return replies
@@ -439,21 +429,22 @@ end
 local function join_gateway(keys, args)
     local lease, pace, period, attempts, mode = unpack(args)
     local state = redis.call('HMGET', keys[4], 'pace', 'period', 'attempts', 'loading')
-    if state[4] then return redis.error_reply('LOADING_QUEUE a load into this queue has not ended') end
-    if not state[1] then
-        if pace == '' then pace, period, attempts = 'delay', pad('30000000000'), '20' end
-        redis.call('HSET', keys[4], 'pace', pace, 'period', period, 'attempts', attempts)
+    if state[4] then return is_loading() end
+    local is_new = not state[1]
+    if is_new and pace == '' then
+        pace, period, attempts = 'delay', pad('30000000000'), '20'
+    elseif pace == '' then
+        pace, period, attempts = unpack(state, 1, 3)
+    elseif not is_new and mode ~= 'change' and (pace ~= state[1] or period ~= state[2] or attempts ~= state[3]) then
+        return redis.error_reply('POLICY ' .. state[1] .. ' ' .. plain(state[2]) .. ' ' .. state[3])
+    end
+    redis.call('HSET', keys[4], 'pace', pace, 'period', period, 'attempts', attempts)
+    if is_new then
         for field, value in pairs({ next = '0', at = pad('0'), calls = '0', fetched = '0', wake = '', cut = '0' }) do
             redis.call('HSETNX', keys[4], field, value)
         end
         if mode == 'silent' then redis.call('HSET', keys[4], 'history', 'no') end
         if string.sub(mode, 1, 6) == 'limit ' then redis.call('HSET', keys[4], 'limit', string.sub(mode, 7)) end
-    elseif pace == '' then
-        pace, period, attempts = state[1], state[2], state[3]
-    elseif mode == 'change' then
-        redis.call('HSET', keys[4], 'pace', pace, 'period', period, 'attempts', attempts)
-    elseif pace ~= state[1] or period ~= state[2] or attempts ~= state[3] then
-        return redis.error_reply('POLICY ' .. state[1] .. ' ' .. plain(state[2]) .. ' ' .. state[3])
     end
     local now = microseconds()
     local before = tonumber(redis.call('HGET', keys[4], 'gateway') or '0')
@@ -463,10 +454,9 @@ local function join_gateway(keys, args)
     return { gateway, pace, period, attempts, plain(moment_of(now)) }
 end
 
--- The first of a gateway's seats and the first of the next gateway's, of 20 digits.
-local function seats_of(gateway)
-    local above = whole(tonumber(gateway) + 1)
-    return pad(gateway .. '000000000'), pad(above .. '000000000')
+-- The bounds of what a gateway's sessions hold: its first seat, and that of the next gateway.
+local function held_by(gateway)
+    return '[' .. pad(gateway .. '000000000'), '(' .. pad(whole(tonumber(gateway) + 1) .. '000000000')
 end
 
 local function renew(keys, args)
@@ -479,8 +469,8 @@ local function renew(keys, args)
     if not late then return 0 end
     local queue, fault = open(keys, '')
     if not queue then return fault end
-    local first, above = seats_of(late)
-    local members = redis.call('ZRANGEBYLEX', keys[3], '[' .. first .. ':', '(' .. above .. ':', 'LIMIT', 0, MOST_ENDED)
+    local first, above = held_by(late)
+    local members = redis.call('ZRANGEBYLEX', keys[3], first, above, 'LIMIT', 0, MOST_ENDED)
     local ended
     for _, member in ipairs(members) do
         local seat = plain(string.sub(member, 1, 20))
@@ -493,8 +483,7 @@ local function renew(keys, args)
 end
 
 local function leave(keys, args)
-    local first, above = seats_of(args[1])
-    if redis.call('ZLEXCOUNT', keys[3], '[' .. first .. ':', '(' .. above .. ':') > 0 then return 0 end
+    if redis.call('ZLEXCOUNT', keys[3], held_by(args[1])) > 0 then return 0 end
     return redis.call('ZREM', keys[7], args[1])
 end
 
@@ -537,11 +526,10 @@ local function loaded(keys, args)
     return count
 end
 
-local function version() return VERSION end
 local function calls(keys, args) return perform(keys, args, false) end
 local function spare(keys, args) return perform(keys, args, true) end
 
-redis.register_function { function_name = 'rb_version', callback = version, flags = { 'no-writes' } }
+redis.register_function { function_name = 'rb_version', callback = function() return VERSION end, flags = { 'no-writes' } }
 redis.register_function('rb_join', join_gateway)
 redis.register_function('rb_calls', calls)
 redis.register_function { function_name = 'rb_spare', callback = spare, flags = { 'allow-oom' } }

@@ -6,9 +6,9 @@ import logging
 import time
 from typing import Callable, Iterator, Optional
 
-from .errors import ErrorReply
 from .keys import keys_of
 from .link import Link
+from .protocol import ErrorReply
 from .resp import Answer, ErrorAnswer, bulks, command
 
 LOG = logging.getLogger(__name__)
@@ -50,7 +50,7 @@ def without_fetch(call: bytes) -> bytes:
 class Batch:
     """Calls that go out together, with who is told the replies."""
 
-    __slots__ = ("calls", "parts", "front", "function", "sent", "answer_before_copies")
+    __slots__ = ("calls", "parts", "front", "function", "sent")
 
     def __init__(self, front: bytes) -> None:
         """`front` names the gateway whose sessions make the calls."""
@@ -59,7 +59,6 @@ class Batch:
         self.parts: list[tuple[Answered, int]] = []
         self.function = b"rb_calls"
         self.sent = 0.0
-        self.answer_before_copies: Answer = None
 
     def answer(self, replies: list[bytes]) -> None:
         """Tells each its replies."""
@@ -183,7 +182,8 @@ class Calls:
             link.send(data, lambda answer: self._answered(link, batch, answer))
             return
         data += command("WAIT", self._replicas, int(self._patience * 1000))
-        link.send(data, lambda answer: self._keep(batch, answer), lambda count: self._copied(link, batch, count))
+        before: list[Answer] = []
+        link.send(data, before.append, lambda count: self._copied(link, batch, before[0], count))
 
     def _answered(self, link: Link, batch: Batch, answer: Answer) -> None:
         if link is not self._link:
@@ -196,14 +196,11 @@ class Calls:
         else:
             self._refused(link, batch, answer)
 
-    def _keep(self, batch: Batch, answer: Answer) -> None:
-        batch.answer_before_copies = answer
-
-    def _copied(self, link: Link, batch: Batch, count: Answer) -> None:
+    def _copied(self, link: Link, batch: Batch, answer: Answer, count: Answer) -> None:
         """So many replicas have what the batch did. If they are too few, a fail-over may lose it: it is in doubt."""
         are_enough = isinstance(count, int) and count >= self._replicas
-        if are_enough or not isinstance(batch.answer_before_copies, list):
-            self._answered(link, batch, batch.answer_before_copies)
+        if are_enough or not isinstance(answer, list):
+            self._answered(link, batch, answer)
         elif link is self._link:
             del self._flying[batch]
             batch.doubt()

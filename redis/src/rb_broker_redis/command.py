@@ -4,7 +4,8 @@ from __future__ import annotations
 from typing import Optional
 
 from . import archive_command, dead_command, load_command, script, serve
-from .words import NAME, Parser
+from .ending import FAULTS, NAME, fail
+from .words import Parser
 
 COMMANDS = (serve, script, archive_command, load_command, dead_command)
 """Each is a module with `add_to`, which adds its words and says what runs them."""
@@ -22,4 +23,9 @@ def parser() -> Parser:
 def main(words: Optional["list[str]"] = None) -> int:
     """Runs the command that these words ask for. Returns the exit status."""
     asked = parser().parse_args(words)
-    return int(asked.run(asked))
+    try:
+        return int(asked.run(asked))
+    except FAULTS as fault:
+        return fail(fault)
+    except KeyboardInterrupt:
+        return 130

@@ -1,14 +1,23 @@
-"""Dates, as nanoseconds since 1970 and as text in UTC."""
+"""Dates and durations as people write them, in nanoseconds: dates since 1970, and as text in UTC."""
 from __future__ import annotations
 
 import re
 from datetime import datetime, timedelta, timezone
+from fractions import Fraction
 
-SECOND = 1_000_000_000
+from .protocol import GREATEST_NUMBER, SECOND
+
 EPOCH = datetime(1970, 1, 1, tzinfo=timezone.utc)
+
+UNITS = {
+    "": 1, "ns": 1, "us": SECOND // 1_000_000, "ms": SECOND // 1_000, "s": SECOND, "m": 60 * SECOND,
+    "h": 3_600 * SECOND, "d": 86_400 * SECOND,
+}
+"""The nanoseconds of each unit. A number without one is nanoseconds, as for the program."""
 
 _DATE = re.compile(r"(\d{4}-\d\d-\d\d)[T ](\d\d:\d\d)(:\d\d)?(?:[.,](\d{1,9}))? ?(Z|UTC|[+-]\d\d:?\d\d)?", re.ASCII)
 _SECONDS = re.compile(r"@(\d{1,10})(?:\.(\d{1,9}))?", re.ASCII)
+_DURATION = re.compile(r"([0-9]+(?:\.[0-9]+)?)(|ns|us|ms|s|m|h|d)", re.ASCII)
 
 
 def nanoseconds_of(text: str) -> int:
@@ -34,3 +43,16 @@ def date_text(nanoseconds: int) -> str:
     """The date in UTC, to the nanosecond."""
     seconds, rest = divmod(nanoseconds, SECOND)
     return f"{EPOCH + timedelta(seconds=seconds):%Y-%m-%dT%H:%M:%S}.{rest:09d}Z"
+
+
+def read_duration(text: str) -> int:
+    """The nanoseconds of `30s`, `1.5h` or `250`. Raises `ValueError` with a sentence that says what is wrong."""
+    found = _DURATION.fullmatch(text)
+    if found is None:
+        raise ValueError(f"{text} is no duration: write 30s, 2m or 1h (ns, us, ms, s, m, h, d), or nanoseconds")
+    duration = Fraction(found[1]) * UNITS[found[2]]
+    if duration.denominator != 1:
+        raise ValueError(f"{text} is not a whole number of nanoseconds")
+    if duration > GREATEST_NUMBER:
+        raise ValueError(f"{text} is longer than 2^64 - 1 nanoseconds")
+    return int(duration)

@@ -1,37 +1,29 @@
 """How a command ends that can't go on."""
 from __future__ import annotations
 
-import functools
 import sys
-from argparse import Namespace
-from typing import Callable
 
 import redis
 
-from .library import NewerLibrary
-from .words import NAME
-
-Run = Callable[[Namespace], int]
+NAME = "rb_broker_redis"
 
 
-def fail(status: int, what: object) -> int:
-    """Says in one line why a command ends with this status."""
-    print(f"{NAME}: {what}", file=sys.stderr, flush=True)
-    return status
+class Failed(Exception):
+    """Why a command can't go on, in a line, and the status with which it ends."""
+
+    def __init__(self, why: str, status: int = 1) -> None:
+        super().__init__(why)
+        self.status = status
 
 
-def ends_with_a_line(run: Run) -> Run:
-    """Lets a command end with a line and a status when the Redis or a file fails it."""
+FAULTS = (Failed, redis.RedisError, OSError)
+"""What may keep a command from going on."""
 
-    @functools.wraps(run)
-    def wrapped(asked: Namespace) -> int:
-        try:
-            return run(asked)
-        except (NewerLibrary, redis.RedisError) as fault:
-            return fail(3, fault)
-        except OSError as fault:
-            return fail(2, f"{fault.filename}: {fault.strerror}" if fault.filename else fault)
-        except KeyboardInterrupt:
-            return 130
 
-    return wrapped
+def fail(fault: Exception) -> int:
+    """Says in a line what keeps a command from going on. Gives the status with which it ends."""
+    why = f"{fault.filename}: {fault.strerror}" if isinstance(fault, OSError) and fault.filename else fault
+    print(f"{NAME}: {why}", file=sys.stderr, flush=True)
+    if isinstance(fault, Failed):
+        return fault.status
+    return 3 if isinstance(fault, redis.RedisError) else 2

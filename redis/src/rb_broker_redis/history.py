@@ -5,9 +5,11 @@ import gzip
 import re
 import zlib
 from pathlib import Path
-from typing import BinaryIO, Callable, Iterable, Iterator, Match, NamedTuple, Pattern
+from typing import BinaryIO, Iterable, Iterator, Match, NamedTuple, Pattern
 
-GREATEST = 2**64 - 1
+from .ending import Failed
+from .protocol import GREATEST_NUMBER
+
 MOST_EVENTS = 1_000_000
 """A text has no more events."""
 GREATEST_ID = 2**40
@@ -24,12 +26,12 @@ _NUMBER = rb"(?:0|[1-9][0-9]{0,19})"
 _ELEMENT = rb"(?:%b ){4}(?:[1-9][0-9]{0,2}|1000) [!-~]{1,64}" % _NUMBER
 _EVENT = re.compile(rb"%b (%b) (%b) (?:" % (_NUMBER, _NUMBER, _NUMBER) + b"|".join([
     rb"offer (?P<offer>%b)" % _ELEMENT,
-    rb"(?:poll|take|pollfor %b %b) (?P<gave>%b|none)" % (_NUMBER, _NUMBER, _NUMBER),
-    rb"drain %b(?P<drain>(?: %b)*)" % (_NUMBER, _NUMBER),
-    rb"remove (?P<remove>%b) (?P<found>yes|no)" % _NUMBER,
+    rb"(?:poll|take|pollfor %b %b) (?:(?P<gave>%b)|none)" % (_NUMBER, _NUMBER, _NUMBER),
+    rb"drain %b(?P<drained>(?: %b)*)" % (_NUMBER, _NUMBER),
+    rb"remove (?:(?P<removed>%b) yes|%b no)" % (_NUMBER, _NUMBER),
     rb"(?P<clear>clear)",
     rb"size (?P<size>%b)" % _NUMBER,
-    rb"peek (?P<peek>%b|none)" % _NUMBER,
+    rb"peek (?:%b|none)" % _NUMBER,
 ]) + rb")")
 _EARLIER_ELEMENT = re.compile(rb"((?:%b %b %b offer|keep) %b (%b) (%b)) ([1-9][0-9]{0,2}|1000) ([!-~]{1,64})\n" % (
     (_NUMBER,) * 6))
@@ -38,7 +40,7 @@ _OPEN = re.compile(rb"open (%b) (%b) (%b)\n" % (_NUMBER, _NUMBER, _NUMBER))
 _END = re.compile(rb"end (%b)\n" % _NUMBER)
 
 
-class Damaged(Exception):
+class Damaged(Failed):
     """A line is none of a history, or says what no queue does."""
 
 
@@ -75,10 +77,6 @@ class FollowedQueue:
         """The words of the element that the last event offered."""
         self.gave: list[bytes] = []
         """Those of the elements that it gave."""
-        self._acts: dict[str | None, Callable[[Match[bytes]], None]] = {
-            "offer": self._offer, "gave": self._give, "drain": self._drain, "found": self._remove,
-            "clear": self._clear, "size": self._size, "peek": lambda match: None,
-        }
 
     def copy(self) -> FollowedQueue:
         """Another one that goes on from here."""
@@ -108,10 +106,20 @@ class FollowedQueue:
         if match is None:
             raise Damaged("it is no event")
         at = int(match[2])
-        if at != max(int(match[1]), self.last) or at > GREATEST:
+        if at != max(int(match[1]), self.last) or at > GREATEST_NUMBER:
             raise Damaged("its moment is not the later of the one asked and the last")
         self.offered, self.gave = None, []
-        self._acts[match.lastgroup](match)
+        act = match.lastgroup
+        if act == "offer":
+            self._offer(match["offer"])
+        elif act == "gave" or act == "drained":
+            self.gave = [self._leave(id) for id in match[act].split()]
+        elif act == "removed":
+            self._leave(match["removed"])
+        elif act == "clear":
+            self.elements.clear()
+        elif act == "size" and int(match["size"]) != len(self.elements):
+            raise Damaged(f"the queue holds {len(self.elements)}")
         self.last = at
 
     def opening(self) -> Iterator[bytes]:
@@ -120,30 +128,11 @@ class FollowedQueue:
         for words in self.elements.values():
             yield b"keep %b\n" % words
 
-    def _offer(self, match: Match[bytes]) -> None:
-        words = match["offer"]
+    def _offer(self, words: bytes) -> None:
         if int(words.split(b" ", 1)[0]) != self.next_id:
             raise Damaged(f"its id is not the next one, {self.next_id}")
         self.elements[self.next_id] = self.offered = words
         self.next_id += 1
-
-    def _give(self, match: Match[bytes]) -> None:
-        if match["gave"] != b"none":
-            self.gave.append(self._leave(match["gave"]))
-
-    def _drain(self, match: Match[bytes]) -> None:
-        self.gave += map(self._leave, match["drain"].split())
-
-    def _remove(self, match: Match[bytes]) -> None:
-        if match["found"] == b"yes":
-            self._leave(match["remove"])
-
-    def _clear(self, match: Match[bytes]) -> None:
-        self.elements.clear()
-
-    def _size(self, match: Match[bytes]) -> None:
-        if int(match["size"]) != len(self.elements):
-            raise Damaged(f"the queue holds {len(self.elements)}")
 
     def _leave(self, id: bytes) -> bytes:
         words = self.elements.pop(int(id), None)
@@ -162,16 +151,17 @@ class Run(NamedTuple):
 
 
 def read_text(path: Path) -> Run:
-    """Reads a text whole, in any version, also one that gzip has compressed. Raises a `Damaged` that names the line."""
+    """Reads a text whole, in any version, also one that gzip has compressed. Raises a `Damaged` that names the file and
+    the line."""
     opened: BinaryIO | gzip.GzipFile = gzip.GzipFile(path) if path.suffix == ".gz" else open(path, "rb")
     with opened as file:
         reader = _Reader(file)
         try:
             return reader.read()
         except (EOFError, zlib.error, gzip.BadGzipFile):
-            raise Damaged("it is damaged as a compressed file") from None
+            raise Damaged(f"{path}: it is damaged as a compressed file") from None
         except Damaged as fault:
-            raise Damaged(f"line {reader.number}: {fault}") from None
+            raise Damaged(f"{path}: line {reader.number}: {fault}") from None
 
 
 class _Reader:

@@ -20,11 +20,6 @@ def keys_of(name: str) -> list[str]:
     return [f"{{{checked_name(name)}}}:{part}" for part in PARTS]
 
 
-def key_of(name: str, part: str) -> str:
-    """One of the keys, by its part's name."""
-    return keys_of(name)[PARTS.index(part)]
-
-
 def channel_of(name: str) -> str:
     """The channel at which an earlier head is published."""
     return f"{{{checked_name(name)}}}:head"

@@ -4,16 +4,17 @@ from __future__ import annotations
 import re
 from pathlib import Path
 
-NAME = "rb_broker"
+from .ending import Failed
+
 SOURCE = Path(__file__).with_name("broker.lua").read_text()
 (VERSION,) = map(int, re.findall(r"^local VERSION = '(\d+)'$", SOURCE, re.MULTILINE))
 
 
-class NewerLibrary(Exception):
+class NewerLibrary(Failed):
     """The Redis has functions of a later version than this package."""
 
     def __init__(self, version: int) -> None:
-        super().__init__(f"the Redis has the functions of version {version}, and this package those of {VERSION}")
+        super().__init__(f"the Redis has the functions of version {version}, and this package those of {VERSION}", 3)
 
 
 def must_load(version: int | None) -> bool:

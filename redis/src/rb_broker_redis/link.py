@@ -13,11 +13,11 @@ MOST_SECONDS_TO_CONNECT = 5.0
 
 
 class Link(asyncio.Protocol):
-    """Answers come in the order of what was sent. Once the connection is lost, `lost` is called, and no further answer
+    """Answers come in the order of what was sent. Once the connection is lost, `lost` is set, and no further answer
     comes. `heard` gets what the Redis sends unasked, to a connection that subscribes."""
 
-    def __init__(self, lost: Callable[[], None], heard: Optional[Callable[[bytes], None]] = None) -> None:
-        self._lost, self._heard = lost, heard
+    def __init__(self, heard: Optional[Callable[[bytes], None]] = None) -> None:
+        self.lost, self._heard = asyncio.Event(), heard
         self._answers: deque[Callable[[Answer], None]] = deque()
         self._reader = reader()
         self._transport: asyncio.Transport
@@ -35,7 +35,7 @@ class Link(asyncio.Protocol):
                 self._answers.popleft()(answer)
 
     def connection_lost(self, fault: Optional[Exception]) -> None:
-        self._lost()
+        self.lost.set()
 
     def send(self, data: bytes, *answers: Callable[[Answer], None]) -> None:
         """Sends commands; each answer is handed to its function."""
@@ -60,16 +60,13 @@ class Link(asyncio.Protocol):
         return self._transport.is_closing()
 
     def close(self) -> None:
-        """Closes the connection at once. `lost` follows."""
+        """Closes the connection at once, so that it is lost."""
         self._transport.abort()
 
 
-async def connect(
-    host: str, port: int, address: Address, lost: Callable[[], None], heard: Optional[Callable[[bytes], None]] = None
-) -> Link:
+async def connect(host: str, port: int, address: Address, heard: Optional[Callable[[bytes], None]] = None) -> Link:
     """A connection to this node, with the login and the TLS of the address. Raises `OSError` or `ErrorAnswer`."""
-    loop = asyncio.get_running_loop()
-    opening = loop.create_connection(lambda: Link(lost, heard), host, port, ssl=tls_of(address))
+    opening = asyncio.get_running_loop().create_connection(lambda: Link(heard), host, port, ssl=tls_of(address))
     try:
         _, link = await asyncio.wait_for(opening, MOST_SECONDS_TO_CONNECT)
     except asyncio.TimeoutError:

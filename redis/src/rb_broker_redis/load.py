@@ -9,7 +9,9 @@ from typing import Iterator, Sequence
 import redis
 
 from .dates import date_text
-from .history import GREATEST, GREATEST_ID, MOST_KEPT, Damaged, Element, Run
+from .ending import Failed
+from .history import GREATEST_ID, MOST_KEPT, Element, Run
+from .protocol import GREATEST_NUMBER
 from .queue import Queue
 from .shards import Rendezvous
 
@@ -22,7 +24,7 @@ return 1
 """
 
 
-class NotLoaded(Exception):
+class NotLoaded(Failed):
     """Why nothing, or not everything, was loaded."""
 
 
@@ -78,7 +80,7 @@ class Left:
 
 def _moved(element: Element, ids: int, shift: int) -> Element:
     """The element with its ids and moments moved by that much. No moment passes the greatest one."""
-    expiry, first = (min(max(it + shift, 0), GREATEST) for it in (element.expiry, element.first))
+    expiry, first = (min(max(it + shift, 0), GREATEST_NUMBER) for it in (element.expiry, element.first))
     return element._replace(id=element.id + ids, expiry=expiry, origin=element.origin + ids, first=first)
 
 

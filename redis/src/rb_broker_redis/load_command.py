@@ -7,11 +7,10 @@ import sys
 from pathlib import Path
 
 from .dates import nanoseconds_of
-from .ending import ends_with_a_line, fail
-from .history import Damaged, Run, read_text
-from .load import Left, NotLoaded, abandon, load
-from .queues import add_queues_words, queues_in
-from .words import Parser, add_command, sentence_of
+from .ending import Failed
+from .history import read_text
+from .load import Left, abandon, load
+from .words import Parser, add_command, add_queue_words, queues_in, sentence_of
 
 DATES = "dates"
 
@@ -38,25 +37,21 @@ def add_to(commands: "argparse._SubParsersAction[Parser]") -> None:
     parser.add_argument("histories", metavar="HISTORY", type=Path, nargs="*", help="the text of a history")
     parser.add_argument("--began", metavar="TIME", type=sentence_of(_began), action="append", default=[],
                         help="when the run of HISTORY began, or `dates`")
-    add_queues_words(parser)
+    add_queue_words(parser)
     what = parser.add_mutually_exclusive_group()
     what.add_argument("--show", action="store_true", help="prints the elements as JSON lines, and loads nothing")
     what.add_argument("--abandon", action="store_true", help="empties a queue whose load has begun and not ended")
 
 
-@ends_with_a_line
 def run(asked: argparse.Namespace) -> int:
     """Loads, or shows what would be loaded."""
     if asked.abandon:
         return _abandon(asked)
     if not asked.histories or len(asked.histories) != len(asked.began):
         asked.parser.error("there is a HISTORY, and a --began for each")
-    try:
-        runs = [_read(it) for it in asked.histories]
-        left = Left.of(runs, [run.opened_at if it is None else it for run, it in zip(runs, asked.began)])
-        return _show(left) if asked.show else _load(asked, left)
-    except (Damaged, NotLoaded) as fault:
-        return fail(1, fault)
+    runs = [read_text(it) for it in asked.histories]
+    left = Left.of(runs, [run.opened_at if it is None else it for run, it in zip(runs, asked.began)])
+    return _show(left) if asked.show else _load(asked, left)
 
 
 def _show(left: Left) -> int:
@@ -66,7 +61,8 @@ def _show(left: Left) -> int:
         return 0
     except OSError as fault:
         os.dup2(os.open(os.devnull, os.O_WRONLY), sys.stdout.fileno())  # for the last flush
-        return fail(2, "cannot write output" if isinstance(fault, BrokenPipeError) else f"output: {fault.strerror}")
+        why = "cannot write output" if isinstance(fault, BrokenPipeError) else f"output: {fault.strerror}"
+        raise Failed(why, 2) from None
 
 
 def _load(asked: argparse.Namespace, left: Left) -> int:
@@ -81,13 +77,6 @@ def _abandon(asked: argparse.Namespace) -> int:
     for it in queues_in(asked):
         print(f"{it.name}: {'emptied' if abandon(it) else 'no load has begun that has not ended'}")
     return 0
-
-
-def _read(path: Path) -> Run:
-    try:
-        return read_text(path)
-    except Damaged as fault:
-        raise Damaged(f"{path}: {fault}") from None
 
 
 def _began(word: str) -> int | None:

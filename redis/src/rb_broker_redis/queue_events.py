@@ -1,7 +1,9 @@
 """The events of a queue, as the functions of broker.lua keep them until they are archived."""
 from __future__ import annotations
 
-from .archive import Conflict, Position
+from typing import NamedTuple
+
+from .ending import Failed
 from .history import FollowedQueue
 from .queue import Queue
 
@@ -25,6 +27,21 @@ for _, it in ipairs(keeps) do redis.call('RPUSH', KEYS[8], it[2]) end
 redis.call('HSET', KEYS[4], 'cut', state[3])
 return given_up
 """
+
+
+class Conflict(Failed):
+    """The files and the Redis do not go together. What the Redis has stays there."""
+
+
+class Position(NamedTuple):
+    """How far the events of a queue have been taken out of the Redis."""
+
+    first: int
+    """The number of the first event that it still has, counted from 0."""
+    waiting: int
+    """How many events it has."""
+    in_hand: frozenset[bytes]
+    """The origins of the jobs that are in hand behind them."""
 
 
 class QueueEvents:
@@ -55,7 +72,7 @@ class QueueEvents:
         return list(self._queue.command("LRANGE", self._queue.history, start, start + count - 1))
 
     def cut(self, first: int, count: int) -> bool:
-        """Takes out `count` events, if `first` is the number of the first one."""
+        """Takes out `count` events. Does nothing if `first` is not the number of the first one any more."""
         return int(self._queue.call("rb_cut", first, count)) == first + count
 
     def begin_anew(self) -> int:

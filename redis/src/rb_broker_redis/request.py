@@ -1,12 +1,11 @@
-"""Which request a line is."""
+"""What a client sends: cut into lines, and which request a line is."""
 from __future__ import annotations
 
 import re
 from enum import Enum, auto
 from typing import NamedTuple
 
-from .errors import ErrorReply
-from .limits import GREATEST_NUMBER, MOST_LINE_BYTES
+from .protocol import GREATEST_NUMBER, MOST_LINE_BYTES, ErrorReply
 
 
 class Kind(Enum):
@@ -30,12 +29,13 @@ class Request(NamedTuple):
     text: bytes
 
 
-ALONE = {b"POLL": Kind.CALL, b"TAKE": Kind.WAIT, b"PEEK": Kind.CALL, b"CLEAR": Kind.CALL, b"SIZE": Kind.CALL,
-         b"QUIT": Kind.QUIT}
-WITH_NUMBER = {b"POLLFOR": Kind.WAIT, b"REMOVE": Kind.CALL, b"DRAIN": Kind.CALL, b"DONE": Kind.CALL,
-               b"FAIL": Kind.CALL, b"AT": Kind.AT}
-WITH_PAYLOAD = (b"OFFER", b"OFFERAT")
-
+# What each keyword asks for, and how many words follow it: a number, and behind that a payload.
+_FORMS = {
+    b"POLL": (Kind.CALL, 0), b"TAKE": (Kind.WAIT, 0), b"PEEK": (Kind.CALL, 0), b"CLEAR": (Kind.CALL, 0),
+    b"SIZE": (Kind.CALL, 0), b"QUIT": (Kind.QUIT, 0), b"POLLFOR": (Kind.WAIT, 1), b"REMOVE": (Kind.CALL, 1),
+    b"DRAIN": (Kind.CALL, 1), b"DONE": (Kind.CALL, 1), b"FAIL": (Kind.CALL, 1), b"AT": (Kind.AT, 1),
+    b"OFFER": (Kind.CALL, 2), b"OFFERAT": (Kind.CALL, 2),
+}
 _NUMBER = re.compile(rb"0|[1-9][0-9]{0,19}")
 _PAYLOAD = re.compile(rb"[!-~]{1,64}")
 
@@ -47,7 +47,25 @@ _USUAL = re.compile(
     rb"|(?P<WAIT>TAKE|POLLFOR (?:0|[1-9][0-9]{0,18})))\r?"
 )
 _KINDS = {kind.name: kind for kind in Kind}
-_REFUSED = {reply: Request(Kind.ERROR, reply.value) for reply in ErrorReply}
+
+# No more of a line's beginning has to be kept to know that it is too long, even if its last byte is a CR that belongs
+# to its end.
+_ENOUGH = MOST_LINE_BYTES + 2
+
+
+class LineCutter:
+    """Keeps the bytes that no line feed has ended yet, and no more than are needed to judge them."""
+
+    __slots__ = ("rest",)
+
+    def __init__(self) -> None:
+        self.rest = b""
+
+    def cut(self, data: bytes) -> list[bytes]:
+        """The lines that these bytes end, without their line feeds."""
+        lines = (self.rest + data if self.rest else data).split(b"\n")
+        self.rest = lines.pop()[:_ENOUGH]
+        return lines
 
 
 def read_request(line: bytes) -> Request:
@@ -62,27 +80,16 @@ def _read_unusual(line: bytes) -> Request:
     if len(line) > MOST_LINE_BYTES:
         return refused(ErrorReply.LINE)
     keyword, *words = line.split(b" ")
-    if b"" in words:
+    kind, count = _FORMS.get(keyword, (Kind.ERROR, 0))
+    if kind is Kind.ERROR or len(words) != count or b"" in words:
         return refused(ErrorReply.SYNTAX)
-    if not words and keyword in ALONE:
-        return Request(ALONE[keyword], line)
-    if len(words) == 1 and keyword in WITH_NUMBER:
-        if not is_number(words[0]):
-            return refused(ErrorReply.NUMBER)
-        kind = WITH_NUMBER[keyword]
-        return Request(kind, words[0] if kind is Kind.AT else line)
-    if len(words) == 2 and keyword in WITH_PAYLOAD:
-        if not is_number(words[0]):
-            return refused(ErrorReply.NUMBER)
-        return Request(Kind.CALL, line) if _PAYLOAD.fullmatch(words[1]) else refused(ErrorReply.PAYLOAD)
-    return refused(ErrorReply.SYNTAX)
+    if words and not (_NUMBER.fullmatch(words[0]) and int(words[0]) <= GREATEST_NUMBER):
+        return refused(ErrorReply.NUMBER)
+    if count == 2 and not _PAYLOAD.fullmatch(words[1]):
+        return refused(ErrorReply.PAYLOAD)
+    return Request(kind, words[0] if kind is Kind.AT else line)
 
 
 def refused(reply: ErrorReply) -> Request:
     """A line with this fault."""
-    return _REFUSED[reply]
-
-
-def is_number(word: bytes) -> bool:
-    """Whether the word is a number as the protocol writes them."""
-    return bool(_NUMBER.fullmatch(word)) and int(word) <= GREATEST_NUMBER
+    return Request(Kind.ERROR, reply.value)

@@ -7,35 +7,24 @@ import sys
 from pathlib import Path
 from typing import BinaryIO, Iterator, Optional
 
-import redis
-
-from .history import GREATEST_ID, MOST_KEPT, Damaged, FollowedQueue, read_text
-from .limits import MOST_CALLS
+from .ending import Failed
+from .history import GREATEST_ID, HEADER, MOST_KEPT, Damaged, FollowedQueue, read_text
+from .protocol import MOST_CALLS
 from .queue import Queue, connect
-from .script_session import Perform, ScriptSession
-from .words import NAME, Parser, add_policy_words, add_redis_word, address_in, policy_in, whole
+from .script_session import ScriptSession
+from .words import Parser, add_command, add_policy_words, add_redis_word, address_in, policy_in, whole
 
-DELAY, ATTEMPTS = "1us", 3
 LEASE = 60_000_000
 CHUNK = 10_000
 MOST_READS = 10_000_000
 BUFFER_BYTES = 64 * 1024
 
 
-class Ending(Exception):
-    """Why a script ends otherwise than well."""
-
-    def __init__(self, status: int, text: str) -> None:
-        super().__init__(text)
-        self.status = status
-
-
 def add_to(commands: "argparse._SubParsersAction[Parser]") -> None:
     """Adds the command."""
-    parser = commands.add_parser("script", help="one session at standard input", allow_abbrev=False)
-    parser.set_defaults(run=run)
+    parser = add_command(commands, "script", "one session at standard input", run)
     add_redis_word(parser)
-    add_policy_words(parser, DELAY, ATTEMPTS)
+    add_policy_words(parser, "1us", 3)
     add = parser.add_argument
     add("--calls", type=whole(1, MOST_CALLS), default=10_000, metavar="N", help="calls of the run (default: 10000)")
     add("--history", metavar="FILE", help="where the history is written")
@@ -44,16 +33,23 @@ def add_to(commands: "argparse._SubParsersAction[Parser]") -> None:
 
 
 def run(asked: argparse.Namespace) -> int:
-    """Runs the script. Returns the exit status."""
+    """Carries out standard input, and writes the history even if that ends by a fault. Returns the exit status."""
+    opening = opening_of(asked.opening)
+    queue = Queue(connect(address_in(asked)), f"script-{os.getpid()}-{os.urandom(4).hex()}")
+    recorder = recorder_of(asked.history)
+    fault: Optional[Failed] = None
     try:
-        opening = opening_of(asked.opening)
-        run_script(asked, opening)
-    except Ending as ending:
-        print(f"{NAME}: {ending}", file=sys.stderr)
-        return ending.status
-    except redis.RedisError as fault:
-        print(f"{NAME}: {fault}", file=sys.stderr)
-        return 3
+        begin(queue, opening, asked)
+        try:
+            converse(ScriptSession(queue, opening.last))
+        except Failed as caught:
+            fault = caught
+        if recorder:
+            record(queue, opening, recorder, fault)
+    finally:
+        queue.command("UNLINK", *queue.keys)
+    if fault:
+        raise fault
     return 0
 
 
@@ -64,31 +60,12 @@ def opening_of(path: Optional[str]) -> FollowedQueue:
     try:
         queue = read_text(Path(path)).queue
     except OSError:
-        raise Ending(3, "cannot read history") from None
+        raise Failed("cannot read history", 3) from None
     except Damaged:
-        raise Ending(1, "bad opening") from None
+        raise Failed("bad opening") from None
     if queue.next_id > GREATEST_ID or len(queue.elements) > MOST_KEPT:
-        raise Ending(1, "bad opening")
+        raise Failed("bad opening")
     return queue
-
-
-def run_script(asked: argparse.Namespace, opening: FollowedQueue) -> None:
-    """Carries out standard input, and writes the history even if that ends by a fault."""
-    queue = Queue(connect(address_in(asked)), f"script-{os.getpid()}-{os.urandom(4).hex()}")
-    recorder = recorder_of(asked.history)
-    fault: Optional[Ending] = None
-    try:
-        begin(queue, opening, asked)
-        try:
-            converse(ScriptSession(performer(queue), opening.last))
-        except Ending as ending:
-            fault = ending
-        if recorder:
-            record(queue, opening, recorder, fault)
-    finally:
-        queue.command("UNLINK", *queue.keys)
-    if fault:
-        raise fault
 
 
 def begin(queue: Queue, opening: FollowedQueue, asked: argparse.Namespace) -> None:
@@ -96,51 +73,40 @@ def begin(queue: Queue, opening: FollowedQueue, asked: argparse.Namespace) -> No
     queue.load_functions()
     if opening.next_id or opening.last:
         _, *kept = opening.opening()
-        for start in range(0, len(kept), CHUNK):
+        for start in range(0, len(kept) + 1, CHUNK):
             queue.call("rb_load", queue.name, start, *(line.decode()[:-1] for line in kept[start:start + CHUNK]))
-        queue.call("rb_load", queue.name, len(kept))
         queue.call("rb_loaded", queue.name, opening.next_id, opening.last)
-    policy = policy_in(asked, DELAY, ATTEMPTS)
-    queue.call("rb_join", LEASE, *policy.words(), f"limit {asked.calls}")
-
-
-def performer(queue: Queue) -> Perform:
-    """Makes calls of the queue."""
-
-    def perform(moment: int, calls: list[bytes]) -> list[bytes]:
-        replies: list[bytes] = queue.call("rb_calls", f"{moment:020}", "", *calls)
-        return replies
-
-    return perform
+    queue.call("rb_join", LEASE, *policy_in(asked), f"limit {asked.calls}")
 
 
 def converse(session: ScriptSession) -> None:
-    """Reads to the end, or to QUIT."""
-    for _ in range(MOST_READS):
-        try:
-            data = os.read(sys.stdin.fileno(), BUFFER_BYTES)
-        except OSError:
-            session.fail_held()
-            raise Ending(3, "cannot read input") from None
-        if not data:
-            write(session, session.end())
-            return
-        write(session, session.carry_out(data))
-        if session.is_over:
-            session.fail_held()
-            return
-    session.fail_held()
-    raise Ending(3, "too many reads")
+    """Reads to the end, or to QUIT. What is held then fails."""
+    try:
+        for _ in range(MOST_READS):
+            data = read()
+            write(session.carry_out(data) if data else session.come_to_end())
+            if session.is_over or not data:
+                return
+        raise Failed("too many reads", 3)
+    finally:
+        session.fail_held()
 
 
-def write(session: ScriptSession, replies: bytes) -> None:
+def read() -> bytes:
+    """Reads from standard input."""
+    try:
+        return os.read(sys.stdin.fileno(), BUFFER_BYTES)
+    except OSError:
+        raise Failed("cannot read input", 3) from None
+
+
+def write(replies: bytes) -> None:
     """Writes replies to standard output."""
     try:
         while replies:
             replies = replies[os.write(sys.stdout.fileno(), replies):]
     except OSError:
-        session.fail_held()
-        raise Ending(3, "cannot write output") from None
+        raise Failed("cannot write output", 3) from None
 
 
 def recorder_of(path: Optional[str]) -> Optional[BinaryIO]:
@@ -148,18 +114,18 @@ def recorder_of(path: Optional[str]) -> Optional[BinaryIO]:
     try:
         return open(path, "wb") if path else None
     except OSError:
-        raise Ending(3, "cannot write history") from None
+        raise Failed("cannot write history", 3) from None
 
 
-def record(queue: Queue, opening: FollowedQueue, recorder: BinaryIO, fault: Optional[Ending]) -> None:
+def record(queue: Queue, opening: FollowedQueue, recorder: BinaryIO, fault: Optional[Failed]) -> None:
     """Writes the history of the run. If the session had a fault, that is the one that is told."""
     try:
         with recorder:
-            recorder.write(b"history 3\n")
+            recorder.write(HEADER)
             recorder.writelines(opening.opening())
             recorder.writelines(events_of(queue))
     except OSError:
-        raise fault or Ending(3, "cannot write history") from None
+        raise fault or Failed("cannot write history", 3) from None
 
 
 def events_of(queue: Queue) -> Iterator[bytes]:

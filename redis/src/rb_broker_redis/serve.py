@@ -9,36 +9,29 @@ import os
 import resource
 import signal
 import ssl
-import sys
 
-from .durations import read_duration
-from .gateway import Gateway, Settings
-from .library import NewerLibrary
-from .limits import SECOND
-from .queues import add_queues_words
+from .ending import Failed
+from .gateway import Gateway
+from .protocol import SECOND
 from .resp import ErrorAnswer
+from .shards import shard_names
 from .words import (
-    DEFAULT_ATTEMPTS, DEFAULT_DELAY, NAME, Parser, add_policy_words, address_in, duration,
-    named_policy, sentence_of, whole,
+    NO_POLICY, Parser, add_command, add_policy_words, add_queue_words, address_in, duration, names_policy, policy_in,
+    sentence_of, whole,
 )
 
 LOOPBACK = "127.0.0.1"
 
 
-class CannotListen(Exception):
-    """The port is in use, or may not be used."""
-
-
 def add_to(commands: "argparse._SubParsersAction[Parser]") -> None:
     """Adds the command."""
-    parser = commands.add_parser("serve", help="serves clients from a queue", allow_abbrev=False)
-    parser.set_defaults(run=run)
-    add_queues_words(parser)
+    parser = add_command(commands, "serve", "serves clients from a queue", run)
+    add_queue_words(parser)
     add = parser.add_argument
     add("--port", type=whole(0, 65_535), required=True, metavar="P", help="the port; 0 for one that is free")
     add("--bind", default=LOOPBACK, metavar="A", type=sentence_of(ipaddress.ip_address),
         help=f"the address; another than a loopback's needs --cert or --plain (default: {LOOPBACK})")
-    add_policy_words(parser, DEFAULT_DELAY, DEFAULT_ATTEMPTS)
+    add_policy_words(parser, "30s", 20)
     add("--change-policy", action="store_true", help="gives the queue this policy, if it has another")
     add("--wait", metavar="TIME", type=duration, default=SECOND,
         help="a TAKE or POLLFOR waits so long at most (default: 1s)")
@@ -59,16 +52,14 @@ def run(asked: argparse.Namespace) -> int:
     """Serves until SIGTERM or SIGINT. Returns the exit status."""
     fault = fault_of(asked)
     if fault:
-        print(f"{NAME}: {fault}", file=sys.stderr)
-        return 2
+        asked.parser.error(fault)
     logging.basicConfig(level=logging.WARNING, format="%(asctime)s %(levelname)s %(message)s")
     raise_limit_of_files()
     use_uvloop()
     try:
         return asyncio.run(serve(asked))
-    except (OSError, ErrorAnswer, NewerLibrary, CannotListen) as caught:
-        print(f"{NAME}: {sentence_about(caught, asked)}", file=sys.stderr)
-        return 3
+    except (OSError, ErrorAnswer) as caught:
+        raise Failed(sentence_about(caught, asked), 3) from None
 
 
 def fault_of(asked: argparse.Namespace) -> str:
@@ -81,22 +72,13 @@ def fault_of(asked: argparse.Namespace) -> str:
         return "--plain is without TLS, and --cert with it"
     if not ipaddress.ip_address(asked.bind).is_loopback and not asked.cert and not asked.plain:
         return f"other machines reach {asked.bind}: serve them over TLS with --cert, or say --plain"
-    if asked.change_policy and named_policy(asked, DEFAULT_DELAY, DEFAULT_ATTEMPTS) is None:
+    if asked.change_policy and not names_policy(asked):
         return "--change-policy needs --delay, --rate or --attempts"
     return ""
 
 
-def settings_of(asked: argparse.Namespace) -> Settings:
-    """What the words say. Raises `OSError` if a certificate can't be read."""
-    mode = "change" if asked.change_policy else "silent" if asked.no_history else ""
-    return Settings(
-        address_in(asked), asked.queue, named_policy(asked, DEFAULT_DELAY, DEFAULT_ATTEMPTS), mode, asked.wait,
-        asked.lease, asked.timeout, asked.replicas, asked.shards, tls_of(asked),
-    )
-
-
 def tls_of(asked: argparse.Namespace) -> "ssl.SSLContext | None":
-    """What clients are served with, if that is TLS."""
+    """What clients are served with, if that is TLS. Raises `OSError` if a certificate can't be read."""
     if not asked.cert:
         return None
     context = ssl.create_default_context(ssl.Purpose.CLIENT_AUTH, cafile=asked.client_ca)
@@ -112,13 +94,16 @@ async def serve(asked: argparse.Namespace) -> int:
     loop = asyncio.get_running_loop()
     for number in (signal.SIGTERM, signal.SIGINT):
         loop.add_signal_handler(number, end_at_next, loop, stopped)
-    gateway = Gateway(settings_of(asked))
-    await gateway.join()
+    tls = tls_of(asked)
+    gateway = Gateway(
+        shard_names(asked.queue, asked.shards), wait=asked.wait, patience=asked.timeout, replicas=asked.replicas)
+    mode = "change" if asked.change_policy else "silent" if asked.no_history else ""
+    await gateway.join(address_in(asked), asked.lease, policy_in(asked) if names_policy(asked) else NO_POLICY, mode)
     try:
-        port = await listen(gateway, asked)
-    except CannotListen:
+        port = await gateway.listen(str(asked.bind), asked.port, tls)
+    except OSError as fault:  # the port is in use, or may not be used
         await gateway.leave()
-        raise
+        raise Failed(f"{asked.bind}:{asked.port}: {reason_of(fault)}", 3) from None
     if asked.plain:
         logging.warning("PLAIN: whoever reaches %s:%d is let in, and reads what others send", asked.bind, port)
     print(f"listening {asked.bind}:{port}", flush=True)
@@ -126,14 +111,6 @@ async def serve(asked: argparse.Namespace) -> int:
     count, lost = await gateway.stop()
     print(f"sessions {count} lost {lost}", flush=True)
     return 0
-
-
-async def listen(gateway: Gateway, asked: argparse.Namespace) -> int:
-    """Serves clients. Raises `CannotListen`."""
-    try:
-        return await gateway.listen(str(asked.bind), asked.port)
-    except OSError as fault:
-        raise CannotListen(f"{asked.bind}:{asked.port}: {reason_of(fault)}") from None
 
 
 def end_at_next(loop: asyncio.AbstractEventLoop, stopped: asyncio.Event) -> None:
@@ -152,8 +129,6 @@ def sentence_about(fault: Exception, asked: argparse.Namespace) -> str:
                 " --change-policy")
     if isinstance(fault, ErrorAnswer) and fault.code == "LOADING_QUEUE":
         return f"a load into queue {asked.queue} has not ended"
-    if isinstance(fault, (NewerLibrary, CannotListen)):
-        return str(fault)
     if isinstance(fault, OSError) and fault.filename:
         return f"{fault.filename}: {fault.strerror}"
     return f"{address_in(asked)}: {reason_of(fault)}"

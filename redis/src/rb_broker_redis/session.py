@@ -6,9 +6,8 @@ import socket
 from collections import deque
 from typing import TYPE_CHECKING, Optional, cast
 
-from .errors import ErrorReply
-from .lines import LineCutter
-from .request import Kind, read_request, refused
+from .protocol import ErrorReply
+from .request import Kind, LineCutter, read_request, refused
 from .waits import LATER, STOPPED, Wait
 
 if TYPE_CHECKING:
@@ -85,17 +84,11 @@ class Session(asyncio.Protocol):
     def eof_received(self) -> bool:
         if self._cutter.rest and not self._is_at_end:
             self._lines.append(None)
-        self._is_at_end = True
-        if self._wait:
-            self._gateway.waits.give_up(self._wait)
-        elif not self._is_busy:
-            self._go_on()
+        self._come_to_end()
         # Replies are still sent. TLS has no such half of a connection.
         return self._transport.get_extra_info("sslcontext") is None
 
     def connection_lost(self, fault: Optional[Exception]) -> None:
-        self._is_gone = self._is_at_end = True
-        self._lines.clear()
         self._leave()
 
     def pause_writing(self) -> None:
@@ -111,18 +104,20 @@ class Session(asyncio.Protocol):
         """Ends it in good order: what is under way is answered, and no further line is carried out. If it has ended at
         the queue, what is under way is refused there."""
         self._lines.clear()
+        self._come_to_end()
+
+    def close(self) -> None:
+        """Closes the connection: it is in doubt what became of a request, and no reply is made up."""
+        self._transport.close()
+        self._leave()
+
+    def _come_to_end(self) -> None:
+        """No further line comes: gives a wait up."""
         self._is_at_end = True
         if self._wait:
             self._gateway.waits.give_up(self._wait)
         elif not self._is_busy:
             self._go_on()
-
-    def close(self) -> None:
-        """Closes the connection: it is in doubt what became of a request, and no reply is made up."""
-        self._lines.clear()
-        self._is_at_end = self._is_gone = True
-        self._transport.close()
-        self._leave()
 
     def _go_on(self) -> None:
         """Carries out the next lines, up to one that may wait."""
@@ -196,7 +191,7 @@ class Session(asyncio.Protocol):
         return later
 
     def _begin_wait(self, later: bytes) -> None:
-        request, self._wait_request = self._wait_request, b""
+        request, self._wait_request, self._plan = self._wait_request, b"", []
         if self._is_at_end:
             self._wait_ended(STOPPED)
             return
@@ -205,16 +200,12 @@ class Session(asyncio.Protocol):
 
     def _wait_ended(self, reply: Optional[bytes]) -> None:
         self._wait = None
-        self._is_busy = False
-        if reply is None:
-            self.close()
-            return
-        if not self._is_gone:
-            self._transport.write(reply)
-        self._go_on()
+        self._answered(None if reply is None else [reply])
 
     def _leave(self) -> None:
         """Its client gets no further reply: fetches nothing more for it, and ends."""
+        self._lines.clear()
+        self._is_gone = self._is_at_end = True
         if self._wait:
             self._gateway.waits.give_up(self._wait)
         elif self._is_busy:
@@ -228,14 +219,16 @@ class Session(asyncio.Protocol):
             return
         self._is_over = True
         if self._has_called:
-            self._gateway.calls.submit([self._seat + b"END"], self._ended)
+            self._submit_end()
         else:
             self._ended([b"ENDED 0\n"])
 
+    def _submit_end(self) -> None:
+        self._gateway.calls.submit([self._seat + b"END"], self._ended)
+
     def _ended(self, replies: Optional[list[bytes]]) -> None:
         if replies is None:  # a seat's end may be made twice
-            end = [self._seat + b"END"]
-            asyncio.get_running_loop().call_later(SECONDS_BETWEEN_ENDS, self._gateway.calls.submit, end, self._ended)
+            asyncio.get_running_loop().call_later(SECONDS_BETWEEN_ENDS, self._submit_end)
             return
         self._transport.close()
         self._gateway.end(self, int(replies[0].split()[1]))

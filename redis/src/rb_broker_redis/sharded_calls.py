@@ -6,8 +6,7 @@ from itertools import groupby
 from typing import Callable, Iterable, Optional, Sequence
 
 from .calls import Answered, Calls
-from .errors import ErrorReply
-from .limits import MOST_HELD
+from .protocol import MOST_HELD, ErrorReply
 from .shards import Rendezvous, inner_id, outer_id
 from .waits import LATER, Later
 
@@ -28,36 +27,34 @@ def word_of(request: bytes) -> bytes:
 
 
 class ShardedCalls:
-    """Takes the place of the calls of one queue. A session's calls are made in their order: those that concern one
-    queue each go out together, up to one that concerns several."""
+    """Takes the place of the calls of one queue."""
 
     def __init__(self, queues: Sequence[Calls], names: Sequence[str]) -> None:
         self.queues = queues
-        self._rendezvous = Rendezvous(list(names))
-        self._held: dict[bytes, set[bytes]] = {}
-        """The ids that each session holds."""
-        self._runs: dict[Answered, tuple[_Run, asyncio.Task[None]]] = {}
+        self.rendezvous = Rendezvous(list(names))
+        self._sessions: dict[bytes, _Session] = {}
+        self._under_way: dict[Answered, tuple[_Session, asyncio.Task[None]]] = {}
         self.note: Callable[[Later, int], None] = lambda later, queue: None
         """Gets when the earliest element of a queue expires, on behalf of a call that will wait."""
 
     def submit(self, calls: list[bytes], answered: Answered) -> None:
         """Makes these calls of one session, one after the other."""
-        run = _Run(self, word_of(calls[0]))
+        session = self._session(calls[0].partition(b" ")[0])
         requests = [call.partition(b" ")[2] for call in calls]
-        self._runs[answered] = run, asyncio.ensure_future(self._carry_out(run, requests, answered))
+        self._under_way[answered] = session, asyncio.ensure_future(self._carry_out(session, requests, answered))
 
-    async def _carry_out(self, run: _Run, requests: list[bytes], answered: Answered) -> None:
+    async def _carry_out(self, session: _Session, requests: list[bytes], answered: Answered) -> None:
         try:
-            replies: Optional[list[bytes]] = await run.replies_to(requests)
+            replies: Optional[list[bytes]] = await session.replies_to(requests)
         except InDoubt:
             replies = None
-        del self._runs[answered]
+        del self._under_way[answered]
         answered(replies)
 
     def withhold(self, answered: Answered) -> None:
         """Who submitted has left: nothing more is fetched for it."""
-        if answered in self._runs:
-            self._runs[answered][0].has_left = True
+        if answered in self._under_way:
+            self._under_way[answered][0].has_left = True
 
     def seat_of(self, session: int) -> bytes:
         """What a session is called here. At each queue it has a seat of its own."""
@@ -67,53 +64,28 @@ class ShardedCalls:
         """What stands before a session's calls at a queue, at which its gateway has a number of its own."""
         return self.queues[queue].seat_of(int(seat)) + b" "
 
-    async def ask(self, seat: bytes, requests: dict[int, list[bytes]]) -> dict[int, list[bytes]]:
-        """Makes calls of a session at several queues at once. Gives the replies of each. Raises `InDoubt`."""
-        loop, asked = asyncio.get_running_loop(), {}
-        for queue, its_requests in requests.items():
-            front, asked[queue] = self.front_of(queue, seat), loop.create_future()
-            self.queues[queue].submit([front + it for it in its_requests], asked[queue].set_result)
-        replies = {queue: await it for queue, it in asked.items()}
-        if None in replies.values():
-            raise InDoubt
-        return replies
-
-    def queue_of(self, request: bytes) -> Optional[int]:
-        """The queue of a request that names a payload or an id, or None if there is no such queue."""
-        word, argument, *payload = request.split(b" ")
-        if word in BY_PAYLOAD:
-            return self._rendezvous.shard_of(payload[0])
-        queue, _ = inner_id(int(argument))
-        return queue if queue < len(self.queues) else None
-
-    def held(self, seat: bytes) -> set[bytes]:
-        """The ids that a session holds."""
-        return self._held.setdefault(seat.strip(), set())
+    def seen(self, queue: int, seat: bytes, reply: bytes) -> bytes:
+        """A reply of a queue as the session's client gets it."""
+        return self._session(seat.strip()).seen(queue, reply)
 
     def forget(self, seat: bytes) -> None:
         """The session has ended."""
-        self._held.pop(seat.strip(), None)
+        self._sessions.pop(seat, None)
 
-    def seen(self, queue: int, seat: bytes, reply: bytes) -> bytes:
-        """A reply with the ids that a client sees. Keeps what the session holds."""
-        lines = [self._seen_line(queue, seat, line) for line in reply.splitlines(keepends=True)]
-        return b"".join(lines)
-
-    def _seen_line(self, queue: int, seat: bytes, line: bytes) -> bytes:
-        word, *rest = line[:-1].split(b" ")
-        if word not in NAMES_AN_ELEMENT:
-            return line
-        rest[0] = b"%d" % outer_id(queue, int(rest[0]))
-        if word == b"ITEM":
-            self.held(seat).add(rest[0])
-        return b" ".join([word, *rest]) + b"\n"
+    def _session(self, seat: bytes) -> _Session:
+        if seat not in self._sessions:
+            self._sessions[seat] = _Session(self, seat)
+        return self._sessions[seat]
 
 
-class _Run:
-    """The calls of one session that were submitted together."""
+class _Session:
+    """Its calls are made in their order: those that concern one queue each go out together, up to one that concerns
+    several."""
 
     def __init__(self, calls: ShardedCalls, seat: bytes) -> None:
         self._calls, self._seat = calls, seat
+        self._held: set[bytes] = set()
+        """The ids of the jobs that it holds."""
         self.has_left = False
         """Nobody gets the replies any more."""
 
@@ -127,43 +99,65 @@ class _Run:
                 replies += [await (self._of_all if word_of(it) in OF_ALL else self._fetch)(it) for it in some]
         return replies
 
+    def seen(self, queue: int, reply: bytes) -> bytes:
+        """A reply with the ids that the client sees. Keeps what the session holds."""
+        return b"".join(self._seen_line(queue, line) for line in reply.splitlines(keepends=True))
+
+    def _seen_line(self, queue: int, line: bytes) -> bytes:
+        word, *rest = line[:-1].split(b" ")
+        if word not in NAMES_AN_ELEMENT:
+            return line
+        rest[0] = b"%d" % outer_id(queue, int(rest[0]))
+        if word == b"ITEM":
+            self._held.add(rest[0])
+        return b" ".join([word, *rest]) + b"\n"
+
     async def _at_their_queues(self, requests: list[bytes]) -> list[bytes]:
         """Makes calls that concern one queue each."""
-        queues = [self._calls.queue_of(it) for it in requests]
+        queues = [self._queue_of(it) for it in requests]
         by_queue: dict[int, list[bytes]] = {}
         for queue, request in zip(queues, requests):
             if queue is not None:
                 by_queue.setdefault(queue, []).append(_inner(request))
-        given = {queue: iter(it) for queue, it in (await self._calls.ask(self._seat, by_queue)).items()}
+        given = {queue: iter(it) for queue, it in (await self._ask(by_queue)).items()}
         return [NOT_THERE[word_of(request)] if queue is None else self._told(queue, request, next(given[queue]))
                 for queue, request in zip(queues, requests)]
+
+    def _queue_of(self, request: bytes) -> Optional[int]:
+        """The queue of a request that names a payload or an id, or None if there is no such queue."""
+        word, argument, *payload = request.split(b" ")
+        if word in BY_PAYLOAD:
+            return self._calls.rendezvous.shard_of(payload[0])
+        queue, _ = inner_id(int(argument))
+        return queue if queue < len(self._calls.queues) else None
 
     def _told(self, queue: int, request: bytes, reply: bytes) -> bytes:
         """The reply to a call at its queue. A job that is done, fails, or is not held, is held no more."""
         word, argument, *_ = request.split(b" ")
         if word in (b"DONE", b"FAIL") and not reply.startswith((ErrorReply.MEMORY, ErrorReply.FULL)):
-            self._calls.held(self._seat).discard(argument)
-        return self._seen(queue, reply)
+            self._held.discard(argument)
+        return self.seen(queue, reply)
 
     async def _of_all(self, request: bytes) -> bytes:
         """Makes one call at every queue, and joins the replies."""
-        replies = [it for it, in (await self._ask(range(len(self._calls.queues)), request)).values()]
+        replies = list((await self._ask_each(range(len(self._calls.queues)), request)).values())
         if request == b"CLEAR":
             return replies[0]
         if request == b"PEEK":
             heads = [(int(it.split()[2]), queue) for queue, it in enumerate(replies) if it.startswith(b"HEAD")]
-            return self._seen(min(heads)[1], replies[min(heads)[1]]) if heads else replies[0]
+            return self.seen(min(heads)[1], replies[min(heads)[1]]) if heads else replies[0]
         if request == b"END":
             self._calls.forget(self._seat)
         return b"%b %d\n" % (word_of(replies[0]), sum(int(it.split()[1]) for it in replies))
 
     async def _fetch(self, request: bytes) -> bytes:
-        """POLL, TAKE, POLLFOR, DRAIN or WAIT: asks every queue when its earliest element expires, and then those that
-        have one which has expired, the earliest first."""
+        """POLL, TAKE, POLLFOR, DRAIN or WAIT: asks every queue whose node is there, or all if none is, when its
+        earliest element expires, and then those that have one which has expired, the earliest first."""
         word = word_of(request)
         if self._free <= 0 and word != b"DRAIN":
             return ErrorReply.HELD
-        told = await self._ask_present(b"WAIT")
+        there = [queue for queue, calls in enumerate(self._calls.queues) if calls.is_connected]
+        told = await self._ask_each(there or range(len(self._calls.queues)), b"WAIT")
         refused = [it for it in told.values() if not it.startswith(LATER)]
         if refused:
             return refused[0]
@@ -181,7 +175,7 @@ class _Run:
             start = b" " + laters[queue].starts[0] if word == b"POLLFOR" else b""
             reply = await self._ask_one(queue, request + start)
             if not reply.startswith((LATER, b"NONE")):
-                return self._seen(queue, reply)
+                return self.seen(queue, reply)
             if reply.startswith(LATER):
                 laters[queue] = Later(reply)
         return reply if word == b"POLL" or request == b"POLLFOR 0" else self._wait(laters)
@@ -191,7 +185,7 @@ class _Run:
         for queue in queues:
             reply = await self._ask_one(queue, b"DRAIN %d" % (most - len(items)))
             if reply.startswith(b"DRAINED"):
-                items += self._seen(queue, reply).splitlines(keepends=True)[1:]
+                items += self.seen(queue, reply).splitlines(keepends=True)[1:]
             elif not items:
                 return reply
             if len(items) >= most or not reply.startswith(b"DRAINED"):
@@ -214,23 +208,25 @@ class _Run:
     @property
     def _free(self) -> int:
         """How many more jobs the session may hold."""
-        return MOST_HELD - len(self._calls.held(self._seat))
+        return MOST_HELD - len(self._held)
 
-    def _seen(self, queue: int, reply: bytes) -> bytes:
-        return self._calls.seen(queue, self._seat, reply)
+    async def _ask(self, requests: dict[int, list[bytes]]) -> dict[int, list[bytes]]:
+        """Makes calls at several queues at once. Gives the replies of each. Raises `InDoubt`."""
+        loop, asked = asyncio.get_running_loop(), {}
+        for queue, its_requests in requests.items():
+            front, asked[queue] = self._calls.front_of(queue, self._seat), loop.create_future()
+            self._calls.queues[queue].submit([front + it for it in its_requests], asked[queue].set_result)
+        replies = {queue: await it for queue, it in asked.items()}
+        if None in replies.values():
+            raise InDoubt
+        return replies
 
-    async def _ask(self, queues: Iterable[int], request: bytes) -> dict[int, list[bytes]]:
+    async def _ask_each(self, queues: Iterable[int], request: bytes) -> dict[int, bytes]:
         """Makes one call at each of these queues."""
-        return await self._calls.ask(self._seat, {it: [request] for it in queues})
+        return {queue: reply for queue, (reply,) in (await self._ask({it: [request] for it in queues})).items()}
 
     async def _ask_one(self, queue: int, request: bytes) -> bytes:
-        return (await self._ask([queue], request))[queue][0]
-
-    async def _ask_present(self, request: bytes) -> dict[int, bytes]:
-        """Makes one call at every queue whose node is there, or, if none is, at every queue."""
-        there = [queue for queue, calls in enumerate(self._calls.queues) if calls.is_connected]
-        replies = await self._ask(there or range(len(self._calls.queues)), request)
-        return {queue: reply for queue, (reply,) in replies.items()}
+        return (await self._ask_each([queue], request))[queue]
 
 
 def _inner(request: bytes) -> bytes:

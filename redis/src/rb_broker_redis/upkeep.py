@@ -5,42 +5,42 @@ import asyncio
 import contextlib
 import logging
 import time
-from typing import Any, Awaitable, Callable, Optional, TypeVar
+from typing import TYPE_CHECKING, Any, Awaitable, Callable, Optional
 from uuid import uuid4
 
 from . import library
 from .address import Address
 from .calls import UNKNOWN, Calls
 from .keys import channel_of, keys_of
-from .link import Link, connect
-from .place import place_of
-from .policy import NO_WORDS, Policy
+from .link import Link
+from .place import connect_to_queue
 from .resp import ErrorAnswer
+from .words import NO_POLICY
+
+if TYPE_CHECKING:
+    from .gateway import Gateway
 
 LOG = logging.getLogger(__name__)
 
 SECONDS_BETWEEN_TRIES = 0.2
 SECONDS_BETWEEN_PINGS = 5.0
 
-Made = TypeVar("Made")
-
 
 class Upkeep:
-    """`heard` gets what is published about the queue, and `may_have_missed` is called when a publish may be lost.
-    `forgotten` is called when the sessions have ended that there are, and `joined` when others may begin."""
+    """Of one queue of a gateway. That is told what is published about the queue, when a publish may be lost, when the
+    sessions have ended that there are, and when others may begin."""
 
     def __init__(
-        self, address: Address, queue: str, calls: Calls, *, lease: int, policy: Optional[Policy], mode: str,
-        heard: Callable[[bytes], None], may_have_missed: Callable[[], None], forgotten: Callable[[], None],
-        joined: Callable[[], None],
+        self, gateway: Gateway, shard: int, address: Address, queue: str, calls: Calls, *, lease: int,
+        policy: tuple[str, str, str], mode: str,
     ) -> None:
-        self._gateway = b""
+        self._gateway, self._shard = gateway, shard
+        self._address, self._queue, self._calls = address, queue, calls
+        self._lease, self._policy, self._mode = lease, policy, mode
+        self._number = b""
+        """The gateway's number at this queue."""
         self._name = f"rb_broker-{uuid4().hex}".encode()
         """That of its links, which no other gateway has."""
-        self._address, self._queue, self._calls = address, queue, calls
-        self._lease = lease
-        self._words, self._mode = policy.words() if policy else NO_WORDS, mode
-        self._heard, self._may_have_missed, self._forgotten, self._joined = heard, may_have_missed, forgotten, joined
         self._keys = keys_of(queue)
         self._link: Optional[Link] = None
         self._linked_at = time.monotonic()
@@ -49,32 +49,25 @@ class Upkeep:
         self._tasks: list[asyncio.Task[None]] = []
         self._must_join = asyncio.Event()
         calls.gateway_is_unknown = self._is_unknown
-        calls.functions_are_gone = self._reload
+        calls.functions_are_gone = self._close_link  # a new link is given them
 
     async def start(self) -> None:
         """Connects, and joins the queue. Raises `OSError`, `ErrorAnswer`, `NewerLibrary`."""
-        lost = asyncio.Event()
-        link = await self._connect(lost)
+        link = await self._connect()
         try:
             await self._join(link)
         except BaseException:
             link.close()
-            await lost.wait()
+            await link.lost.wait()
             raise
-        self._tasks = [
-            asyncio.ensure_future(self._keep_link(link, lost)),
-            asyncio.ensure_future(self._keep_subscribed()),
-            asyncio.ensure_future(self._keep_lease()),
-            asyncio.ensure_future(self._watch()),
-        ]
+        tasks = self._keep_link(link), self._keep_subscribed(), self._keep_lease(), self._watch()
+        self._tasks = [asyncio.ensure_future(it) for it in tasks]
 
     async def stop(self) -> None:
         """Leaves the queue."""
         if self._link:
-            try:
-                await self._call(self._link, "rb_leave", self._gateway)
-            except (OSError, ErrorAnswer):
-                pass  # the lease ends by itself
+            with contextlib.suppress(OSError, ErrorAnswer):  # the lease ends by itself
+                await self._call(self._link, "rb_leave", self._number)
         # `wait_for` loses a cancellation that comes together with its result, so one may not be enough.
         while running := [task for task in self._tasks if not task.done()]:
             for task in running:
@@ -82,9 +75,8 @@ class Upkeep:
             await asyncio.wait(running, timeout=0.1)
         self._close_link()
 
-    async def _connect(self, lost: asyncio.Event) -> Link:
-        host, port = await place_of(self._address, self._queue)
-        link = await connect(host, port, self._address, lost.set)
+    async def _connect(self) -> Link:
+        link = await connect_to_queue(self._address, self._queue)
         try:
             await self._cut_off(link)
             await self._load_functions(link)
@@ -116,13 +108,13 @@ class Upkeep:
 
     async def _join(self, link: Link) -> None:
         """Gives the gateway a new number."""
-        joined = await self._call(link, "rb_join", self._lease, *self._words, self._mode)
-        self._gateway, pace, period, attempts, _ = joined
-        self._words = pace.decode(), period.decode(), attempts.decode()
+        joined = await self._call(link, "rb_join", self._lease, *self._policy, self._mode)
+        self._number, pace, period, attempts, _ = joined
+        self._policy = pace.decode(), period.decode(), attempts.decode()
         self._mode = self._mode.replace("change", "")
-        self._calls.join(int(self._gateway))
+        self._calls.join(int(self._number))
         self.is_joined = True
-        self._joined()
+        self._gateway.seat_all()
 
     async def _join_anew(self, link: Link) -> None:
         """Joins again. If the queue has been given another policy meanwhile, that is kept."""
@@ -131,59 +123,51 @@ class Upkeep:
         except ErrorAnswer as fault:
             if fault.code != "POLICY":
                 raise
-            self._words = NO_WORDS
+            self._policy = NO_POLICY
             await self._join(link)
-
-    def _reload(self) -> None:
-        """The functions are gone, as after FUNCTION FLUSH. A new link is given them."""
-        self._close_link()
 
     def _close_link(self) -> None:
         if self._link:
             self._link.close()
 
-    async def _keep_link(self, link: Link, lost: asyncio.Event) -> None:
+    async def _keep_link(self, link: Link) -> None:
         while True:
             self._link, self._linked_at = link, time.monotonic()
             self._calls.use(link)
-            self._may_have_missed()
-            await lost.wait()
+            self._gateway.waits.look_now(self._shard)
+            await link.lost.wait()
             self._link = None
             self._calls.use(None)
             LOG.warning("the Redis of queue %s is lost", self._queue)
-            lost = asyncio.Event()
-            link = await self._until_done(lambda: self._connect_again(lost))
+            link = await self._until_done(self._connect_again)
             LOG.warning("the Redis of queue %s is back", self._queue)
 
-    async def _connect_again(self, lost: asyncio.Event) -> Link:
-        lost.clear()
-        link = await self._connect(lost)
+    async def _connect_again(self) -> Link:
+        link = await self._connect()
         if not self.is_joined:
             await self._join_anew(link)
         return link
 
     async def _keep_subscribed(self) -> None:
         while True:
-            lost = asyncio.Event()
-            link = await self._until_done(lambda: self._subscribe(lost))
-            self._may_have_missed()
+            link = await self._until_done(self._subscribe)
+            self._gateway.waits.look_now(self._shard)
             try:
-                while not lost.is_set():
-                    await self._look_after(link, lost)
+                while not link.lost.is_set():
+                    await self._look_after(link)
             finally:
                 link.close()
 
-    async def _subscribe(self, lost: asyncio.Event) -> Link:
-        lost.clear()
-        host, port = await place_of(self._address, self._queue)
-        link = await connect(host, port, self._address, lost.set, self._heard)
+    async def _subscribe(self) -> Link:
+        link = await connect_to_queue(
+            self._address, self._queue, lambda message: self._gateway.waits.heard(message, self._shard))
         await link.ask("SUBSCRIBE", channel_of(self._queue))
         return link
 
-    async def _look_after(self, link: Link, lost: asyncio.Event) -> None:
+    async def _look_after(self, link: Link) -> None:
         """Closes a link on which nothing is heard for another reason than that nothing is published."""
         try:
-            await asyncio.wait_for(lost.wait(), SECONDS_BETWEEN_PINGS)
+            await asyncio.wait_for(link.lost.wait(), SECONDS_BETWEEN_PINGS)
         except asyncio.TimeoutError:
             try:
                 await link.ask("PING")
@@ -198,7 +182,7 @@ class Upkeep:
             try:
                 if self._link and not self.is_joined:
                     await self._join_anew(self._link)
-                while self._link and await self._call(self._link, "rb_renew", self._gateway, self._lease, *self._only()):
+                while self._link and await self._call(self._link, "rb_renew", self._number, self._lease, *self._only()):
                     LOG.warning("a gateway's lease is over: its sessions have ended, and their jobs come back")
             except OSError:
                 self._close_link()
@@ -214,7 +198,7 @@ class Upkeep:
         if self.is_joined:
             LOG.error("queue %s does not know this gateway any more: its sessions have ended", self._queue)
             self.is_joined = False
-            self._forgotten()
+            self._gateway.stop_all()
             self._must_join.set()
 
     def _only(self) -> list[str]:
@@ -228,7 +212,7 @@ class Upkeep:
             if self._calls.is_late():
                 self._close_link()
 
-    async def _until_done(self, make: Callable[[], Awaitable[Made]]) -> Made:
+    async def _until_done(self, make: Callable[[], Awaitable[Link]]) -> Link:
         told = ""
         while True:
             try:

@@ -53,10 +53,6 @@ class Waiting(Generic[Waiter]):
         """It waits no more. A try for it may be under way, and is answered all the same."""
         self._order.pop(waiter, None)
 
-    def all(self) -> list[Waiter]:
-        """All who wait, in their order."""
-        return list(self._order)
-
     def hear(self, moment: int, queue: int = 0) -> None:
         """An element of this queue expires at this moment, and may be the earliest."""
         self._dues[queue] = min(moment, self._dues.get(queue, moment))

@@ -3,11 +3,12 @@ from __future__ import annotations
 
 import asyncio
 import time
+from dataclasses import dataclass, field
 from itertools import zip_longest
 from typing import Callable, Optional, Sequence
 
 from .calls import Calls
-from .limits import SECOND
+from .protocol import SECOND
 from .waiting import Waiting
 
 LATER = b"LATER"
@@ -36,20 +37,20 @@ class Later:
         return int(self.starts[0]) + timeout - self.now
 
 
+@dataclass(eq=False)
 class Wait:
     """One wait."""
 
-    __slots__ = ("seat", "calls", "answered", "timer", "asks_at_end", "is_tried", "is_over")
-
-    def __init__(self, seat: bytes, calls: list[bytes], answered: WaitAnswered, asks_at_end: bool) -> None:
-        self.seat, self.calls, self.answered = seat, calls, answered
-        """`calls` has one for each queue."""
-        self.asks_at_end = asks_at_end
-        """A timed poll whose deadline comes before the longest wait is answered by a queue."""
-        self.timer: asyncio.TimerHandle
-        self.is_tried = False
-        self.is_over = False
-        """Its time is over. A try that is under way still gives what it finds."""
+    seat: bytes
+    calls: list[bytes]
+    """One for each queue."""
+    answered: WaitAnswered
+    asks_at_end: bool
+    """A timed poll whose deadline comes before the longest wait is answered by a queue."""
+    timer: asyncio.TimerHandle = field(init=False)
+    is_tried: bool = False
+    is_over: bool = False
+    """Its time is over. A try that is under way still gives what it finds."""
 
 
 class Waits:
@@ -140,8 +141,11 @@ class Waits:
         if replies is None:  # whether an element is left for the others is not known either
             self._waiting.hear(now, queue)
             self._waiting.end_tries(now, False)
-        else:
-            self._end_tries(replies[-1], now)
+        else:  # the last of the replies tells whether there may be more
+            found_all = not replies[-1].startswith(LATER)
+            if not found_all:
+                self.note(Later(replies[-1]), queue)
+            self._waiting.end_tries(now, found_all)
         for wait, reply in zip_longest(tried, replies or []):
             wait.is_tried = False
             if reply is None or not reply.startswith(LATER):
@@ -149,12 +153,6 @@ class Waits:
             elif wait.is_over:
                 self._end(wait)
         self._look()
-
-    def _end_tries(self, last: bytes, now: int) -> None:
-        """The last of the replies to tries tells whether there may be more."""
-        if last.startswith(LATER):
-            self.note(Later(last), self._waiting.tried_queue)
-        self._waiting.end_tries(now, not last.startswith(LATER))
 
     def _end(self, wait: Wait) -> None:
         """Its time is over: a timed poll whose deadline has come asks once more, and is answered NONE."""

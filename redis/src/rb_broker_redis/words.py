@@ -1,19 +1,19 @@
-"""The words of the command line that several commands take."""
+"""The words of the command line that several commands take, and what they name."""
 from __future__ import annotations
 
 import argparse
-from typing import Callable, NoReturn, Optional
+from typing import Callable, NoReturn
 
 from .address import DEFAULT, VARIABLE, Address, address_of
-from .durations import read_duration
+from .dates import read_duration
+from .ending import NAME
 from .keys import checked_name
-from .limits import MOST_ATTEMPTS
-from .policy import Policy
+from .protocol import MOST_ATTEMPTS
+from .queue import Queue, connect
+from .shards import MOST_SHARDS, shard_names
 
-NAME = "rb_broker_redis"
-
-DEFAULT_DELAY = "30s"
-DEFAULT_ATTEMPTS = 20
+NO_POLICY = ("", "", "")
+"""The words of the policy that the queue has, as `rb_join` of broker.lua takes them."""
 
 
 class Parser(argparse.ArgumentParser):
@@ -28,8 +28,8 @@ def add_command(
 ) -> Parser:
     """Adds a command. What it is about begins with a sentence, which an empty line ends."""
     sentence, _, rest = about.partition("\n\n")
-    parser = commands.add_parser(name, help=sentence, description=f"{sentence}.", epilog=rest, allow_abbrev=False,
-                                 formatter_class=argparse.RawDescriptionHelpFormatter)
+    parser = commands.add_parser(name, help=sentence, description=f"{sentence}." if rest else None, epilog=rest,
+                                 allow_abbrev=False, formatter_class=argparse.RawDescriptionHelpFormatter)
     parser.set_defaults(run=run, parser=parser)
     return parser
 
@@ -66,20 +66,31 @@ def add_redis_word(parser: argparse.ArgumentParser) -> None:
                         help=f"the Redis, or @FILE for a file that has its URL (default: ${VARIABLE}, or {DEFAULT})")
 
 
-def add_queue_words(parser: argparse.ArgumentParser) -> None:
-    """--redis and --queue."""
-    add_redis_word(parser)
-    parser.add_argument("--queue", metavar="NAME", required=True, type=sentence_of(checked_name),
-                        help="the name of the queue")
-
-
 def address_in(asked: argparse.Namespace) -> Address:
     """The address that --redis names, or the environment."""
     return asked.redis or address_of(None)
 
 
+def add_queue_words(parser: argparse.ArgumentParser) -> None:
+    """--redis, --queue and --shards."""
+    add_redis_word(parser)
+    parser.add_argument("--queue", metavar="NAME", required=True, type=sentence_of(checked_name),
+                        help="the name of the queue")
+    parser.add_argument("--shards", metavar="N", type=whole(1, MOST_SHARDS), default=1,
+                        help="the number of queues under that name (default: 1)")
+
+
+def queues_in(asked: argparse.Namespace) -> list[Queue]:
+    """The queue, or its shards, with the functions that they need."""
+    client = connect(address_in(asked), timeout=60.0)  # a queue may be large
+    queues = [Queue(client, name) for name in shard_names(asked.queue, asked.shards)]
+    for it in queues:
+        it.load_functions()
+    return queues
+
+
 def add_policy_words(parser: argparse.ArgumentParser, delay: str, attempts: int) -> None:
-    """--delay, --rate and --attempts, with what the first two are without a word."""
+    """--delay, --rate and --attempts, with what the first and the last are without a word."""
     pace = parser.add_mutually_exclusive_group()
     pace.add_argument("--delay", metavar="TIME", type=duration,
                       help=f"the next attempt expires so long after a failure (default: {delay})")
@@ -87,15 +98,16 @@ def add_policy_words(parser: argparse.ArgumentParser, delay: str, attempts: int)
                       help="it expires so long after the first expiry, for each attempt so far")
     parser.add_argument("--attempts", metavar="N", type=whole(1, MOST_ATTEMPTS),
                         help=f"a job has N attempts in all, 1 to {MOST_ATTEMPTS} (default: {attempts})")
+    parser.set_defaults(default_delay=read_duration(delay), default_attempts=attempts)
 
 
-def named_policy(asked: argparse.Namespace, delay: str, attempts: int) -> Optional[Policy]:
-    """The policy that the words name, or None if they name nothing of one."""
-    named = (asked.delay, asked.rate, asked.attempts) != (None, None, None)
-    return policy_in(asked, delay, attempts) if named else None
+def names_policy(asked: argparse.Namespace) -> bool:
+    """Whether the words name something of a policy."""
+    return (asked.delay, asked.rate, asked.attempts) != (None, None, None)
 
 
-def policy_in(asked: argparse.Namespace, delay: str, attempts: int) -> Policy:
-    """The policy that the words name. What they leave out is as it was said to `add_policy_words`."""
-    pace, period = ("rate", asked.rate) if asked.rate is not None else ("delay", asked.delay)
-    return Policy(pace, read_duration(delay) if period is None else period, asked.attempts or attempts)
+def policy_in(asked: argparse.Namespace) -> tuple[str, str, str]:
+    """The policy that the words name, as `rb_join` of broker.lua takes it. What they leave out is as it was said to
+    `add_policy_words`."""
+    pace, period = ("delay", asked.delay) if asked.rate is None else ("rate", asked.rate)
+    return pace, f"{asked.default_delay if period is None else period:020}", str(asked.attempts or asked.default_attempts)

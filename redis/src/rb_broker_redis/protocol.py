@@ -1,7 +1,16 @@
-"""The replies to refused lines."""
+"""The protocol's limits, and its replies to lines that are refused."""
 from __future__ import annotations
 
 from enum import Enum
+
+GREATEST_NUMBER = 2**64 - 1
+MOST_LINE_BYTES = 256
+MOST_HELD = 64
+MOST_ATTEMPTS = 1_000
+MOST_CALLS = 1_000_000
+
+SECOND = 1_000_000_000
+"""Nanoseconds."""
 
 
 class ErrorReply(bytes, Enum):
