@@ -32,6 +32,17 @@ def number(kind: Callable[[str], Number], least: Number, most: Number) -> Callab
     return read
 
 
+def whole_number(least: int, most: int, told: str = "") -> Callable[[str], int]:
+    """Reads a number of digits alone, from `least` to `most`, which may be told in other words."""
+
+    def read(word: str) -> int:
+        if not (word.isascii() and word.isdigit() and least <= int(word) <= most):
+            raise argparse.ArgumentTypeError(f"{word!r} is no number from {least} to {told or f'{most:,}'}")
+        return int(word)
+
+    return read
+
+
 def give_up_output() -> None:
     """Nobody takes standard output any more, and its last flush must not find that once again."""
     os.dup2(os.open(os.devnull, os.O_WRONLY), sys.stdout.fileno())

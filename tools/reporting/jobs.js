@@ -27,7 +27,7 @@ function fact(origin) {
 
 function fill() {
   jobs.tBodies[0].replaceChildren(...order.slice(0, shown).map((it) =>
-    row([link(it.origin), code(it.words), ...it.texts], "td")));
+    row([link(it.origin), element("code", it.words), ...it.texts], "td")));
   shownNote.textContent = counted(Math.min(shown, order.length), "job") + " of the "
     + order.length.toLocaleString("en-US") + " on this page.";
   more.hidden = shown >= order.length;
@@ -46,16 +46,12 @@ function sort(column) {
 }
 
 for (const [column, heading] of headings.entries()) {
-  const button = document.createElement("button");
-  button.className = "sort";
-  button.textContent = heading.textContent;
+  const button = Object.assign(element("button", heading.textContent), { className: "sort" });
   button.addEventListener("click", () => sort(column));
   heading.replaceChildren(button);
 }
 
-const more = document.createElement("button");
-more.textContent = "Show " + AT_ONCE + " more";
-more.id = "more-jobs";
+const more = Object.assign(element("button", "Show " + AT_ONCE + " more"), { id: "more-jobs" });
 more.hidden = AT_FIRST >= Object.keys(told.jobs).length;
 more.addEventListener("click", () => {
   shown += AT_ONCE;

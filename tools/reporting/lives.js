@@ -47,12 +47,6 @@ function show(origin) {
   life.tBodies[0].replaceChildren(...attempts.map((attempt) => row(cells(attempt), "td")));
 }
 
-function item(origin) {
-  const made = document.createElement("li");
-  made.append(link(origin), ": ", code(told.jobs[origin][0]));
-  return made;
-}
-
 // Shows the one job of a payload, or lists all.
 function find(words) {
   const isBeginning = words.endsWith("*");
@@ -67,7 +61,8 @@ function find(words) {
   }
   life.hidden = true;
   found.hidden = origins.length === 0;
-  found.replaceChildren(...origins.slice(0, MOST_FOUND).map(item));
+  found.replaceChildren(...origins.slice(0, MOST_FOUND).map((origin) =>
+    element("li", link(origin), ": ", element("code", told.jobs[origin][0]))));
   const more = origins.length > MOST_FOUND ? ", of which " + MOST_FOUND + " are listed" : "";
   answer.textContent = words === "" ? "" : origins.length === 0 ? "No job of payload " + words + " is on this page."
     : counted(origins.length, "job") + " of payload " + words + more;

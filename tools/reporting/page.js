@@ -32,28 +32,16 @@ function moment(nanoseconds, run) {
   return text + String(date % 1000000n).padStart(6, "0");
 }
 
-function row(cells, kind) {
-  const made = document.createElement("tr");
-  for (const cell of cells) {
-    const place = made.appendChild(document.createElement(kind));
-    if (cell instanceof Node) {
-      place.appendChild(cell);
-    } else {
-      place.textContent = cell === null ? "" : String(cell);
-    }
-  }
+function element(kind, ...content) {
+  const made = document.createElement(kind);
+  made.append(...content.map((it) => it ?? ""));
   return made;
+}
+
+function row(cells, kind) {
+  return element("tr", ...cells.map((it) => element(kind, it)));
 }
 
 function link(origin) {
-  const made = document.createElement("a");
-  made.href = "#job=" + origin;
-  made.textContent = origin;
-  return made;
-}
-
-function code(words) {
-  const made = document.createElement("code");
-  made.textContent = words;
-  return made;
+  return Object.assign(element("a", origin), { href: "#job=" + origin });
 }

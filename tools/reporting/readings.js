@@ -4,6 +4,10 @@
 const SHARES = 1000;
 const LEAP = 20;
 
+function set(element, attributes) {
+  Object.entries(attributes).forEach(([name, value]) => element.setAttribute(name, value));
+}
+
 class Readings {
   constructor(drawing, readings) {
     this.drawing = drawing;
@@ -14,22 +18,16 @@ class Readings {
     this.box.className = "reading";
     this.box.hidden = true;
     this.cursor = this.picture.appendChild(document.createElementNS("http://www.w3.org/2000/svg", "line"));
-    this.cursor.setAttribute("class", "cursor");
-    this.cursor.setAttribute("y1", "20");
-    this.cursor.setAttribute("y2", String(this.picture.getAttribute("height") - 48));
+    set(this.cursor, { class: "cursor", y1: 20, y2: this.picture.getAttribute("height") - 48 });
     this.hide();
     drawing.tabIndex = 0;
-    drawing.setAttribute("role", "slider");
-    drawing.setAttribute("aria-label", this.picture.getAttribute("aria-label"));
-    drawing.setAttribute("aria-valuemin", "1");
-    drawing.setAttribute("aria-valuemax", String(readings.length));
+    set(drawing, { role: "slider", "aria-label": this.picture.getAttribute("aria-label"), "aria-valuemin": 1,
+      "aria-valuemax": readings.length });
     this.say(0);
-    drawing.addEventListener("pointermove", (event) => this.point(event));
-    drawing.addEventListener("pointerdown", (event) => this.point(event));
-    drawing.addEventListener("pointerleave", () => this.hide());
-    drawing.addEventListener("keydown", (event) => this.press(event));
-    drawing.addEventListener("focus", () => this.focus());
-    drawing.addEventListener("blur", () => this.hide());
+    for (const [kind, react] of Object.entries({ pointermove: this.point, pointerdown: this.point,
+      pointerleave: this.hide, keydown: this.press, focus: this.focus, blur: this.hide })) {
+      drawing.addEventListener(kind, (event) => react.call(this, event));
+    }
   }
 
   point(event) {
@@ -69,8 +67,7 @@ class Readings {
     this.place = place;
     const until = place + 1 < this.readings.length ? this.readings[place + 1][0] : SHARES;
     const share = (from + until) / 2 / SHARES;
-    this.cursor.setAttribute("x1", 100 * share + "%");
-    this.cursor.setAttribute("x2", 100 * share + "%");
+    set(this.cursor, { x1: 100 * share + "%", x2: 100 * share + "%" });
     this.cursor.removeAttribute("visibility");
     this.box.textContent = says;
     this.box.hidden = false;
@@ -81,7 +78,7 @@ class Readings {
   // What is shown from now on, in a plot that is drawn again.
   renew(readings) {
     this.readings = readings;
-    this.drawing.setAttribute("aria-valuemax", String(readings.length));
+    set(this.drawing, { "aria-valuemax": readings.length });
     if (this.box.hidden) {
       this.say(readings.length - 1);
     } else {
@@ -91,8 +88,8 @@ class Readings {
 
   // Tells a screen reader the value.
   say(place) {
-    this.drawing.setAttribute("aria-valuenow", String(place + 1));
-    this.drawing.setAttribute("aria-valuetext", (this.readings[place]?.[1] ?? "").replaceAll("\n", ", "));
+    const says = this.readings[place]?.[1] ?? "";
+    set(this.drawing, { "aria-valuenow": place + 1, "aria-valuetext": says.replaceAll("\n", ", ") });
   }
 
   // Puts the box beside the cursor, at the side that has more room.

@@ -142,37 +142,30 @@ def _jobs(history: History, roots: Sequence[int]) -> List[str]:
     return [*table(heading, rows, left=2), *_more(len(roots) - MOST_LISTED, "job")]
 
 
-class Life:
-    """The lines of a job's life: what became of each attempt. All moments are in full, and all dates to the
-    nanosecond."""
+def told_life(history: History, rows: Sequence[int], dates: Optional[Dates]) -> List[str]:
+    """What became of each attempt of the job of which these are the rows. All moments are in full, and all dates to
+    the nanosecond."""
+    elements, events, root = history.elements, history.events, rows[0]
 
-    def __init__(self, history: History, dates: Optional[Dates]) -> None:
-        self._history, self._dates = history, dates
+    def told(moment: int, run: int = 0) -> str:
+        return dates.text(moment, 9, run) if dates else str(moment)
 
-    def lines(self, rows: Sequence[int]) -> List[str]:
-        """The lines of the job of which these are the rows."""
-        elements, root = self._history.elements, rows[0]
-        head = (f"job {elements.origins[root]}: payload {elements.payload(root)}, "
-                f"first expiry {self._moment(elements.firsts[root])}, {counted(len(rows), 'element')}")
-        heading = ("attempt", "id", "offered at", "by seat", "expiry", "left at", "to seat", "by", "late by")
-        return [head, *table(heading, [self._attempt(row) for row in rows], left=0)]
-
-    def _moment(self, moment: int, run: int = 0) -> str:
-        return self._dates.text(moment, 9, run) if self._dates else str(moment)
-
-    def _event(self, event: int) -> List[str]:
+    def event_told(event: int) -> List[str]:
         """When an event took effect, and at which seat, of which run if there are several."""
-        events, run = self._history.events, self._history.run_of(event)
-        several = len(self._history.runs) > 1
-        seat = f"{events.seats[event]} of run {run}" if several else str(events.seats[event])
-        return [self._moment(events.moments[event], run), seat]
+        run = history.run_of(event)
+        seat = f"{events.seats[event]} of run {run}" if len(history.runs) > 1 else str(events.seats[event])
+        return [told(events.moments[event], run), seat]
 
-    def _attempt(self, row: int) -> List[str]:
-        elements, events = self._history.elements, self._history.events
+    lines = []
+    for row in rows:
         offered, left, expiry = elements.offered_in[row], elements.left_in[row], elements.expiries[row]
-        came = ["before", ""] if offered == NONE else self._event(offered)
-        words = [str(elements.attempts[row]), str(elements.ids[row]), *came, self._moment(expiry)]
-        if left == NONE:
-            return [*words, "", "", "still there", ""]
-        late = span(events.moments[left] - expiry) if events.acts[left] in acts.GIVES else ""
-        return [*words, *self._event(left), acts.KEYWORDS[events.acts[left]], late]
+        came = ["before", ""] if offered == NONE else event_told(offered)
+        went = ["", "", "still there", ""]
+        if left != NONE:
+            late = span(events.moments[left] - expiry) if events.acts[left] in acts.GIVES else ""
+            went = [*event_told(left), acts.KEYWORDS[events.acts[left]], late]
+        lines.append([str(elements.attempts[row]), str(elements.ids[row]), *came, told(expiry), *went])
+    head = (f"job {elements.origins[root]}: payload {elements.payload(root)}, first expiry "
+            f"{told(elements.firsts[root])}, {counted(len(rows), 'element')}")
+    heading = ("attempt", "id", "offered at", "by seat", "expiry", "left at", "to seat", "by", "late by")
+    return [head, *table(heading, lines, left=0)]

@@ -6,7 +6,7 @@ import contextlib
 import io
 import unittest
 
-from common.words import number, parser_of
+from common.words import number, parser_of, whole_number
 
 DOC = """Does something: tools/it [--n N]
 
@@ -43,3 +43,11 @@ class NumberTest(unittest.TestCase):
 
     def test_what_is_no_number_at_all(self) -> None:
         self.assertRaises(argparse.ArgumentTypeError, number(float, 0, 1), "nan")
+
+    def test_numbers_of_digits_alone(self) -> None:
+        read = whole_number(1, 1000)
+        self.assertEqual([read("1"), read("1000")], [1, 1000])
+        for word in ("0", "1001", "-1", "1_0", "٣", "1s", ""):
+            with self.assertRaisesRegex(argparse.ArgumentTypeError, f"^{word!r} is no number from 1 to 1,000$"):
+                read(word)
+        self.assertRaisesRegex(argparse.ArgumentTypeError, "from 0 to all$", whole_number(0, 9, "all"), "10")

@@ -5,7 +5,8 @@ import subprocess
 import sys
 import tempfile
 import unittest
-from typing import List, Tuple
+from pathlib import Path
+from typing import List, Sequence, Tuple
 
 from checking.testing import RoomTest, call_tool, run_tool
 from histories.tests.support import read
@@ -55,6 +56,16 @@ class PageTest(unittest.TestCase):
         cls.room = room.name
         cls.browser = Browser(tests.BROWSER, cls.room)
         cls.addClassCleanup(cls.browser.end)
+
+    @classmethod
+    def page(cls, name: str, texts: Sequence[str], *options: str) -> str:
+        """The path of the page of these runs, of which one is in the file run.txt."""
+        paths = [f"{cls.room}/{f'{name}-{place}' if place else 'run'}.txt" for place in range(len(texts))]
+        for path, text in zip(paths, texts):
+            Path(path).write_text(text, "utf-8")
+        status, _, errors = call(*paths, "--html", f"{cls.room}/{name}.html", *options)
+        assert status == 0, errors
+        return f"{cls.room}/{name}.html"
 
 
 def call(*words: str) -> Tuple[int, str, str]:

@@ -3,47 +3,54 @@ payloads are text."""
 from __future__ import annotations
 
 import time
-from typing import Any, Tuple
+from typing import Any, List, Tuple
 
 from histories.tests.support import RUN, offer, text_of
-from reporting.tests.support import PageTest, call, made
+from reporting.tests.support import PageTest, made
 from reporting.tests.test_page import HOSTILE, hostile_text
 from reporting.tests.test_series import RUNS
+
+PLOTS = ("rates", "lateness", "spread", "attempts", "seats")  # and the depth
 
 FOUND = "[...document.querySelectorAll('#found li')].map((it) => it.textContent)"
 SORTED = "[...document.querySelectorAll('#jobs tbody tr')].map((row) => row.cells[0].textContent).join(' ')"
 LIFE = "[...document.querySelectorAll('#life tbody tr')].map((row) => [...row.cells].map((cell) => cell.textContent))"
+READING = "[...document.querySelectorAll('#plot-depth .reading')].map((it) => it.hidden ? null : it.textContent)"
 PATIENCE = 10.0  # seconds
-ANSWER = "document.getElementById('answer').textContent"
 
 
 class BrowserTest(PageTest):
     def setUp(self) -> None:
         self.browser.complaints.clear()
 
-    def show(self, text: str, job: str = "") -> None:
+    def tearDown(self) -> None:
+        self.assertEqual(self.browser.complaints, [])
+
+    def show(self, *texts: str, options: Tuple[str, ...] = (), job: str = "") -> None:
         """Opens the page of a history, at a job if one is named."""
         # A page of its own: to go to another job of the page that is shown loads nothing.
-        history, page = f"{self.room}/run.txt", f"{self.room}/{self._testMethodName}.html"
-        with open(history, "w", encoding="utf-8") as file:
-            file.write(text)
-        self.assertEqual(call(history, "--html", page)[0], 0)
+        page = self.page(self._testMethodName, texts, *options)
         self.browser.open(page + (f"#job={job}" if job else ""))
 
-    def look_up(self, words: str, field: str = "origin") -> None:
-        """Types an origin or a payload into its box."""
+    def told(self, selector: str, what: str = "textContent") -> Any:
+        """What the page says at a place, or whether it is hidden and the like."""
+        return self.browser.value(f"document.querySelector(`{selector}`).{what}")
+
+    def look_up(self, words: str, field: str = "origin") -> str:
+        """Types an origin or a payload into its box. What the page answers."""
         self.browser.value(f"document.getElementById('{field}').value = ''; document.getElementById('{field}').focus()")
         self.browser.type(words)
+        return str(self.told("#answer"))
 
-    def place(self, element: str) -> Tuple[float, float, float, float]:
+    def place(self, element: str) -> List[float]:
         """Left, top, width and height of what a selector names, once it is in sight."""
-        left, top, width, height = self.browser.value(f"""(() => {{
+        place: List[float] = self.browser.value(f"""(() => {{
             const it = document.querySelector('{element}');
             it.scrollIntoView({{ block: "center" }});
             const {{ left, top, width, height }} = it.getBoundingClientRect();
             return [left, top, width, height];
         }})()""")
-        return left, top, width, height
+        return place
 
     def click(self, element: str) -> None:
         left, top, width, height = self.place(element)
@@ -58,9 +65,8 @@ class BrowserTest(PageTest):
 
     def test_a_job_is_found_by_its_origin(self) -> None:
         self.show(RUN)
-        self.assertTrue(self.browser.value("document.getElementById('life').hidden"))
-        self.look_up("3")
-        self.assertEqual(self.browser.value(ANSWER), "Job 3, payload c, first expiry 100, 2 elements")
+        self.assertTrue(self.told("#life", "hidden"))
+        self.assertEqual(self.look_up("3"), "Job 3, payload c, first expiry 100, 2 elements")
         self.assertEqual(self.browser.value(LIFE), [
             ["1", "3", "100", "1", "100", "120", "2", "take", "20 ns"],
             ["2", "4", "160", "1", "300", "310", "1", "drain", "10 ns"],
@@ -68,49 +74,43 @@ class BrowserTest(PageTest):
         self.look_up("1")
         self.assertEqual(self.browser.value(LIFE), [["2", "2", "before", "", "150", "170", "2", "pollfor", "20 ns"]])
         for words in ("7", "constructor", "__proto__", "<b>"):
-            self.look_up(words)
-            self.assertEqual(self.browser.value(ANSWER), f"No job of origin {words} is on this page.")
-            self.assertTrue(self.browser.value("document.getElementById('life').hidden"))
-        self.assertEqual(self.browser.complaints, [])
+            self.assertEqual(self.look_up(words), f"No job of origin {words} is on this page.")
+            self.assertTrue(self.told("#life", "hidden"))
 
     def test_jobs_are_found_by_their_payload(self) -> None:
         payloads = ["mail-1", "mail-12", "mail-1", "bill", "mail-*"]
         self.show(text_of(*[offer(id, 0, payload) for id, payload in enumerate(payloads)]))
         for words, origins in (("mail-1", "02"), ("mail-1*", "012"), ("mail-*", "0124"), ("*", "01234")):
-            self.look_up(words, "payload")
-            self.assertEqual(self.browser.value(ANSWER), f"{len(origins)} jobs of payload {words}")
+            self.assertEqual(self.look_up(words, "payload"), f"{len(origins)} jobs of payload {words}")
             self.assertEqual(self.browser.value(FOUND), [f"{it}: {payloads[int(it)]}" for it in origins])
         self.click("#found li:nth-child(2) a")
-        self.shows(ANSWER, "Job 1, payload mail-12, first expiry 0, 1 element")
+        answer = "document.getElementById('answer').textContent"
+        self.shows(answer, "Job 1, payload mail-12, first expiry 0, 1 element")
         self.look_up("bill", "payload")
-        self.shows(ANSWER, "Job 3, payload bill, first expiry 0, 1 element")
-        self.assertTrue(self.browser.value("document.getElementById('found').hidden"))
-        self.look_up("<b>", "payload")
-        self.assertEqual(self.browser.value(ANSWER), "No job of payload <b> is on this page.")
-        self.assertEqual(self.browser.complaints, [])
+        self.shows(answer, "Job 3, payload bill, first expiry 0, 1 element")
+        self.assertTrue(self.told("#found", "hidden"))
+        self.assertEqual(self.look_up("<b>", "payload"), "No job of payload <b> is on this page.")
 
     def test_the_table_of_jobs_is_sorted(self) -> None:
         """Fifteen jobs, of which twelve are shown at first. Job k was given k nanoseconds late, and job 3 twice."""
         lines = [offer(id, 0, f"p{id}") for id in range(15)]
         lines += [f"1 {id} {id} take {id}" for id in range(15)]
         self.show(text_of(*lines, "1 14 14 offer 15 14 3 0 2 p3", "1 14 14 poll 15"))
-        self.assertEqual(self.browser.value("document.querySelectorAll('#jobs tbody tr').length"), 12)
-        self.assertEqual(self.browser.value(SORTED).split()[:3], ["3", "0", "1"])
+        shown = self.browser.value(SORTED).split()
+        self.assertEqual((len(shown), shown[:3]), (12, ["3", "0", "1"]))
         self.click("#jobs th:nth-child(5) button")
         self.click("#more-jobs")
         descending = [str(id) for id in range(14, -1, -1)]
         self.shows(SORTED, " ".join(descending))
-        self.assertEqual(self.browser.value("document.querySelector('th[aria-sort]').textContent"), "latest by")
-        self.browser.value("document.querySelector('#jobs th:nth-child(5) button').focus()")
+        self.assertEqual(self.told("th[aria-sort]"), "latest by")
+        self.told("#jobs th:nth-child(5) button", "focus()")
         self.browser.press("Enter")
         self.shows(SORTED, " ".join(descending[::-1]))
         self.click("#jobs th:nth-child(4) button")
         self.shows(f"({SORTED}).split(' ')[0]", "3")
-        self.assertEqual(self.browser.value("document.getElementById('jobs-shown').textContent"),
-                         "15 jobs of the 15 on this page.")
+        self.assertEqual(self.told("#jobs-shown"), "15 jobs of the 15 on this page.")
         self.click("#jobs th:nth-child(2) button")
         self.shows(f"({SORTED}).split(' ').slice(0, 3)", ["9", "8", "7"])
-        self.assertEqual(self.browser.complaints, [])
 
     def test_a_sorted_row_is_told_as_before(self) -> None:
         """The script makes the rows that the page had."""
@@ -123,26 +123,22 @@ class BrowserTest(PageTest):
 
     def test_the_value_under_the_pointer(self) -> None:
         self.show(RUN)
-        reading = "document.querySelector('#plot-depth .reading')"
-        self.assertTrue(self.browser.value(f"{reading}.hidden"))
-        left, top, width, height = self.place("#plot-depth .axis")
+        left, top, width, _ = self.place("#plot-depth .axis")
         for moment, says in ((150, "50 ns\n1 in the queue\n0 to 1 of these expired"),
                              (165, "65 ns\n2 in the queue\n1 of these expired")):
             # One of 211 nanoseconds; the scale ends where the last one begins.
             self.browser.point(left + width * (moment + 0.3 - 100) / 210, top - 90)
-            self.shows(f"[{reading}.hidden, {reading}.textContent]", [False, says])
+            self.shows(READING, [says])
         self.browser.point(left - 40, top - 90)
-        self.shows(f"{reading}.hidden", True)
-        for plot in ("rates", "lateness", "spread", "attempts", "seats"):
-            left, top, width, height = self.place(f"#plot-{plot} .axis")
+        self.shows(READING, [None])
+        for plot in PLOTS:
+            left, top, _, _ = self.place(f"#plot-{plot} .axis")
             self.browser.point(left + 2, top - 60)
             told = self.browser.value(f"told.readings.{plot}[0][1]")
             self.shows(f"document.querySelector('#plot-{plot} .reading').textContent", told)
-        self.assertEqual(self.browser.complaints, [])
 
     def test_the_value_at_the_keyboard(self) -> None:
         self.show(RUN)
-        reading = "document.querySelector('#plot-depth .reading')"
         told = [says for _, says in self.browser.value("told.readings.depth")]
         self.browser.value("document.querySelector('h1').tabIndex = -1; document.querySelector('h1').focus()")
         self.browser.press("Tab")
@@ -153,38 +149,28 @@ class BrowserTest(PageTest):
             if key:
                 self.browser.press(key)
             place = min(max(0, place + leap), len(told) - 1)
-            self.shows(f"[{reading}.hidden, {reading}.textContent]", [False, told[place]])
+            self.shows(READING, [told[place]])
             spoken = self.browser.value("document.activeElement.getAttribute('aria-valuetext')")
             self.assertEqual(spoken, told[place].replace("\n", ", "))
         self.browser.press("Escape")
-        self.shows(f"{reading}.hidden", True)
-        for plot in ("rates", "lateness", "spread", "attempts", "seats"):
+        self.shows(READING, [None])
+        for plot in PLOTS:
             self.browser.press("Tab")
             self.shows("document.activeElement.id", f"plot-{plot}")
             self.browser.press("End")
             last = self.browser.value(f"told.readings.{plot}.filter(([, says]) => says !== '').at(-1)[1]")
             self.shows(f"document.querySelector('#plot-{plot} .reading').textContent", last)
-        self.assertEqual(self.browser.complaints, [])
 
     def test_a_link_shows_a_job(self) -> None:
-        self.show(RUN, "0")
-        self.assertIn("payload a", self.browser.value(ANSWER))
-        shown = self.browser.value(f"""new Promise((then) => {{
-            addEventListener("hashchange", () => then({ANSWER}));
-            document.querySelector('a[href="#job=3"]').click();
-        }})""")
-        self.assertIn("payload c", shown)
-        self.assertEqual(self.browser.complaints, [])
+        self.show(RUN, job="0")
+        self.assertIn("payload a", self.told("#answer"))
+        self.told('a[href="#job=3"]', "click()")
+        self.shows("document.getElementById('answer').textContent.slice(0, 16)", "Job 3, payload c")
 
     def test_a_life_over_several_runs_with_dates(self) -> None:
-        paths = [f"{self.room}/series-{place}.txt" for place in range(len(RUNS))]
-        for path, text in zip(paths, RUNS):
-            with open(path, "w", encoding="ascii") as file:
-                file.write(text)
-        page, began = f"{self.room}/series.html", ("2026-11-26T08:00Z", "2026-11-26T09:00Z", "2026-11-27T08:00Z")
-        self.assertEqual(call(*paths, "--html", page, *(it for date in began for it in ("--began", date)))[0], 0)
-        self.browser.open(f"{page}#job=0")
-        self.assertIn("first expiry 2026-11-26 08:00:00.000000000, 3 elements", self.browser.value(ANSWER))
+        began = ("2026-11-26T08:00Z", "2026-11-26T09:00Z", "2026-11-27T08:00Z")
+        self.show(*RUNS, options=tuple(it for date in began for it in ("--began", date)), job="0")
+        self.assertIn("first expiry 2026-11-26 08:00:00.000000000, 3 elements", self.told("#answer"))
         self.assertEqual(self.browser.value(LIFE), [
             ["1", "0", "2026-11-26 08:00:00.000000000", "1 of run 1", "2026-11-26 08:00:00.000000000",
              "2026-11-26 08:00:00.000000005", "2 of run 1", "take", "5 ns"],
@@ -193,25 +179,20 @@ class BrowserTest(PageTest):
             ["3", "3", "2026-11-26 09:00:00.000001000", "1 of run 2", "2026-11-27 08:00:00.000001000",
              "2026-11-27 08:00:00.000001010", "3 of run 3", "poll", "10 ns"],
         ])
-        runs = self.browser.value("document.querySelectorAll('#plot-depth .run').length")
-        self.assertEqual(runs, 2)
-        self.assertEqual(self.browser.complaints, [])
+        self.assertEqual(self.browser.value("document.querySelectorAll('#plot-depth .run').length"), 2)
 
     def test_greatest_moments_are_told_in_full(self) -> None:
         greatest = 2**64 - 1
-        self.show(f"history 1\n0 0 0 offer 0 1 0 1 a\n0 {greatest} {greatest} poll 0\nend 2\n", "0")
+        self.show(f"history 1\n0 0 0 offer 0 1 0 1 a\n0 {greatest} {greatest} poll 0\nend 2\n", job="0")
         self.assertEqual(self.browser.value(LIFE)[0][5:], [str(greatest), "0", "poll", "213,504 d"])
-        self.assertEqual(self.browser.complaints, [])
 
     def test_payloads_stay_text(self) -> None:
         self.show(hostile_text())
         shown = self.browser.value("[...document.querySelectorAll('code')].map((it) => it.textContent)")
         self.assertEqual(shown, HOSTILE)
         for origin, payload in enumerate(HOSTILE):
-            self.look_up(str(origin))
-            self.assertEqual(self.browser.value(ANSWER), f"Job {origin}, payload {payload}, first expiry 0, 1 element")
+            self.assertEqual(self.look_up(str(origin)), f"Job {origin}, payload {payload}, first expiry 0, 1 element")
         self.assertEqual(self.browser.value("[document.scripts.length, document.images.length]"), [2, 0])
-        self.assertEqual(self.browser.complaints, [])
 
     def test_a_script_in_the_page_would_not_run(self) -> None:
         """What the page's policy is for: even markup that got through is not run."""
@@ -220,19 +201,22 @@ class BrowserTest(PageTest):
         self.browser.value("document.body.appendChild(document.createElement('script')).text = 'document.title = 2'")
         self.assertEqual(self.browser.value("document.title"), "run.txt: report")
         self.assertNotEqual(self.browser.complaints, [])
+        self.browser.complaints.clear()
 
     def test_a_large_page(self) -> None:
         self.show(made(30_000))
+
+        def drawn(plot: str, mark: str, part: str = "") -> int:
+            """How many marks a plot has, or how many parts its paths."""
+            count = f"it.getAttribute('d').split('{part}').length - 1" if part else "1"
+            return int(self.browser.value(
+                f"[...document.querySelectorAll('#plot-{plot} {mark}')].reduce((sum, it) => sum + ({count}), 0)"))
+
         for kind in ("standing", "expired"):
-            drawn = self.browser.value(f"document.querySelector('.line.{kind}').getAttribute('d').split('V').length")
-            note = self.browser.value("document.querySelector('#plot-depth').nextSibling.textContent")
-            self.assertIn(f"{kind} {drawn:,} points", note)
-        marks = {"lateness": ".dash.median", "spread": "rect", "attempts": "rect", "seats": ".line.seat"}
-        for plot, mark in marks.items():
-            drawn = self.browser.value(f"""[...document.querySelectorAll('#plot-{plot} {mark}')].reduce((sum, it) =>
-                sum + (it.matches('.dash') ? it.getAttribute('d').split('M').length - 1 : 1), 0)""")
-            note = self.browser.value(f"document.querySelector('#plot-{plot}').nextSibling.textContent")
-            self.assertTrue(note.startswith(f"{drawn:,} "), f"{plot}: {drawn} drawn, {note}")
+            self.assertIn(f"{kind} {1 + drawn('depth', f'.line.{kind}', 'V'):,} points", self.told("#plot-depth ~ .note"))
+        for plot, count in (("lateness", drawn("lateness", ".dash.median", "M")), ("spread", drawn("spread", "rect")),
+                            ("attempts", drawn("attempts", "rect")), ("seats", drawn("seats", ".line.seat"))):
+            note = self.told(f"#plot-{plot} ~ .note")
+            self.assertTrue(note.startswith(f"{count:,} "), f"{plot}: {count} drawn, {note}")
         sizes = self.browser.value("[...document.querySelectorAll('svg')].map((it) => it.getBBox().width)")
         self.assertTrue(all(width > 500 for width in sizes), sizes)
-        self.assertEqual(self.browser.complaints, [])

@@ -2,9 +2,9 @@
 from __future__ import annotations
 
 import math
-from typing import List, Tuple
+from typing import Dict
 
-from reporting.tests.support import PageTest, call, made
+from reporting.tests.support import PageTest, made
 from reporting.tests.test_plots import backlog
 from reporting.tests.test_series import RUNS
 
@@ -56,30 +56,24 @@ def contrast(one: str, other: str) -> float:
 
 
 class SightTest(PageTest):
-    pages: List[Tuple[str, str]]
+    pages: Dict[str, str]
 
     @classmethod
     def setUpClass(cls) -> None:
         super().setUpClass()
         dates = [word for second in (0, 3600, 7200) for word in ("--began", f"@{1_795_680_000 + second}")]
-        cls.pages = [cls.page("made", [made(30_000)]),
-                     cls.page("backlog", [backlog()], "--began", "2026-11-26T08:00:00Z"),
-                     cls.page("series", RUNS, *dates, "--attempts", "3")]
+        cls.pages = {"made": cls.page("made", [made(30_000)]),
+                     "backlog": cls.page("backlog", [backlog()], "--began", "2026-11-26T08:00:00Z"),
+                     "series": cls.page("series", RUNS, *dates, "--attempts", "3")}
 
-    @classmethod
-    def page(cls, name: str, texts: List[str], *options: str) -> Tuple[str, str]:
-        """A page, and its name."""
-        paths = [f"{cls.room}/{name}-{place}.txt" for place in range(len(texts))]
-        for path, text in zip(paths, texts):
-            with open(path, "w", encoding="ascii") as file:
-                file.write(text)
-        page = f"{cls.room}/{name}.html"
-        status, _, errors = call(*paths, "--html", page, *options)
-        assert status == 0, errors
-        return name, page
+    def setUp(self) -> None:
+        self.browser.complaints.clear()
+
+    def tearDown(self) -> None:
+        self.assertEqual(self.browser.complaints, [])
 
     def test_labels_at_every_width(self) -> None:
-        for name, page in self.pages:
+        for name, page in self.pages.items():
             self.browser.resize(WIDTHS[0], 800)
             self.browser.open(page)
             for width in WIDTHS:
@@ -90,10 +84,9 @@ class SightTest(PageTest):
                     self.assertGreaterEqual(height, 10)
                     self.assertGreater(words, 40)
                     self.assertLessEqual(self.browser.value("document.documentElement.scrollWidth"), width)
-        self.assertEqual(self.browser.complaints, [])
 
     def test_colors_light_and_dark(self) -> None:
-        self.browser.open(self.pages[0][1])
+        self.browser.open(self.pages["made"])
         for scheme, is_dark in (("light", False), ("dark", True)):
             self.browser.prefer(scheme)
             behind, words, marks = self.browser.value(COLORS)
@@ -103,10 +96,9 @@ class SightTest(PageTest):
                 for name, color in colors.items():
                     with self.subTest(scheme=scheme, name=name):
                         self.assertGreaterEqual(contrast(color, behind), least)
-        self.assertEqual(self.browser.complaints, [])
 
     def test_a_reading_stays_on_the_page(self) -> None:
-        self.browser.open(self.pages[0][1])
+        self.browser.open(self.pages["made"])
         for width in WIDTHS:
             self.browser.resize(width, 800)
             self.browser.value("document.querySelector('h1').tabIndex = -1; document.querySelector('h1').focus()")
