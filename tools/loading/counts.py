@@ -3,12 +3,37 @@ from __future__ import annotations
 
 import collections
 from dataclasses import dataclass, field
+from typing import NamedTuple
 
-from loading.clock import ServerClock
+
+class ServerClock:
+    """How far the server's moment is ahead of this machine's monotonic clock, in nanoseconds.
+
+    The server counts from a moment of its own, but both clocks go at the same speed, so the difference stays the
+    same. Each moment of the server that lies between two readings of ours bounds it. The closest bounds count.
+    """
+
+    def __init__(self) -> None:
+        self._least: list[int] = []  # the bounds, of which there is one or none
+        self._most: list[int] = []
+
+    def was_read(self, moment: int, before: int, after: int) -> None:
+        """The server's clock showed this moment between two readings of ours."""
+        self.was_reached(moment, after)
+        self._most = [min([*self._most, moment - before])]
+
+    def was_reached(self, moment: int, after: int) -> None:
+        """The server's clock had reached this moment before a reading of ours."""
+        self._least = [max([*self._least, moment - after])]
+
+    @property
+    def ahead(self) -> int:
+        """The middle between the bounds, or the only bound there is."""
+        bounds = self._least + self._most
+        return sum(bounds) // len(bounds) if bounds else 0
 
 
-@dataclass(frozen=True)
-class Lateness:
+class Lateness(NamedTuple):
     """How late jobs were, in microseconds."""
 
     median: int
@@ -50,8 +75,6 @@ class Counts:
         self._times.sort()  # most are in order since the last time
         if not self._times:
             return None
-        microseconds = [(it + self.clock.ahead) // 1000 for it in (self._at(0.5), self._at(0.99), self._times[-1])]
-        return Lateness(*microseconds)
-
-    def _at(self, share: float) -> int:
-        return self._times[int(len(self._times) * share)]
+        places = (int(len(self._times) * share) for share in (0.5, 0.99))
+        times = (*(self._times[it] for it in places), self._times[-1])
+        return Lateness(*((it + self.clock.ahead) // 1000 for it in times))

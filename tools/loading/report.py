@@ -8,16 +8,14 @@ COLUMNS = ("second", "offered", "taken", "failed", "median us", "99th us", "grea
 WIDTHS = (6, 9, 9, 9, 11, 11, 13)
 
 
-def row(cells: tuple[object, ...]) -> str:
+def row(*cells: object) -> str:
     """A line of the table."""
     return "".join(f"{cell!s:>{width}}" for cell, width in zip(cells, WIDTHS))
 
 
 def line_of(second: int, counts: Counts) -> str:
     """The counts after this many seconds."""
-    late = counts.lateness()
-    times = (late.median, late.percentile, late.greatest) if late else ("-", "-", "-")
-    return row((second, counts.offered, counts.taken, counts.failed, *times))
+    return row(second, counts.offered, counts.taken, counts.failed, *(counts.lateness() or "---"))
 
 
 def shortcomings(counts: Counts, plan: Plan) -> list[str]:

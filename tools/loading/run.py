@@ -6,17 +6,11 @@ import time
 
 from loading.client import SECOND, Client, Plan
 from loading.counts import Counts
-from loading.record import Record
 from loading.report import COLUMNS, line_of, row
 from loading.session import Session
 
 GRACE = 5  # seconds that the clients have to leave after the end
 SOON = SECOND // 2  # a first reply that comes later had to wait for a worker
-
-
-async def connected(port: int, clients: int, record: Record) -> list[Session]:
-    """A session for each client, named by its number."""
-    return [await Session.open(port, str(number), record) for number in range(clients)]
 
 
 async def run_clients(plan: Plan, sessions: list[Session], counts: Counts) -> None:
@@ -46,7 +40,7 @@ def waits(sessions: list[Session], plan: Plan) -> list[int]:
 
 async def tell(plan: Plan, counts: Counts) -> None:
     """Prints a line after each whole second of the plan."""
-    print(row(COLUMNS), flush=True)
+    print(row(*COLUMNS), flush=True)
     for second in range(1, (plan.end - plan.begin) // SECOND + 1):
         await asyncio.sleep((plan.begin + second * SECOND - time.monotonic_ns()) / SECOND)
         print(line_of(second, counts), flush=True)

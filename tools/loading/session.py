@@ -6,10 +6,9 @@ is timed, and users have this tool without those.
 from __future__ import annotations
 
 import asyncio
+import json
 import time
-from typing import Optional
-
-from loading.record import Record
+from typing import Optional, TextIO
 
 HOST = "127.0.0.1"
 CONNECTING = 5  # seconds in which a connection has to be made
@@ -22,14 +21,15 @@ class Fault(Exception):
 class Session:
     """A connection to the server, over which one request at a time is sent and answered."""
 
-    def __init__(self, name: str, record: Record, reader: asyncio.StreamReader, writer: asyncio.StreamWriter):
-        self.name, self._record = name, record
-        self._reader, self._writer = reader, writer
+    def __init__(
+        self, name: str, record: Optional[TextIO], reader: asyncio.StreamReader, writer: asyncio.StreamWriter
+    ):
+        self._name, self._record, self._reader, self._writer = name, record, reader, writer
         self.waited: Optional[int] = None  # nanoseconds until the first reply, once that has come
 
     @classmethod
-    async def open(cls, port: int, name: str, record: Record) -> Session:
-        """Connects. The record gets each request under the session's name."""
+    async def open(cls, port: int, name: str, record: Optional[TextIO]) -> Session:
+        """Connects. The record gets a line for each request, under the session's name, as tools/verify reads it."""
         try:
             streams = await asyncio.wait_for(asyncio.open_connection(HOST, port), CONNECTING)
             return cls(name, record, *streams)
@@ -40,15 +40,18 @@ class Session:
 
     async def ask(self, request: str) -> list[str]:
         """Sends a request, and gives the words of its reply."""
-        reply: Optional[str] = None
-        sent = time.monotonic_ns()
+        reply: list[str] = []
+        sent, received = time.monotonic_ns(), None
         try:
-            reply = await self._reply(request)
+            reply = [await self._reply(request)]
+            received = time.monotonic_ns()
             if self.waited is None:
-                self.waited = time.monotonic_ns() - sent
-            return reply.split(" ")
+                self.waited = received - sent
+            return reply[0].split(" ")
         finally:
-            self._record.add(self.name, sent, request, reply)
+            if self._record is not None:
+                told = {"session": self._name, "sent": sent, "received": received, "request": request, "reply": reply}
+                self._record.write(json.dumps(told, separators=(",", ":")) + "\n")
 
     async def _reply(self, request: str) -> str:
         self._writer.write(f"{request}\n".encode())

@@ -3,8 +3,7 @@ from __future__ import annotations
 
 import unittest
 
-from loading.clock import ServerClock
-from loading.counts import Counts, Lateness
+from loading.counts import Counts, Lateness, ServerClock
 
 
 class CountsTest(unittest.TestCase):
