@@ -18,32 +18,22 @@ def changelog(version: Version) -> str:
     """One entry, since all that changed is in the one version that is packed, with the changes of each section."""
     with open(CHANGES, encoding="utf-8") as file:
         changes = changes_of(file.read())
+    if "  * " not in changes:
+        raise Fault(f"{CHANGES} has no changes")
     date = email.utils.formatdate(version.moment)
-    return f"rb-broker ({version.text}) unstable; urgency=medium\n\n{changes}\n -- {OWNER}  {date}\n"
+    return f"rb-broker ({version.text}) unstable; urgency=medium\n{changes}\n -- {OWNER}  {date}\n"
 
 
 def changes_of(text: str) -> str:
-    """The changes of a text of the form of CHANGELOG.md: its sections, and in each its kinds of changes, a line for
-    each change."""
-    sections = [changes_of_section(section) for section in re.split(r"^## ", text, flags=re.M)[1:]]
-    if not any("  * " in section for section in sections):
-        raise Fault(f"{CHANGES} has no changes")
-    return "\n".join(sections)
-
-
-def changes_of_section(text: str) -> str:
-    """The changes of a section, whose name is the first line."""
-    name, *lines = text.splitlines()
-    told, kind = f"  [ {name.strip('[]')} ]\n", ""
-    for line in lines:
-        if line.startswith("- "):
-            told += change(f"{kind}: {line[2:]}")
+    """The changes of a text of the form of CHANGELOG.md: its sections, and in each its changes with their kinds, of
+    which the words of links remain."""
+    told, kind = "", ""
+    for line in text.splitlines():
+        if line.startswith("## "):
+            told += f"\n  [ {line[3:].strip('[]')} ]\n"
         elif line.startswith("### "):
             kind = line[4:]
+        elif line.startswith("- "):
+            change = LINK.sub(r"\1", f"  * {kind}: {line[2:]}")
+            told += textwrap.fill(change, 80, subsequent_indent="    ", break_on_hyphens=False) + "\n"
     return told
-
-
-def change(text: str) -> str:
-    """A change, with the words of its links alone."""
-    plain = LINK.sub(r"\1", text)
-    return textwrap.fill(plain, 80, initial_indent="  * ", subsequent_indent="    ", break_on_hyphens=False) + "\n"

@@ -1,4 +1,4 @@
-"""The Debian package, made of the tree by dpkg-deb."""
+"""The Debian package, made of the tree by the commands of dpkg-dev and dpkg."""
 from __future__ import annotations
 
 import gzip
@@ -7,68 +7,69 @@ import os
 import shutil
 import subprocess
 import tempfile
+from pathlib import Path
 
 from packaging import SOURCES, Fault
 from packaging.changes import changelog
-from packaging.program import Needs, needs_of
-from packaging.tree import DOCUMENTS, content_of, is_file, kibibytes, lay_out, remove, settle, write
+from packaging.tree import DOCUMENTS, copy, lay_out, write
 from packaging.version import Version
 
-SCRIPTS = ("postinst", "prerm", "postrm")
-NEEDED_BY_SERVICE = "python3 (>= 3.9), iproute2"  # whose ss lists the clients
+OF_DPKG = ("conffiles", "postinst", "prerm", "postrm")  # files of packaging/debian that dpkg needs as they are
 
 
-def make_package(program: str, version: Version, folder: str) -> str:
+def make_package(program: Path, version: Version, folder: Path) -> Path:
     """Makes the package of a program in a folder, and returns its path."""
-    if not shutil.which("dpkg-deb"):
-        raise Fault("there is no command dpkg-deb, of the package dpkg, on the path")
-    if not os.path.isdir(folder):
-        raise Fault(f"{folder} is no folder")
-    needs = needs_of(program)
-    root = tempfile.mkdtemp(prefix="rb-package-")
-    try:
-        os.chmod(root, 0o755)
+    for path, is_right, what in [
+        (program, program.is_file(), "file"), (program, is_elf(program), "ELF program"), (folder, folder.is_dir(), "folder"),
+    ]:
+        if not is_right:
+            raise Fault(f"{path} is no {what}")
+    with tempfile.TemporaryDirectory(prefix="rb-package-") as room:
+        root = Path(room, "root")
         lay_out(root, program)
-        write(root, f"{DOCUMENTS}/changelog.gz", gzip.compress(changelog(version).encode(), mtime=0))
-        write_control(root, version, needs)
-        settle(root, version.moment)
-        return pack(root, version, f"{folder}/rb-broker_{version.text}_{needs.architecture}.deb")
-    finally:
-        remove(root)
+        write(root / DOCUMENTS / "changelog.gz", gzip.compress(changelog(version).encode(), mtime=0))
+        write_control(Path(room), root, version)
+        return pack(root, version, folder)
 
 
-def pack(root: str, version: Version, path: str) -> str:
-    """Packs the tree, with its folder DEBIAN, and returns the package's path."""
-    made = subprocess.run(
-        ["dpkg-deb", "--root-owner-group", "-Zxz", "--build", root, path],
-        env={**os.environ, "SOURCE_DATE_EPOCH": str(version.moment)}, capture_output=True, encoding="utf-8",
-    )
+def is_elf(program: Path) -> bool:
+    return program.is_file() and program.read_bytes()[:4] == b"\x7fELF"
+
+
+def run(*words: object, folder: Path | None = None, moment: int = 0) -> str:
+    """What a command of dpkg says. What it packs has no time behind this moment."""
+    environment = {**os.environ, "LC_ALL": "C", "SOURCE_DATE_EPOCH": str(moment)}
+    try:
+        made = subprocess.run([*map(str, words)], cwd=folder, env=environment, capture_output=True, encoding="utf-8")
+    except FileNotFoundError:
+        raise Fault(f"there is no command {words[0]}, of the packages dpkg and dpkg-dev, on the path") from None
     if made.returncode != 0:
-        raise Fault(f"dpkg-deb makes no package: {' '.join(made.stderr.split())}")
-    return path
+        raise Fault(f"{words[0]} makes no package: {' '.join(made.stderr.split())}")
+    return made.stdout
 
 
-def write_control(root: str, version: Version, needs: Needs) -> None:
+def write_control(room: Path, root: Path, version: Version) -> None:
     """Writes the folder DEBIAN: what dpkg must know about the package."""
-    parts = {
-        "version": version.text,
-        "architecture": needs.architecture,
-        "size": str(kibibytes(root)),
-        "depends": ", ".join(it for it in (NEEDED_BY_SERVICE, needs.depends) if it),
-    }
-    control = content_of(f"{SOURCES}/debian/control").decode()
-    for name, part in parts.items():
-        control = control.replace(f"@{name}@", part)
+    shutil.copytree(Path(SOURCES, "debian"), room / "debian")
+    write(room / "debian/changelog", changelog(version).encode())
+    run("dpkg-shlibdeps", "-Tneeds", f"-e{root}/usr/bin/rb_broker", folder=room)
+    control = run("dpkg-gencontrol", "-Tneeds", "-fdebian/files", f"-P{root}", "-O", folder=room)
     sums = md5sums(root)
-    write(root, "DEBIAN/control", control.encode())
-    write(root, "DEBIAN/conffiles", content_of(f"{SOURCES}/debian/conffiles"))
-    write(root, "DEBIAN/md5sums", sums.encode())
-    for name in SCRIPTS:
-        write(root, f"DEBIAN/{name}", content_of(f"{SOURCES}/debian/{name}"), is_command=True)
+    write(root / "DEBIAN/control", control.encode())
+    write(root / "DEBIAN/md5sums", sums.encode())
+    for name in OF_DPKG:
+        copy(Path(SOURCES, "debian", name), root / "DEBIAN" / name)
 
 
-def md5sums(root: str) -> str:
+def md5sums(root: Path) -> str:
     """A line for each file that is no conffile, by which `dpkg --verify` finds what was changed."""
-    paths = sorted(f"{folder}/{it}" for folder, _, names in os.walk(root) for it in names)
-    places = [it[len(root) + 1 :] for it in paths if is_file(it) and not it.startswith(f"{root}/etc/")]
-    return "".join(f"{hashlib.md5(content_of(f'{root}/{it}')).hexdigest()}  {it}\n" for it in places)
+    paths = [it for it in sorted(root.glob("usr/**/*")) if it.is_file() and not it.is_symlink()]
+    return "".join(f"{hashlib.md5(it.read_bytes()).hexdigest()}  {it.relative_to(root)}\n" for it in paths)
+
+
+def pack(root: Path, version: Version, folder: Path) -> Path:
+    """Packs the tree, with its folder DEBIAN, and returns the package's path. The same files make the same package."""
+    architecture = run("dpkg", "--print-architecture").strip()
+    path = folder / f"rb-broker_{version.text}_{architecture}.deb"
+    run("dpkg-deb", "--root-owner-group", "-Zxz", "--build", root, path, moment=version.moment)
+    return path

@@ -1,13 +1,12 @@
-"""The table of commands and options, packaging/options.json, as values."""
+"""The table of commands and options, packaging/options.json, as values, and texts that are filled from it."""
 from __future__ import annotations
 
 import json
+import re
 from dataclasses import dataclass
-from typing import Any, Optional
+from typing import Optional
 
-from packaging import SOURCES, Fault
-
-FILE = f"{SOURCES}/options.json"
+from packaging import SOURCES
 
 # The option parser adds these to every command, and `help` to the commands.
 HELP_OPTIONS = ("-h", "--help")
@@ -50,21 +49,13 @@ class Option:
 
 
 @dataclass(frozen=True)
-class Argument:
-    """A word without an option, which names a file."""
-
-    value: str
-    help: str
-
-
-@dataclass(frozen=True)
 class Command:
     """A command and its options, in the order in which the program lists them."""
 
     name: str
     help: str
     options: tuple[Option, ...]
-    argument: Optional[Argument] = None
+    argument: Optional[str] = None  # what a word without an option is called, which names a file
 
 
 @dataclass(frozen=True)
@@ -80,27 +71,16 @@ class Table:
         return list(dict.fromkeys(option for command in self.commands for option in command.options))
 
 
-def read_table(path: str = FILE) -> Table:
-    """The table in a file."""
-    try:
-        with open(path, encoding="utf-8") as it:
-            told = json.load(it)
-        options = {name: option_of(name, row) for name, row in told["options"].items()}
-        commands = [command_of(name, row, options) for name, row in told["commands"].items()]
-        return Table(told["program"], tuple(commands))
-    except OSError as fault:
-        raise Fault(f"{path}: {fault.strerror}") from fault
-    except (ValueError, KeyError, TypeError) as fault:
-        raise Fault(f"{path} is no table of options: {fault!r}") from fault
+def read_table() -> Table:
+    with open(f"{SOURCES}/options.json", encoding="utf-8") as it:
+        told = json.load(it)
+    options = {name: Option(name, **{**row, "choices": tuple(row.get("choices", ()))})
+               for name, row in told["options"].items()}
+    commands = [Command(name, row["help"], tuple(options[it] for it in row["options"]), row.get("argument", {}).get("value"))
+                for name, row in told["commands"].items()]
+    return Table(told["program"], tuple(commands))
 
 
-def option_of(name: str, row: dict[str, Any]) -> Option:
-    """The option of a row, whose keys are the fields of `Option`."""
-    fields: dict[str, Any] = {**row, "choices": tuple(row.get("choices", ()))}
-    return Option(name=name, **fields)
-
-
-def command_of(name: str, row: dict[str, Any], options: dict[str, Option]) -> Command:
-    """The command of a row, which names its options."""
-    argument = Argument(**row["argument"]) if "argument" in row else None
-    return Command(name, row["help"], tuple(options[it] for it in row["options"]), argument)
+def filled(text: str, **parts: str) -> str:
+    """A text with these parts in the places of their names, such as @commands@."""
+    return re.sub(r"@([a-z_]+)@", lambda name: parts[name[1]], text)

@@ -39,10 +39,8 @@ def version_of_repository() -> Version:
     tag = re.fullmatch(r"v([0-9][0-9A-Za-z.~]*)-([0-9]+)-g[0-9a-f]+", git("describe", "--long", "--match=v[0-9]*"))
     if not tag:
         text = f"0~{time.strftime('%Y%m%d%H%M%S', time.gmtime(int(moment)))}.{commit}"
-    elif tag[2] == "0":
-        text = tag[1]
     else:
-        text = f"{tag[1]}+{tag[2]}.{commit}"
+        text = tag[1] if tag[2] == "0" else f"{tag[1]}+{tag[2]}.{commit}"
     return Version(text + ("+changed" if git("status", "--porcelain") else ""), int(moment))
 
 
@@ -50,5 +48,4 @@ def version_named(text: str) -> Version:
     """The version that the user named, with the time of the last commit if there is one, otherwise now."""
     if not re.fullmatch(r"[0-9][0-9A-Za-z.+~]*", text):
         raise Fault(f"a version begins with a digit and has letters, digits, '.', '+' and '~' alone, not {text!r}")
-    moment = git("log", "-1", "--format=%ct")
-    return Version(text, int(moment) if moment.isdigit() else int(time.time()))
+    return Version(text, int(git("log", "-1", "--format=%ct") or time.time()))

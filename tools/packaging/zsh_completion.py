@@ -1,7 +1,7 @@
 """The completions for zsh, made from the table."""
 from __future__ import annotations
 
-from packaging.table import HELP_COMMAND, Command, Option, Table
+from packaging.table import HELP_COMMAND, Command, Option, Table, filled
 
 TEXT = r"""#compdef @program@
 # Completions of @program@ for zsh, made by tools/package from packaging/options.json.
@@ -31,7 +31,7 @@ _@program@ "$@"
 
 
 def quoted(text: str) -> str:
-    """A word for the shell."""
+    """A word for the shell, in quotes even if it needs none."""
     return "'" + text.replace("'", "'\\''") + "'"
 
 
@@ -61,7 +61,7 @@ def function_of(program: str, command: Command) -> str:
     """The function that completes the words of a command."""
     specs = [quoted("(- *)") + "{-h,--help}" + quoted("[Print help]"), *map(spec_of, command.options)]
     if command.argument:
-        specs.append(quoted(f":{command.argument.value}:_files"))
+        specs.append(quoted(f":{command.argument}:_files"))
     lines = " \\\n        ".join(["_arguments :", *specs])
     return f"_{program}_{command.name}() {{\n    {lines}\n}}"
 
@@ -70,14 +70,8 @@ def zsh_completion(table: Table) -> str:
     """The text of the completions."""
     described = [f"{it.name}:{escaped(it.help)}" for it in table.commands]
     described.append(f"{HELP_COMMAND}:Print the help of a command")
-    parts = {
-        "commands": "\n\n".join(function_of(table.program, it) for it in table.commands),
-        "described": "\n".join(f"        {quoted(it)}" for it in described),
-        "names": "|".join(it.name for it in table.commands),
-        "help": HELP_COMMAND,
-        "program": table.program,
-    }
-    text = TEXT
-    for name, part in parts.items():
-        text = text.replace(f"@{name}@", part)
-    return text
+    return filled(
+        TEXT, program=table.program, help=HELP_COMMAND, names="|".join(it.name for it in table.commands),
+        commands="\n\n".join(function_of(table.program, it) for it in table.commands),
+        described="\n".join(f"        {quoted(it)}" for it in described),
+    )

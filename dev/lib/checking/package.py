@@ -3,9 +3,9 @@
 The options in the manual page, the completions, the unit and its file of options are compared with the table
 packaging/options.json, and that table with the program: with its --help, and with what it accepts at both ends of each
 range. Then tools/package makes the package, and `dpkg --root` installs it into an empty root. From there the page is
-formatted, the shells complete, and systemd-analyze reads the units. A server serves a client by the commands of the
-unit, is stopped in good order, continues, and is killed; sessions are cut, alone, for their silence, and when a server
-is stopped whose clients do not leave. The installed tools, examples and pages are used, and dpkg removes everything.
+formatted, the shells complete, and systemd-analyze reads the units. A service serves a client as the unit runs it, is
+stopped in good order, continues, and its server is killed; sessions are cut, alone, for their silence, and when a
+server is stopped whose clients do not leave. The installed tools, examples and pages are used, and dpkg removes everything.
 A systemd that is started in namespaces runs the units, also with its date set forward and back. Finally the tools are
 given bad input.
 

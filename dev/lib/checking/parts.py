@@ -109,7 +109,7 @@ PARTS: Dict[str, Part] = {
     ),
     "report": Part("tools/report, and its page in a browser if there is one", tests("reporting")),
     "verify": Part("tools/verify, by runs that are changed in every way that it names", tests("verifying")),
-    "package": Part("tools/package, and what is in the package", module("package"), ("man", "bash", "dpkg", "ss")),
+    "package": Part("tools/package, and what is in the package", module("package"), ("man", "bash", "dpkg-shlibdeps", "ss")),
     "redis": Part("the broker on Redis, with Redis servers that are killed", module("redis")),
     "service-long": Part(
         "jobs that are due after half a minute and later, through rollovers and without a server",

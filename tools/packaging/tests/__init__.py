@@ -3,9 +3,9 @@ and installed, so they are no suite of unittest.
 
     program_options.py, page.py, unit.py, shells.py   what must agree with the table of options, packaging/options.json
     lifecycle.py                                      the package is made, installed, used and removed
-    commands.py, service.py, cutting.py, stopping.py  servers by the commands of the installed units
+    service.py                                        servers, as the installed unit runs them
     installed.py                                      what is installed beside the program
     booted.py, machine.py, boot_systemd               the units under a systemd of its own
     refusals.py                                       bad input of the tools
-    running.py                                        commands to their end
+    running.py                                        commands to their end, and what they have to tell
 """

@@ -1,8 +1,10 @@
 """The package is made, installed into an empty root, used from there, and removed."""
 from __future__ import annotations
 
+import filecmp
 import os
 import shutil
+from pathlib import Path
 
 from checking.tally import Tally
 from common.program import TOP
@@ -11,7 +13,7 @@ from packaging.table import Table
 from packaging.tests.booted import try_units
 from packaging.tests.installed import try_installed
 from packaging.tests.page import check_layout
-from packaging.tests.running import Told, fault_unless, run
+from packaging.tests.running import DONE, Told, expect, run
 from packaging.tests.service import try_service
 from packaging.tests.shells import check_bash, check_zsh
 from packaging.tests.unit import check_by_systemd
@@ -25,19 +27,13 @@ def try_package(tally: Tally, program: str, table: Table, folder: str) -> None:
     check_layout(tally, f"{root}/usr/share/man/man1/rb_broker.1.gz")
     check_by_systemd(tally, root, folder)
     os.mkdir(f"{folder}/files")
-    write_empty(f"{folder}/files/one.txt")
+    Path(folder, "files/one.txt").touch()
     check_bash(tally, f"{root}/usr/share/bash-completion/completions/rb_broker", f"{folder}/files", table)
     check_zsh(tally, f"{root}/usr/share/zsh/vendor-completions/_rb_broker", table)
     try_service(tally, root, f"{folder}/state")
     try_installed(tally, root, folder)
     remove(tally, root)
     try_units(tally, package, f"{folder}/machine")
-
-
-def write_empty(path: str) -> None:
-    """Writes an empty file."""
-    with open(path, "w", encoding="utf-8"):
-        pass
 
 
 def made(tally: Tally, program: str, folder: str) -> str:
@@ -49,11 +45,7 @@ def made(tally: Tally, program: str, folder: str) -> str:
         if told.status != 0:
             raise Fault(f"tools/package makes no package: {told.errors.strip()}")
         packages.append(told.said.strip())
-    contents = []
-    for path in packages:
-        with open(path, "rb") as it:
-            contents.append(it.read())
-    tally.count("two packages of the same files", fault_unless(contents[0] == contents[1], "they differ"))
+    expect(tally, "two packages of the same files", filecmp.cmp(*packages, shallow=False), "they differ")
     return packages[0]
 
 
@@ -70,21 +62,21 @@ def install(tally: Tally, package: str, root: str) -> None:
         raise Fault("dpkg has to be run by root, or by fakeroot, which is not on the path")
     for name in ("info", "updates", "triggers"):
         os.makedirs(f"{root}/var/lib/dpkg/{name}")
-    write_empty(f"{root}/var/lib/dpkg/status")
+    Path(root, "var/lib/dpkg/status").touch()
     told = dpkg(root, "--install", package)
-    tally.count("dpkg --install", fault_unless(told.status == 0, told))
+    expect(tally, "dpkg --install", told.status == 0, told)
     form = "${Status};${Conffiles}"
     told = run("dpkg-query", f"--admindir={root}/var/lib/dpkg", "-W", "-f", form, "rb-broker")
     is_right = told.said.startswith("install ok installed;") and "/etc/default/rb_broker " in told.said
-    tally.count("what dpkg says of the package", fault_unless(is_right, told))
+    expect(tally, "what dpkg says of the package", is_right, told)
     told = dpkg(root, "--verify", "rb-broker")
-    tally.count("dpkg --verify", fault_unless(told == Told(0, "", ""), told))
+    expect(tally, "dpkg --verify", told == DONE, told)
 
 
 def remove(tally: Tally, root: str) -> None:
     """Purges the package: no file of it is left."""
     told = dpkg(root, "--purge", "rb-broker")
-    tally.count("dpkg --purge", fault_unless(told.status == 0, told))
+    expect(tally, "dpkg --purge", told.status == 0, told)
     paths = [f"{folder}/{it}" for folder, _, names in os.walk(root) for it in names]
     left = [it for it in paths if "rb_broker" in it or "rb-broker" in it]
-    tally.count("files that are left", fault_unless(not left, left))
+    expect(tally, "files that are left", not left, left)

@@ -6,8 +6,6 @@ import os
 import shutil
 import subprocess
 import time
-from types import TracebackType
-from typing import Optional
 
 from common.program import TOP
 from packaging.tests.running import Told, run
@@ -72,9 +70,7 @@ class Machine:
     def __enter__(self) -> Machine:
         return self
 
-    def __exit__(
-        self, kind: Optional[type[BaseException]], fault: Optional[BaseException], trace: Optional[TracebackType]
-    ) -> None:
+    def __exit__(self, *_: object) -> None:
         self.process.kill()
         self.process.wait()
         until = time.monotonic() + PATIENCE

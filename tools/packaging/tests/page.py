@@ -2,14 +2,12 @@
 from __future__ import annotations
 
 import re
-import shutil
+from pathlib import Path
 
 from checking.tally import Tally
 from packaging import SOURCES
 from packaging.table import HELP_OPTIONS, Option, Table
-from packaging.tests.running import fault_unless, run
-
-PAGE = f"{SOURCES}/rb_broker.1"
+from packaging.tests.running import expect, is_there, run
 
 
 def plain(text: str) -> str:
@@ -58,13 +56,12 @@ def words_of(choices: tuple[str, ...]) -> str:
 
 def check_page(tally: Tally, table: Table) -> None:
     """The page has each option of each command in its synopsis, and each option once with its range and default."""
-    with open(PAGE, encoding="utf-8") as it:
-        page = plain(it.read())
+    page = plain(Path(SOURCES, "rb_broker.1").read_text(encoding="utf-8"))
     synopsis = page.partition(".SH SYNOPSIS")[2].partition("\n.SH")[0]
     uses = [it for it in synopsis.split(f".SY {table.program}\n") if options_in(it)]
     told = {it.split("\n")[0].split()[-1]: options_in(it) for it in uses}
     wanted = {command.name: {it.name for it in command.options} for command in table.commands}
-    tally.count("the page's synopsis", fault_unless(told == wanted, f"{told}, the table has {wanted}"))
+    expect(tally, "the page's synopsis", told == wanted, f"{told}, the table has {wanted}")
     entries = entries_of(page)
     for option in table.options:
         tally.count(f"the page's {option.name}", ", ".join(faults_of(option, entries.get(option.name, []))))
@@ -76,10 +73,8 @@ def check_layout(tally: Tally, path: str) -> None:
     """The page in a file is set without a warning. mandoc checks it too if it is installed."""
     told = run("man", "--warnings", "-E", "UTF-8", "-l", path)
     heads = [it for it in ("NAME", "SCRIPT", "REPLAY", "SERVE", "EXIT STATUS", "FILES") if it not in told.said]
-    tally.count("man of the page", told.errors or fault_unless(told.status == 0, f"status {told.status}"))
-    tally.count("the page's sections", fault_unless(not heads, f"it has no {heads}"))
-    if shutil.which("mandoc"):
+    expect(tally, "man of the page", not told.errors and told.status == 0, told)
+    expect(tally, "the page's sections", not heads, f"it has no {heads}")
+    if is_there("mandoc", tally, "mandoc -T lint of the page"):
         told = run("mandoc", "-T", "lint", path)
         tally.count("mandoc -T lint of the page", told.said + told.errors)
-    else:
-        tally.skip("mandoc -T lint of the page", "it is not installed")

@@ -7,7 +7,7 @@ from typing import Optional
 
 from checking.tally import Tally
 from packaging.table import HELP_COMMAND, HELP_OPTIONS, Command, Option, Table
-from packaging.tests.running import fault_unless, run
+from packaging.tests.running import expect, run
 
 ROW = re.compile(r"^ +(?:-h, )?(--[a-z-]+)(?: <([A-Z]+)>)? +(.*)$", re.M)
 NOWHERE = "/nowhere/rb_broker"  # a missing file: if the words are accepted, it can't be read
@@ -34,7 +34,7 @@ def check_help(tally: Tally, program: str, table: Table) -> None:
     found = dict(re.findall(r"^  ([a-z]+) +(.+)$", told, re.M))
     has_help = found.pop(HELP_COMMAND, None) is not None
     wanted = {it.name: it.help for it in table.commands}
-    tally.count("the commands of --help", fault_unless(found == wanted and has_help, f"{found}, not {wanted}"))
+    expect(tally, "the commands of --help", found == wanted and has_help, f"{found}, not {wanted}")
     for command in table.commands:
         check_help_of(tally, program, command)
 
@@ -46,11 +46,11 @@ def check_help_of(tally: Tally, program: str, command: Command) -> None:
     wanted = [without_range(it) for it in command.options]
     differing = [it for it in found if it not in wanted] + [it for it in wanted if it not in found]
     fault = f"help and table differ in {differing}" if differing else "help has another order than the table"
-    tally.count(f"{command.name} --help", fault_unless(found == wanted, fault))
+    expect(tally, f"{command.name} --help", found == wanted, fault)
     needed = [f"{it.name} <{it.value}>" for it in command.options if it.required]
-    needed += [f"<{command.argument.value}>"] if command.argument else []
+    needed += [f"<{command.argument}>"] if command.argument else []
     usage = " ".join([command.name, "[OPTIONS]", *needed])
-    tally.count(f"the usage of {command.name}", fault_unless(f" {usage}\n" in told, f"it is not {usage!r}"))
+    expect(tally, f"the usage of {command.name}", f" {usage}\n" in told, f"it is not {usage!r}")
 
 
 def accepts(program: str, command: Command, words: list[str]) -> Optional[bool]:

@@ -1,9 +1,12 @@
-"""Runs commands to their end."""
+"""Runs commands to their end, and counts what is as it has to be."""
 from __future__ import annotations
 
 import os
+import shutil
 import subprocess
 from typing import NamedTuple
+
+from checking.tally import Tally
 
 PATIENCE = 300  # seconds, for anything that ends by itself
 
@@ -14,6 +17,9 @@ class Told(NamedTuple):
     status: int
     said: str
     errors: str
+
+
+DONE = Told(0, "", "")
 
 
 def run(*words: str, folder: str = ".") -> Told:
@@ -31,6 +37,13 @@ def run(*words: str, folder: str = ".") -> Told:
     return Told(done.returncode, done.stdout, done.stderr)
 
 
-def fault_unless(is_right: bool, told: object) -> str | None:
-    """Nothing if all is right, otherwise what was printed."""
-    return None if is_right else str(told)
+def is_there(command: str, tally: Tally, name: str) -> bool:
+    """Whether a command is installed. Without it something of this name is skipped."""
+    if not shutil.which(command):
+        tally.skip(name, f"{command} is not installed")
+    return shutil.which(command) is not None
+
+
+def expect(tally: Tally, name: str, is_right: bool, *told: object) -> None:
+    """Counts something of this name, which is right, or of which this was told."""
+    tally.count(name, None if is_right else told)

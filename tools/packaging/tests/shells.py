@@ -3,11 +3,10 @@ from __future__ import annotations
 
 import re
 import shlex
-import shutil
 
 from checking.tally import Tally
 from packaging.table import Command, Option, Table
-from packaging.tests.running import fault_unless, run
+from packaging.tests.running import expect, is_there, run
 
 BASH = """
 source "$1"
@@ -34,10 +33,9 @@ def check_bash(tally: Tally, file: str, folder: str, table: Table) -> None:
     asked = "".join(f"ask rb_broker {' '.join(map(shlex.quote, words))}\n" for words, _ in rows)
     told = run("bash", "--norc", "-c", BASH + asked, "bash", file, folder)
     found = [it.split() for it in told.said.splitlines()]
-    tally.count("bash reads its completions", told.errors or fault_unless(len(found) == len(rows), told))
+    expect(tally, "bash reads its completions", not told.errors and len(found) == len(rows), told)
     for (words, wanted), candidates in zip(rows, found):
-        fault = fault_unless(candidates == wanted, f"{candidates}, not {wanted}")
-        tally.count(f"bash completes {' '.join(words)!r}", fault)
+        expect(tally, f"bash completes {' '.join(words)!r}", candidates == wanted, f"{candidates}, not {wanted}")
 
 
 def bash_rows(command: Command) -> list[tuple[list[str], list[str]]]:
@@ -67,22 +65,20 @@ def candidates_of(option: Option) -> list[str]:
 
 def check_zsh(tally: Tally, file: str, table: Table) -> None:
     """zsh is told each option of a command, with its value, range, default and choices. Needs zsh."""
-    if not shutil.which("zsh"):
-        tally.skip("the completions for zsh", "it is not installed")
+    if not is_there("zsh", tally, "the completions for zsh"):
         return
     asked = "".join(f"_rb_broker_{it.name}\n" for it in table.commands)
     told = run("zsh", "-f", "-c", ZSH + asked, "zsh", file)
     parts = told.said.split("\n\n")[1:-1]  # the first is of the words before the command
-    tally.count("zsh reads its completions", told.errors or fault_unless(len(parts) == len(table.commands), told))
+    expect(tally, "zsh reads its completions", not told.errors and len(parts) == len(table.commands), told)
     for command, part in zip(table.commands, parts):
         specs = [SPEC.fullmatch(it) for it in part.splitlines() if "--help" not in it and "--" in it]
         found = [it.groups(default="") if it else () for it in specs]
         wanted = [zsh_row(it) for it in command.options]
-        fault = fault_unless(found == wanted, f"{found},\n    not {wanted}")
-        tally.count(f"zsh's options of {command.name}", fault)
+        expect(tally, f"zsh's options of {command.name}", found == wanted, f"{found}, not {wanted}")
         files = [it for it in part.splitlines() if re.match(r":\w", it)]
-        wanted_files = [f":{command.argument.value}:_files"] if command.argument else []
-        tally.count(f"zsh's file of {command.name}", fault_unless(files == wanted_files, files))
+        wanted_files = [f":{command.argument}:_files"] if command.argument else []
+        expect(tally, f"zsh's file of {command.name}", files == wanted_files, files)
 
 
 def zsh_row(option: Option) -> tuple[str, ...]:

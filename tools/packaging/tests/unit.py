@@ -2,23 +2,15 @@
 from __future__ import annotations
 
 import re
-import shutil
+from pathlib import Path
 
 from checking.tally import Tally
 from common.program import TOP
 from packaging import SOURCES
 from packaging.tests.page import options_in
-from packaging.tests.running import fault_unless, run
+from packaging.tests.running import expect, is_there, run
 
-UNIT = f"{SOURCES}/rb_broker@.service"
-DEFAULTS = f"{SOURCES}/rb_broker.default"
-NAME = "rb_broker@.service"
-
-
-def text_of(path: str) -> str:
-    """The text of a file."""
-    with open(path, encoding="utf-8") as it:
-        return it.read()
+UNIT, DEFAULTS = Path(SOURCES, "rb_broker@.service"), Path(SOURCES, "rb_broker.default")
 
 
 def setting_of(text: str, name: str) -> str:
@@ -29,17 +21,17 @@ def setting_of(text: str, name: str) -> str:
 
 def check_unit(tally: Tally) -> None:
     """The unit and its file name options of the service, with their defaults, and set none."""
-    unit, defaults = text_of(UNIT), text_of(DEFAULTS)
-    start = re.search(r"^ExecStart=(.*)$", unit, re.M)
-    own = options_in(start[1] if start else "")
-    tally.count("the unit's own options", fault_unless(own == {"--port", "--folder"}, own))
+    unit, defaults = UNIT.read_text(encoding="utf-8"), DEFAULTS.read_text(encoding="utf-8")
+    start = re.findall(r"^ExecStart=(.*)$", unit, re.M)
+    wanted = ["/usr/bin/rb_broker_service --port %i --folder %S/rb_broker/%i $RB_BROKER_OPTIONS"]
+    expect(tally, "the unit's command", start == wanted, start)
     told = {setting_of(unit, "RB_BROKER_OPTIONS"), setting_of(defaults, "RB_BROKER_OPTIONS")}
-    tally.count("RB_BROKER_OPTIONS of unit and file", fault_unless(told == {""}, told))
+    expect(tally, "RB_BROKER_OPTIONS of unit and file", told == {""}, told)
     help = " ".join(run(f"{TOP}/tools/service", "--help").said.split())
     for name, default in re.findall(r"^#   (--\S+) [A-Z].*?(?:default (\w+)|$)", joined(defaults), re.M):
         entry = re.search(rf"{name} [A-Z].*?(?= --[a-z])", help)
         is_right = entry is not None and (not default or f"({default})" in entry[0])
-        tally.count(f"{name} of rb_broker.default", fault_unless(is_right, (default, entry and entry[0])))
+        expect(tally, f"{name} of rb_broker.default", is_right, (default, entry and entry[0]))
     others = options_in(defaults) - options_in(help)
     tally.count("other options of rb_broker.default", ", ".join(sorted(others)))
 
@@ -51,13 +43,12 @@ def joined(text: str) -> str:
 
 def check_by_systemd(tally: Tally, root: str, folder: str) -> None:
     """systemd reads the unit that is installed below a root: a copy of it in a folder, whose commands are there too."""
-    if not shutil.which("systemd-analyze"):
-        tally.skip("systemd-analyze verify", "it is not installed")
+    if not is_there("systemd-analyze", tally, "systemd-analyze verify"):
         return
-    unit = text_of(f"{root}/usr/lib/systemd/system/{NAME}")
-    with open(f"{folder}/{NAME}", "w", encoding="utf-8") as it:
-        it.write(re.sub(r"^(Exec\w+=)/", rf"\1{root}/", unit, flags=re.M))
-    told = run("systemd-analyze", "verify", "--man=no", f"{folder}/{NAME}")
+    unit = Path(root, "usr/lib/systemd/system", UNIT.name).read_text(encoding="utf-8")
+    copy = Path(folder, UNIT.name)
+    copy.write_text(re.sub(r"^(Exec\w+=)/", rf"\1{root}/", unit, flags=re.M), encoding="utf-8")
+    told = run("systemd-analyze", "verify", "--man=no", str(copy))
     # What it says of other units, those of this machine, is passed over.
     faults = [it for it in told.errors.splitlines() if "rb_broker" in it]
-    tally.count("systemd-analyze verify", fault_unless(not faults and told.status == 0, told))
+    expect(tally, "systemd-analyze verify", not faults and told.status == 0, told)
