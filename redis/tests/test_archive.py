@@ -89,7 +89,7 @@ class FilesTest(ArchiveTest):
     def test_each_file_begins_where_the_one_before_ended(self) -> None:
         said = self.take()
         self.assert_files(FIRST, SECOND, THIRD)
-        self.assertEqual(said, [f"jobs: {count} events in {self.file(first)}" for first, count in ((0, 3), (3, 3), (6, 1))])
+        self.assertEqual(said, [f"jobs: {count} events in {self.file(it)}" for it, count in ((0, 3), (3, 3), (6, 1))])
         self.assertEqual(self.source.list, [])
 
     def test_it_goes_on_in_the_next_process(self) -> None:

@@ -114,7 +114,8 @@ class WaitsTest(GatewayTest):
             self.assert_waits(talker, "TAKE")
             leave(talker)
             time.sleep(0.2)
-            self.assert_talk(self.talker(served), "OFFER 0 a = OFFERED .*", r"POLL = ITEM \d+ \d+ 1 a", "QUIT = BYE", "= ")
+            other = self.talker(served)
+            self.assert_talk(other, "OFFER 0 a = OFFERED .*", r"POLL = ITEM \d+ \d+ 1 a", "QUIT = BYE", "= ")
             self.queue().request("CLEAR")
 
     def test_nobody_polls_while_nothing_is_due(self) -> None:

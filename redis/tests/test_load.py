@@ -6,11 +6,11 @@ import json
 import os
 import random
 import subprocess
-import sys
-import unittest
 from typing import IO
 from unittest import mock
 
+from gateways import COMMAND
+from judging import PROGRAM
 from rb_broker_redis.history import read_text
 from rb_broker_redis.load import Left, NotLoaded, load
 from rb_broker_redis.shards import Rendezvous
@@ -35,11 +35,17 @@ class LoadTest(RedisTest):
         super().setUp()
         self.history = self.room / "run.txt"
         self.history.write_bytes(RUN)
+        self.load = ("load", self.history, "--began", NINE)
+        self.used = f"{self.name}: this queue is in use, or another load into it has not ended"
+
+    def assert_loaded(self, how: str = "loaded") -> None:
+        """The run is loaded, or was."""
+        self.assert_prints([f"{self.name}: 4 elements {how}"], *self.load)
 
 
 class ShowTest(LoadTest):
     def test_the_elements_by_expiry(self) -> None:
-        self.assert_prints(LINES, "load", self.history, "--began", NINE, "--show")
+        self.assert_prints(LINES, *self.load, "--show")
 
     def test_dates(self) -> None:
         for began in ("2026-11-26 10:00:00+01:00", "2026-11-26 09:00", "@1795683600"):
@@ -61,16 +67,14 @@ class ShowTest(LoadTest):
 
     def test_a_queue_that_is_empty_at_the_end(self) -> None:
         self.history.write_bytes(b"history 3\nopen 0 0 0\nend 0\n")
-        self.assert_prints([], "load", self.history, "--began", NINE, "--show")
-
+        self.assert_prints([], *self.load, "--show")
 
     def assert_output_fails(self, output: IO[bytes], said: bytes) -> None:
         """A command whose output goes there ends with status 2 and this line."""
-        command = [sys.executable, "-B", "-m", "rb_broker_redis", *self.words("load", self.history, "--began", NINE, "--show")]
-        ran = subprocess.run(command, stdout=output, stderr=subprocess.PIPE, timeout=60, check=False)
+        ran = subprocess.run([*COMMAND, *self.words(*self.load, "--show")], stdout=output, stderr=subprocess.PIPE,
+                             timeout=60, check=False)
         self.assertEqual((ran.returncode, ran.stderr), (2, said))
 
-    @unittest.skipUnless(os.path.exists("/dev/full"), "there is no /dev/full")
     def test_an_output_that_takes_nothing(self) -> None:
         with open("/dev/full", "wb") as full:
             self.assert_output_fails(full, b"rb_broker_redis: output: No space left on device\n")
@@ -86,8 +90,8 @@ class ProgramTest(LoadTest):
     """A history of the program, and what the program itself finds when it continues it."""
 
     def run_script(self, script: str, *options: str) -> list[str]:
-        ran = subprocess.run([os.environ["RB_BROKER_PROGRAM"], "script", *options], input=script, stdout=subprocess.PIPE,
-                             check=True, timeout=60, encoding="utf-8")
+        ran = subprocess.run([PROGRAM, "script", *options], input=script, stdout=subprocess.PIPE, check=True,
+                             timeout=60, encoding="utf-8")
         return ran.stdout.splitlines()
 
     def test_what_the_next_run_finds_is_what_is_shown(self) -> None:
@@ -121,7 +125,7 @@ class ProgramTest(LoadTest):
 
 class QueueTest(LoadTest):
     def test_each_element_keeps_its_id_its_job_and_its_attempt(self) -> None:
-        self.assert_prints([f"{self.name}: 4 elements loaded"], "load", self.history, "--began", NINE)
+        self.assert_loaded()
         queue = self.joined(attempts=3)
         self.assertEqual([queue.request("POLL", SEAT) for _ in range(4)], [
             "ITEM 2 1795683600000000050 2 b", r'ITEM 5 1795683600000999900 2 "e' + "\\", "ITEM 4 1795683600000999901 1 d",
@@ -141,21 +145,18 @@ class QueueTest(LoadTest):
             b"keep 6 18446744073709551615 6 18446744073709551615 1 f"])
 
     def test_it_is_loaded_once(self) -> None:
-        words = ("load", self.history, "--began", NINE)
-        self.assert_prints([f"{self.name}: 4 elements loaded"], *words)
-        self.assert_prints([f"{self.name}: 4 elements were loaded before"], *words)
+        self.assert_loaded()
+        self.assert_loaded("were loaded before")
         self.joined().request("POLL", SEAT)
-        self.assert_prints([f"{self.name}: 4 elements were loaded before"], *words)
+        self.assert_loaded("were loaded before")
 
     def test_a_queue_that_is_in_use(self) -> None:
-        used = f"{self.name}: this queue is in use, or another load into it has not ended"
         self.joined()
-        self.assert_refused(1, used, "load", self.history, "--began", NINE)
+        self.assert_refused(1, self.used, *self.load)
 
     def test_another_load_behind_the_first(self) -> None:
-        used = f"{self.name}: this queue is in use, or another load into it has not ended"
-        self.ran("load", self.history, "--began", NINE)
-        self.assert_refused(1, used, "load", self.history, "--began", "@0")
+        self.assert_loaded()
+        self.assert_refused(1, self.used, "load", self.history, "--began", "@0")
         self.assertEqual(self.joined().request("SIZE", SEAT), "SIZE 4")
 
     def test_nobody_is_served_before_all_is_there(self) -> None:
@@ -165,8 +166,7 @@ class QueueTest(LoadTest):
             load(queue, left)
         with self.assertRaisesRegex(Exception, "^LOADING_QUEUE "):
             self.joined()
-        self.assert_refused(1, f"{self.name}: this queue is in use, or another load into it has not ended",
-                            "load", self.history, "--began", "@1")
+        self.assert_refused(1, self.used, "load", self.history, "--began", "@1")
         self.assertTrue(load(queue, left))
         self.assertEqual(self.joined().request("SIZE", SEAT), "SIZE 4")
 
@@ -174,10 +174,11 @@ class QueueTest(LoadTest):
         queue = self.queue()
         with self.broken_off(queue, calls=2), self.assertRaises(OSError):
             load(queue, Left.of([read_text(self.history)], [0]))
+        none = f"{self.name}: no load has begun that has not ended"
         self.assert_prints([f"{self.name}: emptied"], "load", "--abandon")
-        self.assert_prints([f"{self.name}: no load has begun that has not ended"], "load", "--abandon")
-        self.assert_prints([f"{self.name}: 4 elements loaded"], "load", self.history, "--began", NINE)
-        self.assert_prints([f"{self.name}: no load has begun that has not ended"], "load", "--abandon")
+        self.assert_prints([none], "load", "--abandon")
+        self.assert_loaded()
+        self.assert_prints([none], "load", "--abandon")
         self.assertEqual(self.joined().request("SIZE", SEAT), "SIZE 4")
 
     def broken_off(self, queue, calls):
@@ -195,7 +196,7 @@ class QueueTest(LoadTest):
         count = 20_000
         lines = b"".join(b"keep %d %d %d %d 1 job-%d\n" % (it, it, it, it, it) for it in range(count))
         self.history.write_bytes(b"history 3\nopen %d 0 %d\n%bend 0\n" % (count, count, lines))
-        kills = self.kill_again_and_again("load", self.history, "--began", NINE)
+        kills = self.kill_again_and_again(*self.load)
         self.assertGreater(kills, 2)
         queue = self.joined()
         self.assertEqual(queue.request("SIZE", SEAT), f"SIZE {count}")
@@ -237,7 +238,7 @@ class SeveralTest(LoadTest):
 class RefusalTest(LoadTest):
     def test_a_damaged_history(self) -> None:
         self.history.write_bytes(RUN.replace(b"poll 0", b"poll 1"))
-        self.assert_refused(1, f"{self.history}: line 6: element 1 is not in the queue", "load", self.history, "--began", NINE)
+        self.assert_refused(1, f"{self.history}: line 6: element 1 is not in the queue", *self.load)
 
     def test_a_file_that_can_not_be_read(self) -> None:
         for path, why in ((self.room / "none", "No such file or directory"), (self.room, "Is a directory")):

@@ -70,8 +70,8 @@ class ShardedGatewayTest(GatewayTest):
         self.assert_talk(talker, "DRAIN 100 = DRAINED 54")
         ids += [talker.read().split()[1] for _ in range(54)]
         self.assertEqual(len(set(ids)), 64)
-        self.assert_talk(talker, "POLL = ERR 9 held", "TAKE = ERR 9 held", "POLLFOR 0 = ERR 9 held", "DRAIN 5 = DRAINED 0",
-                         f"DONE {ids[0]} = DONE {ids[0]}", "POLL = ITEM .*")
+        self.assert_talk(talker, "POLL = ERR 9 held", "TAKE = ERR 9 held", "POLLFOR 0 = ERR 9 held",
+                         "DRAIN 5 = DRAINED 0", f"DONE {ids[0]} = DONE {ids[0]}", "POLL = ITEM .*")
 
     def test_requests_in_one_piece_are_carried_out_in_order(self) -> None:
         talker = self.talker()
@@ -81,8 +81,8 @@ class ShardedGatewayTest(GatewayTest):
                           "BYE"])
 
     def test_ids_of_no_queue_are_not_held(self) -> None:
-        self.assert_talk(self.talker(), "DONE 63 = ERR 5 not-held", "FAIL 62 = ERR 5 not-held", "REMOVE 61 = REMOVED no",
-                         f"DONE {2**64 - 64} = ERR 5 not-held")
+        self.assert_talk(self.talker(), "DONE 63 = ERR 5 not-held", "FAIL 62 = ERR 5 not-held",
+                         "REMOVE 61 = REMOVED no", f"DONE {2**64 - 64} = ERR 5 not-held")
 
     def test_an_element_is_removed_by_its_id(self) -> None:
         talker = self.talker()

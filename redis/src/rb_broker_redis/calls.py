@@ -4,7 +4,7 @@ from __future__ import annotations
 import asyncio
 import logging
 import time
-from typing import Callable, Iterator, Optional
+from typing import Callable, Optional
 
 from .keys import keys_of
 from .link import Link
@@ -50,47 +50,43 @@ def without_fetch(call: bytes) -> bytes:
 class Batch:
     """Calls that go out together, with who is told the replies."""
 
-    __slots__ = ("calls", "parts", "front", "function", "sent")
+    __slots__ = ("parts", "front", "function", "sent")
 
     def __init__(self, front: bytes) -> None:
         """`front` names the gateway whose sessions make the calls."""
         self.front = front
-        self.calls: list[bytes] = []
-        self.parts: list[tuple[Answered, int]] = []
+        self.parts: list[tuple[Answered, list[bytes]]] = []
         self.function = b"rb_calls"
         self.sent = 0.0
+
+    def calls(self) -> list[bytes]:
+        """All calls, in their order."""
+        return [call for _, calls in self.parts for call in calls]
 
     def answer(self, replies: list[bytes]) -> None:
         """Tells each its replies."""
         if len(self.parts) == 1:
             self.parts[0][0](replies)
             return
-        for answered, its_calls in self._parts():
-            answered(replies[its_calls])
+        start = 0
+        for answered, calls in self.parts:
+            answered(replies[start:start + len(calls)])
+            start += len(calls)
 
     def withhold(self, answered: Answered) -> None:
         """Fetches nothing for this one. Its calls that would are answered LATER."""
-        for its_answered, its_calls in self._parts():
-            if its_answered == answered:
-                self.calls[its_calls] = map(without_fetch, self.calls[its_calls])
+        self.parts = [(it, [*map(without_fetch, calls)] if it == answered else calls) for it, calls in self.parts]
 
     def answer_at_an_end(self) -> None:
         """The sessions have ended, and no call is made: what they held they do not hold any more."""
-        for answered, its_calls in self._parts():
-            replies = [AT_AN_END[word] for word in map(word_of, self.calls[its_calls]) if word in AT_AN_END]
-            answered(replies if len(replies) == len(self.calls[its_calls]) else None)
+        for answered, calls in self.parts:
+            replies = [AT_AN_END[word] for word in map(word_of, calls) if word in AT_AN_END]
+            answered(replies if len(replies) == len(calls) else None)
 
     def doubt(self) -> None:
         """Nobody knows whether the calls were made."""
         for answered, _ in self.parts:
             answered(None)
-
-    def _parts(self) -> Iterator[tuple[Answered, slice]]:
-        """Who is told the replies to which calls."""
-        start = 0
-        for answered, count in self.parts:
-            yield answered, slice(start, start + count)
-            start += count
 
 
 class Calls:
@@ -123,7 +119,7 @@ class Calls:
     def join(self, gateway: int) -> None:
         """From now on the calls are those of this gateway. What was gathered before is of the one before."""
         self._gateway, self._front = gateway, bulks([b"", b"%d" % gateway])
-        if self._batch.calls:
+        if self._batch.parts:
             self._again.append(self._batch)
         self._batch = Batch(self._front)
 
@@ -137,9 +133,7 @@ class Calls:
 
     def submit(self, calls: list[bytes], answered: Answered) -> None:
         """Makes these calls, one after the other."""
-        batch = self._batch
-        batch.calls += calls
-        batch.parts.append((answered, len(calls)))
+        self._batch.parts.append((answered, calls))
         if not self._is_scheduled:
             self._schedule()
 
@@ -165,19 +159,20 @@ class Calls:
             return
         if self._again:
             batch = self._again.pop(0)
-        elif self._batch.calls:
+        elif self._batch.parts:
             batch, self._batch = self._batch, Batch(self._front)
         else:
             return
         self._send(link, batch)
-        if self._again or self._batch.calls:
+        if self._again or self._batch.parts:
             self._schedule()
 
     def _send(self, link: Link, batch: Batch) -> None:
         self._flying[batch] = None
         batch.sent = time.monotonic()
-        head = b"*%d\r\n$5\r\nFCALL\r\n$8\r\n%b\r\n$1\r\n8\r\n" % (13 + len(batch.calls), batch.function)
-        data = b"".join([head, self._head, batch.front, bulks(batch.calls)])
+        calls = batch.calls()
+        head = b"*%d\r\n$5\r\nFCALL\r\n$8\r\n%b\r\n$1\r\n8\r\n" % (13 + len(calls), batch.function)
+        data = b"".join([head, self._head, batch.front, bulks(calls)])
         if not self._replicas:
             link.send(data, lambda answer: self._answered(link, batch, answer))
             return
@@ -189,7 +184,7 @@ class Calls:
         if link is not self._link:
             return  # it was in doubt when the link was given up
         del self._flying[batch]
-        if self._batch.calls or self._again:
+        if self._again or self._batch.parts:
             self._schedule()
         if isinstance(answer, list):
             batch.answer(answer)

@@ -32,7 +32,6 @@ class Gateway:
         else:
             self.calls = ShardedCalls(queues, names)
             self.waits = Waits(queues, wait, self.calls.front_of, self.calls.seen)
-            self.calls.note = self.waits.note
         self._upkeeps: list[Upkeep] = []
         self._sessions: set[Session] = set()
         self._server: asyncio.base_events.Server

@@ -2,8 +2,10 @@
 from __future__ import annotations
 
 import argparse
+import contextlib
 import os
 import sys
+from itertools import chain
 from pathlib import Path
 from typing import BinaryIO, Iterator, Optional
 
@@ -37,19 +39,17 @@ def run(asked: argparse.Namespace) -> int:
     opening = opening_of(asked.opening)
     queue = Queue(connect(address_in(asked)), f"script-{os.getpid()}-{os.urandom(4).hex()}")
     recorder = recorder_of(asked.history)
-    fault: Optional[Failed] = None
     try:
         begin(queue, opening, asked)
         try:
             converse(ScriptSession(queue, opening.last))
-        except Failed as caught:
-            fault = caught
-        if recorder:
-            record(queue, opening, recorder, fault)
+        except Failed:
+            with contextlib.suppress(Failed):  # the session's fault is the one that is told
+                record(queue, opening, recorder)
+            raise
+        record(queue, opening, recorder)
     finally:
         queue.command("UNLINK", *queue.keys)
-    if fault:
-        raise fault
     return 0
 
 
@@ -58,9 +58,8 @@ def opening_of(path: Optional[str]) -> FollowedQueue:
     if path is None:
         return FollowedQueue()
     try:
-        queue = read_text(Path(path)).queue
-    except OSError:
-        raise Failed("cannot read history", 3) from None
+        with ends_with("cannot read history"):
+            queue = read_text(Path(path)).queue
     except Damaged:
         raise Failed("bad opening") from None
     if queue.next_id > GREATEST_ID or len(queue.elements) > MOST_KEPT:
@@ -92,40 +91,40 @@ def converse(session: ScriptSession) -> None:
         session.fail_held()
 
 
+@contextlib.contextmanager
+def ends_with(why: str) -> Iterator[None]:
+    """What fails here ends the command, for this reason."""
+    try:
+        yield
+    except OSError:
+        raise Failed(why, 3) from None
+
+
+@ends_with("cannot read input")
 def read() -> bytes:
     """Reads from standard input."""
-    try:
-        return os.read(sys.stdin.fileno(), BUFFER_BYTES)
-    except OSError:
-        raise Failed("cannot read input", 3) from None
+    return os.read(sys.stdin.fileno(), BUFFER_BYTES)
 
 
+@ends_with("cannot write output")
 def write(replies: bytes) -> None:
     """Writes replies to standard output."""
-    try:
-        while replies:
-            replies = replies[os.write(sys.stdout.fileno(), replies):]
-    except OSError:
-        raise Failed("cannot write output", 3) from None
+    while replies:
+        replies = replies[os.write(sys.stdout.fileno(), replies):]
 
 
+@ends_with("cannot write history")
 def recorder_of(path: Optional[str]) -> Optional[BinaryIO]:
     """The file of the history, which is there before the first request is read."""
-    try:
-        return open(path, "wb") if path else None
-    except OSError:
-        raise Failed("cannot write history", 3) from None
+    return open(path, "wb") if path else None
 
 
-def record(queue: Queue, opening: FollowedQueue, recorder: BinaryIO, fault: Optional[Failed]) -> None:
-    """Writes the history of the run. If the session had a fault, that is the one that is told."""
-    try:
+@ends_with("cannot write history")
+def record(queue: Queue, opening: FollowedQueue, recorder: Optional[BinaryIO]) -> None:
+    """Writes the history of the run, if there is a file for it."""
+    if recorder:
         with recorder:
-            recorder.write(HEADER)
-            recorder.writelines(opening.opening())
-            recorder.writelines(events_of(queue))
-    except OSError:
-        raise fault or Failed("cannot write history", 3) from None
+            recorder.writelines(chain([HEADER], opening.opening(), events_of(queue)))
 
 
 def events_of(queue: Queue) -> Iterator[bytes]:

@@ -3,12 +3,12 @@ from __future__ import annotations
 
 import asyncio
 from itertools import groupby
-from typing import Callable, Iterable, Optional, Sequence
+from typing import Iterable, Optional, Sequence
 
 from .calls import Answered, Calls
 from .protocol import MOST_HELD, ErrorReply
 from .shards import Rendezvous, inner_id, outer_id
-from .waits import LATER, Later
+from .waits import LATER, laters_in
 
 BY_PAYLOAD = (b"OFFER", b"OFFERAT")
 BY_ID = (b"DONE", b"FAIL", b"REMOVE")
@@ -34,8 +34,6 @@ class ShardedCalls:
         self.rendezvous = Rendezvous(list(names))
         self._sessions: dict[bytes, _Session] = {}
         self._under_way: dict[Answered, tuple[_Session, asyncio.Task[None]]] = {}
-        self.note: Callable[[Later, int], None] = lambda later, queue: None
-        """Gets when the earliest element of a queue expires, on behalf of a call that will wait."""
 
     def submit(self, calls: list[bytes], answered: Answered) -> None:
         """Makes these calls of one session, one after the other."""
@@ -161,9 +159,12 @@ class _Session:
         refused = [it for it in told.values() if not it.startswith(LATER)]
         if refused:
             return refused[0]
-        laters = self._laters_of(told)
+        # Of a queue that is away no element is known, and a wait for it begins when others do.
+        away = b"LATER - " + next(iter(told.values())).split(b" ", 2)[2]
+        waits = [told.get(queue, away) for queue in range(len(self._calls.queues))]
         if word == b"WAIT" or self.has_left:
-            return self._wait(laters)
+            return _joined(waits)
+        laters = [laters_in(it)[0] for it in waits]
         due = sorted((it.head, queue) for queue, it in enumerate(laters) if it.head is not None and it.head <= it.now)
         queues = [queue for _, queue in due]
         if word == b"DRAIN":
@@ -172,13 +173,13 @@ class _Session:
             queues.append(0)  # it is a call of one queue all the same
         reply = b""
         for queue in queues:
-            start = b" " + laters[queue].starts[0] if word == b"POLLFOR" else b""
+            start = b" " + laters[queue].start if word == b"POLLFOR" else b""
             reply = await self._ask_one(queue, request + start)
             if not reply.startswith((LATER, b"NONE")):
                 return self.seen(queue, reply)
             if reply.startswith(LATER):
-                laters[queue] = Later(reply)
-        return reply if word == b"POLL" or request == b"POLLFOR 0" else self._wait(laters)
+                waits[queue] = reply
+        return reply if word == b"POLL" or request == b"POLLFOR 0" else _joined(waits)
 
     async def _drain(self, queues: Iterable[int], most: int) -> bytes:
         items: list[bytes] = []
@@ -192,18 +193,6 @@ class _Session:
                 break
         items.sort(key=lambda it: int(it.split()[2]))
         return b"DRAINED %d\n" % len(items) + b"".join(items)
-
-    def _wait(self, laters: Sequence[Later]) -> bytes:
-        """It waits: what each queue said is noted, and told as one."""
-        for queue, later in enumerate(laters):
-            self._calls.note(later, queue)
-        starts = b" ".join(it.starts[0] for it in laters)
-        return b"LATER - %d %b\n" % (laters[0].now, starts)
-
-    def _laters_of(self, replies: dict[int, bytes]) -> list[Later]:
-        """What each queue said. One that is away has no element that is known, and begins a wait when others do."""
-        _, _, rest = next(iter(replies.values())).split(b" ", 2)
-        return [Later(replies.get(queue, b"LATER - " + rest)) for queue in range(len(self._calls.queues))]
 
     @property
     def _free(self) -> int:
@@ -233,3 +222,8 @@ def _inner(request: bytes) -> bytes:
     """The request with the id that its queue knows."""
     word, argument, *_ = request.split(b" ")
     return b"%b %d" % (word, inner_id(int(argument))[1]) if word in BY_ID else request
+
+
+def _joined(laters: Iterable[bytes]) -> bytes:
+    """The LATER of each queue as one."""
+    return b"LATER %b\n" % b" ".join(it[len(b"LATER "):-1] for it in laters)

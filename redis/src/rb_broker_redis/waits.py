@@ -5,7 +5,7 @@ import asyncio
 import time
 from dataclasses import dataclass, field
 from itertools import zip_longest
-from typing import Callable, Optional, Sequence
+from typing import Callable, NamedTuple, Optional, Sequence
 
 from .calls import Calls
 from .protocol import SECOND
@@ -21,20 +21,22 @@ WaitAnswered = Callable[[Optional[bytes]], None]
 """Gets the reply to a request that waited, or None where it is in doubt."""
 
 
-class Later:
-    """When a call that found nothing has to be tried again: the words of its reply, in moments of the node. There is a
-    start for each queue."""
+class Later(NamedTuple):
+    """When a call that found nothing has to be tried again, in moments of the node."""
 
-    __slots__ = ("head", "now", "starts")
-
-    def __init__(self, reply: bytes) -> None:
-        _, head, now, *self.starts = reply.split()
-        self.head = None if head == b"-" else int(head)
-        self.now = int(now)
+    head: Optional[int]
+    now: int
+    start: bytes
 
     def left(self, timeout: int) -> int:
         """The nanoseconds until the deadline of a timed poll."""
-        return int(self.starts[0]) + timeout - self.now
+        return int(self.start) + timeout - self.now
+
+
+def laters_in(reply: bytes) -> list[Later]:
+    """What a LATER tells, which has three words for each queue."""
+    words = iter(reply.split()[1:])
+    return [Later(None if head == b"-" else int(head), int(now), start) for head, now, start in zip(words, words, words)]
 
 
 @dataclass(eq=False)
@@ -72,17 +74,16 @@ class Waits:
 
     def begin(self, seat: bytes, request: bytes, reply: bytes, answered: WaitAnswered) -> Wait:
         """A request, whose reply was LATER, waits."""
-        later = Later(reply)
-        longest, asks_at_end, ends = self._longest, False, [b""] * len(self._queues)
+        laters, longest, asks_at_end = laters_in(reply), self._longest, False
+        calls = [self._front_of(queue, seat) + request for queue in range(len(laters))]
         if request != b"TAKE":
-            left = later.left(int(request.split()[1]))
+            left = laters[0].left(int(request.split()[1]))
             longest, asks_at_end = min(longest, left), left <= longest
-            ends = [b" " + start for start in later.starts]
-        calls = [self._front_of(queue, seat) + request + end for queue, end in enumerate(ends)]
+            calls = [b"%b %b" % (call, later.start) for call, later in zip(calls, laters)]
         wait = Wait(seat, calls, answered, asks_at_end)
         self._wait(wait, longest)
-        if len(self._queues) == 1:
-            self.note(later)
+        for queue, later in enumerate(laters):
+            self._note(later, queue)
         self._look()
         return wait
 
@@ -90,11 +91,6 @@ class Waits:
         """It is answered STOPPED. Nothing more is fetched for it; a try that is under way gives what it finds."""
         wait.asks_at_end = False
         self._end(wait)
-
-    def note(self, later: Later, queue: int = 0) -> None:
-        """This queue said when its earliest element expires."""
-        if later.head is not None:
-            self._waiting.hear(time.monotonic_ns() + later.head - later.now, queue)
 
     def heard(self, message: bytes, queue: int = 0) -> None:
         """An element has become the earliest: `HEAD NOW`, in moments of the node."""
@@ -106,6 +102,11 @@ class Waits:
         """What was published may not have been heard."""
         self._waiting.hear(time.monotonic_ns(), queue)
         self._look()
+
+    def _note(self, later: Later, queue: int) -> None:
+        """This queue said when its earliest element expires."""
+        if later.head is not None:
+            self._waiting.hear(time.monotonic_ns() + later.head - later.now, queue)
 
     def _wait(self, wait: Wait, nanoseconds: int) -> None:
         wait.timer = self._loop.call_later(max(nanoseconds, 0) / SECOND, self._end, wait)
@@ -144,7 +145,7 @@ class Waits:
         else:  # the last of the replies tells whether there may be more
             found_all = not replies[-1].startswith(LATER)
             if not found_all:
-                self.note(Later(replies[-1]), queue)
+                self._note(laters_in(replies[-1])[0], queue)
             self._waiting.end_tries(now, found_all)
         for wait, reply in zip_longest(tried, replies or []):
             wait.is_tried = False
@@ -172,10 +173,10 @@ class Waits:
         if reply is None or not reply.startswith(LATER):
             self._answer(wait, 0, reply)
         elif wait.asks_at_end:  # the node's clock is behind
-            later = Later(reply)
+            (later,) = laters_in(reply)
             wait.is_over = False
             self._wait(wait, later.left(int(wait.calls[0].split()[2])))
-            self.note(later)
+            self._note(later, 0)
         else:
             self._answer(wait, 0, STOPPED)
 

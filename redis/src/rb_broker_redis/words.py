@@ -110,4 +110,5 @@ def policy_in(asked: argparse.Namespace) -> tuple[str, str, str]:
     """The policy that the words name, as `rb_join` of broker.lua takes it. What they leave out is as it was said to
     `add_policy_words`."""
     pace, period = ("delay", asked.delay) if asked.rate is None else ("rate", asked.rate)
-    return pace, f"{asked.default_delay if period is None else period:020}", str(asked.attempts or asked.default_attempts)
+    period = asked.default_delay if period is None else period
+    return pace, f"{period:020}", str(asked.attempts or asked.default_attempts)
