@@ -2,16 +2,18 @@
 from __future__ import annotations
 
 import contextlib
+import ctypes
 import os
 import shutil
 import signal
 import tempfile
 import time
 from types import FrameType
-from typing import Callable, Collection, Dict, Iterator, List, Optional, Set
+from typing import Collection, Dict, Iterator, List, Optional, Set
 
 SIGNALS = (signal.SIGHUP, signal.SIGINT, signal.SIGTERM)
 PATIENCE = 10  # seconds that killed processes have to end
+PR_SET_CHILD_SUBREAPER = 36  # of <linux/prctl.h>
 
 
 class Interrupted(KeyboardInterrupt):
@@ -19,37 +21,62 @@ class Interrupted(KeyboardInterrupt):
 
     def __init__(self, number: int) -> None:
         super().__init__(number)
-        self.status = 128 + number
+        self.number, self.status = signal.Signals(number), 128 + number
 
 
 @contextlib.contextmanager
-def leaving_nothing() -> Iterator[str]:
-    """A folder for temporary files. At the end, however it comes, that is gone, and so is each process that stems from
-    this one. A signal raises Interrupted."""
+def leaving_no_process(adopts: bool = False) -> Iterator[contextlib.ExitStack]:
+    """At the end, however it comes, each process that stems from this one is gone, and then what the stack has is
+    closed. A signal raises Interrupted, unless it was ignored before, as under nohup.
+
+    If this process adopts, one that loses its parent becomes its child, so that none gets away, whatever session it
+    moved to. A shell that became this process may have left children, which are none of ours.
+    """
+    others, last = descendants(), contextlib.ExitStack()
+    before = {number: signal.getsignal(number) for number in (*SIGNALS, signal.SIGCHLD)}
 
     def interrupt(number: int, _frame: Optional[FrameType]) -> None:
-        for it in SIGNALS:
-            signal.signal(it, signal.SIG_IGN)
-        end_descendants()  # before a process is killed that has others, which would then stem from this one no longer
+        handle_all(signal.SIG_IGN)
+        end_descendants(others)  # before a process is killed that has others, which would then stem from no one here
         raise Interrupted(number)
 
-    for number in SIGNALS:
-        if signal.getsignal(number) is not signal.SIG_IGN:  # as under nohup
-            signal.signal(number, interrupt)
-    room = tempfile.mkdtemp(prefix="rb-")
-    os.chmod(room, 0o711)  # a test may run a process as another user, whose files lie below
-    os.environ["TMPDIR"] = tempfile.tempdir = room
+    def handle_all(action: object) -> None:
+        for number in SIGNALS:
+            if before[number] is not signal.SIG_IGN:
+                signal.signal(number, action)
+
+    handle_all(interrupt)
+    signal.signal(signal.SIGCHLD, signal.SIG_DFL)  # where it is ignored, the system does not tell how children ended
+    adopt(adopts)
     try:
-        yield room
+        yield last
     except Exception as fault:
         if isinstance(fault.__context__, Interrupted):  # a folder could not be removed in which a process still writes
             raise fault.__context__ from None
         raise
     finally:
-        for number in SIGNALS:
-            signal.signal(number, signal.SIG_IGN)
-        end_descendants()
-        shutil.rmtree(room, ignore_errors=True)
+        handle_all(signal.SIG_IGN)
+        end_descendants(others)
+        last.close()
+        adopt(False)
+    for number, action in before.items():
+        signal.signal(number, action)
+
+
+@contextlib.contextmanager
+def leaving_nothing() -> Iterator[str]:
+    """A folder for temporary files. At the end, however it comes, that is gone, and so are the processes."""
+    with leaving_no_process() as last:
+        room = tempfile.mkdtemp(prefix="rb-")
+        last.callback(shutil.rmtree, room, ignore_errors=True)
+        os.chmod(room, 0o711)  # a test may run a process as another user, whose files lie below
+        os.environ["TMPDIR"] = tempfile.tempdir = room
+        yield room
+
+
+def adopt(is_wanted: bool) -> None:
+    """Whether processes that lose their parent become children of this one."""
+    ctypes.CDLL(None).prctl(PR_SET_CHILD_SUBREAPER, int(is_wanted), 0, 0, 0)
 
 
 def descendants(others: Collection[int] = ()) -> Set[int]:
@@ -69,14 +96,7 @@ def descendants(others: Collection[int] = ()) -> Set[int]:
     return found
 
 
-def reap() -> None:
-    """Takes note of all children that have ended."""
-    with contextlib.suppress(ChildProcessError):
-        while os.waitpid(-1, os.WNOHANG)[0]:
-            pass
-
-
-def end_descendants(others: Collection[int] = (), reap: Callable[[], object] = reap) -> None:
+def end_descendants(others: Collection[int] = ()) -> None:
     """Kills what stems from this process, but for these others, and waits for its end."""
     until = time.monotonic() + PATIENCE
     while (left := descendants(others)) and time.monotonic() < until:
@@ -84,4 +104,6 @@ def end_descendants(others: Collection[int] = (), reap: Callable[[], object] = r
             with contextlib.suppress(ProcessLookupError, PermissionError):
                 os.kill(process, signal.SIGKILL)
         time.sleep(0.01)
-        reap()
+        with contextlib.suppress(ChildProcessError):
+            while os.waitpid(-1, os.WNOHANG)[0]:
+                pass

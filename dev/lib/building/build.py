@@ -1,30 +1,111 @@
 """The build of a program's crates, each as soon as those below it are built."""
 from __future__ import annotations
 
+import ctypes
+import fcntl
 import os
 import re
+import select
+import signal
+import subprocess
 import tempfile
+import time
+from dataclasses import dataclass
+from graphlib import TopologicalSorter
+from pathlib import Path
 from typing import IO
 
 from building.crates import Crates
-from building.processes import Processes
-from building.progress import Progress
+from building.progress import Progress, say
 from building.rooms import Rooms
-from building.signals import Signals
 
 TICK = 1.0  # seconds between two looks at what the crates' commands have written
 ROOM = 4_000_000_000  # bytes of memory that must be available before a crate is begun beside others
 ASIDE = 5  # added to a crate's niceness for each crate beside it that has precedence
+PR_SET_PDEATHSIG = 1  # of <linux/prctl.h>
+
+libc = ctypes.CDLL(None)
 
 
+@dataclass(eq=False)
 class Failed(Exception):
     """A crate could not be built. `output` is what rt wrote."""
 
-    def __init__(self, crate: str, status: int, output: bytes) -> None:
-        super().__init__(crate, status)
-        self.crate = crate
-        self.status = status
-        self.output = output
+    crate: str
+    status: int
+    output: bytes
+
+
+@dataclass(frozen=True)
+class Running:
+    """A crate whose command runs, and what that writes."""
+
+    crate: str
+    process: subprocess.Popen[bytes]
+    file: IO[bytes]
+
+    def output(self) -> bytes:
+        """What the command has written so far."""
+        return os.pread(self.file.fileno(), os.fstat(self.file.fileno()).st_size, 0)
+
+
+class Build:
+    """A build of all crates of a program."""
+
+    def __init__(self, crates: Crates, program: str, rooms: Rooms) -> None:
+        self._crates, self._program, self._rooms = crates, program, rooms
+        self._progress = Progress(len(crates.names))
+        self._order = TopologicalSorter(crates.uses)
+        self._waiting: list[str] = []
+        self._running: dict[int, Running] = {}  # by descriptors of their processes
+
+    def run(self) -> int:
+        """Builds all, and returns how many seconds that took. Raises Failed when the first crate fails."""
+        self._order.prepare()
+        while self._order.is_active():
+            self._waiting += self._order.get_ready()
+            self._begin_those_that_may()
+            for ended in select.select([*self._running], [], [], TICK)[0]:
+                os.close(ended)
+                self._end(self._running.pop(ended))
+            for it in self._running.values():
+                self._progress.hear(it.crate, it.output())
+            self._progress.tell()
+        return self._progress.seconds()
+
+    def _begin_those_that_may(self) -> None:
+        for crate in sorted(self._waiting, key=self._crates.names.index):
+            if not may_begin(len(self._running), len(os.sched_getaffinity(0)), available_memory()):
+                return
+            self._waiting.remove(crate)
+            it = self._begin(crate)
+            self._running[os.pidfd_open(it.process.pid)] = it
+
+    def _begin(self, crate: str) -> Running:
+        """Begins with a crate. Those that run already and have a longer way up have precedence at the processors."""
+        way_up = self._crates.way_up
+        nice = ASIDE * sum(way_up[it.crate] > way_up[crate] for it in self._running.values())
+
+        def prepare() -> None:
+            libc.prctl(PR_SET_PDEATHSIG, signal.SIGKILL, 0, 0, 0)
+            os.nice(nice)
+
+        # It stays in the group of this process, which a terminal stops and ends as a whole, and in its session, since
+        # the system weighs niceness within a session alone. There are no threads here, so prepare is safe.
+        words = ["rt", "run", "--", "--help"] if crate == self._program else ["rt", "lib"]
+        folder, file = self._rooms.enter(crate), tempfile.TemporaryFile()
+        how = {"stdin": subprocess.DEVNULL, "stdout": file, "stderr": subprocess.STDOUT, "preexec_fn": prepare}
+        return Running(crate, subprocess.Popen(words, cwd=folder, **how), file)
+
+    def _end(self, it: Running) -> None:
+        status = it.process.wait()
+        if status != 0:
+            raise Failed(it.crate, status, self._rooms.with_own_paths(it.crate, it.output()))
+        self._rooms.leave(it.crate)
+        self._order.done(it.crate)
+        self._progress.hear(it.crate, it.output())
+        self._progress.built(it.crate)
+        it.file.close()
 
 
 def may_begin(running: int, processors: int, available: int) -> bool:
@@ -34,63 +115,33 @@ def may_begin(running: int, processors: int, available: int) -> bool:
 
 def available_memory() -> int:
     """The bytes of memory that can be used without swapping."""
-    with open("/proc/meminfo", encoding="ascii") as file:
-        found = re.search(r"MemAvailable:\s+(\d+) kB", file.read())
+    found = re.search(r"MemAvailable:\s+(\d+) kB", Path("/proc/meminfo").read_text("ascii"))
     return 1024 * int(found[1]) if found else 0
 
 
-class Build:
-    """A build of all crates of a program."""
+def take_turn(top: str, crates: Crates) -> bool:
+    """Waits until no other build and no rt works in these crates' folders, and keeps them out as long as this process
+    runs this program. Returns whether it had to wait, since the program may then be built.
 
-    def __init__(self, crates: Crates, program: str, rooms: Rooms, processes: Processes) -> None:
-        self._crates = crates
-        self._program = program
-        self._rooms = rooms
-        self._processes = processes
-        self._progress = Progress(len(crates))
-        self._waiting = crates.names()
-        self._built: set[str] = set()
-        self._running: dict[int, str] = {}
-        self._outputs: dict[str, IO[bytes]] = {}
+    The locks are those that rt takes itself, in rt's order: one on each crate's folder.
+    """
+    has_waited = False
+    for folder in sorted(os.path.realpath(f"{top}/crates/{name}") for name in crates.names):
+        lock = os.open(folder, os.O_RDONLY)  # closed by the system, when this process ends or becomes the program
+        while not is_locked(lock):
+            if not has_waited:
+                say("another ./broker or rt is at work in this checkout; waiting for its end")
+            has_waited = True
+            time.sleep(0.5)
+    return has_waited
 
-    def run(self, signals: Signals) -> int:
-        """Builds all, and returns how many seconds that took. Raises Failed when the first crate fails, and Stopped."""
-        while self._waiting or self._running:
-            self._begin_those_that_may()
-            signals.wait(TICK)
-            for process, status in self._processes.ended():
-                self._end(self._running.pop(process), status)
-            for crate in self._running.values():
-                self._progress.hear(crate, self._output_of(crate))
-            self._progress.tell()
-        return self._progress.seconds()
 
-    def _begin_those_that_may(self) -> None:
-        for crate in [it for it in self._waiting if self._built.issuperset(self._crates.uses(it))]:
-            if not may_begin(len(self._running), len(os.sched_getaffinity(0)), available_memory()):
-                return
-            self._waiting.remove(crate)
-            self._begin(crate)
-
-    def _begin(self, crate: str) -> None:
-        """Begins with a crate. Those that run already and have a longer way up have precedence at the processors."""
-        words = ["rt", "run", "--", "--help"] if crate == self._program else ["rt", "lib"]
-        self._outputs[crate] = tempfile.TemporaryFile()
-        way_up = self._crates.way_up(crate)
-        nice = ASIDE * sum(self._crates.way_up(it) > way_up for it in self._running.values())
-        self._running[self._processes.start(words, self._rooms.enter(crate), self._outputs[crate], nice)] = crate
-
-    def _end(self, crate: str, status: int) -> None:
-        output = self._output_of(crate)
-        if status != 0:
-            raise Failed(crate, status, self._rooms.with_own_paths(crate, output))
-        self._outputs.pop(crate).close()
-        self._rooms.leave(crate)
-        self._built.add(crate)
-        self._progress.hear(crate, output)
-        self._progress.built(crate)
-
-    def _output_of(self, crate: str) -> bytes:
-        """What a crate's command has written so far."""
-        file = self._outputs[crate].fileno()
-        return os.pread(file, os.fstat(file).st_size, 0)
+def is_locked(lock: int) -> bool:
+    """Whether this process holds the lock now."""
+    try:
+        fcntl.flock(lock, fcntl.LOCK_EX | fcntl.LOCK_NB)
+    except BlockingIOError:
+        return False
+    except OSError:
+        pass  # some file systems have no locks, and rt then works without them too
+    return True

@@ -28,9 +28,7 @@ class Progress:
     """How far a build is. A crate whose proof was kept is counted and not named, since rt has nothing to do for it."""
 
     def __init__(self, crates: int) -> None:
-        self._crates = crates
-        self._built = 0
-        self._began = time.monotonic()
+        self._crates, self._built, self._began = crates, 0, time.monotonic()
         self._proving: dict[str, float] = {}
         self._waiting: set[str] = set()
         self._ended: list[str] = []
@@ -56,9 +54,8 @@ class Progress:
     def tell(self) -> None:
         """Says what has changed since it was last told, if something has."""
         proving = tuple(self._proving)
-        if not self._ended and proving == self._told:
-            return
-        parts = [*self._ended, f"{self._built} of {self._crates} crates built"]
-        parts += [f"proving {', '.join(proving)}"] if proving else []
-        say(f"{self.seconds()} s: {'; '.join(parts)}")
-        self._ended, self._told = [], proving
+        if self._ended or proving != self._told:
+            parts = [*self._ended, f"{self._built} of {self._crates} crates built"]
+            parts += [f"proving {', '.join(proving)}"] if proving else []
+            say(f"{self.seconds()} s: {'; '.join(parts)}")
+            self._ended, self._told = [], proving

@@ -4,8 +4,9 @@ from __future__ import annotations
 import contextlib
 import os
 import shutil
+from pathlib import Path
 
-from building.crates import PARTS, Crates, named
+from building.crates import PARTS, Crates, read_uses
 
 
 class Rooms:
@@ -18,73 +19,71 @@ class Rooms:
     """
 
     def __init__(self, top: str, crates: Crates) -> None:
-        self._top = top
-        self._crates = crates
-        self._place = place_in(top)
-        self._table: list[str] = []
+        self._top, self._crates, self._place = Path(top), crates, place_in(Path(top))
+        self._uses: dict[str, list[str]] = {}
 
     def __enter__(self) -> Rooms:
         self._clear()  # of a build that was killed
-        with open(f"{self._top}/crates.txt", encoding="utf-8", errors="replace") as file:
-            self._table = file.readlines()
-        for part in (f"{name}/{part}" for name in self._crates.names() for part in PARTS):
-            if os.path.isdir(f"{self._top}/crates/{part}"):
-                shutil.copytree(f"{self._top}/crates/{part}", f"{self._place}/sources/{part}", symlinks=True)
+        self._uses = read_uses(str(self._top))
+        for part in (f"{name}/{part}" for name in self._crates.names for part in PARTS):
+            if (self._top / "crates" / part).is_dir():
+                shutil.copytree(self._top / "crates" / part, self._place / "sources" / part, symlinks=True)
         return self
 
     def __exit__(self, *_: object) -> None:
         self._clear()
 
-    def enter(self, crate: str) -> str:
+    def enter(self, crate: str) -> Path:
         """Makes the room of a crate, all below which is built, and returns the crate's folder in it."""
-        room, below = f"{self._place}/rooms/{crate}", self._crates.below(crate)
-        os.makedirs(f"{room}/crates")
-        with open(f"{room}/crates.txt", "w", encoding="utf-8") as file:
-            file.writelines(line for line in self._table if named(line) in {crate, *below})
+        room, below = self._place / "rooms" / crate, self._crates.below[crate]
+        (room / "crates").mkdir(parents=True)
+        table = [f"{name}: {' '.join(named)}\n" for name, named in self._uses.items() if name in {crate, *below}]
+        (room / "crates.txt").write_text("".join(table), "utf-8")
         for name in (crate, *below):
-            link_tree(f"{self._place}/sources/{name}", f"{room}/crates/{name}")
+            link_tree(self._place / "sources" / name, room / "crates" / name)
         for name in below:
-            link_tree(f"{self._top}/crates/{name}/out/rlib", f"{room}/crates/{name}/out/rlib")
+            link_tree(self._own(name) / "rlib", room / "crates" / name / "out" / "rlib")
         with contextlib.suppress(FileNotFoundError):
-            os.rename(f"{self._top}/crates/{crate}/out", f"{room}/crates/{crate}/out")
-        return f"{room}/crates/{crate}"
+            self._own(crate).rename(self._made(crate))
+        return room / "crates" / crate
 
     def leave(self, crate: str) -> None:
         """Moves what was made in a crate's room to the crate's own folder, and removes the room."""
-        room = f"{self._place}/rooms/{crate}"
-        made, own = f"{room}/crates/{crate}/out", f"{self._top}/crates/{crate}/out"
-        if os.path.isdir(made):
-            shutil.rmtree(own, ignore_errors=True)
-            os.rename(made, own)
-        shutil.rmtree(room)
+        if self._made(crate).is_dir():
+            shutil.rmtree(self._own(crate), ignore_errors=True)
+            self._made(crate).rename(self._own(crate))
+        shutil.rmtree(self._place / "rooms" / crate)
 
     def with_own_paths(self, crate: str, output: bytes) -> bytes:
         """What rt wrote in a crate's room, with the paths that the files have in the checkout."""
         return output.replace(f"{self._place}/rooms/{crate}/".encode(), f"{self._top}/".encode())
 
+    def _own(self, crate: str) -> Path:
+        return self._top / "crates" / crate / "out"
+
+    def _made(self, crate: str) -> Path:
+        return self._place / "rooms" / crate / "crates" / crate / "out"
+
     def _clear(self) -> None:
         """Removes all rooms. What was kept of a crate's builds goes back, unless somebody has begun it anew."""
-        rooms = f"{self._place}/rooms"
-        for crate in os.listdir(rooms) if os.path.isdir(rooms) else []:
-            made, own = f"{rooms}/{crate}/crates/{crate}/out", f"{self._top}/crates/{crate}/out"
-            if os.path.isdir(made) and not os.path.lexists(own):
-                os.rename(made, own)
+        for crate in (it.name for it in self._place.glob("rooms/*")):
+            if self._made(crate).is_dir() and not os.path.lexists(self._own(crate)):
+                self._made(crate).rename(self._own(crate))
         shutil.rmtree(self._place, ignore_errors=True)
 
 
-def place_in(top: str) -> str:
+def place_in(top: Path) -> Path:
     """Where rooms are made: on the disk of the checkout, so that files are linked and moved, not copied. The gate
     accepts no crates elsewhere in a checkout, and does not look into the folder of git."""
-    git = f"{top}/.git"
-    if os.path.isfile(git):  # a worktree's, which names the folder
-        with open(git, encoding="utf-8") as file:
-            git = os.path.join(top, file.read().partition("gitdir: ")[2].strip())
-    return f"{git}/broker-build" if os.path.isdir(git) else f"{top}/.broker-build"
+    git = top / ".git"
+    if git.is_file():  # a worktree's, which names the folder
+        git = top / git.read_text("utf-8").partition("gitdir: ")[2].strip()
+    return git / "broker-build" if git.is_dir() else top / ".broker-build"
 
 
-def link_tree(folder: str, to: str) -> None:
+def link_tree(folder: Path, to: Path) -> None:
     """Gives each file of a folder a second name. rt replaces such files, and writes into none."""
-    if os.path.isdir(folder):
+    if folder.is_dir():
         shutil.copytree(folder, to, symlinks=True, copy_function=link_or_copy)
 
 

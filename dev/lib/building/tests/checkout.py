@@ -6,10 +6,10 @@ import os
 import shutil
 import signal
 import subprocess
-import tempfile
 import time
-import unittest
+from pathlib import Path
 
+from checking.testing import RoomTest
 from common.program import TOP
 
 PROCESSORS = len(os.sched_getaffinity(0))
@@ -27,53 +27,54 @@ rb_broker: rb_left rb_right rb_alone clap
 LINES = {"rb_base": 10, "rb_left": 20, "rb_right": 30, "rb_alone": 5, "rb_tests": 1}
 
 
-class Checkout:
-    """A checkout of a small program, with a stand-in for rt."""
+class CheckoutTest(RoomTest):
+    """Tests with a checkout of a small program, and a stand-in for rt. None may leave anything behind."""
 
-    def __init__(self, room: str) -> None:
-        self.top = f"{room}/a checkout"
-        self.stand_in = f"{room}/stand-in"
-        os.makedirs(f"{self.top}/.git")
-        os.makedirs(f"{self.stand_in}/bin")
-        shutil.copy(f"{TOP}/broker", self.top)
-        shutil.copytree(f"{TOP}/dev/lib/building", f"{self.top}/dev/lib/building")
-        for name in ("build", "paths.py", "lib/leaving.py"):
-            shutil.copy(f"{TOP}/dev/{name}", f"{self.top}/dev/{name}")
-        shutil.copy(f"{TOP}/dev/lib/building/tests/stand_in_rt", f"{self.stand_in}/bin/rt")
+    def setUp(self) -> None:
+        super().setUp()
+        room = Path(self.room).resolve()
+        self.top, self.stand_in = room / "a checkout", room / "stand-in"
+        (self.top / ".git").mkdir(parents=True)
+        (self.stand_in / "bin").mkdir(parents=True)
+        shutil.copytree(f"{TOP}/dev/lib/building", self.top / "dev/lib/building")
+        for name in ("broker", "dev/build", "dev/paths.py", "dev/lib/leaving.py"):
+            shutil.copy(f"{TOP}/{name}", self.top / name)
+        shutil.copy(f"{TOP}/dev/lib/building/tests/stand_in_rt", self.stand_in / "bin/rt")
         self.write("crates.txt", TABLE)
         for crate, lines in LINES.items():
             self.write(f"crates/{crate}/src/lib.rt", "//\n" * lines)
         self.write("crates/rb_broker/src/main.rt", PROGRAM)
+        path = f"{self.stand_in}/bin:{os.environ['PATH']}"
+        self.environment = {**os.environ, "STAND_IN": str(self.stand_in), "PATH": path}
+        self.addCleanup(self.kill)
+        # Under nohup or in the background of a shell they are ignored, and builds that are started then do so too.
+        for number, action in ((signal.SIGHUP, signal.SIG_DFL), (signal.SIGINT, signal.default_int_handler)):
+            self.addCleanup(signal.signal, number, signal.signal(number, action))
+
+    def tearDown(self) -> None:
+        self.assertEqual(self.left_over(), [])
 
     def write(self, path: str, text: str) -> None:
-        os.makedirs(os.path.dirname(f"{self.top}/{path}"), exist_ok=True)
-        with open(f"{self.top}/{path}", "w", encoding="utf-8") as file:
-            file.write(text)
+        (self.top / path).parent.mkdir(parents=True, exist_ok=True)
+        (self.top / path).write_text(text, "utf-8")
 
-    def read(self, path: str) -> str:
-        with open(f"{self.top}/{path}", encoding="utf-8") as file:
-            return file.read()
+    def made(self, crate: str, path: str) -> str:
+        """What a crate's builds have left in a file."""
+        return (self.top / "crates" / crate / "out" / path).read_text("utf-8")
 
     def does(self, crate: str, lines: str) -> None:
         """What the stand-in does before it builds a crate."""
-        with open(f"{self.stand_in}/{crate}", "w", encoding="utf-8") as file:
-            file.write(f"{lines}\n")
-
-    def environment(self) -> dict[str, str]:
-        return {**os.environ, "STAND_IN": self.stand_in, "PATH": f"{self.stand_in}/bin:{os.environ['PATH']}"}
+        (self.stand_in / crate).write_text(f"{lines}\n", "utf-8")
 
     def start(self, *words: str, processors: int = 0) -> subprocess.Popen[str]:
         """Starts ./broker in a session of its own, on the first processors or on all."""
-        command = [f"{self.top}/broker", *words]
+        command, pipe = [f"{self.top}/broker", *words], subprocess.PIPE
         if processors:
             command = ["taskset", "-c", ",".join(map(str, sorted(os.sched_getaffinity(0))[:processors])), *command]
-        pipe = subprocess.PIPE
-        environment = self.environment()
-        return subprocess.Popen(
-            command, env=environment, stdin=pipe, stdout=pipe, stderr=pipe, text=True, start_new_session=True
-        )
+        how = {"env": self.environment, "text": True, "start_new_session": True}
+        return subprocess.Popen(command, stdin=pipe, stdout=pipe, stderr=pipe, **how)
 
-    def run(self, *words: str, processors: int = 0, told: str = "") -> tuple[int, str, str]:
+    def build(self, *words: str, processors: int = 0, told: str = "") -> tuple[int, str, str]:
         """Runs ./broker: its status, standard output and standard error."""
         started = self.start(*words, processors=processors)
         output, errors = started.communicate(told, timeout=PATIENCE)
@@ -81,10 +82,8 @@ class Checkout:
 
     def log(self) -> list[list[str]]:
         """What the stand-in noted: moment, crate, and what the crate did."""
-        if not os.path.exists(f"{self.stand_in}/log"):
-            return []
-        with open(f"{self.stand_in}/log", encoding="utf-8") as file:
-            return [line.split() for line in file]
+        noted = self.stand_in / "log"
+        return [line.split() for line in noted.read_text("utf-8").splitlines()] if noted.exists() else []
 
     def events(self) -> list[str]:
         """Which crates began and ended, in order."""
@@ -114,33 +113,15 @@ class Checkout:
     def processes(self) -> list[str]:
         """The commands that still run for this checkout, each behind its number."""
         found = []
-        for process in filter(str.isdigit, os.listdir("/proc")):
+        for process in Path("/proc").glob("[0-9]*"):
             with contextlib.suppress(OSError):
-                with open(f"/proc/{process}/environ", "rb") as file:
-                    is_ours = f"STAND_IN={self.stand_in}\0".encode() in file.read()
-                with open(f"/proc/{process}/cmdline", "rb") as file:
-                    words = file.read().replace(b"\0", b" ").decode()
+                is_ours = f"STAND_IN={self.stand_in}\0".encode() in (process / "environ").read_bytes()
+                words = (process / "cmdline").read_bytes().replace(b"\0", b" ").decode()
                 if is_ours and words:
-                    found.append(f"{process}: {words}")
+                    found.append(f"{process.name}: {words}")
         return found
 
     def left_over(self) -> list[str]:
         """The processes, rooms and moved folders that a build has left behind."""
         places = [f"{self.top}/.git/broker-build", f"{self.top}/.broker-build"]
         return [*self.processes(), *filter(os.path.lexists, places)]
-
-
-class CheckoutTest(unittest.TestCase):
-    """Tests with a checkout of a small program. None may leave anything behind."""
-
-    def setUp(self) -> None:
-        room = os.path.realpath(tempfile.mkdtemp(prefix="test-build-"))
-        self.addCleanup(shutil.rmtree, room, ignore_errors=True)
-        self.checkout = Checkout(room)
-        self.addCleanup(self.checkout.kill)
-        # Under nohup or in the background of a shell they are ignored, and builds that are started then do so too.
-        for number, action in ((signal.SIGHUP, signal.SIG_DFL), (signal.SIGINT, signal.default_int_handler)):
-            self.addCleanup(signal.signal, number, signal.signal(number, action))
-
-    def tearDown(self) -> None:
-        self.assertEqual(self.checkout.left_over(), [])

@@ -10,7 +10,7 @@ from building.tests.checkout import LINES, PATIENCE, PROCESSORS, CheckoutTest
 
 class BuildTest(CheckoutTest):
     def test_the_program_replaces_the_build(self) -> None:
-        status, output, errors = self.checkout.run("script", "--from", "two words", told="input\n")
+        status, output, errors = self.build("script", "--from", "two words", told="input\n")
         self.assertEqual((status, output), (7, "words script --from two words\ninput\n"), errors)
         lines = errors.splitlines()
         begins = "broker: building rb_broker, which takes minutes the first time, since its proofs are checked"
@@ -20,35 +20,35 @@ class BuildTest(CheckoutTest):
 
     def test_a_build_needs_no_standard_error(self) -> None:
         for end in ("2>&-", "2> /dev/full", "2> >(exit)"):
-            self.checkout.write("crates/rb_alone/src/lib.rt", f"// {end}\n")
-            words = ["bash", "-c", f'exec "$0" script {end}', f"{self.checkout.top}/broker"]
+            self.write("crates/rb_alone/src/lib.rt", f"// {end}\n")
+            words = ["bash", "-c", f'exec "$0" script {end}', f"{self.top}/broker"]
             run = subprocess.run(
-                words, env=self.checkout.environment(), input=b"", stdout=subprocess.PIPE, timeout=PATIENCE, check=False
+                words, env=self.environment, input=b"", stdout=subprocess.PIPE, timeout=PATIENCE, check=False
             )
             self.assertEqual((run.returncode, run.stdout), (7, b"words script\n"), end)
-        self.assertEqual(self.checkout.events().count("rb_alone ends"), 3)
+        self.assertEqual(self.events().count("rb_alone ends"), 3)
 
     def test_nothing_is_built_that_the_program_does_not_stand_on(self) -> None:
-        self.checkout.run()
-        built = {crate for _, crate, *_ in self.checkout.log()}
+        self.build()
+        built = {crate for _, crate, *_ in self.log()}
         self.assertEqual(built, {"rb_base", "rb_left", "rb_right", "rb_alone", "rb_broker"})
-        words = {crate: " ".join(more) for _, crate, what, *more in self.checkout.log() if what == "begins"}
+        words = {crate: " ".join(more) for _, crate, what, *more in self.log() if what == "begins"}
         self.assertTrue(words["rb_left"].startswith("lib nice"), words)
         self.assertTrue(words["rb_broker"].startswith("run -- --help nice"), words)
 
     @unittest.skipIf(PROCESSORS < 3, "fewer than three processors")
     def test_the_longest_way_has_precedence_at_the_processors(self) -> None:
-        self.checkout.run()
-        nice = {crate: int(more[-1]) for _, crate, what, *more in self.checkout.log() if what == "begins"}
+        self.build()
+        nice = {crate: int(more[-1]) for _, crate, what, *more in self.log() if what == "begins"}
         least = os.nice(0)
         ours = {"rb_base": 0, "rb_right": 0, "rb_broker": 0, "rb_left": 5, "rb_alone": 5}
         self.assertEqual(nice, {crate: min(19, least + more) for crate, more in ours.items()})
 
     def test_a_crate_begins_when_those_below_it_are_built(self) -> None:
         for crate in LINES:
-            self.checkout.does(crate, "sleep 0.3")
-        self.checkout.run()
-        events = self.checkout.events()
+            self.does(crate, "sleep 0.3")
+        self.build()
+        events = self.events()
         pairs = ("left", "base"), ("right", "base"), ("broker", "left"), ("broker", "right"), ("broker", "alone")
         for above, below in pairs:
             self.assertLess(events.index(f"rb_{below} ends"), events.index(f"rb_{above} begins"), events)
@@ -57,64 +57,64 @@ class BuildTest(CheckoutTest):
     def test_crates_are_built_side_by_side(self) -> None:
         # Each waits until the other has begun.
         for crate, other in (("rb_left", "rb_right"), ("rb_right", "rb_left")):
-            self.checkout.does(crate, f'until grep -q "{other} begins" "$STAND_IN/log"; do sleep 0.05; done')
-        status, _, errors = self.checkout.run(processors=2)
+            self.does(crate, f'until grep -q "{other} begins" "$STAND_IN/log"; do sleep 0.05; done')
+        status, _, errors = self.build(processors=2)
         self.assertEqual(status, 7, errors)
 
     def test_one_processor_builds_one_at_a_time_the_longest_way_first(self) -> None:
-        self.checkout.run(processors=1)
+        self.build(processors=1)
         order = ["rb_base", "rb_right", "rb_left", "rb_alone", "rb_broker"]
-        self.assertEqual(self.checkout.events(), [f"{it} {what}" for it in order for what in ("begins", "ends")])
+        self.assertEqual(self.events(), [f"{it} {what}" for it in order for what in ("begins", "ends")])
 
     @unittest.skipIf(PROCESSORS < 2, "one processor")
     def test_standard_error_tells_what_is_proved(self) -> None:
         others = "rb_left ends", "rb_alone ends"
         waits = [f'until grep -q "{it}" "$STAND_IN/log"; do sleep 0.05; done' for it in others]
-        self.checkout.does("rb_right", "; ".join([*waits, "sleep 2.5"]))
-        _, _, errors = self.checkout.run()
+        self.does("rb_right", "; ".join([*waits, "sleep 2.5"]))
+        _, _, errors = self.build()
         self.assertRegex(errors, r"(?m)^broker: \d+ s: .*; 3 of 5 crates built; proving rb_right$")
         self.assertRegex(errors, r"(?m)^broker: \d+ s: rb_right took \d+ s; 4 of 5 crates built")
 
     def test_a_crate_whose_proof_is_kept_is_not_named(self) -> None:
-        self.checkout.does("rb_left.kept", "")
-        _, _, errors = self.checkout.run()
+        self.does("rb_left.kept", "")
+        _, _, errors = self.build()
         self.assertNotIn("rb_left", errors)
         self.assertIn("5 of 5 crates built", errors)
 
     def test_what_rt_waits_for_is_told(self) -> None:
-        self.checkout.does("rb_left.kept", "")
+        self.does("rb_left.kept", "")
         says = "rt: rb_left: another copy is building this library; waiting for it"
-        self.checkout.does("rb_left", f'echo "{says}" && sleep 1.5')
-        _, _, errors = self.checkout.run()
+        self.does("rb_left", f'echo "{says}" && sleep 1.5')
+        _, _, errors = self.build()
         self.assertRegex(errors, rf"(?m)^broker: \d+ s: rb_left: {says}$")
 
     @unittest.skipIf(PROCESSORS < 3, "fewer than three processors")
     def test_a_crate_that_fails_stops_the_others_and_shows_its_output(self) -> None:
-        self.checkout.does("rb_left", 'echo "$PWD/src/lib.rt:1:1: error of left" && sleep 0.5 && exit 3')
-        self.checkout.does("rb_right", 'trap "" TERM INT HUP; echo "right is being proved"; sleep 600')
-        self.checkout.does("rb_alone", "setsid sleep 600 & sleep 600")
-        status, output, errors = self.checkout.run(processors=3)
+        self.does("rb_left", 'echo "$PWD/src/lib.rt:1:1: error of left" && sleep 0.5 && exit 3')
+        self.does("rb_right", 'trap "" TERM INT HUP; echo "right is being proved"; sleep 600')
+        self.does("rb_alone", "setsid sleep 600 & sleep 600")
+        status, output, errors = self.build(processors=3)
         self.assertEqual((status, output), (126, ""))
-        self.assertIn(f"\n{self.checkout.top}/crates/rb_left/src/lib.rt:1:1: error of left\n", errors)
+        self.assertIn(f"\n{self.top}/crates/rb_left/src/lib.rt:1:1: error of left\n", errors)
         self.assertNotIn("right is being proved", errors)
         last = "broker: rb_broker could not be built: rb_left failed (rt ended with status 3)"
         self.assertEqual(errors.splitlines()[-1], last)
-        self.assertEqual([it for it in self.checkout.events() if "ends" in it], ["rb_base ends"])
+        self.assertEqual([it for it in self.events() if "ends" in it], ["rb_base ends"])
 
     def test_a_build_that_failed_goes_on_where_it_ended(self) -> None:
-        self.checkout.run()
-        self.checkout.write("crates/rb_left/src/lib.rt", "// changed\n")
-        self.checkout.does("rb_broker", "exit 1")
-        self.assertEqual(self.checkout.run()[0], 126)
-        self.assertEqual(self.checkout.read("crates/rb_left/out/rlib/stamp"), "// changed\n")
-        self.assertEqual(self.checkout.read("crates/rb_broker/out/incremental/builds"), "rb_broker\n")
-        self.checkout.does("rb_broker", "")
-        self.assertEqual(self.checkout.run()[0], 7)
-        self.assertEqual(self.checkout.read("crates/rb_broker/out/incremental/builds"), "rb_broker\nrb_broker\n")
+        self.build()
+        self.write("crates/rb_left/src/lib.rt", "// changed\n")
+        self.does("rb_broker", "exit 1")
+        self.assertEqual(self.build()[0], 126)
+        self.assertEqual(self.made("rb_left", "rlib/stamp"), "// changed\n")
+        self.assertEqual(self.made("rb_broker", "incremental/builds"), "rb_broker\n")
+        self.does("rb_broker", "")
+        self.assertEqual(self.build()[0], 7)
+        self.assertEqual(self.made("rb_broker", "incremental/builds"), "rb_broker\nrb_broker\n")
 
     def test_an_rt_that_leaves_no_program(self) -> None:
-        self.checkout.does("rb_broker", "exit 0")
-        status, _, errors = self.checkout.run()
+        self.does("rb_broker", "exit 0")
+        status, _, errors = self.build()
         self.assertEqual(status, 126)
         self.assertRegex(errors.splitlines()[-1], r"^broker: rb_broker could not be built: rt has left no .+$")
 
@@ -124,8 +124,8 @@ class BuildTest(CheckoutTest):
             ("rb_base: rb_left\nrb_left: rb_base\nrb_broker: rb_left\n", "in crates.txt rb_base stands on itself"),
             ("rb_none:\nrb_broker: rb_none\n", "[Errno 2] No such file or directory: '{}/crates/rb_none'"),
         ):
-            self.checkout.write("crates.txt", table)
-            status, _, errors = self.checkout.run()
-            wanted = f"broker: rb_broker could not be built: {why.format(self.checkout.top)}\n"
+            self.write("crates.txt", table)
+            status, _, errors = self.build()
+            wanted = f"broker: rb_broker could not be built: {why.format(self.top)}\n"
             self.assertEqual((status, errors), (126, wanted))
-        self.assertEqual(self.checkout.log(), [])
+        self.assertEqual(self.log(), [])

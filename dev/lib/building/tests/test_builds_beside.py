@@ -6,61 +6,62 @@ import signal
 
 from building.tests.checkout import LINES, PATIENCE, CheckoutTest
 
+WAITS = "broker: another ./broker or rt is at work in this checkout; waiting for its end\n"
+
 
 class BesideTest(CheckoutTest):
+    def start_two(self) -> None:
+        """Starts a build that does not go on until it is let, and then one that waits for it."""
+        self.does("rb_base", 'mkdir "$STAND_IN/once" && until [[ -e $STAND_IN/let ]]; do sleep 0.05; done')
+        self.first = self.start("first")
+        self.await_event("rb_base begins")
+        self.second = self.start("second")
+        self.assertEqual(self.second.stderr.readline(), WAITS)
+
+    def let_first(self) -> None:
+        (self.stand_in / "let").touch()
+        self.assertEqual(self.first.communicate("", timeout=PATIENCE)[0], "words first\n")
+
     def test_a_second_build_waits_and_takes_what_the_first_made(self) -> None:
-        self.checkout.does("rb_base", "sleep 1.5")
-        first = self.checkout.start("first")
-        self.checkout.await_event("rb_base begins")
-        status, output, errors = self.checkout.run("second")
-        self.assertEqual((status, output), (7, "words second\n"))
-        self.assertEqual(errors, "broker: another ./broker or rt is at work in this checkout; waiting for its end\n")
-        self.assertEqual(first.communicate("", timeout=PATIENCE)[0], "words first\n")
-        self.assertEqual(self.checkout.events().count("rb_base begins"), 1)
+        self.start_two()
+        self.let_first()
+        self.assertEqual(self.second.communicate("", timeout=PATIENCE), ("words second\n", ""))
+        self.assertEqual(self.second.returncode, 7)
+        self.assertEqual(self.events().count("rb_base begins"), 1)
 
     def test_a_second_build_goes_on_when_the_first_is_killed(self) -> None:
-        self.checkout.does("rb_base", 'if mkdir "$STAND_IN/once"; then exec sleep 600; fi')
-        first = self.checkout.start("first")
-        self.checkout.await_event("rb_base begins")
-        second = self.checkout.start("second")
-        self.assertIn("waiting", second.stderr.readline() if second.stderr else "")
-        first.kill()
-        self.assertEqual(second.communicate("", timeout=PATIENCE)[0], "words second\n")
-        first.communicate(timeout=PATIENCE)
+        self.start_two()
+        self.first.kill()
+        self.assertEqual(self.second.communicate("", timeout=PATIENCE)[0], "words second\n")
+        self.first.communicate(timeout=PATIENCE)
 
     def test_control_c_ends_one_that_waits(self) -> None:
-        self.checkout.does("rb_base", "sleep 2")
-        first = self.checkout.start("first")
-        self.checkout.await_event("rb_base begins")
-        second = self.checkout.start("second")
-        self.assertIn("waiting", second.stderr.readline() if second.stderr else "")
-        os.killpg(second.pid, signal.SIGINT)
-        second.communicate(timeout=PATIENCE)
-        self.assertEqual(second.returncode, -signal.SIGINT)
-        self.assertEqual(first.communicate("", timeout=PATIENCE)[0], "words first\n")
+        self.start_two()
+        os.killpg(self.second.pid, signal.SIGINT)
+        self.second.communicate(timeout=PATIENCE)
+        self.assertEqual(self.second.returncode, -signal.SIGINT)
+        self.let_first()
 
     def test_the_program_holds_no_lock(self) -> None:
-        self.checkout.write("crates/rb_broker/src/main.rt", "echo begins && cat\n")
-        first = self.checkout.start()
+        self.write("crates/rb_broker/src/main.rt", "echo begins && cat\n")
+        first = self.start()
         self.assertEqual(first.stdout.readline() if first.stdout else "", "begins\n")
-        self.checkout.write("crates/rb_broker/src/main.rt", "echo another\n")
-        self.assertEqual(self.checkout.run()[1], "another\n")
+        self.write("crates/rb_broker/src/main.rt", "echo another\n")
+        self.assertEqual(self.build()[1], "another\n")
         first.communicate("", timeout=PATIENCE)
 
     def test_it_is_built_once(self) -> None:
-        self.checkout.run()
-        count = len(self.checkout.log())
-        status, output, errors = self.checkout.run("again")
-        self.assertEqual((status, output, errors), (7, "words again\n", ""))
-        self.assertEqual(len(self.checkout.log()), count)
+        self.build()
+        count = len(self.log())
+        self.assertEqual(self.build("again"), (7, "words again\n", ""))
+        self.assertEqual(len(self.log()), count)
 
     def test_a_change_during_the_build_is_built_the_next_time(self) -> None:
-        self.checkout.does("rb_left", "sleep 1")
-        started = self.checkout.start()
-        self.checkout.await_event("rb_left begins")
-        self.checkout.write("crates/rb_base/src/lib.rt", "// changed\n")
+        self.does("rb_left", "sleep 1")
+        started = self.start()
+        self.await_event("rb_left begins")
+        self.write("crates/rb_base/src/lib.rt", "// changed\n")
         started.communicate("", timeout=PATIENCE)
-        self.assertEqual(self.checkout.read("crates/rb_base/out/rlib/stamp"), "//\n" * LINES["rb_base"])
-        _, _, errors = self.checkout.run()
-        self.assertIn("broker: building rb_broker", errors)
-        self.assertEqual(self.checkout.read("crates/rb_base/out/rlib/stamp"), "// changed\n")
+        self.assertEqual(self.made("rb_base", "rlib/stamp"), "//\n" * LINES["rb_base"])
+        self.assertIn("broker: building rb_broker", self.build()[2])
+        self.assertEqual(self.made("rb_base", "rlib/stamp"), "// changed\n")

@@ -11,18 +11,18 @@ from building.tests.checkout import PATIENCE, CheckoutTest
 class StoppingTest(CheckoutTest):
     def stops(self, number: int, is_whole_group: bool) -> None:
         """Stops a build whose crates ignore signals, and have orphans in other sessions."""
-        self.checkout.does("rb_right", 'trap "" TERM INT HUP; (setsid sleep 600 &); sleep 600 & sleep 600')
-        self.checkout.does("rb_left", "sleep 600 | sleep 600")
-        started = self.checkout.start()
-        self.checkout.await_event("rb_right begins")
+        self.does("rb_right", 'trap "" TERM INT HUP; (setsid sleep 600 &); sleep 600 & sleep 600')
+        self.does("rb_left", "sleep 600 | sleep 600")
+        started = self.start()
+        self.await_event("rb_right begins")
         for _ in range(2):  # as timeout does, and people who are impatient
             (os.killpg if is_whole_group else os.kill)(started.pid, number)
         _, errors = started.communicate(timeout=PATIENCE)
         self.assertEqual(started.returncode, -number, errors)
         name = signal.Signals(number).name
         self.assertEqual(errors.splitlines()[-1], f"broker: the build was stopped by {name}; what it has built is kept")
-        self.assertEqual(self.checkout.left_over(), [])
-        self.assertEqual(self.checkout.read("crates/rb_base/out/incremental/builds"), "rb_base\n")
+        self.assertEqual(self.left_over(), [])
+        self.assertEqual(self.made("rb_base", "incremental/builds"), "rb_base\n")
 
     def test_control_c_leaves_nothing_behind(self) -> None:
         self.stops(signal.SIGINT, is_whole_group=True)
@@ -34,23 +34,23 @@ class StoppingTest(CheckoutTest):
         self.stops(signal.SIGHUP, is_whole_group=True)
 
     def test_a_build_that_is_killed_leaves_no_rt_and_the_next_clears_up(self) -> None:
-        self.checkout.run()
-        self.checkout.write("crates/rb_right/src/lib.rt", "// changed\n")
-        self.checkout.does("rb_right", "exec sleep 600")
-        started = self.checkout.start()
-        self.checkout.await_event("rb_right begins", times=2)
+        self.build()
+        self.write("crates/rb_right/src/lib.rt", "// changed\n")
+        self.does("rb_right", "exec sleep 600")
+        started = self.start()
+        self.await_event("rb_right begins", times=2)
         started.kill()
         started.communicate(timeout=PATIENCE)
-        self.checkout.await_end()
-        self.assertEqual(self.checkout.processes(), [])
-        self.checkout.does("rb_right", "")
-        self.assertEqual(self.checkout.run()[0], 7)
-        self.assertEqual(self.checkout.read("crates/rb_right/out/incremental/builds"), "rb_right\nrb_right\n")
+        self.await_end()
+        self.assertEqual(self.processes(), [])
+        self.does("rb_right", "")
+        self.assertEqual(self.build()[0], 7)
+        self.assertEqual(self.made("rb_right", "incremental/builds"), "rb_right\nrb_right\n")
 
     def test_what_was_there_before_the_build_is_left_alone(self) -> None:
         command = 'sleep 600 > /dev/null & echo $! && exec "$0" script'
-        words = ["bash", "-c", command, f"{self.checkout.top}/broker"]
-        nothing, environment = subprocess.DEVNULL, self.checkout.environment()
+        words = ["bash", "-c", command, f"{self.top}/broker"]
+        nothing, environment = subprocess.DEVNULL, self.environment
         with subprocess.Popen(
             words, env=environment, stdin=nothing, stdout=subprocess.PIPE, stderr=nothing, text=True
         ) as started:
@@ -58,4 +58,4 @@ class StoppingTest(CheckoutTest):
             other = int(started.stdout.readline())
             self.assertEqual(started.stdout.readline(), "words script\n")
             os.kill(other, signal.SIGKILL)  # which finds it
-        self.checkout.await_end()
+        self.await_end()
