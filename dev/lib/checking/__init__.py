@@ -1,10 +1,9 @@
 """What dev/check is made of.
 
-    parts.py      the table of all parts
-    running.py    how parts run
-    tally.py      what passed, failed and was skipped
-    suites.py     tests by unittest, counted as everything else
-    side_by_side.py          tests in several processes
+    parts.py, parts.toml      how parts run, and the table of all
+    suites.py                 tests by unittest, in one process or several
+    tally.py                  what passed, failed and was skipped
+    testing.py, trying.py     what tests share: a folder, tools; programs that `rt try` builds
     docs/, program/, server/, rows.py, java.py, redis.py, package.py   parts that are no tests by unittest alone
 
 The tests are below tests/; `dev/check dev` runs them.

@@ -18,8 +18,7 @@ import subprocess
 import sys
 from typing import List
 
-from checking.side_by_side import PLACE, try_side_by_side
-from checking.suites import tests_below
+from checking.suites import PLACE, tests_below, try_side_by_side
 from checking.tally import Tally
 from common.program import TOP
 

@@ -18,16 +18,20 @@ class Tally:
 
     def count(self, name: str, fault: Optional[object]) -> None:
         """Counts something of this name. The fault is what is wrong with it, if anything is."""
+        self.add(not fault, bool(fault))
         if fault:
-            self.failed += 1
             print(f"{name}: {fault}", flush=True)
-        else:
-            self.passed += 1
 
     def skip(self, name: str, reason: str) -> None:
         """Counts what can't be tried here, and says so."""
-        self.skipped += 1
+        self.add(skipped=1)
         print(f"{name}: skipped: {reason}", flush=True)
+
+    def add(self, passed: int = 0, failed: int = 0, skipped: int = 0) -> None:
+        """Adds what was counted elsewhere."""
+        self.passed += passed
+        self.failed += failed
+        self.skipped += skipped
 
     def end(self) -> bool:
         """Prints the count, and returns whether something was tried or skipped, and nothing failed."""

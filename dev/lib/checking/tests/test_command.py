@@ -17,17 +17,16 @@ import os, signal, subprocess, sys, threading, unittest
 sys.path.insert(0, sys.argv.pop(1))
 import paths
 import leaving
-from checking import parts, running, suites
+from checking import suites, tally
 
 class Stopped(unittest.TestCase):
     def runTest(self):
         threading.Timer(1, os.kill, (os.getpid(), signal.SIGTERM)).start()
         subprocess.run(["sh", "-c", "sleep 600 & echo $! && wait"])
 
-parts.PARTS["stopped"] = parts.Part("", lambda tally: suites.try_tests(tally, unittest.TestSuite([Stopped()])))
 try:
     with leaving.leaving_nothing():
-        running.try_here("stopped", [])
+        suites.try_tests(tally.Tally(), unittest.TestSuite([Stopped()]))
 except leaving.Interrupted as interrupted:
     sys.exit(interrupted.status)
 """
@@ -62,12 +61,13 @@ class Command(RoomTest):
         self.assertEqual(lines[-1], "1 parts passed, 1 failed")
 
     def test_words_that_are_refused(self) -> None:
-        ran = self.ran("docs", "no-such-part")
-        self.assertEqual((ran.returncode, ran.stdout), (2, ""))
-        self.assertIn("no part is named no-such-part", ran.stderr)
-        ran = self.ran("program", "--program", f"{self.room}/none")
-        self.assertEqual((ran.returncode, ran.stdout), (2, ""))
-        self.assertIn("none is no command\n", ran.stderr)
+        for words, said in (
+            (["docs", "no-such-part"], "no part is named no-such-part"),
+            (["program", "--program", f"{self.room}/none"], "none is no command\n"),
+        ):
+            ran = self.ran(*words)
+            self.assertEqual((ran.returncode, ran.stdout), (2, ""))
+            self.assertIn(said, ran.stderr)
 
     def test_a_command_that_is_missing(self) -> None:
         ran = self.ran("worker", "--program", sys.executable, PATH=self.room)
