@@ -3,10 +3,10 @@ from __future__ import annotations
 
 import re
 from pathlib import Path
-from typing import Iterable, Iterator, NamedTuple, Optional
+from typing import Iterator, NamedTuple, Optional
 
-IMPORT = re.compile(r"^\s*(?:pub )?(?:ghost )?use ([^\s;{]+?)(?:\.\{([^}]*)\}| as (\S+?))?;?\s*$")
-IMPORT_BEGINS = re.compile(r"\s*(pub )?(ghost )?use ")
+COMMENT = {".rt": re.compile("//.*"), ".antt": re.compile("--.*")}
+IMPORT = re.compile(r"^\s*(?:pub )?(?:ghost )?use ([^\s;{]+?)(?:\.\{([^}]*)\}| as (\S+?))?;?[ \t]*$", re.M)
 SIGNATURE = re.compile(r"^\s*((?:abbrev |unfoldable |pub |record |data |ruleset )*)([^\s:(){}=]+)(.*)$")
 NAMED_BY_KIND = {"record", "data", "ruleset"}
 MODULE = re.compile(r"^(\s*)module _")
@@ -25,43 +25,32 @@ class Definition(NamedTuple):
 class CitedFile:
     """What one file defines, imports and names."""
 
-    def __init__(self, crate: str, path: Path, folder: Path) -> None:
-        self.crate, self.path = crate, path
+    def __init__(self, crate: Path, path: Path) -> None:
+        self.crate, self.path = crate.name, path
         # The name under which others import a file of specs/ or proofs/.
-        self.module = ".".join(["Rattle", crate, *path.relative_to(folder).with_suffix("").parts])
+        self.module = ".".join(["Rattle", *path.relative_to(crate.parent).with_suffix("").parts])
         self.imported: dict[str, tuple[str, str]] = {}
         self.renamed_modules: dict[str, str] = {}
         self.definitions: list[Definition] = []
         self.words: list[tuple[Optional[Definition], str]] = []
-        self.read(path.read_text(encoding="utf-8").split("\n"))
+        self.read(path.read_text(encoding="utf-8"))
 
-    @property
-    def is_source(self) -> bool:
-        """Whether it is a file of src/, which defines nothing here."""
-        return self.path.suffix == ".rt"
-
-    def read(self, lines: Iterable[str]) -> None:
-        """Reads the file's lines."""
+    def read(self, text: str) -> None:
+        """Reads the file's text. A file of src/ defines nothing here."""
+        text = IMPORT.sub(self.without_import, COMMENT[self.path.suffix].sub("", text))
+        if self.path.suffix == ".rt":
+            lemmas = [f"{self.crate}.{path.replace('::', '.')}.{name}" for path, name in CITED_BY_TACTIC.findall(text)]
+            self.words = [(None, it) for it in WORD.findall(text) + lemmas]
+            return
         owner: Optional[Definition] = None
         levels = [0]
-        for number, line in enumerate(joined(lines), 1):
-            bare = line.split("//" if self.is_source else "--")[0].rstrip()
-            if not bare.strip() or self.reads_import(bare):
-                continue
-            owner = self.owner_after(bare, number, owner, levels)
-            self.words += [(owner, it) for it in WORD.findall(bare)]
-            self.words += [(None, it) for it in self.cited_by_tactics(bare)]
+        for number, line in enumerate(text.split("\n"), 1):
+            if line.strip():
+                owner = self.owner_after(line.rstrip(), number, owner, levels)
+                self.words += [(owner, it) for it in WORD.findall(line)]
 
-    def cited_by_tactics(self, line: str) -> list[str]:
-        """The lemmas that a source names for the tactics of a function, by their paths."""
-        found = CITED_BY_TACTIC.findall(line) if self.is_source else []
-        return [f"{self.crate}.{path.replace('::', '.')}.{name}" for path, name in found]
-
-    def reads_import(self, line: str) -> bool:
-        """Takes the names of an import, if the line is one."""
-        found = IMPORT.match(line)
-        if not found:
-            return False
+    def without_import(self, found: re.Match[str]) -> str:
+        """Takes the names of an import, and leaves nothing in its lines."""
         path, names, alias = found.groups()
         if names is None:
             self.renamed_modules[alias or path.rsplit(".", 1)[-1]] = path
@@ -69,14 +58,12 @@ class CitedFile:
             name, _, local = it.strip().partition(" as ")
             if name:
                 self.imported[local or name] = (path, name)
-        return True
+        return "\n" * found[0].count("\n")
 
     def owner_after(
         self, line: str, number: int, owner: Optional[Definition], levels: list[int]
     ) -> Optional[Definition]:
         """The definition that this line belongs to."""
-        if self.is_source:
-            return None
         indent = len(line) - len(line.lstrip())
         while levels[-1] > indent:
             levels.pop()
@@ -108,16 +95,3 @@ class CitedFile:
                 yield self.imported[head]
             if head in self.renamed_modules and rest:
                 yield self.renamed_modules[head], rest.split(".")[0]
-
-
-def joined(lines: Iterable[str]) -> Iterator[str]:
-    """The lines, with an import that spans several joined into its last, and nothing in the place of the others."""
-    whole, depth = "", 0
-    for line in lines:
-        if depth or (IMPORT_BEGINS.match(line) and line.count("{") > line.count("}")):
-            whole += line.strip() + " "
-            depth = whole.count("{") - whole.count("}")
-            yield whole if not depth else ""
-            whole = whole if depth else ""
-            continue
-        yield line

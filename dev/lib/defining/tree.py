@@ -16,7 +16,7 @@ TYPES = ("struct", "enum", "trait", "const", "type")
 
 
 class Unknown(Exception):
-    """A name leads nowhere, or to several things: in lines for the user."""
+    """A name leads nowhere, or to several things, or a page is not there: in lines for the user."""
 
 
 class SourceFile:
@@ -24,7 +24,7 @@ class SourceFile:
 
     def __init__(self, top: Path, path: str) -> None:
         place, folder = top / path, top.joinpath(*Path(path).parts[:2])
-        text, imports = place.read_text(encoding="utf-8"), CitedFile(folder.name, place, folder)
+        text, imports = place.read_text(encoding="utf-8"), CitedFile(folder, place)
         self.crate, self.modules, self.imported = folder.name, imports.renamed_modules, imports.imported
         self.operators = {part: it for it in self.imported for part in it.split("◌") if part and "◌" in it}
         # What the code sees: each name with the crate that it is from, and its name there.

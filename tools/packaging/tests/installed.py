@@ -47,8 +47,9 @@ def python(root: str, *words: str) -> Told:
 
 def try_installed(tally: Tally, root: str, folder: str) -> None:
     """Runs each of the installed commands once, and follows the links of the installed pages."""
-    found = links.find(Path(root, DOCUMENTS))
-    expect(tally, "the links of the installed pages", found.right > 0 and not found.faults, found.faults)
+    found = [*links.find(Path(root, DOCUMENTS))]
+    faults = [it for it in found if it]
+    expect(tally, "the links of the installed pages", bool(found) and not faults, faults)
     check_commands(tally, root)
     check_changelog(tally, root, folder)
     try_load(tally, root, f"{folder}/load")

@@ -11,26 +11,23 @@ from __future__ import annotations
 from pathlib import Path
 
 from checking.docs import clauses, links, picture, quotes, uncited
-from checking.docs.found import Missing
 from checking.tally import Tally
 from common.program import TOP
 from defining.tree import Unknown
 
+# Each has a function `find`, which gives for all that it looks at below a folder what is wrong with it, or nothing.
 PARTS = {"links": links, "clauses": clauses, "quotes": quotes, "uncited": uncited, "picture": picture}
 
 
 def check(tally: Tally, folder: Path = Path(TOP)) -> None:
     """Counts what each part finds in a folder, and prints how much that is."""
-    for name, part in PARTS.items():
-        if not tally.wants(name):
-            continue
+    for name in filter(tally.wants, PARTS):
         try:
-            found = part.find(folder)
-        except (Missing, Unknown) as fault:
+            found = [*PARTS[name].find(folder)]
+        except Unknown as fault:
             tally.count(name, fault)
             continue
-        for line in found.faults or ([] if found.right else [f"{name}: nothing was found"]):
-            print(line)
-            tally.failed += 1
-        tally.passed += found.right
-        print(f"{name}: {found.right} right, {len(found.faults)} wrong")
+        faults = [it for it in found if it]
+        lines = faults if found else [f"{name}: nothing was found"]
+        tally.add(found.count(None), len(lines))
+        print("\n".join([*lines, f"{name}: {found.count(None)} right, {len(faults)} wrong"]))

@@ -9,26 +9,21 @@ from __future__ import annotations
 import os
 import re
 from pathlib import Path
-from typing import Iterator
+from typing import Iterator, Optional
 
-from checking.docs.found import Found
-
-LINK = re.compile(r"\]\(\s*<?([^)\s>]+)>?[^)]*\)|^\s{0,3}\[[^\]]+\]:\s*<?([^\s>]+)")
+LINK = re.compile(r"\]\( *<?([^)\s>]+)>?[^)\n]*\)|^ {0,3}\[[^\]\n]+\]: *<?([^\s>]+)", re.M)
 OF_A_HOST = re.compile(r"[a-z][a-z+.-]*:")
-HEADING = re.compile(r"^ {0,3}#{1,6} +(.*?) *#* *$")
-FENCE = re.compile(r"^ {0,3}(```|~~~)")
+HEADING = re.compile(r"^ {0,3}#{1,6} +(.*?) *#* *$", re.M)
+BLOCK = re.compile(r"^ {0,3}(```|~~~)(?s:.*?)(?:^ {0,3}\1.*$|\Z)|^    .*$", re.M)
 CODE = re.compile(r"(`+)(?:(?!\1).)+\1")
 LEFT_OUT = {".git", "out", "node_modules"}
 
 
-def find(top: Path) -> Found:
+def find(top: Path) -> Iterator[Optional[str]]:
     """Follows the links of all pages below a folder. The fault of one is `PAGE:LINE: TARGET leads nowhere`."""
-    found = Found()
     for page in pages_below(top):
-        for number, target in links_of(page):
-            fault = f"{page.relative_to(top)}:{number}: {target} leads nowhere"
-            found.add(leads_somewhere(page, target), fault)
-    return found
+        for line, target in links_of(page):
+            yield None if leads_somewhere(page, target) else f"{page.relative_to(top)}:{line}: {target} leads nowhere"
 
 
 def pages_below(top: Path) -> Iterator[Path]:
@@ -40,40 +35,29 @@ def pages_below(top: Path) -> Iterator[Path]:
 
 def links_of(page: Path) -> Iterator[tuple[int, str]]:
     """The targets of a page's links, each with the number of its line."""
-    for number, line in prose_of(page):
-        targets = [first or second for first, second in LINK.findall(CODE.sub("", line))]
-        yield from ((number, target) for target in targets if not OF_A_HOST.match(target))
+    prose = CODE.sub("", prose_of(page))
+    for link in LINK.finditer(prose):
+        if not OF_A_HOST.match(target := link[1] or link[2]):
+            yield prose.count("\n", 0, link.end()) + 1, target
 
 
-def prose_of(page: Path) -> Iterator[tuple[int, str]]:
-    """The lines of a page outside code blocks, with their numbers from 1."""
-    fence = ""
-    for number, line in enumerate(page.read_text(encoding="utf-8").split("\n"), 1):
-        mark = FENCE.match(line)
-        if mark and (not fence or mark[1] == fence):
-            fence = "" if fence else mark[1]
-        elif not fence and not line.startswith("    "):
-            yield number, line
+def prose_of(page: Path) -> str:
+    """The text of a page, with nothing in the lines of its code blocks."""
+    return BLOCK.sub(lambda block: "\n" * block[0].count("\n"), page.read_text(encoding="utf-8"))
 
 
 def names_of(page: Path) -> set[str]:
     """The names of a page's headings: small letters, hyphens for spaces, no other marks; -1 and so on for doubles."""
-    names: set[str] = set()
     seen: dict[str, int] = {}
-    for _, line in prose_of(page):
-        heading = HEADING.match(line)
-        if heading:
-            plain = re.sub(r"\]\([^)]*\)", "", heading[1])
-            name = re.sub(r"[^\w\- ]", "", plain).lower().replace(" ", "-")
-            seen[name] = seen.get(name, -1) + 1
-            names.add(f"{name}-{seen[name]}" if seen[name] else name)
-    return names
+    for heading in HEADING.findall(prose_of(page)):
+        plain = re.sub(r"\]\([^)]*\)", "", heading)
+        name = re.sub(r"[^\w\- ]", "", plain).lower().replace(" ", "-")
+        seen[name] = seen.get(name, 0) + 1
+    return {f"{name}-{at}" if at else name for name, count in seen.items() for at in range(count)}
 
 
 def leads_somewhere(page: Path, target: str) -> bool:
     """Whether a link of the page leads to a file or folder, and to the part that it names."""
     path, _, part = target.partition("#")
     place = page.parent / path if path else page
-    if not place.exists():
-        return False
-    return not part or (place.suffix == ".md" and part in names_of(place))
+    return place.exists() and (not part or (place.suffix == ".md" and part in names_of(place)))

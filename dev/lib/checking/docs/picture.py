@@ -6,9 +6,11 @@ order of the table. It is changed by hand.
 from __future__ import annotations
 
 import re
+from itertools import zip_longest
 from pathlib import Path
+from typing import Iterator, Optional
 
-from checking.docs.found import Found, Missing
+from defining.tree import Unknown
 
 PAGE, PICTURE = "docs/ARCHITECTURE.md", "docs/request.svg"
 HEADING = "\n## The way of a request\n"
@@ -16,23 +18,17 @@ HOP = re.compile(r"^\| (\d+) \| `(rb_\w+)/src/(\w+\.rt)` \| ", re.M)
 TEXT = re.compile(r'<text x="(\d+)"[^>]*>([^<]*)</text>')
 
 
-def find(top: Path) -> Found:
+def find(top: Path) -> Iterator[Optional[str]]:
     """Compares the picture and the table below a folder, hop by hop."""
-    page, picture, found = text_of(top / PAGE), text_of(top / PICTURE), Found()
+    page, picture = (it.read_text("utf-8") if it.is_file() else "" for it in (top / PAGE, top / PICTURE))
     table = HOP.findall(page.partition(HEADING)[2].partition("\n## ")[0])
     if not table or [int(number) for number, _, _ in table] != list(range(1, len(table) + 1)):
-        raise Missing(f"{top / PAGE} has no table of hops, numbered from 1, below 'The way of a request'")
-    drawn = drawn_in(picture)
-    for at, hop in enumerate(table):
-        found.add(drawn[at:at + 1] == [hop], f"{PICTURE} does not show hop {' '.join(hop)} of {PAGE}")
-    for hop in drawn[len(table):]:
-        found.add(False, f"{PICTURE} shows hop {' '.join(hop)}, which is not in {PAGE}")
-    return found
-
-
-def text_of(path: Path) -> str:
-    """The text of a file, or nothing if there is none."""
-    return path.read_text(encoding="utf-8") if path.is_file() else ""
+        raise Unknown(f"{top / PAGE} has no table of hops, numbered from 1, below 'The way of a request'")
+    for hop, drawn in zip_longest(table, drawn_in(picture)):
+        if hop is None:
+            yield f"{PICTURE} shows hop {' '.join(drawn)}, which is not in {PAGE}"
+        else:
+            yield None if hop == drawn else f"{PICTURE} does not show hop {' '.join(hop)} of {PAGE}"
 
 
 def drawn_in(picture: str) -> list[tuple[str, str, str]]:

@@ -9,11 +9,10 @@ from __future__ import annotations
 
 import re
 from pathlib import Path
-from typing import Optional
+from typing import Iterator, Optional
 
-from checking.docs.found import Found, Missing
 from defining.items import Item, dedented
-from defining.tree import SourceFile, Tree
+from defining.tree import SourceFile, Tree, Unknown
 
 PAGE = "docs/HEADLINE.md"
 MOST_WORDS = 5_000
@@ -23,28 +22,29 @@ CODE = re.compile(r"`([^`\n]+)`")
 COMMENTS = r"(?: *(?:--|//).*\n)*"
 
 
-def find(top: Path) -> Found:
+def find(top: Path) -> Iterator[Optional[str]]:
     """Compares the page below a folder. The fault of a quotation is `docs/HEADLINE.md:LINE: REASON`."""
     if not (top / PAGE).is_file():
-        raise Missing(f"{top} has no {PAGE}")
-    text, tree, found = (top / PAGE).read_text(encoding="utf-8"), Tree(top), Found()
-    found.add((count := len(text.split())) <= MOST_WORDS, f"{PAGE} has {count:,} words, of at most {MOST_WORDS:,}")
+        raise Unknown(f"{top} has no {PAGE}")
+    text, tree = (top / PAGE).read_text("utf-8"), Tree(top)
+    count = len(text.split())
+    yield None if count <= MOST_WORDS else f"{PAGE} has {count:,} words, of at most {MOST_WORDS:,}"
     prose, quotes = parted(text)
     links = {(path, name) for name, path in LINK.findall(prose)}
     for path, name in sorted(links):
         file = tree.files.get(path)
-        found.add(file is not None and name in file.named, f"{PAGE}: {path} has no {name}")
+        yield None if file and name in file.named else f"{PAGE}: {path} has no {name}"
     items = [quoted(tree.files.get(path), lines) for _, path, lines in quotes]
     reached = links | {(item.path, item.name) for item in items if item}
     said = {word for code in CODE.findall(prose) for word in re.split(r"[\s().]+", code)}
     for (place, path, lines), item in zip(quotes, items):
-        found.add(item is not None, f"{place}: {path} has nothing that is so: {lines[0]}")
+        yield None if item else f"{place}: {path} has nothing that is so: {lines[0]}"
         cited, outside = tree.cited_by(item, lines) if item else ([], [])
         for it in cited:
-            found.add((it.path, it.name) in reached, f"{place}: {it.name} of {it.path} is neither quoted nor linked")
+            is_reached = (it.path, it.name) in reached
+            yield None if is_reached else f"{place}: {it.name} of {it.path} is neither quoted nor linked"
         for name in (it.rpartition(".")[2].replace("◌", " ").split()[0] for it in outside):
-            found.add(name in said, f"{place}: the page does not say what {name} is")
-    return found
+            yield None if name in said else f"{place}: the page does not say what {name} is"
 
 
 def parted(text: str) -> tuple[str, list[tuple[str, str, list[str]]]]:

@@ -7,32 +7,23 @@ the answers and invariants that it looks up by name (those of a type `goal.NAME`
 """
 from __future__ import annotations
 
-import os
 from pathlib import Path
-from typing import Iterator
+from typing import Iterator, Optional
 
-from checking.docs.found import Found, Missing
 from defining.cited_file import CitedFile
+from defining.tree import Unknown
+
+FILES = ("src/**/*.rt", "specs/**/*.antt", "proofs/**/*.antt")  # that can define or cite
 
 
-def find(top: Path) -> Found:
+def find(top: Path) -> Iterator[Optional[str]]:
     """Looks for each definition of a folder's crates. The fault of one is `FILE:LINE: NAME is cited nowhere`."""
-    crates = top / "crates"
-    if not crates.is_dir():
-        raise Missing(f"{top} has no crates/")
-    files = [file for crate in sorted(os.listdir(crates)) for file in files_of(crates / crate)]
+    if not (top / "crates").is_dir():
+        raise Unknown(f"{top} has no crates/")
+    paths = sorted(it for files in FILES for it in top.glob(f"crates/*/{files}"))
+    files = [CitedFile(top.joinpath(*it.relative_to(top).parts[:2]), it) for it in paths]
     cited = {it for file in files for it in file.cited()}
-    found = Found()
     for file in files:
         for it in file.definitions:
             fault = f"{file.path.relative_to(top)}:{it.line}: {it.name} is cited nowhere"
-            found.add((it.module, it.name) in cited, fault)
-    return found
-
-
-def files_of(folder: Path) -> Iterator[CitedFile]:
-    """The files in a crate's src/, specs/ and proofs/ that can define or cite."""
-    for part in ("src", "specs", "proofs"):
-        for inner, _, names in os.walk(folder / part):
-            paths = (Path(inner, it) for it in sorted(names) if it.endswith((".rt", ".antt")))
-            yield from (CitedFile(folder.name, path, folder) for path in paths)
+            yield None if (it.module, it.name) in cited else fault

@@ -3,25 +3,25 @@ from __future__ import annotations
 
 import contextlib
 import io
-import tempfile
-import unittest
 from pathlib import Path
+from typing import Dict
 
 from checking.docs import PARTS, check
-from checking.docs.found import Missing
 from checking.tally import Tally
+from checking.testing import RoomTest
 from defining.tree import Unknown
 
 
-class DocumentsTest(unittest.TestCase):
+class DocumentsTest(RoomTest):
     """A test with a folder of its own, whose pages and crates a part of dev/check docs looks at."""
 
     part = ""
+    files: Dict[str, str] = {}  # what the folder has
 
     def setUp(self) -> None:
-        folder = tempfile.TemporaryDirectory(prefix="rb-docs-")
-        self.addCleanup(folder.cleanup)
-        self.top = Path(folder.name)
+        super().setUp()
+        self.top = Path(self.room)
+        self.write_all()
 
     def write(self, place: str, text: str) -> None:
         """Writes a file below the folder."""
@@ -29,10 +29,14 @@ class DocumentsTest(unittest.TestCase):
         path.parent.mkdir(parents=True, exist_ok=True)
         path.write_text(text, encoding="utf-8")
 
+    def write_all(self) -> None:
+        for place, text in self.files.items():
+            self.write(place, text)
+
     def expect(self, right: int, *faults: str) -> None:
         """Expects that the part finds so many things that are right, and these faults; nothing at all is a fault too."""
-        found = PARTS[self.part].find(self.top)
-        self.assertEqual((right, list(faults)), (found.right, found.faults))
+        found = [*PARTS[self.part].find(self.top)]
+        self.assertEqual((right, list(faults)), (found.count(None), [it for it in found if it]))
         tally = Tally([self.part])
         with contextlib.redirect_stdout(io.StringIO()):
             check(tally, self.top)
@@ -40,6 +44,17 @@ class DocumentsTest(unittest.TestCase):
 
     def expect_missing(self, reason: str) -> None:
         """Expects that the part can't compare anything, for this reason."""
-        with self.assertRaises((Missing, Unknown)) as fault:
-            PARTS[self.part].find(self.top)
+        with self.assertRaises(Unknown) as fault:
+            list(PARTS[self.part].find(self.top))
         self.assertEqual(reason, str(fault.exception))
+
+    def expect_each(self, place: str, *rows: "tuple[str, str, int, str] | tuple[str, str, int]") -> None:
+        """Expects for each row, in which a text of a file has another one in its place, or this one behind it, how much
+        the part then finds right, and the faults."""
+        for old, new, right, *faults in rows:
+            with self.subTest(old=old, new=new):
+                self.write_all()
+                text = self.files[place]
+                self.assertIn(old, text)
+                self.write(place, text.replace(old, new) if old else text + new)
+                self.expect(right, *faults)

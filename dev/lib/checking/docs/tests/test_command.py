@@ -11,12 +11,12 @@ from checking.tally import Tally
 
 
 class Command(DocumentsTest):
-    def setUp(self) -> None:
-        super().setUp()
-        self.write("page.md", PAGE)
-        self.write("docs/other.md", "# Other\n\n## The part\n\n[Back](../page.md) [Away](nowhere.md)\n")
-        self.write("docs/picture.svg", "")
-        self.write("crates/rb_desk/specs/Fails.antt", "abbrev pub Fails : Type 0\n")
+    files = {
+        "page.md": PAGE,
+        "docs/other.md": "# Other\n\n## The part\n\n[Back](../page.md) [Away](nowhere.md)\n",
+        "docs/picture.svg": "",
+        "crates/rb_desk/specs/Fails.antt": "abbrev pub Fails : Type 0\n",
+    }
 
     def told(self, *names: str) -> str:
         """What is printed of these parts, and the sum."""

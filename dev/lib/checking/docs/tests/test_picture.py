@@ -38,36 +38,24 @@ THIRD = "docs/request.svg does not show hop 3 rb_session reply.rt of docs/ARCHIT
 
 class Picture(DocumentsTest):
     part = "picture"
+    files = {"docs/ARCHITECTURE.md": PAGE, "docs/request.svg": PICTURE}
 
-    def setUp(self) -> None:
-        super().setUp()
-        self.write("docs/ARCHITECTURE.md", PAGE)
-        self.write("docs/request.svg", PICTURE)
+    def test_other_hops_in_the_table(self) -> None:
+        self.expect_each(
+            "docs/ARCHITECTURE.md", ("", "", 3),
+            ("src/fail.rt", "src/failing.rt", 2, SECOND.replace("fail.rt", "failing.rt")),
+        )
 
-    def test_the_hops_of_the_table(self) -> None:
-        self.expect(3)
-
-    def test_another_file_in_the_table(self) -> None:
-        self.write("docs/ARCHITECTURE.md", PAGE.replace("src/fail.rt", "src/failing.rt"))
-        self.expect(2, SECOND.replace("fail.rt", "failing.rt"))
-
-    def test_another_file_in_the_picture(self) -> None:
-        self.write("docs/request.svg", PICTURE.replace("fail.rt", "failing.rt"))
-        self.expect(2, SECOND)
-
-    def test_a_hop_in_the_column_of_another_crate(self) -> None:
-        self.write("docs/request.svg", PICTURE.replace('"216" y="1', '"84" y="1'))
-        self.expect(2, SECOND)
-
-    def test_a_hop_that_the_picture_lacks(self) -> None:
-        self.write("docs/request.svg", PICTURE.replace(">3<", "><"))
-        self.expect(2, THIRD)
-
-    def test_a_hop_that_the_table_lacks(self) -> None:
+    def test_other_hops_in_the_picture(self) -> None:
         more = '<text x="84" y="200">4</text>\n<text x="84" y="219">reply.rt</text>\n</svg>'
-        self.write("docs/request.svg", PICTURE.replace("</svg>", more))
         fault = "docs/request.svg shows hop 4 rb_session reply.rt, which is not in docs/ARCHITECTURE.md"
-        self.expect(3, fault)
+        self.expect_each(
+            "docs/request.svg",
+            ("fail.rt", "failing.rt", 2, SECOND),
+            ('"216" y="1', '"84" y="1', 2, SECOND),  # in the column of another crate
+            (">3<", "><", 2, THIRD),
+            ("</svg>", more, 3, fault),
+        )
 
     def test_no_picture(self) -> None:
         (self.top / "docs" / "request.svg").unlink()

@@ -46,32 +46,28 @@ CLIMB = "docs/HEADLINE.md:5: crates/rb_low/src/lib.rt has nothing that is so: pu
 
 class Quotes(DocumentsTest):
     part = "quotes"
+    files = {
+        "crates/rb_low/specs/Heights.antt": SPECS, "crates/rb_low/src/lib.rt": SOURCE, "docs/HEADLINE.md": PAGE,
+    }
 
-    def expect_of(self, old: str, new: str, right: int, *faults: str) -> None:
-        self.write("crates/rb_low/specs/Heights.antt", SPECS)
-        self.write("crates/rb_low/src/lib.rt", SOURCE)
-        self.assertIn(old, PAGE)
-        self.write("docs/HEADLINE.md", PAGE.replace(old, new))
-        self.expect(right, *faults)
+    def test_quotations(self) -> None:
+        heights = "crates/rb_low/specs/Heights.antt"
+        self.expect_each(
+            "docs/HEADLINE.md",
+            ("", "", 8),
+            ("IsHigh result", "IsHigh 1", 6, CLIMB),
+            # lines that are left out without a sign
+            ("    ..\n    ensures", "    ensures", 6, CLIMB),
+            ("}\n    ..\n", "}\n", 6, CLIMB),
+            # names that the page leaves open
+            (f"[`height`](../{heights})", "`height`", 6,
+             f"docs/HEADLINE.md:12: height of {heights} is neither quoted nor linked"),
+            (", by `≤`", "", 7, "docs/HEADLINE.md:12: the page does not say what ≤ is"),
+            ("# Heights", f"# [`width`](../{heights})", 8, f"docs/HEADLINE.md: {heights} has no width"),
+            ("# Heights", "# Heights" + " high" * 5_000, 7, "docs/HEADLINE.md has 5,048 words, of at most 5,000"),
+        )
 
-    def test_all_is_as_in_the_sources(self) -> None:
-        self.expect_of("", "", 8)
-
-    def test_another_clause_and_lines_that_are_left_out_without_a_sign(self) -> None:
-        self.expect_of("IsHigh result", "IsHigh 1", 6, CLIMB)
-        self.expect_of("    ..\n    ensures", "    ensures", 6, CLIMB)
-        self.expect_of("}\n    ..\n", "}\n", 6, CLIMB)
-
-    def test_names_that_the_page_leaves_open(self) -> None:
-        line = "docs/HEADLINE.md:12: height of crates/rb_low/specs/Heights.antt is neither quoted nor linked"
-        self.expect_of("[`height`](../crates/rb_low/specs/Heights.antt)", "`height`", 6, line)
-        self.expect_of(", by `≤`", "", 7, "docs/HEADLINE.md:12: the page does not say what ≤ is")
-        line = "docs/HEADLINE.md: crates/rb_low/specs/Heights.antt has no width"
-        self.expect_of("# Heights", "# [`width`](../crates/rb_low/specs/Heights.antt)", 8, line)
-
-    def test_too_many_words_no_page_and_an_import_that_leads_nowhere(self) -> None:
-        line = "docs/HEADLINE.md has 5,048 words, of at most 5,000"
-        self.expect_of("# Heights", "# Heights" + " high" * 5_000, 7, line)
+    def test_no_page_and_an_import_that_leads_nowhere(self) -> None:
         (self.top / "docs" / "HEADLINE.md").unlink()
         self.expect_missing(f"{self.top} has no docs/HEADLINE.md")
         self.write("docs/HEADLINE.md", PAGE)

@@ -35,57 +35,41 @@ pub fn fail(desk: &u64) -> u64
 """
 
 
+STAYS = "\nabbrev pub Stays : ℕ → Type 0\nStays n = n ≡ n\n"
+RULESET = "\npub ruleset failures = (fails_again)\n"
+FAILURES = "crates/rb_desk/proofs/Failures.antt"
+FAILS = "crates/rb_desk/specs/Fails.antt"
+LIB = "crates/rb_desk/src/lib.rt"
+
+
 class Uncited(DocumentsTest):
     part = "uncited"
+    files = {FAILS: SPECS, FAILURES: PROOFS, LIB: SOURCE}
 
-    def setUp(self) -> None:
-        super().setUp()
-        self.write("crates/rb_desk/specs/Fails.antt", SPECS)
-        self.write("crates/rb_desk/proofs/Failures.antt", PROOFS)
-        self.write("crates/rb_desk/src/lib.rt", SOURCE)
+    def test_lemmas(self) -> None:
+        falls = "\n  falls : ℕ → ℕ\n  falls zero = zero\n  falls (suc n) = falls n\n"
+        self.expect_each(
+            FAILURES,
+            ("", "", 3),
+            ("", "\n  stays : n ≡ n\n  stays = refl\n", 3, f"{FAILURES}:10: stays is cited nowhere"),
+            ("", RULESET, 3, f"{FAILURES}:10: failures is cited nowhere"),
+            ("", falls, 3, f"{FAILURES}:10: falls is cited nowhere"),  # it names itself
+        )
 
-    def test_all_are_named(self) -> None:
-        self.expect(3)
+    def test_definitions(self) -> None:
+        stays = f"{FAILS}:11: Stays is cited nowhere"
+        self.expect_each(FAILS, ("", STAYS, 3, stays))
+        self.files = {**self.files, FAILS: SPECS + STAYS}
+        self.expect_each(FAILURES, ("  FailsTo}", "  FailsTo,\n  Stays}", 3, stays))  # only imported
+        # named by its module
+        use, clause = "ghost use Rattle.rb_desk.specs.Fails as fails;\n", "    ensures stays { fails.Stays result }\n"
+        self.expect_each(LIB, (SOURCE, use + SOURCE.replace("{\n    desk", f"{clause}{{\n    desk"), 4))
 
-    def test_a_definition_that_nothing_names(self) -> None:
-        self.write("crates/rb_desk/specs/Fails.antt", SPECS + "\nabbrev pub Stays : ℕ → Type 0\nStays n = n ≡ n\n")
-        self.expect(3, "crates/rb_desk/specs/Fails.antt:11: Stays is cited nowhere")
-
-    def test_a_lemma_of_a_module_that_nothing_names(self) -> None:
-        self.write("crates/rb_desk/proofs/Failures.antt", PROOFS + "\n  stays : n ≡ n\n  stays = refl\n")
-        self.expect(3, "crates/rb_desk/proofs/Failures.antt:10: stays is cited nowhere")
-
-    def test_a_lemma_that_only_a_comment_names(self) -> None:
-        source = SOURCE.replace("#[tactic(auto, using(", "// ")
-        self.write("crates/rb_desk/src/lib.rt", source)
-        fault = "crates/rb_desk/proofs/Failures.antt:7: fails_again is cited nowhere"
-        self.expect(2, fault)
-
-    def test_a_set_of_lemmas(self) -> None:
-        self.write("crates/rb_desk/proofs/Failures.antt", PROOFS + "\npub ruleset failures = (fails_again)\n")
-        self.write("crates/rb_desk/src/lib.rt", SOURCE.replace("Failures::fails_again", "Failures::failures"))
-        self.expect(4)
-
-    def test_a_set_of_lemmas_that_nothing_names(self) -> None:
-        self.write("crates/rb_desk/proofs/Failures.antt", PROOFS + "\npub ruleset failures = (fails_again)\n")
-        self.expect(3, "crates/rb_desk/proofs/Failures.antt:10: failures is cited nowhere")
-
-    def test_a_lemma_that_names_only_itself(self) -> None:
-        text = "\n  falls : ℕ → ℕ\n  falls zero = zero\n  falls (suc n) = falls n\n"
-        self.write("crates/rb_desk/proofs/Failures.antt", PROOFS + text)
-        self.expect(3, "crates/rb_desk/proofs/Failures.antt:10: falls is cited nowhere")
-
-    def test_a_lemma_that_is_only_imported(self) -> None:
-        self.write("crates/rb_desk/specs/Fails.antt", SPECS + "\nabbrev pub Stays : ℕ → Type 0\nStays n = n ≡ n\n")
-        self.write("crates/rb_desk/proofs/Failures.antt", PROOFS.replace("  FailsTo}", "  FailsTo,\n  Stays}"))
-        self.expect(3, "crates/rb_desk/specs/Fails.antt:11: Stays is cited nowhere")
-
-    def test_a_lemma_that_is_named_by_its_module(self) -> None:
-        self.write("crates/rb_desk/specs/Fails.antt", SPECS + "\nabbrev pub Stays : ℕ → Type 0\nStays n = n ≡ n\n")
-        use = "ghost use Rattle.rb_desk.specs.Fails as fails;\n"
-        clause = "    ensures stays { fails.Stays result }\n"
-        self.write("crates/rb_desk/src/lib.rt", use + SOURCE.replace("{\n    desk", f"{clause}{{\n    desk"))
-        self.expect(4)
+    def test_lemmas_of_tactics(self) -> None:
+        cited_nowhere = f"{FAILURES}:7: fails_again is cited nowhere"
+        self.expect_each(LIB, ("#[tactic(auto, using(", "// ", 2, cited_nowhere))
+        self.files = {**self.files, FAILURES: PROOFS + RULESET}
+        self.expect_each(LIB, ("Failures::fails_again", "Failures::failures", 4))
 
     def test_an_answer_that_the_checker_looks_up(self) -> None:
         name = "fail-returns-clause-fails"
@@ -94,8 +78,8 @@ class Uncited(DocumentsTest):
         self.expect(3)
 
     def test_no_definitions(self) -> None:
-        for place in ("specs/Fails.antt", "proofs/Failures.antt"):
-            self.write(f"crates/rb_desk/{place}", "")
+        for place in (FAILS, FAILURES):
+            self.write(place, "")
         self.expect(0)
 
     def test_no_crates(self) -> None:
