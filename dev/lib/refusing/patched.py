@@ -1,0 +1,177 @@
+"""A crate's tests of allocations, built once, and run with allocations refused by a patch of their machine code.
+
+`rt try --test --fail-alloc N` builds a program that counts its allocations and refuses the one of number N. It compares
+the count with N and jumps on if they differ: `cmp rax, N` and `jne`, the bytes 48 3d, N as four bytes, and 75. Before
+each run another number is written there; and for all later ones too `jb` (72), which jumps on if the count is less. If
+the program has no such place, or N elsewhere too, nothing is tried. The sanitizer that is built in prints at each end
+how many blocks were given.
+"""
+from __future__ import annotations
+
+import errno
+import os
+import re
+import shutil
+import subprocess
+from dataclasses import dataclass
+from functools import cached_property
+from pathlib import Path
+
+from checking.trying import built
+from common.program import TOP
+
+# The modules of tests that are built, of those that a crate has.
+KEPT = ("memory_refusals", "timer_refusals", "queue_refusals", "allocations", "devices", "fixtures")
+# The allocation that the built program refuses: one that no test reaches, and a number that it has nowhere else.
+NONE = 987654321
+COMPARE, IF_OTHER, IF_LESS = b"\x48\x3d", b"\x75", b"\x72"
+# Lets the sanitizer print its counts wherever a test ends.
+COUNTING = "atexit=1:handle_abort=1:print_stats=1"
+COUNTS = re.compile(r" malloced .* by (\d+) calls\n.* realloced by (\d+) calls")
+# How long a run may take, in seconds. Each takes less than one on a processor of its own.
+PATIENCE = 240
+# How many refusals no call of a test meets: those of what the test makes for itself, and those that change nothing,
+# where a vector gives back the room that is left over. One more is a call that asks for memory in vain. Of the tests of
+# servers and of sessions nothing is said: the system allocates for threads too, and the latter take long.
+UNMET = {
+    "rb_arguments_tests": 92,
+    "rb_blocking": 4,
+    "rb_kept_tests": 7,
+    "rb_lock_tests": 1,
+    "rb_replay_tests": 2,
+    "rb_retry_tests": 14,
+    "rb_runs_tests": 9,
+}
+
+
+@dataclass(frozen=True)
+class Ran:
+    """How a run of a test ended."""
+
+    status: int | None  # none if it was ended from outside
+    said: str
+
+    @cached_property
+    def counts(self) -> tuple[int, int]:
+        """How many blocks it was given, and how many of these took the place of another."""
+        found = COUNTS.search(self.said)
+        return (int(found[1]), int(found[2])) if found else (0, 0)
+
+    @property
+    def fault(self) -> str:
+        """Why it did not pass; empty if it passed."""
+        if self.status is None:
+            return f"it did not end within {PATIENCE} seconds"
+        return f"status {self.status}\n{self.said}" if self.status else ""
+
+    @property
+    def is_unmet(self) -> bool:
+        """Whether it failed by the test's last comparison: no refusal was counted, and one was wanted."""
+        return bool(self.fault and re.search(r"left: 0\s+right: 1\s", self.said))
+
+
+class CrateTests:
+    """The built tests of a crate. The program is in `room`, in which no other tests are built."""
+
+    def __init__(self, crate: str, room: str) -> None:
+        self.crate, self.room = crate, room
+        self.program = Path(built(copied(crate, room), room, "--test", "--fail-alloc", str(NONE)))
+        code = self.program.read_bytes()
+        self.places = [found.start() for found in re.finditer(re.escape(comparison(NONE, IF_OTHER)), code)]
+        if not len(self.places) == code.count(word(NONE)) > 0:
+            raise ValueError(f"{crate}: the program does not choose the allocation to refuse as is known here")
+        # The blocks that the program itself is given, before it looks for a test.
+        self.first_blocks = self.run("").counts[0]
+
+    def run(self, test: str, number: int = NONE, and_later: bool = False) -> Ran:
+        """Runs a test with the allocation of this number refused, or with this one and all later ones."""
+        with open(self.program, "r+b") as it:
+            for place in self.places:
+                it.seek(place)
+                it.write(comparison(number, IF_LESS if and_later else IF_OTHER))
+        how = {"cwd": self.room, "env": {**os.environ, "ASAN_OPTIONS": COUNTING}, "timeout": PATIENCE, "check": False}
+        streams = {"stdin": subprocess.DEVNULL, "stdout": subprocess.PIPE, "stderr": subprocess.STDOUT}
+        while True:
+            try:
+                ran = subprocess.run([self.program, test], **how, **streams)
+                return Ran(ran.returncode, ran.stdout.decode(errors="replace"))
+            except subprocess.TimeoutExpired:
+                return Ran(None, "")
+            except OSError as fault:
+                # A process that another thread starts has the program open for a moment, to write to it.
+                if fault.errno != errno.ETXTBSY:
+                    raise
+
+    def allocations(self, ran: Ran) -> int:
+        """How many allocations a test made."""
+        return ran.counts[0] - self.first_blocks
+
+    def count_calls(self) -> tuple[str, str]:
+        """Compares how often the tests of allocations.rt allocate, of which both make the same things and only one
+        makes the calls, and then refuses the calls all memory. Returns what was done, and what is wrong."""
+        names = [f"tests::allocations::{name}_of_the_calls" for name in ("none", "each")]
+        none, each = map(self.run, names)
+        made, with_calls = self.allocations(none), self.allocations(each)
+        done = f"{made} allocations without the calls, {with_calls} with them"
+        if fault := none.fault or each.fault:
+            return done, fault
+        if none.counts != each.counts or made < 1:
+            return done, "the calls take memory" if made else "nothing was made"
+        for test in names:
+            if fault := self.run(test, made + 1, and_later=True).fault:
+                return f"{test} with each allocation from {made + 1} on refused", fault
+        return f"{done}, which answer with all memory refused", ""
+
+    def refuse_each(self) -> tuple[str, str]:
+        """Refuses one allocation of memory_refusals.rt after the other. Returns what was done, and what is wrong."""
+        [name] = re.findall(r"^#\[test\]\nfn (\w+)\(", source_of(self.crate, "memory_refusals"), re.M)
+        test = f"tests::memory_refusals::{name}"
+        whole = self.run(test)
+        if not whole.is_unmet:
+            return "with no allocation refused", whole.fault or "a refusal was counted"
+        every, met = self.allocations(whole), 0
+        for number in range(1, every + 1):
+            ran = self.run(test, number)
+            if ran.fault and not ran.is_unmet:
+                return f"with allocation {number} of {every} refused", ran.fault
+            met += not ran.fault
+        done = f"each of {every} allocations refused in turn, {met} refusals met"
+        if not met:
+            return done, "no call has met one"
+        unmet = UNMET.get(self.crate, every - met)
+        return done, "" if every - met == unmet else f"{every - met} are not met, and {unmet} must not be"
+
+
+def word(number: int) -> bytes:
+    return number.to_bytes(4, "little")
+
+
+def comparison(number: int, jump: bytes) -> bytes:
+    return COMPARE + word(number) + jump
+
+
+def source_of(crate: str, module: str) -> str:
+    """The text of a module of a crate's tests; empty if it has none of this name."""
+    path = Path(TOP, "crates", crate, "src/tests", f"{module}.rt")
+    return path.read_text("utf-8") if path.is_file() else ""
+
+
+def copied(crate: str, room: str) -> str:
+    """Copies the checkout, without the crate's other tests. Returns the folder of the crate in the copy."""
+    for name in ("crates.txt", "HANDLES"):
+        shutil.copy2(f"{TOP}/{name}", room)
+    shutil.copytree(f"{TOP}/crates", f"{room}/crates", ignore=shutil.ignore_patterns("out", "must-fail", "attacks"))
+    tests = Path(room, "crates", crate, "src/tests")
+    replace(tests.with_suffix(".rt"), rf"^mod (?!(?:{'|'.join(KEPT)});)\w+;\n", "")
+    for found in tests.iterdir():
+        if found.is_dir():
+            shutil.rmtree(found)
+        elif found.stem not in KEPT:
+            found.unlink()
+    if source_of(crate, "memory_refusals"):
+        replace(tests / "memory_refusals.rt", r"^(const REFUSALS: u32 =) 0;$", r"\1 1;")
+    return f"{room}/crates/{crate}"
+
+
+def replace(path: Path, old: str, new: str) -> None:
+    path.write_text(re.sub(old, new, path.read_text("utf-8"), flags=re.M), "utf-8")
