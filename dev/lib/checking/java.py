@@ -24,13 +24,14 @@ import shutil
 import subprocess
 import tempfile
 import textwrap
-from typing import Any, List, Optional, Tuple
+from pathlib import Path
+from typing import Any, List, Optional
 
 from checking.tally import Tally
 from common.program import TOP, tested_program
 from serving.server import Server
 
-CLIENT = os.path.join(TOP, "clients", "java")
+CLIENT = Path(TOP, "clients", "java")
 JARS = ("/usr/share/java/junit4.jar", "/usr/share/java/hamcrest.jar")
 COMMANDS = ("javac", "java", "javadoc")
 RELEASE = "17"
@@ -47,103 +48,94 @@ PLUGINS = ("resources", "compiler", "surefire", "jar")
 STUNNEL = "stunnel"
 JOBS = int(os.environ.get("RB_BROKER_JOBS", 2_000))  # of a day
 LONGEST = 5_000  # seconds after which a command is ended
-LETTERS = """to-ann, attempt 1
-to-bob, attempt 1
-to-bob, attempt 2
-"""
+LETTERS = "to-ann, attempt 1\nto-bob, attempt 1\nto-bob, attempt 2"
 
 
-def run(*words: str, **options: Any) -> Tuple[int, str]:
-    """Runs a command. Gives its status, and what it printed."""
-    ran = subprocess.run(words, stdout=subprocess.PIPE, stderr=subprocess.STDOUT, encoding="utf-8", errors="replace",
-                         timeout=LONGEST, **options)
-    return ran.returncode, ran.stdout.strip()
+def run(*words: str, **options: Any) -> "subprocess.CompletedProcess[str]":
+    """Runs a command, whose errors are among what it prints."""
+    return subprocess.run(words, stdout=subprocess.PIPE, stderr=subprocess.STDOUT, encoding="utf-8", errors="replace",
+                          timeout=LONGEST, check=False, **options)
 
 
-def fault_of(*words: str) -> Optional[str]:
-    """What a command says that should end with status 0 and say nothing."""
-    status, said = run(*words)
-    return f"status {status}: {said}" if status or said else None
+def expect(tally: Tally, name: str, *words: str, says: str = "", status: int = 0, **options: Any) -> bool:
+    """Counts a command, which must end with this status and print what this pattern fits. Returns whether it did."""
+    ran = run(*words, **options)
+    said = ran.stdout.strip()
+    is_right = ran.returncode == status and re.fullmatch(says, said, re.DOTALL) is not None
+    tally.count(name, None if is_right else f"status {ran.returncode}: {said}")
+    return is_right
 
 
 def missing() -> List[str]:
     """What is not installed that the tests need."""
     absent = [it for it in COMMANDS if shutil.which(it) is None] + [it for it in JARS if not os.path.isfile(it)]
-    if not absent and int(re.sub(r"^\D*(\d+).*$", r"\1", run("javac", "-version")[1], flags=re.DOTALL)) < int(RELEASE):
+    if not absent and int(re.findall(r"\d+", run("javac", "-version").stdout)[0]) < int(RELEASE):
         absent.append(f"a JDK of version {RELEASE}")
     return absent
 
 
 def sources(folder: str) -> List[str]:
     """The files of a folder that javac compiles, in the order of their names."""
-    found = [os.path.join(at, it) for at, _, names in os.walk(f"{CLIENT}/{folder}") for it in names]
-    return sorted(it for it in found if it.endswith(".java"))
+    return sorted(map(str, (CLIENT / folder).rglob("*.java")))
 
 
 def build(room: str, tally: Tally) -> Optional[str]:
     """Compiles everything and writes the pages. Gives the class path, or None if something does not compile."""
     package, tests, example = (f"{room}/{it}" for it in ("package", "tests", "example"))
+    with_jars = os.pathsep.join([package, *JARS])
     strict = ("javac", "--release", RELEASE, "-Xlint:all", "-Werror", "-d")
-    jars = os.pathsep.join(JARS)
-    faults = [
-        ("javac of the package", fault_of(*strict, package, *sources("src"))),
-        ("javac of the example", fault_of(*strict, example, "-cp", package, *sources("examples"))),
-        ("javac of the tests", fault_of(*strict, tests, "-cp", f"{package}{os.pathsep}{jars}", *sources("tests"))),
-        ("javadoc", fault_of("javadoc", "-quiet", "-Xdoclint:all", "-Werror", "-d", f"{room}/pages", *sources("src"))),
+    pages = ("javadoc", "-quiet", "-Xdoclint:all", "-Werror", "-d", f"{room}/pages", *sources("src"))
+    is_compiled = [
+        expect(tally, "javac of the package", *strict, package, *sources("src")),
+        expect(tally, "javac of the example", *strict, example, "-cp", package, *sources("examples")),
+        expect(tally, "javac of the tests", *strict, tests, "-cp", with_jars, *sources("tests")),
     ]
-    for name, fault in faults:
-        tally.count(name, fault)
-    is_compiled = not any(fault for _, fault in faults[:3])
-    return os.pathsep.join((package, tests, example, jars)) if is_compiled else None
+    expect(tally, "javadoc", *pages)
+    return os.pathsep.join((package, tests, example, *JARS)) if all(is_compiled) else None
 
 
 def run_tests(kind: str, path: str, tally: Tally) -> None:
     """Runs the tests of a kind with JUnit, and counts them."""
-    names = [f"rbbroker.client.{it}" for it in TESTS[kind]]
-    stunnel = shutil.which(STUNNEL)
+    names, stunnel = [*TESTS[kind]], shutil.which(STUNNEL)
     if kind == "served" and stunnel:
-        names.append("rbbroker.client.StunnelTest")
+        names.append("StunnelTest")
     elif kind == "served":
         tally.skip("StunnelTest", f"there is no {STUNNEL}")
     told = {"program": tested_program(), "jobs": JOBS, "verify": f"{TOP}/tools/verify", "stunnel": stunnel,
             "page": f"{TOP}/docs/OPERATING.md"}
-    words = ["-ea", "-cp", path, *(f"-Drbbroker.{name}={it}" for name, it in told.items()), "rbbroker.client.Suite"]
-    status, said = run("java", *words, *names)
-    *lines, last = said.split("\n")
+    settings = [f"-Drbbroker.{name}={it}" for name, it in told.items()]
+    ran = run("java", "-ea", "-cp", path, *settings, *(f"rbbroker.client.{it}" for it in ["Suite", *names]))
+    *lines, last = ran.stdout.strip().split("\n")
     found = re.fullmatch(r"(\d+) tests, (\d+) failures", last)
     for line in lines if found else []:
         print(line)
-    if not found or int(found[1]) == 0 or (status == 0) != (int(found[2]) == 0):
-        tally.count(f"the tests of {kind}", f"status {status}: {said}")
-        return
-    tally.passed += max(0, int(found[1]) - int(found[2]))
-    tally.failed += int(found[2])
+    count, failed = map(int, found.groups()) if found else (0, 0)
+    if count == 0 or (ran.returncode == 0) != (failed == 0):
+        tally.count(f"the tests of {kind}", f"status {ran.returncode}: {ran.stdout.strip()}")
+    else:
+        tally.add(max(0, count - failed), failed)
 
 
 def run_example(path: str, tally: Tally) -> None:
     """Runs the README's example beside a server, and without one."""
     with Server(["--sessions", 2]) as server:
-        port = server.port
-        told = run("java", "-cp", path, "Letters", str(port))
-        tally.count("the example", None if told == (0, LETTERS.strip()) else f"status {told[0]}: {told[1]}")
-    status, said = run("java", "-cp", path, "Letters", str(port))
-    is_right = status == 1 and re.fullmatch(rf"letters: no server at 127\.0\.0\.1:{port}: .*", said)
-    tally.count("the example without a server", None if is_right else f"status {status}: {said}")
+        words = ("java", "-cp", path, "Letters", str(server.port))
+        expect(tally, "the example", *words, says=LETTERS)
+    refusal = rf"letters: no server at 127\.0\.0\.1:{server.port}: [^\n]*"
+    expect(tally, "the example without a server", *words, says=refusal, status=1)
 
 
 def follow_page(room: str, tally: Tally) -> None:
     """Does what the README's first part says, in an empty folder, beside a server with its options."""
-    with open(f"{CLIENT}/README.md", encoding="utf-8") as page:
-        blocks = re.findall(r"(?m)(?:^    .*\n(?:\n(?=    ))?)+", page.read())
+    blocks = re.findall(r"(?m)(?:^    .*\n(?:\n(?=    ))?)+", (CLIENT / "README.md").read_text("utf-8"))
     serve, source, commands = map(textwrap.dedent, blocks[:3])
     compiling, running = commands.replace("~/rb_broker", shlex.quote(TOP)).splitlines()
-    os.mkdir(f"{room}/empty")
+    empty = Path(room, "empty")
+    empty.mkdir()
     with Server(shlex.split(serve)[4:]) as server:
-        with open(f"{room}/empty/Worker.java", "w", encoding="utf-8") as file:
-            file.write(source.replace("7011", str(server.port)))
-        status, said = run("sh", "-c", compiling, cwd=f"{room}/empty")
-        tally.count("the README's program compiled", f"status {status}: {said}" if status else None)
-        with subprocess.Popen(shlex.split(running), cwd=f"{room}/empty", stdout=subprocess.PIPE, text=True) as worker:
+        (empty / "Worker.java").write_text(source.replace("7011", str(server.port)), "utf-8")
+        expect(tally, "the README's program compiled", "sh", "-c", compiling, says=".*", cwd=empty)
+        with subprocess.Popen(shlex.split(running), cwd=empty, stdout=subprocess.PIPE, text=True) as worker:
             told = [worker.stdout.readline().strip() for _ in DELIVERED]
             worker.kill()
     tally.count("the README's program", None if told == DELIVERED else f"it says {told}")
@@ -159,12 +151,10 @@ def run_maven(room: str, tally: Tally) -> None:
     shutil.copytree(CLIENT, f"{room}/maven")
     shutil.copytree(REPOSITORY, f"{room}/repository", copy_function=os.symlink)  # mvn may write into it
     words = ("mvn", "-o", "-B", "-q", f"-Dmaven.repo.local={room}/repository", "package")
-    status, said = run(*words, cwd=f"{room}/maven")
-    tally.count("mvn", f"status {status}: {said}" if status else None)
+    expect(tally, "mvn", *words, says=".*", cwd=f"{room}/maven")
     jar = f"{room}/maven/target/rbbroker-client-{VERSION}.jar"
-    status, said = run("jar", "--describe-module", "--file", jar)
-    is_right = status == 0 and said.startswith(f"rbbroker.client@{VERSION} ")
-    tally.count("the jar of mvn", None if is_right else f"status {status}: {said}")
+    describe = ("jar", "--describe-module", "--file", jar)
+    expect(tally, "the jar of mvn", *describe, says=rf"rbbroker\.client@{re.escape(VERSION)} .*")
 
 
 def check(tally: Tally) -> None:
