@@ -97,9 +97,10 @@ def descendants(others: Collection[int] = ()) -> Set[int]:
 
 
 def end_descendants(others: Collection[int] = ()) -> None:
-    """Kills what stems from this process, but for these others, and waits for its end."""
-    until = time.monotonic() + PATIENCE
-    while (left := descendants(others)) and time.monotonic() < until:
+    """Kills what stems from this process, but for these others, and waits until all of it is gone."""
+    until, killed = time.monotonic() + PATIENCE, set()
+    while (left := descendants(others) | {*filter(is_there, killed)}) and time.monotonic() < until:
+        killed |= left  # one whose parent ends sooner stems from this process no longer
         for process in left:
             with contextlib.suppress(ProcessLookupError, PermissionError):
                 os.kill(process, signal.SIGKILL)
@@ -107,3 +108,7 @@ def end_descendants(others: Collection[int] = ()) -> None:
         with contextlib.suppress(ChildProcessError):
             while os.waitpid(-1, os.WNOHANG)[0]:
                 pass
+
+
+def is_there(process: int) -> bool:
+    return os.path.exists(f"/proc/{process}")

@@ -6,8 +6,8 @@ import contextlib
 import random
 import socket
 import subprocess
+import threading
 import time
-from types import TracebackType
 from typing import List, NamedTuple, Optional, Sequence
 
 from common.program import tested_program
@@ -56,30 +56,23 @@ class Server:
         self, options: Sequence[object] = (), program: Optional[str] = None, port: Optional[int] = None
     ) -> None:
         """Starts the program, the one that is tested unless another one is given."""
-        self._program, self._options = program or tested_program(), [*map(str, options)]
-        self._start(port)
-
-    def _start(self, port: Optional[int]) -> None:
         for _ in range(TRIES):
             self.port = port or random.choice(PORTS)
-            self.process = self._process()
-            assert self.process.stdout
-            if self.process.stdout.readline() == f"listening {HOST}:{self.port}\n":
+            self.process = started([program or tested_program(), "serve", "--port", str(self.port), *map(str, options)])
+            limit = threading.Timer(2 * PATIENCE, self.process.kill)
+            limit.start()
+            said = self.process.stdout.readline()
+            limit.cancel()
+            if said == f"listening {HOST}:{self.port}\n":
                 return
             self.process.kill()
             _, errors = self.process.communicate()
         raise NoServer(f"no server could be started: {errors.strip()}")
 
-    def _process(self) -> subprocess.Popen[str]:
-        """Starts a process that is to serve at `port`."""
-        return started([self._program, "serve", "--port", str(self.port), *self._options])
-
     def __enter__(self) -> Server:
         return self
 
-    def __exit__(
-        self, kind: Optional[type[BaseException]], fault: Optional[BaseException], trace: Optional[TracebackType]
-    ) -> None:
+    def __exit__(self, *_: object) -> None:
         self.kill()
 
     def use_up(self) -> None:

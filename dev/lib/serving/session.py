@@ -3,8 +3,7 @@ from __future__ import annotations
 
 import socket
 import struct
-from types import TracebackType
-from typing import List, Optional, Union
+from typing import List, Union
 
 from serving import HOST, PATIENCE
 
@@ -33,9 +32,7 @@ class Session:
     def __enter__(self) -> Session:
         return self
 
-    def __exit__(
-        self, kind: Optional[type[BaseException]], fault: Optional[BaseException], trace: Optional[TracebackType]
-    ) -> None:
+    def __exit__(self, *_: object) -> None:
         self.hang_up()
 
     @property
@@ -77,6 +74,13 @@ class Session:
         except OSError as fault:
             return repr(fault)
         return self.heard()
+
+    def quit(self) -> None:
+        """Ends the session by a request, behind whose reply nothing may come."""
+        said = self.ask("QUIT").encode() + b"\n" + self.rest()
+        if said != b"BYE\n":
+            raise AssertionError(f"QUIT is answered by {said[:100]!r}")
+        self.hang_up()
 
     def rest(self) -> bytes:
         """What the server sends until it ends the session."""

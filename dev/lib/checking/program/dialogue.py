@@ -1,10 +1,11 @@
 """A client that talks to a script over two pipes, and waits for each reply before it asks again."""
 from __future__ import annotations
 
-from typing import IO, Optional
+import subprocess
+import threading
+from typing import IO
 
-from checking.program.place import PATIENCE, Ended, Place, lines, started, text_of, within
-from checking.tally import Tally
+from checking.program.runs import PATIENCE, Ended, Faults, Place, lines, text_of
 
 # Each request, and its reply.
 DIALOGUE = {
@@ -17,19 +18,17 @@ DIALOGUE = {
 }
 
 
-def check_dialogue(tally: Tally, place: Place) -> None:
+def dialogue(place: Place) -> Faults:
     """Talks to the program."""
-    tally.count("a client that waits for each reply", dialogue_fault(place))
-
-
-def dialogue_fault(place: Place) -> Optional[str]:
-    """What differs, or nothing."""
-    with started([place.program, "script"]) as program, within(PATIENCE):
-        assert program.stdin and program.stdout
-        replies = [reply_to(request, program.stdin, program.stdout) for request in DIALOGUE]
+    pipe = subprocess.PIPE
+    with subprocess.Popen([place.program, "script"], stdin=pipe, stdout=pipe, stderr=pipe, bufsize=0) as program:
+        limit = threading.Timer(PATIENCE, program.kill)
+        limit.daemon = True
+        limit.start()
+        told = b"".join([reply_to(request, program.stdin, program.stdout) for request in DIALOGUE])
         rest, errors = program.communicate()
-    ended = Ended(program.returncode, text_of(b"".join(replies) + rest), text_of(errors))
-    return ended.fault(status=0, output=lines(*DIALOGUE.values()), errors="")
+    ended = Ended(program.returncode, text_of(told + rest), text_of(errors))
+    yield "a client that waits for each reply", ended.fault(output=lines(*DIALOGUE.values()))
 
 
 def reply_to(request: str, requests: IO[bytes], replies: IO[bytes]) -> bytes:

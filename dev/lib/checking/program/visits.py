@@ -1,62 +1,40 @@
-"""Servers of a few clients: how one is served, and how clients ask.
-
-What the checks say of time holds on a machine that is busy with other work too: a wait that has to be short is made
-again until one is.
-"""
+"""Servers of a few clients: how one is served, how it ends, and how clients ask."""
 from __future__ import annotations
 
 import contextlib
 import re
 import select
-import subprocess
-from typing import Callable, Iterator, Optional
+from typing import Iterator, Optional
 
-from checking.program.place import PATIENCE, Ended, Place, within
-from checking.server.clients import Client
+from checking.program.runs import PATIENCE, Ended, Place, lines
 from serving.server import Server
 from serving.session import Session
 
 SECOND, MILLISECOND = 10**9, 10**6  # in nanoseconds, as the server counts
-
 FAR = 10**6 * SECOND  # a delay after which nobody takes any more
-
-Check = Callable[[Place], Optional[str]]
-
-
-def fault_of(check: Callable[[], Optional[str]]) -> Optional[str]:
-    """What a check finds, or by what it breaks off."""
-    try:
-        return check()
-    except Exception as strange:  # whatever it is, it is told
-        return f"{type(strange).__name__}: {strange}"
 
 
 @contextlib.contextmanager
-def serving(place: Place, words: str, **names: object) -> Iterator[Server]:
+def serving(place: Place, words: str) -> Iterator[Server]:
     """A server with these words behind `serve --port`. It is killed at the end if it has not ended by itself."""
-    with within(PATIENCE):
-        server = Server(place.options(words, **names), place.program)
-    with server:
+    with Server(words.format(room=place.room).split(), place.program) as server:
+        server.patience = PATIENCE
         yield server
 
 
 @contextlib.contextmanager
-def serving_all(place: Place, words: str, sessions: int = 1, status: int = 0, errors: str = "") -> Iterator[Server]:
+def visited(place: Place, words: str, sessions: int = 1, status: int = 0, errors: str = "") -> Iterator[Server]:
     """A server with these words, which must end like this when its sessions have ended."""
     with serving(place, f"{words} --sessions {sessions}") as server:
         yield server
-        fault = ended(server).fault(status=status, errors=errors)
-        if fault:
+        if fault := ended(server).fault(status, errors=errors):
             raise AssertionError(f"the server ended: {fault}")
 
 
 def ended(server: Server) -> Ended:
     """Waits for a server's end. What it wrote begins behind the line that says where it listens."""
-    try:
-        output, errors = server.process.communicate(timeout=PATIENCE)
-    except subprocess.TimeoutExpired:
-        return Ended(None, "", "the server does not end\n")
-    return Ended(server.process.returncode, output, errors)
+    status, told, errors = server.end()
+    return Ended(status, lines(*told), errors)
 
 
 def visit_fault(server: Server, requests: str, replies: str) -> Optional[str]:
@@ -80,26 +58,19 @@ def hang_up(server: Server, requests: str, count: int) -> None:
             client.replies.readline()
 
 
-def visitor(server: Server) -> Client:
-    """A client that is connected."""
-    client = Client(0)
-    client.connect(server.port)
-    return client
-
-
-def replies(client: Client, *requests: bytes) -> list[str]:
+def replies(client: Session, *requests: str) -> "list[str]":
     """The replies to these requests, one after the other."""
-    return [" ".join(client.ask(request)) for request in requests]
+    return [client.ask(request) for request in requests]
 
 
-def hears(client: Client, seconds: float) -> bool:
+def hears(client: Session, seconds: float) -> bool:
     """Whether something is sent to the client within this many seconds."""
     return bool(select.select([client.socket], [], [], seconds)[0])
 
 
-def moment(client: Client) -> int:
+def moment(client: Session) -> int:
     """The server's moment, by the expiry of an element that nobody takes."""
-    return int(client.ask(b"OFFER %d mark" % FAR)[2]) - FAR
+    return int(client.ask(f"OFFER {FAR} mark").split(" ")[2]) - FAR
 
 
 def differ(told: object, wanted: object) -> Optional[str]:

@@ -51,7 +51,7 @@ def check_end(tally: Tally, server: Server, clients: List[Client], history: str)
 def check_clients(tally: Tally, runs: List[Tuple[Client, str]], history: str, room: str) -> None:
     """What each client saw."""
     for client, fault in runs:
-        tally.count(f"client {client.number}, which {client.kind_name}", fault)
+        tally.count(f"client {client.number}, which {client.does.__name__}", fault)
     clients = [client for client, _ in runs]
     record = f"{room}/record"
     with open(record, "w", encoding="ascii") as file:

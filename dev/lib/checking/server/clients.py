@@ -18,33 +18,25 @@ FIRST_MARK = 2**63
 class Client:
     """One client's session: what it sent, and what it was answered."""
 
-    def __init__(self, number: int, kind: Optional[Callable[[Client], None]] = None, seed: str = "") -> None:
-        self.number, self.kind, self.rng = number, kind, random.Random(f"{seed} {number}")
+    session: Session
+
+    def __init__(self, number: int, does: Callable[[Client], None], seed: str) -> None:
+        self.number, self.does, self.rng = number, does, random.Random(f"{seed} {number}")
         self.record: List[str] = []  # a line for each request that was answered, as tools/verify reads it
-        self.answers: List[Tuple[bytes, List[str]]] = []  # these requests, each with its reply lines
-        self.unanswered: Deque[Tuple[bytes, int]] = deque()  # the others, each with the time at which it was sent
+        self.answers: List[Tuple[str, List[str]]] = []  # these requests, each with its reply lines
+        self.unanswered: Deque[Tuple[str, int]] = deque()  # the others, each with the time at which it was sent
         # By payloads, of their first attempts: when they were offered, with which delay, and when they were got.
         self.sent_at: Dict[str, Tuple[int, int]] = {}
         self.got_at: Dict[str, int] = {}
         self.is_heard = True  # whether it read all that it was answered
         self.is_reset = False  # whether its session surely ended by a fault
-        self.offered = 0
 
-    @property
-    def kind_name(self) -> str:
-        """What it does."""
-        return self.kind.__name__ if self.kind else ""
-
-    def connect(self, port: int) -> None:
-        self.session = Session(port)
-        self.socket = self.session.socket
-
-    def note(self, *requests: bytes) -> None:
+    def note(self, *requests: str) -> None:
         """Notes requests that are sent next."""
         now = time.monotonic_ns()
         self.unanswered += [(request, now) for request in requests]
 
-    def send(self, *requests: bytes) -> None:
+    def send(self, *requests: str) -> None:
         """Sends requests in one piece."""
         self.note(*requests)
         self.session.send(*requests)
@@ -57,72 +49,70 @@ class Client:
         except EOFError:
             raise EOFError(f"the connection ended where the reply to {request!r} was due") from None
         received = time.monotonic_ns()
-        for line in replies:
-            if line.startswith("ITEM ") and line.split(" ")[3] == "1":
-                self.got_at[line.split(" ")[4]] = received
+        for kind, *item in (line.split(" ") for line in replies):
+            if kind == "ITEM" and item[2] == "1":
+                self.got_at[item[3]] = received
         self.unanswered.popleft()
         self.answers.append((request, replies))
         self.record.append(self.line(request, sent, received, replies))
         return replies[0].split(" ")
 
-    def line(self, request: bytes, sent: int, received: Optional[int], replies: List[str]) -> str:
+    def line(self, request: str, sent: int, received: Optional[int], replies: List[str]) -> str:
         """The line of a record on a request."""
-        told = {"session": self.number, "sent": sent, "received": received}
-        return json.dumps({**told, "request": request.decode("latin-1"), "reply": replies}) + "\n"
+        told = {"session": self.number, "sent": sent, "received": received, "request": request, "reply": replies}
+        return json.dumps(told) + "\n"
 
     def whole_record(self) -> List[str]:
         """The lines on all requests."""
         return [*self.record, *(self.line(request, sent, None, []) for request, sent in self.unanswered)]
 
-    def ask(self, request: bytes) -> List[str]:
-        self.send(request)
-        return self.read()
+    def ask(self, *requests: str) -> List[str]:
+        """Sends requests in one piece, and reads all replies. Returns the words of the last one's first line."""
+        self.send(*requests)
+        return self.read_all()
 
-    def read_all(self) -> None:
+    def read_all(self) -> List[str]:
+        """Reads the replies that are left. Returns the words of the last one's first line."""
+        words: List[str] = []
         while self.unanswered:
-            self.read()
+            words = self.read()
+        return words
 
-    def offer(self, delay: int) -> bytes:
+    def offer(self, delay: int) -> str:
         """A request that offers an element, whose payload nobody else offers."""
-        payload = f"{self.number}-{self.offered}"
-        self.offered += 1
+        payload = f"{self.number}-{len(self.sent_at)}"
         self.sent_at[payload] = (time.monotonic_ns(), delay)
-        return b"OFFER %d %s" % (delay, payload.encode())
+        return f"OFFER {delay} {payload}"
 
-    def any_offer(self) -> bytes:
+    def offers(self, count: int) -> List[str]:
+        """Requests that offer elements without a delay."""
+        return [self.offer(0) for _ in range(count)]
+
+    def any_offer(self) -> str:
         if self.rng.random() < 0.1:
-            return b"OFFERAT %d %s" % (self.rng.randrange(10**10), self.offer(0).split(b" ")[2])
+            return f"OFFERAT {self.rng.randrange(10**10)} {self.offer(0).split(' ')[2]}"
         return self.offer(self.rng.choice([0, 10**6, 10**7, 10**8]) * self.rng.randrange(1, 5))
 
-    def fetch(self) -> Optional[int]:
+    def fetch(self) -> Optional[str]:
         """Asks for a job in some way. Returns its id, if there was one."""
-        request = self.rng.choice([b"TAKE", b"TAKE", b"POLL", b"POLLFOR 20000000", b"DRAIN 1"])
-        words = self.ask(request)
-        if words[0] == "DRAINED" and words[1] == "1":
+        words = self.ask(self.rng.choice(["TAKE", "TAKE", "POLL", "POLLFOR 20000000", "DRAIN 1"]))
+        if words == ["DRAINED", "1"]:
             words = self.answers[-1][1][1].split(" ")
-        return int(words[1]) if words[0] == "ITEM" else None
-
-    def settle(self, job: int, chance_of_done: float) -> None:
-        """Finishes a job or fails it."""
-        self.ask(b"%s %d" % (b"DONE" if self.rng.random() < chance_of_done else b"FAIL", job))
+        return words[1] if words[0] == "ITEM" else None
 
     def quit(self) -> None:
-        self.ask(b"QUIT")
+        self.ask("QUIT")
         self.expect_end()
 
     def end_input(self) -> None:
         """Closes its side, and reads to the end of the other's."""
-        self.socket.shutdown(socket.SHUT_WR)
+        self.session.socket.shutdown(socket.SHUT_WR)
         self.read_all()
         self.expect_end()
 
     def expect_end(self) -> None:
-        rest = self.session.rest()
-        if rest:
+        if rest := self.session.rest():
             raise AssertionError(f"bytes behind the last reply: {rest[:100]!r}")
-        self.hang_up()
-
-    def hang_up(self) -> None:
         self.session.hang_up()
 
     def reset(self) -> None:
@@ -142,8 +132,7 @@ def gives(client: Client) -> None:
 
 def gives_in_batches(client: Client) -> None:
     for _ in range(4):
-        client.send(*[client.any_offer() for _ in range(client.rng.randrange(1, 33))])
-        client.read_all()
+        client.ask(*[client.any_offer() for _ in range(client.rng.randrange(1, 33))])
     client.end_input()
 
 
@@ -153,106 +142,100 @@ def works(client: Client) -> None:
         if job is None:
             client.ask(client.any_offer())
         else:
-            client.settle(job, 0.7)
+            client.ask(f"{'DONE' if client.rng.random() < 0.7 else 'FAIL'} {job}")
     client.quit()
 
 
 def works_in_batches(client: Client) -> None:
     for _ in range(5):
-        client.send(*[client.offer(0) for _ in range(8)], b"SIZE", b"DRAIN 40", b"PEEK", b"DRAIN 0")
-        client.read_all()
-        held = [int(it.split(" ")[1]) for it in client.answers[-3][1][1:]]
-        client.send(*[b"DONE %d" % it for it in held[::2]], *[b"FAIL %d" % it for it in held[1::2]])
-        client.read_all()
+        client.ask(*client.offers(8), "SIZE", "DRAIN 40", "PEEK", "DRAIN 0")
+        held = [it.split(" ")[1] for it in client.answers[-3][1][1:]]
+        client.ask(*[f"DONE {it}" for it in held[::2]], *[f"FAIL {it}" for it in held[1::2]])
     client.end_input()
 
 
 def holds_too_many(client: Client) -> None:
-    client.send(*[client.offer(0) for _ in range(70)], b"DRAIN 1000", b"DRAIN 1", b"POLL", b"TAKE", b"POLLFOR 5")
-    client.read_all()
+    client.ask(*client.offers(70), "DRAIN 1000", "DRAIN 1", "POLL", "TAKE", "POLLFOR 5")
     client.end_input()
 
 
 def looks(client: Client) -> None:
     for _ in range(10):
-        client.ask(client.rng.choice([b"SIZE", b"PEEK", b"POLLFOR 0", b"AT 5", b"DONE 7", b"FAIL 7", b"poll", b""]))
-    client.ask(b"REMOVE %d" % client.rng.randrange(500))
+        client.ask(client.rng.choice(["SIZE", "PEEK", "POLLFOR 0", "AT 5", "DONE 7", "FAIL 7", "poll", ""]))
+    client.ask(f"REMOVE {client.rng.randrange(500)}")
     client.quit()
 
 
 def clears(client: Client) -> None:
-    client.ask(b"CLEAR")
+    client.ask("CLEAR")
     client.quit()
 
 
 def says_nothing(client: Client) -> None:
     time.sleep(client.rng.random() / 5)
-    client.hang_up()
+    client.session.hang_up()
 
 
 def dribbles(client: Client) -> None:
-    for request in (client.any_offer(), b"POLL", client.any_offer(), b"SIZE"):
+    for request in (client.any_offer(), "POLL", client.any_offer(), "SIZE"):
         client.note(request)
-        for byte in request + b"\n":
-            client.socket.sendall(bytes([byte]))
+        for byte in f"{request}\n".encode():
+            client.session.socket.sendall(bytes([byte]))
         client.read()
     client.quit()
 
 
 def hangs_up(client: Client) -> None:
     """It holds jobs, has read all its replies, and sends nothing more."""
-    client.send(*[client.offer(0) for _ in range(5)], b"TAKE", b"POLL", b"DRAIN 3")
-    client.read_all()
-    client.hang_up()
+    client.ask(*client.offers(5), "TAKE", "POLL", "DRAIN 3")
+    client.session.hang_up()
 
 
 def hangs_up_on_its_replies(client: Client) -> None:
     client.is_heard = False
-    client.send(*[client.offer(0) for _ in range(5)], b"TAKE", b"TAKE", *[b"SIZE"] * 50)
+    client.send(*client.offers(5), "TAKE", "TAKE", *["SIZE"] * 50)
     for _ in range(client.rng.randrange(8)):
         client.read()
-    client.hang_up()
+    client.session.hang_up()
 
 
 def leaves_while_it_waits(client: Client) -> None:
     client.is_heard = False
-    client.send(b"TAKE")
+    client.send("TAKE")
     time.sleep(client.rng.random() / 50)
-    client.hang_up()
+    client.session.hang_up()
 
 
 def resets(client: Client) -> None:
-    client.send(client.offer(0), b"TAKE", b"DRAIN 4")
-    client.read_all()
+    client.ask(client.offer(0), "TAKE", "DRAIN 4")
     client.reset()
 
 
 def resets_while_it_waits(client: Client) -> None:
     client.is_heard = False
-    client.send(client.offer(0), b"TAKE", b"OFFER 5000000 last", b"TAKE")
+    client.send(client.offer(0), "TAKE", "OFFER 5000000 last", "TAKE")
     client.read()
     client.reset()
 
 
 def sends_half_a_line(client: Client) -> None:
-    client.send(client.offer(0), b"TAKE")
-    client.read_all()
-    client.note(b"DONE (half)")
-    client.socket.sendall(b"DONE")
+    client.ask(client.offer(0), "TAKE")
+    client.note("DONE (half)")
+    client.session.socket.sendall(b"DONE")
     client.end_input()
 
 
 def sends_noise(client: Client) -> None:
     noise = client.rng.randbytes(client.rng.randrange(1, 100_000)) + b"\n" + b"x" * 100_000 + b"\nOFFER 1 \xff"
-    client.note(*noise.split(b"\n"))
-    client.socket.sendall(noise)
+    client.note(*noise.decode("latin-1").split("\n"))
+    client.session.socket.sendall(noise)
     client.end_input()
 
 
 def reads_no_more(client: Client) -> None:
     """It sends until the server stops reading, because nobody reads what the server writes."""
     client.is_heard = False
-    client.send(client.offer(0), b"TAKE")
+    client.send(client.offer(0), "TAKE")
     client.session.fill()
     client.reset()
 
@@ -266,13 +249,12 @@ KINDS = [
 
 def run_client(number: int, port: int, seed: str) -> Tuple[Client, str]:
     """Runs a client to its end. Returns the client, and what went wrong; nothing if all went well."""
-    kind = reads_no_more if number % 50 == 25 else KINDS[number % len(KINDS)]
-    client = Client(number, kind, seed)
+    client = Client(number, reads_no_more if number % 50 == 25 else KINDS[number % len(KINDS)], seed)
     try:
-        client.connect(port)
-        if kind is not says_nothing:
-            client.ask(b"REMOVE %d" % (FIRST_MARK + number))
-        kind(client)
+        client.session = Session(port)
+        if client.does is not says_nothing:
+            client.ask(f"REMOVE {FIRST_MARK + number}")
+        client.does(client)
         return client, ""
     except Exception as fault:  # whatever it is, it is told
         client.is_heard = False

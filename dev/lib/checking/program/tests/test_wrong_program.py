@@ -6,10 +6,10 @@ import shlex
 import signal
 import subprocess
 import sys
-import tempfile
 import time
-import unittest
+from pathlib import Path
 
+from checking.testing import RoomTest
 from common.program import TOP, tested_program
 
 PATIENCE = 300  # seconds that a run of the tool may take, or anything in it
@@ -35,72 +35,61 @@ WRONG = [
 ]
 
 # Signals, each with how often the program was started until then: the last two times as a server.
-BROKEN_OFF = [(signal.SIGINT, 1), (signal.SIGHUP, 21), (signal.SIGTERM, 69), (signal.SIGINT, 90)]
+BROKEN_OFF = [(signal.SIGINT, 1), (signal.SIGHUP, 21), (signal.SIGTERM, 64), (signal.SIGINT, 86)]
 
 
-class CheckProgram(unittest.TestCase):
+class CheckProgram(RoomTest):
     """A run of the tool with a stand-in for the program."""
 
     maxDiff = None
 
     def setUp(self) -> None:
-        folder = tempfile.TemporaryDirectory(prefix="rb-running-")
-        self.addCleanup(folder.cleanup)
-        self.noted, self.temporary = f"{folder.name}/noted", f"{folder.name}/temporary"
-        self.stand_in = f"{folder.name}/stand_in"
+        super().setUp()
+        self.noted, self.temporary = Path(self.file("noted", "")), self.path("temporary")
         os.mkdir(self.temporary)
-        with open(self.noted, "w", encoding="ascii"):
-            pass
         # Under nohup or in the background of a shell they are ignored, and the tool that is started then does so too.
         for number, action in ((signal.SIGHUP, signal.SIG_DFL), (signal.SIGINT, signal.default_int_handler)):
             self.addCleanup(signal.signal, number, signal.signal(number, action))
 
-    def start(self, *cases: str) -> subprocess.Popen[str]:
+    def start(self, *cases: str) -> "subprocess.Popen[str]":
         """Starts the tool with a stand-in of these cases."""
-        with open(self.stand_in, "w", encoding="utf-8") as file:
-            noted, program = shlex.quote(self.noted), shlex.quote(tested_program())
-            file.write(STAND_IN.format(noted=noted, cases="\n".join(cases) or "--) ;;", program=program))
-        os.chmod(self.stand_in, 0o700)
-        words = [sys.executable, "-B", f"{TOP}/dev/check", "program", "--program", self.stand_in]
+        noted, program = shlex.quote(str(self.noted)), shlex.quote(tested_program())
+        text = STAND_IN.format(noted=noted, cases="\n".join(cases) or "--) ;;", program=program)
+        stand_in = self.file("stand_in", text)
+        os.chmod(stand_in, 0o700)
+        words = [sys.executable, "-B", f"{TOP}/dev/check", "program", "--program", stand_in]
         pipe, environment = subprocess.PIPE, {**os.environ, "TMPDIR": self.temporary}
         tool = subprocess.Popen(words, stdout=pipe, stderr=pipe, encoding="utf-8", env=environment)
         self.addCleanup(tool.communicate)
         self.addCleanup(tool.kill)
         return tool
 
-    def processes(self) -> list[int]:
+    def processes(self) -> "list[int]":
         """The processes that were started in the place of the program."""
-        with open(self.noted, encoding="ascii") as file:
-            return [int(line) for line in file.read().split("\n")[:-1]]
+        return [int(line) for line in self.noted.read_text("ascii").split("\n")[:-1]]
 
-    def expect_nothing_left(self) -> None:
-        """No process is left, and no file."""
+    def expect_end(self, tool: "subprocess.Popen[str]", status: int, said: str) -> str:
+        """Expects how the tool ends, and that no process and no file is left. Gives what it printed."""
+        told, errors = tool.communicate(timeout=PATIENCE)
+        self.assertEqual((status, said), (tool.returncode, errors), told)
         for process in self.processes():
             self.assertRaises(ProcessLookupError, os.kill, process, 0)
         self.assertEqual([], os.listdir(self.temporary))
+        return told
 
     def test_what_is_wrong_is_found(self) -> None:
-        tool = self.start(*(f"{words}) set -- {others} ;;" for words, others, _ in WRONG))
-        told, errors = tool.communicate(timeout=PATIENCE)
-        self.assertEqual((1, ""), (tool.returncode, errors), told)
+        told = self.expect_end(self.start(*(f"{words}) set -- {others} ;;" for words, others, _ in WRONG)), 1, "")
         for _, _, line in WRONG:
             self.assertTrue(f"\n{told}".count(f"\n{line}") == 1, f"{line!r} stands not once in {told}")
         self.assertEqual(f"{COUNT - len(WRONG)} passed, {len(WRONG)} failed", told.splitlines()[-1])
-        self.expect_nothing_left()
 
     def test_a_signal_leaves_nothing(self) -> None:
         for number, runs in BROKEN_OFF:
             with self.subTest(signal=number.name, runs=runs):
-                self.break_off(number, runs)
-
-    def break_off(self, number: signal.Signals, runs: int) -> None:
-        with open(self.noted, "w", encoding="ascii"):
-            pass
-        tool, end = self.start(), time.monotonic() + PATIENCE
-        while len(self.processes()) < runs and time.monotonic() < end:
-            time.sleep(0.001)
-        tool.send_signal(number)
-        told, errors = tool.communicate(timeout=PATIENCE)
-        self.assertEqual((128 + number, "check: it was broken off\n"), (tool.returncode, errors), told)
-        self.assertNotIn(" passed, ", told)
-        self.expect_nothing_left()
+                self.noted.write_text("")
+                tool, end = self.start(), time.monotonic() + PATIENCE
+                while len(self.processes()) < runs and time.monotonic() < end:
+                    time.sleep(0.001)
+                tool.send_signal(number)
+                told = self.expect_end(tool, 128 + number, "check: it was broken off\n")
+                self.assertNotIn(" passed, ", told)

@@ -1,0 +1,122 @@
+"""Runs of the program by a line of a shell: those of runs.txt, and what differs in one."""
+from __future__ import annotations
+
+import os
+import signal
+import subprocess
+from dataclasses import dataclass, field
+from pathlib import Path
+from typing import Iterator, Optional
+
+from conforming.text import appended, split_form
+from serving.server import free_port
+
+RUNS = Path(__file__).with_name("runs.txt")
+SHOWN = 2000  # characters of what a run wrote that are printed
+# Seconds that anything may take that ends by itself: the machine may be slow, and busy with other work.
+PATIENCE = 120
+# What an audit line counts.
+COUNTED = ("calls", "cleared", "given", "left", "offered", "opening", "removed")
+
+Faults = Iterator["tuple[str, Optional[str]]"]  # what was compared, each with what is wrong with it, if anything is
+
+
+@dataclass(frozen=True)
+class Ended:
+    """The exit status of a run, and what it wrote. A run that had to be killed has no status."""
+
+    status: Optional[int]
+    output: str
+    errors: str
+
+    def fault(self, status: int = 0, output: Optional[str] = None, errors: Optional[str] = "") -> Optional[str]:
+        """What is not like this, with what the run wrote; or nothing. A text that is none is not compared."""
+        differs = [f"status {self.status}, not {status}"] if self.status != status else []
+        differs += ["its output"] if output not in (None, self.output) else []
+        differs += ["its errors"] if errors not in (None, self.errors) else []
+        return "\n".join([f"{'; '.join(differs)};", self.output[:SHOWN] + self.errors[:SHOWN]]) if differs else None
+
+
+@dataclass(frozen=True)
+class Place:
+    """The program, and a folder for the files of its runs, which words of servers name as `{room}`."""
+
+    program: str
+    room: Path
+
+    def run(self, line: str, given: str = "") -> Ended:
+        """Runs a line of the shell in the folder, in which `rb_broker` is the program."""
+        words, pipe = ["sh", "-c", line.replace("rb_broker", '"$0"'), self.program], subprocess.PIPE
+        how = {"cwd": self.room, "env": {**os.environ, "port": str(free_port())}, "start_new_session": True}
+        with subprocess.Popen(words, stdin=pipe, stdout=pipe, stderr=pipe, **how) as shell:
+            try:
+                output, errors = shell.communicate(given.encode(), timeout=PATIENCE)
+            except subprocess.TimeoutExpired:
+                os.killpg(shell.pid, signal.SIGKILL)
+                return Ended(None, "", "it does not end\n")
+        return Ended(shell.returncode, text_of(output), text_of(errors))
+
+
+@dataclass
+class Run:
+    """A run of runs.txt. Its texts are named by their marks there."""
+
+    part: str
+    name: str
+    line: str = ""
+    status: int = 0
+    texts: "dict[str, str]" = field(default_factory=dict)
+
+    def add(self, mark: str, text: str) -> None:
+        self.texts[mark] = self.texts.get(mark, "") + text
+
+    def fault(self, place: Place) -> Optional[str]:
+        """What differs, or nothing."""
+        ended = place.run(self.line, self.texts.get(">", ""))
+        output = None if "<.." in self.texts else self.texts.get("<", "")
+        is_open = "!.." in self.texts
+        fault = ended.fault(self.status, output, None if is_open else self.texts.get("!", ""))
+        return fault or ("no text says why" if is_open and not ended.errors else None)
+
+
+def read_runs(room: Path) -> "list[Run]":
+    """The runs of runs.txt, whose files are written into a folder."""
+    runs: "list[Run]" = []
+    part = file = ""
+    for content in RUNS.read_text("utf-8").splitlines():
+        word, _, told = content.partition(" ")
+        if word == "part":
+            part = told
+        elif word == "file":
+            file = told
+        elif word == "=":
+            with open(room / file, "a", encoding="utf-8") as it:
+                it.write(f"{told}\n")
+        elif word == "case":
+            runs.append(Run(part, told))
+        elif word == "run":
+            runs[-1].line = told
+        elif word == "status":
+            runs[-1].status = int(told)
+        elif word == "audit":
+            runs[-1].add("<", audit(told))
+        elif content and word != "#":
+            mark, count = split_form(word)
+            runs[-1].add(mark, appended(told, count).decode())
+    return runs
+
+
+def audit(told: str) -> str:
+    """The audit line of these counts, as in `calls=2 left=1`. All others are 0."""
+    counts = {**dict.fromkeys(COUNTED, "0"), **dict(it.split("=") for it in told.split())}
+    return "{" + ",".join(f'"{name}":{count}' for name, count in counts.items()) + "}\n"
+
+
+def text_of(written: bytes) -> str:
+    """What a run wrote, whatever bytes they are."""
+    return written.decode("utf-8", errors="backslashreplace")
+
+
+def lines(*texts: str) -> str:
+    """These lines as one text."""
+    return "".join(f"{text}\n" for text in texts)
