@@ -15,7 +15,6 @@ needs root, and a kernel that does it. To set a date needs a C compiler.
 """
 from __future__ import annotations
 
-import os
 import tempfile
 
 from checking.tally import Tally
@@ -32,21 +31,16 @@ from serving.server import NoServer
 
 def check(tally: Tally) -> None:
     """Tries everything, in temporary folders."""
+    program = tested_program()
     try:
-        try_all(tally, tested_program())
+        table = read_table()
+        check_help(tally, program, table)
+        check_ranges(tally, program, table)
+        check_page(tally, table)
+        check_unit(tally)
+        with tempfile.TemporaryDirectory(prefix="rb-lifecycle-") as folder:
+            try_package(tally, program, table, folder)
+        with tempfile.TemporaryDirectory(prefix="rb-refusals-") as folder:
+            check_refusals(tally, program, folder)
     except (Fault, NoServer) as fault:
         tally.count("the package", fault)
-
-
-def try_all(tally: Tally, program: str) -> None:
-    """Tries everything with this program."""
-    table = read_table()
-    check_help(tally, program, table)
-    check_ranges(tally, program, table)
-    check_page(tally, table)
-    check_unit(tally)
-    with tempfile.TemporaryDirectory(prefix="rb-check-package-") as folder:
-        for name in ("lifecycle", "refusals"):
-            os.mkdir(f"{folder}/{name}")
-        try_package(tally, program, table, f"{folder}/lifecycle")
-        check_refusals(tally, program, f"{folder}/refusals")

@@ -8,11 +8,11 @@ import subprocess
 import sys
 import unittest
 from collections import Counter
-from concurrent.futures import ThreadPoolExecutor, as_completed
 from typing import Any, Iterator, List, Sequence, Set
 
 from checking.tally import Tally
 from common.program import TOP
+from side_by_side import side_by_side
 
 # Where a process that tries one class finds which of how many it is, from 0.
 PLACE = "RB_BROKER_PLACE"
@@ -66,17 +66,12 @@ def try_side_by_side(tally: Tally, suite: unittest.TestSuite, at_once: int, firs
         return
     try_tests(tally, unittest.TestSuite(it for it in tests_in(suite) if it.id().startswith(FAILED)))
     counts = Counter(it.id().rpartition(".")[0] for it in tests)
+    order = sorted(counts, key=lambda it: (not it.startswith(tuple(first)), -counts[it]))
     places: "queue.SimpleQueue[str]" = queue.SimpleQueue()
     for place in range(at_once):
         places.put(f"{place}/{at_once}")
-    pool = ThreadPoolExecutor(at_once)
-    try:
-        order = sorted(counts, key=lambda it: (not it.startswith(tuple(first)), -counts[it]))
-        lanes = {pool.submit(try_class, tally.part, name, places): name for name in order}
-        for lane in as_completed(lanes):
-            add(tally, lanes[lane], lane.result())
-    finally:
-        pool.shutdown(wait=False, cancel_futures=True)
+    for name, said in side_by_side(lambda name: try_class(tally.part, name, places), order, at_once):
+        add(tally, name, said)
 
 
 def tests_in(suite: unittest.TestSuite) -> Iterator[unittest.TestCase]:

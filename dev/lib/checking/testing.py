@@ -2,7 +2,6 @@
 from __future__ import annotations
 
 import functools
-import importlib.util
 import io
 import os
 import subprocess
@@ -52,9 +51,7 @@ def run_tool(name: str, *words: object, given: str = "") -> subprocess.Completed
 def module_of(name: str) -> ModuleType:
     """A tool as a module."""
     loader = SourceFileLoader(f"{name}_command", f"{TOP}/tools/{name}")
-    spec = importlib.util.spec_from_loader(loader.name, loader)
-    assert spec is not None
-    module = importlib.util.module_from_spec(spec)
+    module = ModuleType(loader.name)
     sys.modules[loader.name] = module  # where dataclasses look for it
     loader.exec_module(module)
     return module

@@ -2,13 +2,17 @@
 when their histories and last lines are there."""
 from __future__ import annotations
 
+import select
 import socket
 import time
 
 from checking.program.runs import Faults, Place
-from checking.program.visits import MILLISECOND, SECOND, differ, hears, moment, replies, visited
+from checking.program.visits import differ, replies, visit, visited
 from serving import PATIENCE
 from serving.session import Session
+
+SECOND, MILLISECOND = 10**9, 10**6  # in nanoseconds, as the server counts
+FAR = 10**6 * SECOND  # a delay after which nobody takes any more
 
 
 def address(place: Place) -> Faults:
@@ -33,7 +37,7 @@ def workers(place: Place) -> Faults:
                 client.ask("SIZE")
             last = Session(server.port)
             last.send("SIZE")
-            is_early = hears(last, 0.3)
+            is_early = select.select([last.socket], [], [], 0.3)[0]
             clients.pop(0).quit()
             last.reply()
             for client in [*clients, last]:
@@ -60,11 +64,9 @@ def after_a_fault(place: Place) -> Faults:
 def failing_with_a_rate(place: Place) -> Faults:
     """Each attempt expires one rate after the one before it did, whenever that failed."""
     rate = 20 * MILLISECOND
-    with visited(place, f"--rate {rate} --attempts 3") as server:
-        client = Session(server.port)
+    with visit(place, f"--rate {rate} --attempts 3") as client:
         first = int(client.ask("OFFER 0 job").split(" ")[2])
         told = replies(client, "TAKE", "FAIL 0", "TAKE", "FAIL 1", "TAKE", "FAIL 2", "SIZE")
-        client.quit()
     second, third = first + rate, first + 2 * rate
     wanted = [f"ITEM 0 {first} 1 job", f"AGAIN 1 {second}", f"ITEM 1 {second} 2 job", f"AGAIN 2 {third}"]
     yield "a job that fails, with a rate", differ(told, [*wanted, f"ITEM 2 {third} 3 job", "DEAD 2", "SIZE 0"])
@@ -72,42 +74,35 @@ def failing_with_a_rate(place: Place) -> Faults:
 
 def failing_with_a_delay(place: Place) -> Faults:
     """The second attempt expires one delay after the moment of the failure, and is not given before."""
-    name, delay = "a job that fails, with a delay", 50 * MILLISECOND
-    with visited(place, f"--delay {delay} --attempts 2") as server:
-        client = Session(server.port)
+    delay = 50 * MILLISECOND
+    with visit(place, f"--delay {delay} --attempts 2") as client:
         replies(client, "OFFER 0 job", "TAKE")
         before, again, after = moment(client), client.ask("FAIL 0"), moment(client)
         told = [again, *replies(client, "TAKE", "FAIL 2")]
         taken = moment(client)
-        client.quit()
     expiry = int(again.split(" ")[2])
+    fault = differ(told, [f"AGAIN 2 {expiry}", f"ITEM 2 {expiry} 2 job", "DEAD 2"])
     if not before + delay <= expiry <= after + delay or taken < expiry:
-        yield name, f"it failed from {before} to {after}, was to come back at {expiry}, and came before {taken}"
-    else:
-        yield name, differ(told, [f"AGAIN 2 {expiry}", f"ITEM 2 {expiry} 2 job", "DEAD 2"])
+        fault = f"it failed from {before} to {after}, was to come back at {expiry}, and came before {taken}"
+    yield "a job that fails, with a delay", fault
 
 
 def one_attempt(place: Place) -> Faults:
     """A job that has one attempt is dead at its first failure."""
-    with visited(place, "--attempts 1") as server:
-        client = Session(server.port)
+    with visit(place, "--attempts 1") as client:
         told = replies(client, "OFFERAT 5 job", "TAKE", "FAIL 0", "SIZE")
-        client.quit()
     yield "a job of one attempt", differ(told, ["OFFERED 0 5", "ITEM 0 5 1 job", "DEAD 0", "SIZE 0"])
 
 
 def clock(place: Place) -> Faults:
     """The moment advances with the machine's clock, from the last one of the history before."""
-    last = 5000 * SECOND
+    last, fault = 5000 * SECOND, None
     (place.room / "long").write_text(f"history 3\nopen 0 {last} 0\nend 0\n", "ascii")
     began = time.monotonic_ns()
-    with visited(place, "--from {room}/long") as server:
-        client = Session(server.port)
+    with visit(place, "--from {room}/long") as client:
         before, first = time.monotonic_ns(), moment(client)
         time.sleep(0.3)
         second, after = moment(client), time.monotonic_ns()
-        client.quit()
-    fault = None
     if not 0 <= first - last <= after - began:
         fault = f"the first moment is {first}, behind {last} and at most {after - began} more"
     elif not 0.3 * SECOND <= second - first <= after - before:
@@ -115,16 +110,21 @@ def clock(place: Place) -> Faults:
     yield "the moments of a server", fault
 
 
+def moment(client: Session) -> int:
+    """The server's moment, by the expiry of an element that nobody takes."""
+    return int(client.ask(f"OFFER {FAR} mark").split(" ")[2]) - FAR
+
+
 def history_before_the_last_lines(place: Place) -> Faults:
     """Once the last line can be read, the history of many calls is whole."""
     pieces, piece = 50, 1000
     with visited(place, f"--calls {pieces * piece} --history {{room}}/before") as server:
-        client = Session(server.port)
-        for _ in range(pieces):
-            client.send(*["SIZE"] * piece)
-            for _ in range(piece):
-                client.reply()
-        client.quit()
+        with Session(server.port) as client:
+            for _ in range(pieces):
+                client.send(*["SIZE"] * piece)
+                for _ in range(piece):
+                    client.reply()
+            client.quit()
         lines = [server.process.stdout.readline() for _ in range(2)]
         end = last_line_of(place, "before")
     fault = differ(end, [f"end {pieces * piece}"]) or (None if lines[1].startswith('{"calls":') else f"{lines}")
@@ -135,9 +135,9 @@ def history_without_the_last_lines(place: Place) -> Faults:
     """Nobody reads the server's last lines, and the history is written all the same."""
     with visited(place, "--history {room}/without", status=3, errors="rb_broker: cannot write output\n") as server:
         server.process.stdout.close()
-        client = Session(server.port)
-        client.ask("SIZE")
-        client.quit()
+        with Session(server.port) as client:
+            client.ask("SIZE")
+            client.quit()
     yield "a history without the last lines", differ(last_line_of(place, "without"), ["end 1"])
 
 

@@ -3,15 +3,11 @@ from __future__ import annotations
 
 import contextlib
 import re
-import select
 from typing import Iterator, Optional
 
 from checking.program.runs import PATIENCE, Ended, Place, lines
 from serving.server import Server
 from serving.session import Session
-
-SECOND, MILLISECOND = 10**9, 10**6  # in nanoseconds, as the server counts
-FAR = 10**6 * SECOND  # a delay after which nobody takes any more
 
 
 @contextlib.contextmanager
@@ -29,6 +25,14 @@ def visited(place: Place, words: str, sessions: int = 1, status: int = 0, errors
         yield server
         if fault := ended(server).fault(status, errors=errors):
             raise AssertionError(f"the server ended: {fault}")
+
+
+@contextlib.contextmanager
+def visit(place: Place, words: str) -> Iterator[Session]:
+    """The one client of a server with these words, both of which must end well."""
+    with visited(place, words) as server, Session(server.port) as client:
+        yield client
+        client.quit()
 
 
 def ended(server: Server) -> Ended:
@@ -61,16 +65,6 @@ def hang_up(server: Server, requests: str, count: int) -> None:
 def replies(client: Session, *requests: str) -> "list[str]":
     """The replies to these requests, one after the other."""
     return [client.ask(request) for request in requests]
-
-
-def hears(client: Session, seconds: float) -> bool:
-    """Whether something is sent to the client within this many seconds."""
-    return bool(select.select([client.socket], [], [], seconds)[0])
-
-
-def moment(client: Session) -> int:
-    """The server's moment, by the expiry of an element that nobody takes."""
-    return int(client.ask(f"OFFER {FAR} mark").split(" ")[2]) - FAR
 
 
 def differ(told: object, wanted: object) -> Optional[str]:

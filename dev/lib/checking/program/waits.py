@@ -12,7 +12,7 @@ import time
 from typing import Callable
 
 from checking.program.runs import Faults, Place
-from checking.program.visits import visited
+from checking.program.visits import visit, visited
 from serving.session import Session
 
 TURN = 0.02  # seconds
@@ -31,10 +31,8 @@ def least(measure: Callable[[], float], most: float, times: int = 1) -> float:
 def waits_in_vain(place: Place) -> Faults:
     """A take in an empty queue is given up, the quickest of several within this many seconds."""
     for name, turns, most in ("a wait of no turn", 0, 0.01), ("a wait of three turns", 3, 0.2):
-        with visited(place, f"--turns {turns}") as server:
-            client = Session(server.port)
+        with visit(place, f"--turns {turns}") as client:
             found = least(functools.partial(time_of_take, client), most, times=5)
-            client.quit()
         yield name, f"it takes {found} seconds" if found > most else None
 
 
@@ -49,10 +47,8 @@ def time_of_take(client: Session) -> float:
 
 def reply_before_a_wait(place: Place) -> Faults:
     """A reply does not wait for the take that follows, which came in the same piece and is given up after a while."""
-    with visited(place, "--turns 20") as server:
-        client = Session(server.port)
+    with visit(place, "--turns 20") as client:
         found = least(functools.partial(lateness_of_reply, client), 0)
-        client.quit()
     yield "a reply before a wait", f"it takes {found} seconds longer than the take behind it" if found > 0 else None
 
 
