@@ -1,15 +1,13 @@
 """Calls of a function side by side."""
-from __future__ import annotations
-
 from concurrent.futures import ThreadPoolExecutor, as_completed
-from typing import Callable, Iterable, Iterator, Tuple, TypeVar
+from typing import Callable, Iterable, Iterator, TypeVar
 
 Given, Result = TypeVar("Given"), TypeVar("Result")
 
 
 def side_by_side(
     call: Callable[[Given], Result], each: Iterable[Given], at_once: int
-) -> Iterator[Tuple[Given, Result]]:
+) -> Iterator[tuple[Given, Result]]:
     """Calls a function for each of these, so many at once. Gives each with the result, as they come. If that is broken
     off, those that have not begun never do."""
     pool = ThreadPoolExecutor(at_once)

@@ -15,8 +15,6 @@ A JDK of version 17 or later is needed, and JUnit 4 with hamcrest where Debian's
 these is missing, all tests are skipped, and a line names what is missing. mvn and its plugins are those of Debian's
 packages (clients/java/README.md names them); without them, or without stunnel, those tests are skipped by name.
 """
-from __future__ import annotations
-
 import os
 import re
 import shlex
@@ -25,7 +23,7 @@ import subprocess
 import tempfile
 import textwrap
 from pathlib import Path
-from typing import Any, List, Optional
+from typing import Any, Optional
 
 from checking.tally import Tally
 from common.program import TOP, tested_program
@@ -51,7 +49,7 @@ LONGEST = 5_000  # seconds after which a command is ended
 LETTERS = "to-ann, attempt 1\nto-bob, attempt 1\nto-bob, attempt 2"
 
 
-def run(*words: str, **options: Any) -> "subprocess.CompletedProcess[str]":
+def run(*words: str, **options: Any) -> subprocess.CompletedProcess[str]:
     """Runs a command, whose errors are among what it prints."""
     return subprocess.run(words, stdout=subprocess.PIPE, stderr=subprocess.STDOUT, encoding="utf-8", errors="replace",
                           timeout=LONGEST, check=False, **options)
@@ -66,7 +64,7 @@ def expect(tally: Tally, name: str, *words: str, says: str = "", status: int = 0
     return is_right
 
 
-def missing() -> List[str]:
+def missing() -> list[str]:
     """What is not installed that the tests need."""
     absent = [it for it in COMMANDS if shutil.which(it) is None] + [it for it in JARS if not os.path.isfile(it)]
     if not absent and int(re.findall(r"\d+", run("javac", "-version").stdout)[0]) < int(RELEASE):
@@ -74,7 +72,7 @@ def missing() -> List[str]:
     return absent
 
 
-def sources(folder: str) -> List[str]:
+def sources(folder: str) -> list[str]:
     """The files of a folder that javac compiles, in the order of their names."""
     return sorted(map(str, (CLIENT / folder).rglob("*.java")))
 

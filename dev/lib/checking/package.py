@@ -13,8 +13,6 @@ This needs what tools/package needs, man, bash and ss. Tests that use mandoc, zs
 these are missing, and a line says so. So are those that cut sessions or start a systemd where that can't be done: it
 needs root, and a kernel that does it. To set a date needs a C compiler.
 """
-from __future__ import annotations
-
 import tempfile
 
 from checking.tally import Tally

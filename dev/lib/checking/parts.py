@@ -1,6 +1,4 @@
 """The parts of dev/check: what each tries, and how."""
-from __future__ import annotations
-
 import importlib
 import os
 import subprocess

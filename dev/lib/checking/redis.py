@@ -9,14 +9,11 @@ They need redis-server, redis-sentinel and redis-cli of version 7, and the packa
 that of this Python, or of /usr/bin/python3. If one of these is missing, all tests are skipped, and a line names what is
 missing. So is the test of the types where there is no mypy.
 """
-from __future__ import annotations
-
 import importlib.util
 import os
 import shutil
 import subprocess
 import sys
-from typing import List
 
 from checking.suites import PLACE, tests_below, try_side_by_side
 from checking.tally import Tally
@@ -38,7 +35,7 @@ def has_package(python: str) -> bool:
     return subprocess.run([python, "-c", "import redis.asyncio"], stderr=subprocess.DEVNULL, check=False).returncode == 0
 
 
-def missing() -> List[str]:
+def missing() -> list[str]:
     """What is not installed that the tests need. This process may become another Python's."""
     absent = [it for it in COMMANDS if shutil.which(it) is None]
     if importlib.util.find_spec("redis") is None:

@@ -5,8 +5,6 @@ given in place of which answer. Malformed tables must each be an error, with the
 crates/rb_cases/out/rb_cases, which `rt run` in crates/rb_cases makes; if there is none, one is made by `rt try`, which
 proves nothing.
 """
-from __future__ import annotations
-
 import os
 import re
 import subprocess

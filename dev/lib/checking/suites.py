@@ -1,6 +1,4 @@
 """Tests by unittest, counted as everything else is: in this process, or those of each class in a process of its own."""
-from __future__ import annotations
-
 import os
 import queue
 import re
@@ -8,7 +6,7 @@ import subprocess
 import sys
 import unittest
 from collections import Counter
-from typing import Any, Iterator, List, Sequence, Set
+from typing import Any, Iterator, Sequence
 
 from checking.tally import Tally
 from common.program import TOP
@@ -33,7 +31,7 @@ class Result(unittest.TextTestResult):
         self.passed += 1
 
     @property
-    def failed(self) -> Set[str]:
+    def failed(self) -> set[str]:
         """The names of the tests that failed, of which parts may have failed more than once."""
         failed = [test for test, _ in self.failures + self.errors] + list(self.unexpectedSuccesses)
         return {getattr(test, "test_case", test).id() for test in failed}
@@ -67,7 +65,7 @@ def try_side_by_side(tally: Tally, suite: unittest.TestSuite, at_once: int, firs
     try_tests(tally, unittest.TestSuite(it for it in tests_in(suite) if it.id().startswith(FAILED)))
     counts = Counter(it.id().rpartition(".")[0] for it in tests)
     order = sorted(counts, key=lambda it: (not it.startswith(tuple(first)), -counts[it]))
-    places: "queue.SimpleQueue[str]" = queue.SimpleQueue()
+    places: queue.SimpleQueue[str] = queue.SimpleQueue()
     for place in range(at_once):
         places.put(f"{place}/{at_once}")
     for name, said in side_by_side(lambda name: try_class(tally.part, name, places), order, at_once):
@@ -80,7 +78,7 @@ def tests_in(suite: unittest.TestSuite) -> Iterator[unittest.TestCase]:
         yield from tests_in(it) if isinstance(it, unittest.TestSuite) else [it]
 
 
-def try_class(part: str, name: str, places: "queue.SimpleQueue[str]") -> str:
+def try_class(part: str, name: str, places: queue.SimpleQueue[str]) -> str:
     """Runs a class of tests in a process at a place that is free. Gives what it prints."""
     place = places.get()
     done = try_apart(part, [f"{name}."], **{PLACE: place})
@@ -88,9 +86,9 @@ def try_class(part: str, name: str, places: "queue.SimpleQueue[str]") -> str:
     return done.stdout
 
 
-def try_apart(part: str, only: Sequence[str], **settings: str) -> "subprocess.CompletedProcess[str]":
+def try_apart(part: str, only: Sequence[str], **settings: str) -> subprocess.CompletedProcess[str]:
     """Tries a part in a process of its own."""
-    words: List[str] = [sys.executable, "-B", f"{TOP}/dev/check", part, *(["--only", *only] if only else [])]
+    words: list[str] = [sys.executable, "-B", f"{TOP}/dev/check", part, *(["--only", *only] if only else [])]
     return subprocess.run(words, stdout=subprocess.PIPE, stderr=subprocess.STDOUT, text=True, errors="replace",
                           env={**os.environ, **settings}, check=False)
 

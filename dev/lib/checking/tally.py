@@ -1,6 +1,4 @@
 """What passed, failed and was skipped."""
-from __future__ import annotations
-
 from typing import Optional, Sequence
 
 

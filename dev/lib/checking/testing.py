@@ -1,6 +1,4 @@
 """What tests of several tools need: a folder of their own, and a tool as a command or within this process."""
-from __future__ import annotations
-
 import functools
 import io
 import os
@@ -10,7 +8,6 @@ import tempfile
 import unittest
 from importlib.machinery import SourceFileLoader
 from types import ModuleType
-from typing import List, Tuple
 from unittest import mock
 
 from common.program import TOP
@@ -36,7 +33,7 @@ class RoomTest(unittest.TestCase):
         return self.path(name)
 
 
-def tool(name: str) -> List[str]:
+def tool(name: str) -> list[str]:
     """The first words of a command that runs one of tools/."""
     return [sys.executable, "-B", f"{TOP}/tools/{name}"]
 
@@ -57,7 +54,7 @@ def module_of(name: str) -> ModuleType:
     return module
 
 
-def call_tool(name: str, *words: str) -> Tuple[int, bytes, str]:
+def call_tool(name: str, *words: str) -> tuple[int, bytes, str]:
     """Runs a tool within this process, which is quicker: its status, what it writes, and standard error."""
     streams = [io.TextIOWrapper(io.BytesIO(), "utf-8", write_through=True) for _ in range(2)]
     with mock.patch.multiple(sys, argv=[name, *words], stdout=streams[0], stderr=streams[1]):

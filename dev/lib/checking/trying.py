@@ -1,6 +1,4 @@
 """Programs that `rt try` builds: without proofs, and with the checks of a sanitizer."""
-from __future__ import annotations
-
 import contextlib
 import glob
 import os

@@ -1,6 +1,4 @@
 """A source, spec or proof file: what it defines, imports and names."""
-from __future__ import annotations
-
 import re
 from pathlib import Path
 from typing import Iterator, NamedTuple, Optional

@@ -1,6 +1,4 @@
 """The definitions and calls of a file of src/ or specs/, each with its text."""
-from __future__ import annotations
-
 import re
 from itertools import takewhile
 from typing import Iterator, NamedTuple

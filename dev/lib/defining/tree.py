@@ -1,6 +1,4 @@
 """The crates of a repository: the definition that a name in a file means."""
-from __future__ import annotations
-
 import re
 from pathlib import Path
 from typing import Optional

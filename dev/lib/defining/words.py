@@ -2,8 +2,6 @@
 
 A name that an item binds anywhere counts as bound in all of it, except for what patterns and fields bind.
 """
-from __future__ import annotations
-
 import re
 from typing import Callable, Iterator
 

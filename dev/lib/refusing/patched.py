@@ -6,8 +6,6 @@ each run another number is written there; and for all later ones too `jb` (72), 
 the program has no such place, or N elsewhere too, nothing is tried. The sanitizer that is built in prints at each end
 how many blocks were given.
 """
-from __future__ import annotations
-
 import errno
 import os
 import re

@@ -1,6 +1,4 @@
 """The program as a server."""
-from __future__ import annotations
-
 import atexit
 import contextlib
 import random
@@ -8,7 +6,7 @@ import socket
 import subprocess
 import threading
 import time
-from typing import List, NamedTuple, Optional, Sequence
+from typing import NamedTuple, Optional, Self, Sequence
 
 from common.program import tested_program
 from serving import HOST, PATIENCE
@@ -25,7 +23,7 @@ class Ended(NamedTuple):
     """The end of a server: its exit status, the lines that it wrote then, at least one, and standard error."""
 
     status: Optional[int]
-    lines: List[str]
+    lines: list[str]
     errors: str
 
 
@@ -69,7 +67,7 @@ class Server:
             _, errors = self.process.communicate()
         raise NoServer(f"no server could be started: {errors.strip()}")
 
-    def __enter__(self) -> Server:
+    def __enter__(self) -> Self:
         return self
 
     def __exit__(self, *_: object) -> None:

@@ -1,9 +1,7 @@
 """A client's session, as its requests and replies. The other clients of the tests are made of it."""
-from __future__ import annotations
-
 import socket
 import struct
-from typing import List, Union
+from typing import Self, Union
 
 from serving import HOST, PATIENCE
 
@@ -29,7 +27,7 @@ class Session:
         self.socket.setsockopt(socket.IPPROTO_TCP, socket.TCP_NODELAY, 1)
         self.replies = self.socket.makefile("rb")
 
-    def __enter__(self) -> Session:
+    def __enter__(self) -> Self:
         return self
 
     def __exit__(self, *_: object) -> None:
@@ -51,7 +49,7 @@ class Session:
             raise EOFError("the connection ended before the end of a reply")
         return line[:-1].decode("ascii")
 
-    def reply(self) -> List[str]:
+    def reply(self) -> list[str]:
         """The next reply: a line, and for DRAINED those of the elements behind it."""
         lines = [self.line()]
         if lines[0].startswith("DRAINED "):

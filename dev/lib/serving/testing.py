@@ -1,6 +1,4 @@
 """What tests with servers need."""
-from __future__ import annotations
-
 from typing import Optional
 
 from checking.testing import RoomTest

@@ -1,6 +1,4 @@
 """A checkout of a small program, which ./broker builds with a stand-in for rt."""
-from __future__ import annotations
-
 import contextlib
 import os
 import shutil

@@ -1,6 +1,4 @@
 """Builds by ./broker: in which order, what is told of them, and how they fail."""
-from __future__ import annotations
-
 import os
 import subprocess
 import unittest

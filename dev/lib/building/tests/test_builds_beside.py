@@ -1,6 +1,4 @@
 """Builds beside each other or one after the other, and changes while one runs."""
-from __future__ import annotations
-
 import os
 import signal
 

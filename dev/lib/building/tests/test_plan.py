@@ -1,6 +1,4 @@
 """Which crates are needed, and which of them come first."""
-from __future__ import annotations
-
 import unittest
 
 from building.build import ROOM, may_begin

@@ -1,6 +1,4 @@
 """Builds that are stopped or killed, and what they leave."""
-from __future__ import annotations
-
 import os
 import signal
 import subprocess

@@ -1,6 +1,4 @@
 """Where a build runs: with which commands and signals, and in what kind of folder."""
-from __future__ import annotations
-
 import os
 import shutil
 import subprocess

@@ -6,8 +6,6 @@
     uncited    each lemma and definition is named somewhere
     picture    docs/request.svg shows the hops of the table in docs/ARCHITECTURE.md
 """
-from __future__ import annotations
-
 from pathlib import Path
 
 from checking.docs import clauses, links, picture, quotes, uncited

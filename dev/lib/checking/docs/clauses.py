@@ -5,8 +5,6 @@ clause must be a name after `ensures` of that call, of any function of that type
 names by `of`; or it is a ghost item of the crate. A definition in brackets must be in the specs/ of some crate. Whether
 a sentence says what its clause says is for a reader to judge.
 """
-from __future__ import annotations
-
 import re
 from collections import defaultdict
 from pathlib import Path

@@ -4,8 +4,6 @@ A link leads somewhere if its file or folder exists and, if it names a part of a
 GitHub makes it. Links to other hosts are not followed, and links in code are none. What `out` folders hold is passed
 over.
 """
-from __future__ import annotations
-
 import os
 import re
 from pathlib import Path

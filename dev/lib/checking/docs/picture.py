@@ -3,8 +3,6 @@
 The picture has the name of each crate above a column, and in the columns the number and the file of each hop, in the
 order of the table. It is changed by hand.
 """
-from __future__ import annotations
-
 import re
 from itertools import zip_longest
 from pathlib import Path

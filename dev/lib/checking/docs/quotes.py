@@ -5,8 +5,6 @@ or a function's head with its clauses, line by line. `..` stands for lines that 
 without a sign. Each definition of these crates that the quoted lines name must be quoted too, or the page must link its
 name to its file. A name of a library must stand in code between the blocks. The page has at most 5,000 words.
 """
-from __future__ import annotations
-
 import re
 from pathlib import Path
 from typing import Iterator, Optional

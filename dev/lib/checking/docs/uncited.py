@@ -5,8 +5,6 @@ or inside a `module _`. It is cited if another definition of its file names it, 
 file that imports it. An import alone cites nothing, nor does a definition that names itself. The checker itself cites
 the answers and invariants that it looks up by name (those of a type `goal.NAME`), and they are not counted.
 """
-from __future__ import annotations
-
 from pathlib import Path
 from typing import Iterator, Optional
 

@@ -6,8 +6,6 @@ what a server passes on to its workers. Runs that differ in their words and text
 functions, each of which gives what it compares. What they say of time holds on a machine that is busy with other work
 too: a wait that has to be short is made again until one is.
 """
-from __future__ import annotations
-
 import tempfile
 from pathlib import Path
 from typing import Callable
@@ -21,7 +19,7 @@ from checking.tally import Tally
 from common.program import tested_program
 
 # In their order: a run that continues another finds its history.
-PARTS: "tuple[Callable[[Place], Faults], ...]" = (
+PARTS: tuple[Callable[[Place], Faults], ...] = (
     dialogue, two_clients, next_run, timers, lost_job, full_device, unread_replies, *lone_servers.CHECKS, *waits.CHECKS
 )
 

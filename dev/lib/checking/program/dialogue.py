@@ -1,6 +1,4 @@
 """A client that talks to a script over two pipes, and waits for each reply before it asks again."""
-from __future__ import annotations
-
 import subprocess
 import threading
 from typing import IO

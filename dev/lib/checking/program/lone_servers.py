@@ -1,7 +1,5 @@
 """Servers by themselves: where they listen, how many they serve at once, how failed jobs come back, their clock, and
 when their histories and last lines are there."""
-from __future__ import annotations
-
 import select
 import socket
 import time
@@ -141,7 +139,7 @@ def history_without_the_last_lines(place: Place) -> Faults:
     yield "a history without the last lines", differ(last_line_of(place, "without"), ["end 1"])
 
 
-def last_line_of(place: Place, history: str) -> "list[str]":
+def last_line_of(place: Place, history: str) -> list[str]:
     """The last line of a history, if it has one."""
     return (place.room / history).read_text("ascii").splitlines()[-1:]
 

@@ -1,6 +1,4 @@
 """Runs of the program by a line of a shell: those of runs.txt, and what differs in one."""
-from __future__ import annotations
-
 import os
 import signal
 import subprocess
@@ -18,7 +16,7 @@ PATIENCE = 120
 # What an audit line counts.
 COUNTED = ("calls", "cleared", "given", "left", "offered", "opening", "removed")
 
-Faults = Iterator["tuple[str, Optional[str]]"]  # what was compared, each with what is wrong with it, if anything is
+Faults = Iterator[tuple[str, Optional[str]]]  # what was compared, each with what is wrong with it, if anything is
 
 
 @dataclass(frozen=True)
@@ -65,7 +63,7 @@ class Run:
     name: str
     line: str = ""
     status: int = 0
-    texts: "dict[str, str]" = field(default_factory=dict)
+    texts: dict[str, str] = field(default_factory=dict)
 
     def add(self, mark: str, text: str) -> None:
         self.texts[mark] = self.texts.get(mark, "") + text
@@ -79,9 +77,9 @@ class Run:
         return fault or ("no text says why" if is_open and not ended.errors else None)
 
 
-def read_runs(room: Path) -> "list[Run]":
+def read_runs(room: Path) -> list[Run]:
     """The runs of runs.txt, whose files are written into a folder."""
-    runs: "list[Run]" = []
+    runs: list[Run] = []
     part = file = ""
     for content in RUNS.read_text("utf-8").splitlines():
         word, _, told = content.partition(" ")

@@ -1,6 +1,4 @@
 """Servers of one or two clients: their replies, their last lines, and their histories."""
-from __future__ import annotations
-
 import re
 
 from checking.program.runs import Faults, Place, audit, lines

@@ -3,8 +3,6 @@
 It shows by the order of four elements of equal expiry: the last of them has the slot of one that was removed, so no two
 timers give them in the same order. They have all expired, so the moment of a server changes nothing.
 """
-from __future__ import annotations
-
 import re
 
 from checking.program.runs import Faults, Place, audit, lines

@@ -1,6 +1,4 @@
 """Servers of a few clients: how one is served, how it ends, and how clients ask."""
-from __future__ import annotations
-
 import contextlib
 import re
 from typing import Iterator, Optional
@@ -62,7 +60,7 @@ def hang_up(server: Server, requests: str, count: int) -> None:
             client.replies.readline()
 
 
-def replies(client: Session, *requests: str) -> "list[str]":
+def replies(client: Session, *requests: str) -> list[str]:
     """The replies to these requests, one after the other."""
     return [client.ask(request) for request in requests]
 

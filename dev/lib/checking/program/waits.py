@@ -3,8 +3,6 @@
 A turn of a wait takes 20 ms, unless something ends it sooner. A busy machine makes waits longer, and none shorter. So
 what has to be quick is tried again until it once is, and that it was shows that no turn passed meanwhile.
 """
-from __future__ import annotations
-
 import functools
 import math
 import statistics

@@ -7,13 +7,11 @@ its place among the events of one seat, and no events of nobody. No element may 
 expiry, and each job must have been finished, or have come back unless it was given its last attempt. RB_BROKER_SEED is
 what the clients' choices follow from.
 """
-from __future__ import annotations
-
 import concurrent.futures
 import os
 import subprocess
 import tempfile
-from typing import Iterator, List, Tuple
+from typing import Iterator
 
 from checking.server.clients import Client, early, run_client
 from checking.tally import Tally
@@ -32,7 +30,7 @@ REFUSALS = {"ERR 1 syntax", "ERR 5 not-held", "ERR 8 line", "ERR 9 held"}
 AT_ONCE = 40  # clients that are connected at the same time, or wait to be served
 
 
-def check_end(tally: Tally, server: Server, clients: List[Client], history: str) -> None:
+def check_end(tally: Tally, server: Server, clients: list[Client], history: str) -> None:
     """The server's end, its last lines, and the verdict on its history."""
     status, lines, errors = server.end()
     tally.count("the server's status", f"{status}, {errors}" if status != 0 or errors else None)
@@ -48,7 +46,7 @@ def check_end(tally: Tally, server: Server, clients: List[Client], history: str)
     tally.count("the audit line", None if lines[1:] == told else f"{lines[1:]}, but the replay's is {told}")
 
 
-def check_clients(tally: Tally, runs: List[Tuple[Client, str]], history: str, room: str) -> None:
+def check_clients(tally: Tally, runs: list[tuple[Client, str]], history: str, room: str) -> None:
     """What each client saw."""
     for client, fault in runs:
         tally.count(f"client {client.number}, which {client.does.__name__}", fault)
@@ -63,7 +61,7 @@ def check_clients(tally: Tally, runs: List[Tuple[Client, str]], history: str, ro
     tally.count("the machine's clock", "\n    ".join(early(clients)))
 
 
-def check_jobs(tally: Tally, clients: List[Client], path: str) -> None:
+def check_jobs(tally: Tally, clients: list[Client], path: str) -> None:
     """What became of elements and jobs. That none left twice or early is tested as the history is read."""
     try:
         with open(path, "rb") as file:
@@ -76,7 +74,7 @@ def check_jobs(tally: Tally, clients: List[Client], path: str) -> None:
     tally.count("jobs", "\n    ".join(jobs_that_differ(history, clients)))
 
 
-def jobs_that_differ(history: History, clients: List[Client]) -> Iterator[str]:
+def jobs_that_differ(history: History, clients: list[Client]) -> Iterator[str]:
     """Which jobs were given, neither done nor at their last attempt, and did not come back, or came back all the same."""
     done = {int(lines[0][5:]) for client in clients for _, lines in client.answers if lines[0].startswith("DONE ")}
     elements = [history.elements.element(row) for row in range(len(history.elements))]

@@ -1,12 +1,10 @@
 """Clients of a server, good and bad, which keep what they sent and what they were answered."""
-from __future__ import annotations
-
 import json
 import random
 import socket
 import time
 from collections import deque
-from typing import Callable, Deque, Dict, Iterable, Iterator, List, Optional, Tuple
+from typing import Callable, Iterable, Iterator, Optional
 
 from serving.session import Session
 
@@ -20,14 +18,14 @@ class Client:
 
     session: Session
 
-    def __init__(self, number: int, does: Callable[[Client], None], seed: str) -> None:
+    def __init__(self, number: int, does: "Callable[[Client], None]", seed: str) -> None:
         self.number, self.does, self.rng = number, does, random.Random(f"{seed} {number}")
-        self.record: List[str] = []  # a line for each request that was answered, as tools/verify reads it
-        self.answers: List[Tuple[str, List[str]]] = []  # these requests, each with its reply lines
-        self.unanswered: Deque[Tuple[str, int]] = deque()  # the others, each with the time at which it was sent
+        self.record: list[str] = []  # a line for each request that was answered, as tools/verify reads it
+        self.answers: list[tuple[str, list[str]]] = []  # these requests, each with its reply lines
+        self.unanswered: deque[tuple[str, int]] = deque()  # the others, each with the time at which it was sent
         # By payloads, of their first attempts: when they were offered, with which delay, and when they were got.
-        self.sent_at: Dict[str, Tuple[int, int]] = {}
-        self.got_at: Dict[str, int] = {}
+        self.sent_at: dict[str, tuple[int, int]] = {}
+        self.got_at: dict[str, int] = {}
         self.is_heard = True  # whether it read all that it was answered
         self.is_reset = False  # whether its session surely ended by a fault
 
@@ -41,7 +39,7 @@ class Client:
         self.note(*requests)
         self.session.send(*requests)
 
-    def read(self) -> List[str]:
+    def read(self) -> list[str]:
         """Reads the reply to the first request that has none yet. Returns the words of its first line."""
         request, sent = self.unanswered[0]
         try:
@@ -57,23 +55,23 @@ class Client:
         self.record.append(self.line(request, sent, received, replies))
         return replies[0].split(" ")
 
-    def line(self, request: str, sent: int, received: Optional[int], replies: List[str]) -> str:
+    def line(self, request: str, sent: int, received: Optional[int], replies: list[str]) -> str:
         """The line of a record on a request."""
         told = {"session": self.number, "sent": sent, "received": received, "request": request, "reply": replies}
         return json.dumps(told) + "\n"
 
-    def whole_record(self) -> List[str]:
+    def whole_record(self) -> list[str]:
         """The lines on all requests."""
         return [*self.record, *(self.line(request, sent, None, []) for request, sent in self.unanswered)]
 
-    def ask(self, *requests: str) -> List[str]:
+    def ask(self, *requests: str) -> list[str]:
         """Sends requests in one piece, and reads all replies. Returns the words of the last one's first line."""
         self.send(*requests)
         return self.read_all()
 
-    def read_all(self) -> List[str]:
+    def read_all(self) -> list[str]:
         """Reads the replies that are left. Returns the words of the last one's first line."""
-        words: List[str] = []
+        words: list[str] = []
         while self.unanswered:
             words = self.read()
         return words
@@ -84,7 +82,7 @@ class Client:
         self.sent_at[payload] = (time.monotonic_ns(), delay)
         return f"OFFER {delay} {payload}"
 
-    def offers(self, count: int) -> List[str]:
+    def offers(self, count: int) -> list[str]:
         """Requests that offer elements without a delay."""
         return [self.offer(0) for _ in range(count)]
 
@@ -247,7 +245,7 @@ KINDS = [
 ]
 
 
-def run_client(number: int, port: int, seed: str) -> Tuple[Client, str]:
+def run_client(number: int, port: int, seed: str) -> tuple[Client, str]:
     """Runs a client to its end. Returns the client, and what went wrong; nothing if all went well."""
     client = Client(number, reads_no_more if number % 50 == 25 else KINDS[number % len(KINDS)], seed)
     try:

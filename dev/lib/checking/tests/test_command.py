@@ -1,10 +1,7 @@
 """dev/check as a command: one part or several, its refusals, and a signal that breaks it off."""
-from __future__ import annotations
-
 import os
 import subprocess
 import sys
-from typing import Dict
 
 from checking.testing import PATIENCE, RoomTest
 from common.program import TOP
@@ -43,7 +40,7 @@ def is_running(process: int) -> bool:
 
 class Command(RoomTest):
     def ran(self, *words: str, **settings: str) -> subprocess.CompletedProcess[str]:
-        environment: Dict[str, str] = {**os.environ, "TMPDIR": self.room, **settings}
+        environment: dict[str, str] = {**os.environ, "TMPDIR": self.room, **settings}
         return subprocess.run([*CHECK, *words], capture_output=True, text=True, timeout=PATIENCE, env=environment)
 
     def test_one_part(self) -> None:

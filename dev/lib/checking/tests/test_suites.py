@@ -1,6 +1,4 @@
 """What is counted as passed, failed and skipped, in this process and in several."""
-from __future__ import annotations
-
 import contextlib
 import io
 import os
@@ -9,7 +7,7 @@ import sys
 import time
 import unittest
 from pathlib import Path
-from typing import Callable, List, Tuple, Type
+from typing import Callable
 
 from checking.suites import add, tests_below, try_side_by_side, try_tests
 from checking.tally import Tally
@@ -44,7 +42,7 @@ except leaving.Interrupted as interrupted:
     sys.exit(interrupted.status)
 """
 
-Kind = Type[unittest.TestCase]
+Kind = type[unittest.TestCase]
 
 
 def kind(name: str, run: Callable[..., object], **more: object) -> Kind:
@@ -79,7 +77,7 @@ SKIPPED = [
 ]
 
 
-def counted(tries: Callable[[Tally], object], part: str = "") -> Tuple[bool, List[str]]:
+def counted(tries: Callable[[Tally], object], part: str = "") -> tuple[bool, list[str]]:
     """Tries something: whether it passes, and the lines that are printed."""
     said, tally = io.StringIO(), Tally(part=part)
     with contextlib.redirect_stdout(said):
@@ -88,7 +86,7 @@ def counted(tries: Callable[[Tally], object], part: str = "") -> Tuple[bool, Lis
     return passes, said.getvalue().splitlines()
 
 
-def ran(*kinds: Kind) -> Tuple[bool, List[str]]:
+def ran(*kinds: Kind) -> tuple[bool, list[str]]:
     return counted(lambda tally: try_tests(tally, unittest.TestSuite(kind() for kind in kinds)))
 
 
@@ -145,7 +143,7 @@ class SideBySideTest(RoomTest):
         super().setUp()
         self.suite = tests_below(TESTS, TOOLS)
 
-    def expect(self, suite: unittest.TestSuite, passes: bool, last: str) -> List[str]:
+    def expect(self, suite: unittest.TestSuite, passes: bool, last: str) -> list[str]:
         """Expects how tests of the part `tools` end in two processes. Gives the lines that are printed."""
         found, lines = counted(lambda tally: try_side_by_side(tally, suite, 2), part="tools")
         self.assertEqual((found, lines[-1]), (passes, last))

@@ -1,6 +1,4 @@
 """What an item cites: which of its names mean a definition, and which it binds itself."""
-from __future__ import annotations
-
 from checking.docs.tests.support import DocumentsTest
 from defining.tree import Tree
 

@@ -1,6 +1,4 @@
 """What dev/definitions prints of a call, and how it ends."""
-from __future__ import annotations
-
 import subprocess
 import sys
 from pathlib import Path

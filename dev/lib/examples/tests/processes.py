@@ -1,10 +1,7 @@
 """The worker in Perl as a process."""
-from __future__ import annotations
-
 import os
 import signal
 import subprocess
-from typing import List
 from unittest import mock
 
 from common.program import TOP
@@ -26,7 +23,7 @@ class Worker:
         """Its next line."""
         return self.process.stdout.readline().rstrip("\n")
 
-    def lines(self, count: int) -> List[str]:
+    def lines(self, count: int) -> list[str]:
         """Its next lines."""
         return [self.line() for _ in range(count)]
 

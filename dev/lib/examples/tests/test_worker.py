@@ -1,6 +1,4 @@
 """The worker in Perl with servers."""
-from __future__ import annotations
-
 import json
 import subprocess
 import time

@@ -1,6 +1,4 @@
 """Each wrong body is planted into a copy of the checkout, in which dev/refuse_allocations then has to find it."""
-from __future__ import annotations
-
 import os
 import re
 import shutil

@@ -1,10 +1,7 @@
 """What the tests have in common: a folder with pages and crates."""
-from __future__ import annotations
-
 import contextlib
 import io
 from pathlib import Path
-from typing import Dict
 
 from checking.docs import PARTS, check
 from checking.tally import Tally
@@ -16,7 +13,7 @@ class DocumentsTest(RoomTest):
     """A test with a folder of its own, whose pages and crates a part of dev/check docs looks at."""
 
     part = ""
-    files: Dict[str, str] = {}  # what the folder has
+    files: dict[str, str] = {}  # what the folder has
 
     def setUp(self) -> None:
         super().setUp()
@@ -48,7 +45,7 @@ class DocumentsTest(RoomTest):
             list(PARTS[self.part].find(self.top))
         self.assertEqual(reason, str(fault.exception))
 
-    def expect_each(self, place: str, *rows: "tuple[str, str, int, str] | tuple[str, str, int]") -> None:
+    def expect_each(self, place: str, *rows: tuple[str, str, int, str] | tuple[str, str, int]) -> None:
         """Expects for each row, in which a text of a file has another one in its place, or this one behind it, how much
         the part then finds right, and the faults."""
         for old, new, right, *faults in rows:

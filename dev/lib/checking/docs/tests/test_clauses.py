@@ -1,6 +1,4 @@
 """Calls, clauses and definitions that are not there."""
-from __future__ import annotations
-
 from checking.docs.tests.support import DocumentsTest
 
 SOURCE = """pub trait Desk {

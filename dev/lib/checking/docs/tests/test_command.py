@@ -1,6 +1,4 @@
 """dev/check docs as a whole: which parts it looks at, and what it prints."""
-from __future__ import annotations
-
 import contextlib
 import io
 

@@ -1,6 +1,4 @@
 """Links that lead nowhere."""
-from __future__ import annotations
-
 from checking.docs.tests.support import DocumentsTest
 
 PAGE = """# A page

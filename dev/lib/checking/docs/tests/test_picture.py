@@ -1,6 +1,4 @@
 """A picture that shows other hops than the table has."""
-from __future__ import annotations
-
 from checking.docs.tests.support import DocumentsTest
 
 PAGE = """# Architecture

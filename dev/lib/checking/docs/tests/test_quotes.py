@@ -1,6 +1,4 @@
 """Quotations that are not as in the sources, and names that a page of them leaves open."""
-from __future__ import annotations
-
 from checking.docs.tests.support import DocumentsTest
 
 SPECS = """use Rattle.std.specs.Prelude.{ℕ, ◌≤◌}

@@ -1,6 +1,4 @@
 """Lemmas and definitions that nothing names."""
-from __future__ import annotations
-
 from checking.docs.tests.support import DocumentsTest
 
 SPECS = """-- What a failure leaves.

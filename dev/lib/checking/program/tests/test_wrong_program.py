@@ -1,6 +1,4 @@
 """dev/check program finds what is wrong, and leaves nothing behind."""
-from __future__ import annotations
-
 import os
 import shlex
 import signal
@@ -51,7 +49,7 @@ class CheckProgram(RoomTest):
         for number, action in ((signal.SIGHUP, signal.SIG_DFL), (signal.SIGINT, signal.default_int_handler)):
             self.addCleanup(signal.signal, number, signal.signal(number, action))
 
-    def start(self, *cases: str) -> "subprocess.Popen[str]":
+    def start(self, *cases: str) -> subprocess.Popen[str]:
         """Starts the tool with a stand-in of these cases."""
         noted, program = shlex.quote(str(self.noted)), shlex.quote(tested_program())
         text = STAND_IN.format(noted=noted, cases="\n".join(cases) or "--) ;;", program=program)
@@ -64,11 +62,11 @@ class CheckProgram(RoomTest):
         self.addCleanup(tool.kill)
         return tool
 
-    def processes(self) -> "list[int]":
+    def processes(self) -> list[int]:
         """The processes that were started in the place of the program."""
         return [int(line) for line in self.noted.read_text("ascii").split("\n")[:-1]]
 
-    def expect_end(self, tool: "subprocess.Popen[str]", status: int, said: str) -> str:
+    def expect_end(self, tool: subprocess.Popen[str], status: int, said: str) -> str:
         """Expects how the tool ends, and that no process and no file is left. Gives what it printed."""
         told, errors = tool.communicate(timeout=PATIENCE)
         self.assertEqual((status, said), (tool.returncode, errors), told)
