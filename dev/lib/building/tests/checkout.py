@@ -6,11 +6,12 @@ import signal
 import subprocess
 import time
 from pathlib import Path
+from typing import Any, Sequence
 
 from checking.testing import RoomTest
 from common.program import TOP
 
-PROCESSORS = len(os.sched_getaffinity(0))
+PROCESSORS = sorted(os.sched_getaffinity(0))
 PATIENCE = 60  # seconds after which a build has failed
 # The stand-in's program answers with its words, input and a status of its own.
 PROGRAM = 'echo "words $*" && cat && exit 7\n'
@@ -22,6 +23,7 @@ rb_alone:
 rb_tests: rb_left
 rb_broker: rb_left rb_right rb_alone clap
 """
+ONE, TWO, THREE = (["taskset", "-c", ",".join(map(str, PROCESSORS[:count]))] for count in (1, 2, 3))
 LINES = {"rb_base": 10, "rb_left": 20, "rb_right": 30, "rb_alone": 5, "rb_tests": 1}
 
 
@@ -64,17 +66,16 @@ class CheckoutTest(RoomTest):
         """What the stand-in does before it builds a crate."""
         (self.stand_in / crate).write_text(f"{lines}\n", "utf-8")
 
-    def start(self, *words: str, processors: int = 0) -> subprocess.Popen[str]:
-        """Starts ./broker in a session of its own, on the first processors or on all."""
-        command, pipe = [f"{self.top}/broker", *words], subprocess.PIPE
-        if processors:
-            command = ["taskset", "-c", ",".join(map(str, sorted(os.sched_getaffinity(0))[:processors])), *command]
-        how = {"env": self.environment, "text": True, "start_new_session": True}
-        return subprocess.Popen(command, stdin=pipe, stdout=pipe, stderr=pipe, **how)
+    def start(self, *words: str, before: Sequence[str] = (), **settings: str) -> subprocess.Popen[str]:
+        """Starts ./broker in a session of its own, by a command that may have words before it, and with these settings
+        instead of those of the tests."""
+        pipe = subprocess.PIPE
+        how = {"env": settings or self.environment, "text": True, "start_new_session": True}
+        return subprocess.Popen([*before, f"{self.top}/broker", *words], stdin=pipe, stdout=pipe, stderr=pipe, **how)
 
-    def build(self, *words: str, processors: int = 0, told: str = "") -> tuple[int, str, str]:
+    def build(self, *words: str, told: str = "", **how: Any) -> tuple[int, str, str]:
         """Runs ./broker: its status, standard output and standard error."""
-        started = self.start(*words, processors=processors)
+        started = self.start(*words, **how)
         output, errors = started.communicate(told, timeout=PATIENCE)
         return started.returncode, output, errors
 

@@ -1,9 +1,8 @@
 """Builds by ./broker: in which order, what is told of them, and how they fail."""
 import os
-import subprocess
 import unittest
 
-from building.tests.checkout import LINES, PATIENCE, PROCESSORS, CheckoutTest
+from building.tests.checkout import LINES, ONE, PROCESSORS, THREE, TWO, CheckoutTest
 
 
 class BuildTest(CheckoutTest):
@@ -19,52 +18,40 @@ class BuildTest(CheckoutTest):
     def test_a_build_needs_no_standard_error(self) -> None:
         for end in ("2>&-", "2> /dev/full", "2> >(exit)"):
             self.write("crates/rb_alone/src/lib.rt", f"// {end}\n")
-            words = ["bash", "-c", f'exec "$0" script {end}', f"{self.top}/broker"]
-            run = subprocess.run(
-                words, env=self.environment, input=b"", stdout=subprocess.PIPE, timeout=PATIENCE, check=False
-            )
-            self.assertEqual((run.returncode, run.stdout), (7, b"words script\n"), end)
+            status, output, _ = self.build(before=["bash", "-c", f'exec "$0" script {end}'])
+            self.assertEqual((status, output), (7, "words script\n"), end)
         self.assertEqual(self.events().count("rb_alone ends"), 3)
 
-    def test_nothing_is_built_that_the_program_does_not_stand_on(self) -> None:
-        self.build()
-        built = {crate for _, crate, *_ in self.log()}
-        self.assertEqual(built, {"rb_base", "rb_left", "rb_right", "rb_alone", "rb_broker"})
-        words = {crate: " ".join(more) for _, crate, what, *more in self.log() if what == "begins"}
-        self.assertTrue(words["rb_left"].startswith("lib nice"), words)
-        self.assertTrue(words["rb_broker"].startswith("run -- --help nice"), words)
-
-    @unittest.skipIf(PROCESSORS < 3, "fewer than three processors")
-    def test_the_longest_way_has_precedence_at_the_processors(self) -> None:
-        self.build()
-        nice = {crate: int(more[-1]) for _, crate, what, *more in self.log() if what == "begins"}
-        least = os.nice(0)
-        ours = {"rb_base": 0, "rb_right": 0, "rb_broker": 0, "rb_left": 5, "rb_alone": 5}
-        self.assertEqual(nice, {crate: min(19, least + more) for crate, more in ours.items()})
-
-    def test_a_crate_begins_when_those_below_it_are_built(self) -> None:
+    @unittest.skipIf(len(PROCESSORS) < 3, "fewer than three processors")
+    def test_what_is_built_and_in_which_order(self) -> None:
         for crate in LINES:
             self.does(crate, "sleep 0.3")
         self.build()
+        begun = {crate: " ".join(more) for _, crate, what, *more in self.log() if what == "begins"}
+        # The longest way has precedence at the processors, and what the program does not stand on is not built.
+        ours = {"rb_base": 0, "rb_right": 0, "rb_broker": 0, "rb_left": 5, "rb_alone": 5}
+        words = {crate: "run -- --help" if crate == "rb_broker" else "lib" for crate in ours}
+        least = os.nice(0)
+        self.assertEqual(begun, {it: f"{words[it]} nice {min(19, least + more)}" for it, more in ours.items()})
         events = self.events()
         pairs = ("left", "base"), ("right", "base"), ("broker", "left"), ("broker", "right"), ("broker", "alone")
         for above, below in pairs:
             self.assertLess(events.index(f"rb_{below} ends"), events.index(f"rb_{above} begins"), events)
 
-    @unittest.skipIf(PROCESSORS < 2, "one processor")
+    @unittest.skipIf(len(PROCESSORS) < 2, "one processor")
     def test_crates_are_built_side_by_side(self) -> None:
         # Each waits until the other has begun.
         for crate, other in (("rb_left", "rb_right"), ("rb_right", "rb_left")):
             self.does(crate, f'until grep -q "{other} begins" "$STAND_IN/log"; do sleep 0.05; done')
-        status, _, errors = self.build(processors=2)
+        status, _, errors = self.build(before=TWO)
         self.assertEqual(status, 7, errors)
 
     def test_one_processor_builds_one_at_a_time_the_longest_way_first(self) -> None:
-        self.build(processors=1)
+        self.build(before=ONE)
         order = ["rb_base", "rb_right", "rb_left", "rb_alone", "rb_broker"]
         self.assertEqual(self.events(), [f"{it} {what}" for it in order for what in ("begins", "ends")])
 
-    @unittest.skipIf(PROCESSORS < 2, "one processor")
+    @unittest.skipIf(len(PROCESSORS) < 2, "one processor")
     def test_standard_error_tells_what_is_proved(self) -> None:
         others = "rb_left ends", "rb_alone ends"
         waits = [f'until grep -q "{it}" "$STAND_IN/log"; do sleep 0.05; done' for it in others]
@@ -86,12 +73,12 @@ class BuildTest(CheckoutTest):
         _, _, errors = self.build()
         self.assertRegex(errors, rf"(?m)^broker: \d+ s: rb_left: {says}$")
 
-    @unittest.skipIf(PROCESSORS < 3, "fewer than three processors")
+    @unittest.skipIf(len(PROCESSORS) < 3, "fewer than three processors")
     def test_a_crate_that_fails_stops_the_others_and_shows_its_output(self) -> None:
         self.does("rb_left", 'echo "$PWD/src/lib.rt:1:1: error of left" && sleep 0.5 && exit 3')
         self.does("rb_right", 'trap "" TERM INT HUP; echo "right is being proved"; sleep 600')
         self.does("rb_alone", "setsid sleep 600 & sleep 600")
-        status, output, errors = self.build(processors=3)
+        status, output, errors = self.build(before=THREE)
         self.assertEqual((status, output), (126, ""))
         self.assertIn(f"\n{self.top}/crates/rb_left/src/lib.rt:1:1: error of left\n", errors)
         self.assertNotIn("right is being proved", errors)

@@ -1,7 +1,6 @@
 """Builds that are stopped or killed, and what they leave."""
 import os
 import signal
-import subprocess
 
 from building.tests.checkout import PATIENCE, CheckoutTest
 
@@ -22,13 +21,13 @@ class StoppingTest(CheckoutTest):
         self.assertEqual(self.left_over(), [])
         self.assertEqual(self.made("rb_base", "incremental/builds"), "rb_base\n")
 
-    def test_control_c_leaves_nothing_behind(self) -> None:
+    def test_control_c(self) -> None:
         self.stops(signal.SIGINT, is_whole_group=True)
 
-    def test_a_signal_to_the_build_alone_leaves_nothing_behind(self) -> None:
+    def test_a_signal_to_the_build_alone(self) -> None:
         self.stops(signal.SIGTERM, is_whole_group=False)
 
-    def test_a_terminal_that_goes_away_leaves_nothing_behind(self) -> None:
+    def test_a_terminal_that_goes_away(self) -> None:
         self.stops(signal.SIGHUP, is_whole_group=True)
 
     def test_a_build_that_is_killed_leaves_no_rt_and_the_next_clears_up(self) -> None:
@@ -46,14 +45,8 @@ class StoppingTest(CheckoutTest):
         self.assertEqual(self.made("rb_right", "incremental/builds"), "rb_right\nrb_right\n")
 
     def test_what_was_there_before_the_build_is_left_alone(self) -> None:
-        command = 'sleep 600 > /dev/null & echo $! && exec "$0" script'
-        words = ["bash", "-c", command, f"{self.top}/broker"]
-        nothing, environment = subprocess.DEVNULL, self.environment
-        with subprocess.Popen(
-            words, env=environment, stdin=nothing, stdout=subprocess.PIPE, stderr=nothing, text=True
-        ) as started:
-            assert started.stdout is not None
-            other = int(started.stdout.readline())
-            self.assertEqual(started.stdout.readline(), "words script\n")
-            os.kill(other, signal.SIGKILL)  # which finds it
+        started = self.start(before=["bash", "-c", 'sleep 600 > /dev/null 2>&1 & echo $! && exec "$0" script'])
+        other = int(started.stdout.readline())
+        self.assertEqual(started.communicate("", timeout=PATIENCE)[0], "words script\n")
+        os.kill(other, signal.SIGKILL)  # which finds it
         self.await_end()

@@ -5,7 +5,7 @@ import subprocess
 import sys
 import tempfile
 
-from building.tests.checkout import PATIENCE, CheckoutTest
+from building.tests.checkout import CheckoutTest
 
 
 class SurroundingsTest(CheckoutTest):
@@ -23,18 +23,14 @@ class SurroundingsTest(CheckoutTest):
         with tempfile.TemporaryDirectory() as path:
             for it in commands:
                 os.symlink(sys.executable if it == "python3" else shutil.which(it) or it, f"{path}/{it}")
-            words, environment = [f"{path}/bash", f"{self.top}/broker"], {"PATH": path}
-            run = subprocess.run(
-                words, env=environment, input="", capture_output=True, text=True, timeout=PATIENCE, check=False
-            )
-            return run.returncode, run.stderr
+            status, _, errors = self.build(before=[f"{path}/bash"], PATH=path)
+            return status, errors
 
     def test_a_caller_may_ignore_the_ends_of_children(self) -> None:
-        command = [sys.executable, "-c", "import os, signal, sys; signal.signal(signal.SIGCHLD, signal.SIG_IGN); "
-                   "os.execv(sys.argv[1], sys.argv[1:])", f"{self.top}/broker"]
-        environment = self.environment
-        run = subprocess.run(command, env=environment, input=b"", capture_output=True, timeout=PATIENCE, check=False)
-        self.assertEqual((run.returncode, run.stdout), (7, b"words \n"), run.stderr)
+        ignores = "import os, signal, sys; signal.signal(signal.SIGCHLD, signal.SIG_IGN); "
+        ignores += "os.execv(sys.argv[1], sys.argv[1:])"
+        status, output, errors = self.build(before=[sys.executable, "-c", ignores])
+        self.assertEqual((status, output), (7, "words \n"), errors)
 
     def test_ignored_signals_stay_ignored_and_others_do_not(self) -> None:
         self.write("crates/rb_broker/src/main.rt", "grep SigIgn /proc/self/status\n")

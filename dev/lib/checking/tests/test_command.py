@@ -1,4 +1,4 @@
-"""dev/check as a command: one part or several, its refusals, and a signal that breaks it off."""
+"""dev/check as a command: one part or several, and its refusals."""
 import os
 import subprocess
 import sys
@@ -7,35 +7,6 @@ from checking.testing import PATIENCE, RoomTest
 from common.program import TOP
 
 CHECK = [sys.executable, "-B", f"{TOP}/dev/check"]
-
-# A part that starts a process which starts another one, and is then broken off by a signal.
-STOPPED = """
-import os, signal, subprocess, sys, threading, unittest
-sys.path.insert(0, sys.argv.pop(1))
-import paths
-import leaving
-from checking import suites, tally
-
-class Stopped(unittest.TestCase):
-    def runTest(self):
-        threading.Timer(1, os.kill, (os.getpid(), signal.SIGTERM)).start()
-        subprocess.run(["sh", "-c", "sleep 600 & echo $! && wait"])
-
-try:
-    with leaving.leaving_nothing():
-        suites.try_tests(tally.Tally(), unittest.TestSuite([Stopped()]))
-except leaving.Interrupted as interrupted:
-    sys.exit(interrupted.status)
-"""
-
-
-def is_running(process: int) -> bool:
-    """Whether a process has not ended, though its parent may not have noted that."""
-    try:
-        with open(f"/proc/{process}/stat", encoding="ascii") as file:
-            return file.read().rpartition(")")[2].split()[0] != "Z"
-    except FileNotFoundError:
-        return False
 
 
 class Command(RoomTest):
@@ -70,12 +41,3 @@ class Command(RoomTest):
         ran = self.ran("worker", "--program", sys.executable, PATH=self.room)
         said = "check: there is no perl on the path, which worker needs\n"
         self.assertEqual((ran.returncode, ran.stdout, ran.stderr), (2, "", said))
-
-    def test_a_signal_leaves_nothing(self) -> None:
-        words = [sys.executable, "-B", "-c", STOPPED, f"{TOP}/dev"]
-        environment = {**os.environ, "TMPDIR": self.room}
-        ran = subprocess.run(words, stdout=subprocess.PIPE, text=True, timeout=PATIENCE, env=environment, check=False)
-        self.assertEqual(ran.returncode, 128 + 15)
-        self.assertNotIn("passed", ran.stdout)
-        self.assertFalse(is_running(int(ran.stdout.splitlines()[0])))
-        self.assertEqual(os.listdir(self.room), [])

@@ -17,27 +17,29 @@ from common.program import TOP
 TOOLS = f"{TOP}/tools"
 TESTS = f"{TOOLS}/common/tests"
 
-# A part whose tests run side by side, of which one takes long.
-SLOW = """
-import os, sys, time, unittest
-sys.path.insert(0, sys.argv[1])
+# A part that is broken off while a process of its own runs, which first notes itself.
+BROKEN_OFF = """
+import subprocess, sys, unittest
+sys.path.insert(0, {dev!r})
 import paths
 import leaving
 from checking import suites
 from checking.tally import Tally
 
-class Slow(unittest.TestCase):
+def run_long(*_):
+    subprocess.run(["sh", "-c", "sleep 600 & echo $! > $0; wait", {noted!r}])
+    return ""
+
+class Long(unittest.TestCase):
+    runTest = run_long
+
+class Elsewhere(unittest.TestCase):
     def runTest(self):
         raise AssertionError("it runs in another process")
 
-def slow(part, name, places):
-    suites.subprocess.run(["sh", "-c", "echo $$ > $0 && exec sleep 600", sys.argv[2]])
-    return ""
-
-suites.try_class = slow
 try:
     with leaving.leaving_nothing():
-        suites.try_side_by_side(Tally(), unittest.TestSuite([Slow()]), 2)
+        {tries}
 except leaving.Interrupted as interrupted:
     sys.exit(interrupted.status)
 """
@@ -171,10 +173,15 @@ class SideBySideTest(RoomTest):
             "f: it says nothing", "3 passed, 4 failed, 1 skipped",
         ]))
 
-    def test_a_signal_ends_them(self) -> None:
-        noted = Path(self.path("noted"))
-        words = [sys.executable, "-B", "-c", SLOW, f"{TOP}/dev", str(noted)]
-        with subprocess.Popen(words, stdout=subprocess.PIPE, text=True) as process:
+
+class BrokenOffTest(RoomTest):
+    def expect_nothing_left(self, tries: str) -> None:
+        """Expects that a signal ends tests, and leaves neither a process nor a file."""
+        noted, rooms = Path(self.path("noted")), self.path("rooms")
+        os.mkdir(rooms)
+        script = BROKEN_OFF.format(dev=f"{TOP}/dev", noted=str(noted), tries=tries)
+        how = {"stdout": subprocess.PIPE, "text": True, "env": {**os.environ, "TMPDIR": rooms}}
+        with subprocess.Popen([sys.executable, "-B", "-c", script], **how) as process:
             until = time.monotonic() + PATIENCE
             while not (noted.exists() and noted.read_text()) and time.monotonic() < until:
                 time.sleep(0.05)
@@ -182,3 +189,11 @@ class SideBySideTest(RoomTest):
             said, _ = process.communicate(timeout=PATIENCE)
         self.assertEqual((process.returncode, said), (128 + 15, ""))
         self.assertRaises(ProcessLookupError, os.kill, int(noted.read_text()), 0)
+        self.assertEqual(os.listdir(rooms), [])
+
+    def test_in_one_process(self) -> None:
+        self.expect_nothing_left("suites.try_tests(Tally(), unittest.TestSuite([Long()]))")
+
+    def test_side_by_side(self) -> None:
+        tries = "suites.try_class = run_long; suites.try_side_by_side(Tally(), unittest.TestSuite([Elsewhere()]), 2)"
+        self.expect_nothing_left(tries)
