@@ -11,8 +11,7 @@ from pathlib import Path
 from typing import Callable
 
 from checking.program import lone_servers, waits
-from checking.program.dialogue import dialogue
-from checking.program.runs import Faults, Place, read_runs
+from checking.program.runs import Faults, Place, dialogue, read_runs
 from checking.program.servers import full_device, lost_job, next_run, two_clients, unread_replies
 from checking.program.timers import timers
 from checking.tally import Tally

@@ -5,7 +5,7 @@ import socket
 import time
 
 from checking.program.runs import Faults, Place
-from checking.program.visits import differ, replies, visit, visited
+from checking.program.visits import clients_of, differ, replies, visited
 from serving import PATIENCE
 from serving.session import Session
 
@@ -29,17 +29,14 @@ def address(place: Place) -> Faults:
 def workers(place: Place) -> Faults:
     """As many clients as there are workers are served, and one more once the first of them has left."""
     for name, count in {"one worker": 1, "two workers": 2, "three workers": 3}.items():
-        with visited(place, f"--workers {count}", sessions=count + 1) as server:
-            clients = [Session(server.port) for _ in range(count)]
-            for client in clients:
+        with clients_of(place, f"--workers {count}", count + 1) as clients:
+            for client in clients[:count]:
                 client.ask("SIZE")
-            last = Session(server.port)
+            last = clients[count]
             last.send("SIZE")
             is_early = select.select([last.socket], [], [], 0.3)[0]
             clients.pop(0).quit()
             last.reply()
-            for client in [*clients, last]:
-                client.quit()
         yield name, "a client beyond the workers is answered" if is_early else None
 
 
@@ -62,7 +59,7 @@ def after_a_fault(place: Place) -> Faults:
 def failing_with_a_rate(place: Place) -> Faults:
     """Each attempt expires one rate after the one before it did, whenever that failed."""
     rate = 20 * MILLISECOND
-    with visit(place, f"--rate {rate} --attempts 3") as client:
+    with clients_of(place, f"--rate {rate} --attempts 3") as [client]:
         first = int(client.ask("OFFER 0 job").split(" ")[2])
         told = replies(client, "TAKE", "FAIL 0", "TAKE", "FAIL 1", "TAKE", "FAIL 2", "SIZE")
     second, third = first + rate, first + 2 * rate
@@ -73,7 +70,7 @@ def failing_with_a_rate(place: Place) -> Faults:
 def failing_with_a_delay(place: Place) -> Faults:
     """The second attempt expires one delay after the moment of the failure, and is not given before."""
     delay = 50 * MILLISECOND
-    with visit(place, f"--delay {delay} --attempts 2") as client:
+    with clients_of(place, f"--delay {delay} --attempts 2") as [client]:
         replies(client, "OFFER 0 job", "TAKE")
         before, again, after = moment(client), client.ask("FAIL 0"), moment(client)
         told = [again, *replies(client, "TAKE", "FAIL 2")]
@@ -87,7 +84,7 @@ def failing_with_a_delay(place: Place) -> Faults:
 
 def one_attempt(place: Place) -> Faults:
     """A job that has one attempt is dead at its first failure."""
-    with visit(place, "--attempts 1") as client:
+    with clients_of(place, "--attempts 1") as [client]:
         told = replies(client, "OFFERAT 5 job", "TAKE", "FAIL 0", "SIZE")
     yield "a job of one attempt", differ(told, ["OFFERED 0 5", "ITEM 0 5 1 job", "DEAD 0", "SIZE 0"])
 
@@ -97,7 +94,7 @@ def clock(place: Place) -> Faults:
     last, fault = 5000 * SECOND, None
     (place.room / "long").write_text(f"history 3\nopen 0 {last} 0\nend 0\n", "ascii")
     began = time.monotonic_ns()
-    with visit(place, "--from {room}/long") as client:
+    with clients_of(place, "--from {room}/long") as [client]:
         before, first = time.monotonic_ns(), moment(client)
         time.sleep(0.3)
         second, after = moment(client), time.monotonic_ns()

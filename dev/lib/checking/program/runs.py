@@ -1,10 +1,11 @@
-"""Runs of the program by a line of a shell: those of runs.txt, and what differs in one."""
+"""Runs of the program: those of runs.txt, by a line of a shell, and a dialogue; and what differs in one."""
 import os
 import signal
 import subprocess
+import threading
 from dataclasses import dataclass, field
 from pathlib import Path
-from typing import Iterator, Optional
+from typing import IO, Iterator, Optional
 
 from conforming.text import appended, split_form
 from serving.server import free_port
@@ -13,6 +14,15 @@ RUNS = Path(__file__).with_name("runs.txt")
 SHOWN = 2000  # characters of what a run wrote that are printed
 # Seconds that anything may take that ends by itself: the machine may be slow, and busy with other work.
 PATIENCE = 120
+# Each request of a dialogue, and its reply.
+DIALOGUE = {
+    "OFFER 5 a": "OFFERED 0 5",
+    "poll": "ERR 1 syntax",
+    "AT 5": "NOW 5",
+    "POLL": "ITEM 0 5 1 a",
+    "DONE 0": "DONE 0",
+    "QUIT": "BYE",
+}
 # What an audit line counts.
 COUNTED = ("calls", "cleared", "given", "left", "offered", "opening", "removed")
 
@@ -102,6 +112,26 @@ def read_runs(room: Path) -> list[Run]:
             mark, count = split_form(word)
             runs[-1].add(mark, appended(told, count).decode())
     return runs
+
+
+def dialogue(place: Place) -> Faults:
+    """A client that talks to a script over two pipes, and waits for each reply before it asks again."""
+    pipe = subprocess.PIPE
+    with subprocess.Popen([place.program, "script"], stdin=pipe, stdout=pipe, stderr=pipe, bufsize=0) as program:
+        limit = threading.Timer(PATIENCE, program.kill)
+        limit.daemon = True
+        limit.start()
+        told = b"".join([reply_to(request, program.stdin, program.stdout) for request in DIALOGUE])
+        rest, errors = program.communicate()
+    ended = Ended(program.returncode, text_of(told + rest), text_of(errors))
+    yield "a client that waits for each reply", ended.fault(output=lines(*DIALOGUE.values()))
+
+
+def reply_to(request: str, requests: IO[bytes], replies: IO[bytes]) -> bytes:
+    """Sends a request, in as many writes as it has bytes, and waits for its reply."""
+    for byte in f"{request}\n".encode():
+        requests.write(bytes([byte]))
+    return replies.readline()
 
 
 def audit(told: str) -> str:

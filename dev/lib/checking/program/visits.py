@@ -26,11 +26,13 @@ def visited(place: Place, words: str, sessions: int = 1, status: int = 0, errors
 
 
 @contextlib.contextmanager
-def visit(place: Place, words: str) -> Iterator[Session]:
-    """The one client of a server with these words, both of which must end well."""
-    with visited(place, words) as server, Session(server.port) as client:
-        yield client
-        client.quit()
+def clients_of(place: Place, words: str, count: int = 1) -> Iterator[list[Session]]:
+    """So many clients at once of a server with these words, all of which must end well."""
+    with visited(place, words, count) as server, contextlib.ExitStack() as stack:
+        clients = [stack.enter_context(Session(server.port)) for _ in range(count)]
+        yield clients
+        for client in clients:
+            client.quit()
 
 
 def ended(server: Server) -> Ended:

@@ -10,7 +10,7 @@ import time
 from typing import Callable
 
 from checking.program.runs import Faults, Place
-from checking.program.visits import visit, visited
+from checking.program.visits import clients_of
 from serving.session import Session
 
 TURN = 0.02  # seconds
@@ -29,7 +29,7 @@ def least(measure: Callable[[], float], most: float, times: int = 1) -> float:
 def waits_in_vain(place: Place) -> Faults:
     """A take in an empty queue is given up, the quickest of several within this many seconds."""
     for name, turns, most in ("a wait of no turn", 0, 0.01), ("a wait of three turns", 3, 0.2):
-        with visit(place, f"--turns {turns}") as client:
+        with clients_of(place, f"--turns {turns}") as [client]:
             found = least(functools.partial(time_of_take, client), most, times=5)
         yield name, f"it takes {found} seconds" if found > most else None
 
@@ -45,7 +45,7 @@ def time_of_take(client: Session) -> float:
 
 def reply_before_a_wait(place: Place) -> Faults:
     """A reply does not wait for the take that follows, which came in the same piece and is given up after a while."""
-    with visit(place, "--turns 20") as client:
+    with clients_of(place, "--turns 20") as [client]:
         found = least(functools.partial(lateness_of_reply, client), 0)
     yield "a reply before a wait", f"it takes {found} seconds longer than the take behind it" if found > 0 else None
 
@@ -64,11 +64,8 @@ def take_and_offer(place: Place) -> Faults:
     """A take that waits is answered as soon as another session offers, and not when its turn is over: the one in the
     middle of fifty within 5 ms."""
     most = 0.005
-    with visited(place, "--workers 2", sessions=2) as server:
-        taker, giver = Session(server.port), Session(server.port)
+    with clients_of(place, "--workers 2", 2) as [taker, giver]:
         found = least(lambda: statistics.median(time_after_offer(taker, giver) for _ in range(50)), most)
-        taker.quit()
-        giver.quit()
     yield "a take that waits for an offer", f"it takes {found} seconds" if found > most else None
 
 

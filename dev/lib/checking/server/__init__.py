@@ -53,12 +53,17 @@ def check_clients(tally: Tally, runs: list[tuple[Client, str]], history: str, ro
     clients = [client for client, _ in runs]
     record = f"{room}/record"
     with open(record, "w", encoding="ascii") as file:
-        file.writelines(line for client in clients for line in client.whole_record())
+        file.writelines(line for client in clients for line in client.record())
     verdict = run_tool("verify", history, record, "--all")
     tally.count("the records of the clients", f"{verdict.stdout}{verdict.stderr}" if verdict.returncode else None)
-    refused = {lines[0] for client in clients for _, lines in client.answers if lines[0].startswith("ERR ")} - REFUSALS
+    refused = {it for it in first_lines(clients) if it.startswith("ERR ")} - REFUSALS
     tally.count("refusals", ", ".join(sorted(refused)))
     tally.count("the machine's clock", "\n    ".join(early(clients)))
+
+
+def first_lines(clients: list[Client]) -> Iterator[str]:
+    """The first lines of all replies."""
+    return (it.reply[0] for client in clients for it in client.asked if it.reply)
 
 
 def check_jobs(tally: Tally, clients: list[Client], path: str) -> None:
@@ -76,7 +81,7 @@ def check_jobs(tally: Tally, clients: list[Client], path: str) -> None:
 
 def jobs_that_differ(history: History, clients: list[Client]) -> Iterator[str]:
     """Which jobs were given, neither done nor at their last attempt, and did not come back, or came back all the same."""
-    done = {int(lines[0][5:]) for client in clients for _, lines in client.answers if lines[0].startswith("DONE ")}
+    done = {int(it[5:]) for it in first_lines(clients) if it.startswith("DONE ")}
     elements = [history.elements.element(row) for row in range(len(history.elements))]
     attempts = {(it.origin, it.attempt) for it in elements}
     for element, left in zip(elements, history.elements.left_in):

@@ -3,7 +3,7 @@ import json
 import random
 import socket
 import time
-from collections import deque
+from dataclasses import asdict, dataclass, field
 from typing import Callable, Iterable, Iterator, Optional
 
 from serving.session import Session
@@ -13,6 +13,16 @@ from serving.session import Session
 FIRST_MARK = 2**63
 
 
+@dataclass
+class Asked:
+    """A request, when it was sent, and the lines that answer it, if they have come, as tools/verify reads them."""
+
+    request: str
+    sent: int
+    received: Optional[int] = None
+    reply: list[str] = field(default_factory=list)
+
+
 class Client:
     """One client's session: what it sent, and what it was answered."""
 
@@ -20,67 +30,52 @@ class Client:
 
     def __init__(self, number: int, does: "Callable[[Client], None]", seed: str) -> None:
         self.number, self.does, self.rng = number, does, random.Random(f"{seed} {number}")
-        self.record: list[str] = []  # a line for each request that was answered, as tools/verify reads it
-        self.answers: list[tuple[str, list[str]]] = []  # these requests, each with its reply lines
-        self.unanswered: deque[tuple[str, int]] = deque()  # the others, each with the time at which it was sent
-        # By payloads, of their first attempts: when they were offered, with which delay, and when they were got.
-        self.sent_at: dict[str, tuple[int, int]] = {}
-        self.got_at: dict[str, int] = {}
+        self.asked: list[Asked] = []
+        self.offered = self.read = 0  # how many elements it offered, and how many replies it has read
         self.is_heard = True  # whether it read all that it was answered
         self.is_reset = False  # whether its session surely ended by a fault
 
     def note(self, *requests: str) -> None:
         """Notes requests that are sent next."""
         now = time.monotonic_ns()
-        self.unanswered += [(request, now) for request in requests]
+        self.asked += [Asked(request, now) for request in requests]
 
     def send(self, *requests: str) -> None:
         """Sends requests in one piece."""
         self.note(*requests)
         self.session.send(*requests)
 
-    def read(self) -> list[str]:
+    def hear(self) -> list[str]:
         """Reads the reply to the first request that has none yet. Returns the words of its first line."""
-        request, sent = self.unanswered[0]
+        it = self.asked[self.read]
         try:
-            replies = self.session.reply()
+            it.reply = self.session.reply()
         except EOFError:
-            raise EOFError(f"the connection ended where the reply to {request!r} was due") from None
-        received = time.monotonic_ns()
-        for kind, *item in (line.split(" ") for line in replies):
-            if kind == "ITEM" and item[2] == "1":
-                self.got_at[item[3]] = received
-        self.unanswered.popleft()
-        self.answers.append((request, replies))
-        self.record.append(self.line(request, sent, received, replies))
-        return replies[0].split(" ")
+            raise EOFError(f"the connection ended where the reply to {it.request!r} was due") from None
+        it.received = time.monotonic_ns()
+        self.read += 1
+        return it.reply[0].split(" ")
 
-    def line(self, request: str, sent: int, received: Optional[int], replies: list[str]) -> str:
-        """The line of a record on a request."""
-        told = {"session": self.number, "sent": sent, "received": received, "request": request, "reply": replies}
-        return json.dumps(told) + "\n"
-
-    def whole_record(self) -> list[str]:
-        """The lines on all requests."""
-        return [*self.record, *(self.line(request, sent, None, []) for request, sent in self.unanswered)]
+    def record(self) -> Iterator[str]:
+        """The lines of a record on all requests."""
+        return (json.dumps({"session": self.number, **asdict(it)}) + "\n" for it in self.asked)
 
     def ask(self, *requests: str) -> list[str]:
         """Sends requests in one piece, and reads all replies. Returns the words of the last one's first line."""
         self.send(*requests)
-        return self.read_all()
+        return self.hear_all()
 
-    def read_all(self) -> list[str]:
+    def hear_all(self) -> list[str]:
         """Reads the replies that are left. Returns the words of the last one's first line."""
         words: list[str] = []
-        while self.unanswered:
-            words = self.read()
+        while self.read < len(self.asked):
+            words = self.hear()
         return words
 
     def offer(self, delay: int) -> str:
         """A request that offers an element, whose payload nobody else offers."""
-        payload = f"{self.number}-{len(self.sent_at)}"
-        self.sent_at[payload] = (time.monotonic_ns(), delay)
-        return f"OFFER {delay} {payload}"
+        self.offered += 1
+        return f"OFFER {delay} {self.number}-{self.offered}"
 
     def offers(self, count: int) -> list[str]:
         """Requests that offer elements without a delay."""
@@ -95,7 +90,7 @@ class Client:
         """Asks for a job in some way. Returns its id, if there was one."""
         words = self.ask(self.rng.choice(["TAKE", "TAKE", "POLL", "POLLFOR 20000000", "DRAIN 1"]))
         if words == ["DRAINED", "1"]:
-            words = self.answers[-1][1][1].split(" ")
+            words = self.asked[-1].reply[1].split(" ")
         return words[1] if words[0] == "ITEM" else None
 
     def quit(self) -> None:
@@ -105,7 +100,7 @@ class Client:
     def end_input(self) -> None:
         """Closes its side, and reads to the end of the other's."""
         self.session.socket.shutdown(socket.SHUT_WR)
-        self.read_all()
+        self.hear_all()
         self.expect_end()
 
     def expect_end(self) -> None:
@@ -147,7 +142,7 @@ def works(client: Client) -> None:
 def works_in_batches(client: Client) -> None:
     for _ in range(5):
         client.ask(*client.offers(8), "SIZE", "DRAIN 40", "PEEK", "DRAIN 0")
-        held = [it.split(" ")[1] for it in client.answers[-3][1][1:]]
+        held = [it.split(" ")[1] for it in client.asked[-3].reply[1:]]
         client.ask(*[f"DONE {it}" for it in held[::2]], *[f"FAIL {it}" for it in held[1::2]])
     client.end_input()
 
@@ -179,7 +174,7 @@ def dribbles(client: Client) -> None:
         client.note(request)
         for byte in f"{request}\n".encode():
             client.session.socket.sendall(bytes([byte]))
-        client.read()
+        client.hear()
     client.quit()
 
 
@@ -193,7 +188,7 @@ def hangs_up_on_its_replies(client: Client) -> None:
     client.is_heard = False
     client.send(*client.offers(5), "TAKE", "TAKE", *["SIZE"] * 50)
     for _ in range(client.rng.randrange(8)):
-        client.read()
+        client.hear()
     client.session.hang_up()
 
 
@@ -211,8 +206,8 @@ def resets(client: Client) -> None:
 
 def resets_while_it_waits(client: Client) -> None:
     client.is_heard = False
-    client.send(client.offer(0), "TAKE", "OFFER 5000000 last", "TAKE")
-    client.read()
+    client.send(client.offer(0), "TAKE", client.offer(5_000_000), "TAKE")
+    client.hear()
     client.reset()
 
 
@@ -260,10 +255,12 @@ def run_client(number: int, port: int, seed: str) -> tuple[Client, str]:
 
 
 def early(clients: Iterable[Client]) -> Iterator[str]:
-    """Which payloads came before their delay had passed, by the machine's clock."""
-    sent = {payload: it for client in clients for payload, it in client.sent_at.items()}
-    for client in clients:
-        for payload, got in client.got_at.items():
-            at, delay = sent.get(payload, (0, 0))
-            if got - at < delay:
-                yield f"{payload} was got {got - at} ns after it was offered with a delay of {delay}"
+    """Which payloads came before their delay had passed, by the machine's clock. Only first attempts count."""
+    asked = [it for client in clients for it in client.asked]
+    offers = [(it.sent, *it.request.split(" ")) for it in asked if it.request.startswith("OFFER ")]
+    due = {payload: (sent, int(delay)) for sent, _, delay, payload in offers}
+    got = [(it.received, line.split(" ")) for it in asked for line in it.reply if line.startswith("ITEM ")]
+    for received, (_, _, _, attempt, payload) in got:
+        sent, delay = due.get(payload, (0, 0))
+        if attempt == "1" and received - sent < delay:
+            yield f"{payload} was got {received - sent} ns after it was offered with a delay of {delay}"
