@@ -4,19 +4,16 @@ from __future__ import annotations
 import argparse
 import os
 import sys
-from typing import Callable, Optional, Type, TypeVar, Union
+from typing import Callable, Optional, Union
 
 Number = Union[int, float]
-Parser = TypeVar("Parser", bound=argparse.ArgumentParser)
 
 
-def parser_of(
-    name: str, doc: Optional[str], usage: Optional[str] = None, kind: Type[Parser] = argparse.ArgumentParser
-) -> Parser:
+def parser_of(name: str, doc: Optional[str], usage: Optional[str] = None) -> argparse.ArgumentParser:
     """The parser of a tool of this name, whose --help is the text of its file as it stands."""
     about, _, rest = (doc or "").partition("\n\n")
     form = argparse.RawDescriptionHelpFormatter
-    return kind(name, usage, about, rest, formatter_class=form, allow_abbrev=False)
+    return argparse.ArgumentParser(name, usage, about, rest, formatter_class=form, allow_abbrev=False)
 
 
 def number(kind: Callable[[str], Number], least: Number, most: Number) -> Callable[[str], Number]:

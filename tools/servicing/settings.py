@@ -3,9 +3,9 @@ from __future__ import annotations
 
 import argparse
 import dataclasses
+import functools
 import math
 import os
-import sys
 from dataclasses import dataclass
 from typing import Callable, List, NoReturn, Optional, Tuple
 
@@ -61,12 +61,9 @@ class Settings:
         return [self.program, "serve", *sum(said, ()), *self.policy, "--from", OPENING, "--history", HISTORY]
 
 
-class _Parser(argparse.ArgumentParser):
+def _refuse(made: argparse.ArgumentParser, message: str) -> NoReturn:
     """Refuses words in one line."""
-
-    def error(self, message: str) -> NoReturn:
-        print(f"service: {message}", file=sys.stderr)
-        sys.exit(2)
+    made.exit(2, f"service: {message}\n")
 
 
 def _span(least: int, most: int, said: str) -> Callable[[str], int]:
@@ -101,8 +98,8 @@ def _http(word: str) -> Address:
 
 def parser(doc: Optional[str]) -> argparse.ArgumentParser:
     """The parser of all words."""
-    made: argparse.ArgumentParser = parser_of(
-        "service", doc, "service [--port P] [--folder DIR] [OPTION ..]", kind=_Parser)
+    made = parser_of("service", doc, "service [--port P] [--folder DIR] [OPTION ..]")
+    made.error = functools.partial(_refuse, made)  # type: ignore[assignment]
     add = made.add_argument
     add("--port", type=number(int, 1, 65_535), default=7011, metavar="P", help="the port on 127.0.0.1 (7011)")
     add("--folder", metavar="DIR", help="where the runs are kept (~/.local/state/rb_broker/PORT)")
