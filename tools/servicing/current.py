@@ -1,52 +1,71 @@
-"""The run that goes on: it is watched until it has to end."""
+"""The run that goes on: it is watched until it has to end, and brought to that end in good order."""
 from __future__ import annotations
 
 import time
-from typing import Optional, Tuple
+from dataclasses import replace
+from typing import Callable, Dict, Optional, Tuple
 
 from servicing.clock import elapsed, read_clock
-from servicing.crowd import STAYS, Crowd
 from servicing.deciding import Seen, is_to_prepare, why_to_end
 from servicing.durations import SECOND, text_of
-from servicing.looking import Limits, silent_ports
-from servicing.parts import Parts
-from servicing.record import Record
-from servicing.saying import say
+from servicing.looking import Looks, silent_ports
+from servicing.parts import LeftBehind, Parts
+from servicing.saying import notify, say
 from servicing.server import Server
-from servicing.state import Reason, Run
-from servicing.visits import Visits
-from servicing.watch import LOOK, Watch
+from servicing.sockets import Unwatchable
+from servicing.state import Phase, Reason, Run
+from servicing.visits import Crowd, STAYS, Visits
 
+LOOK, LAST_LOOK = 1.0, 0.1  # seconds between two looks, and while the run ends
 RESERVE = 200  # sessions that are left to clients before a run ends
+TELL, CUT = 10.0, 1.0  # seconds after which it is said again who is waited for, and after which is cut again
+MOST_NAMED = 5
 
 
 class Current:
     """The run that goes on, or that has just ended."""
 
-    def __init__(self, parts: Parts, record: Record, server: Server, first_aside: int = 0) -> None:
+    def __init__(self, parts: Parts, record: Run, server: Server, first_aside: int = 0) -> None:
         """`first_aside` is the moment at which the first element aside expires."""
-        self._parts, self.record, self.server, self._first_aside = parts, record, server, first_aside
-        settings = parts.settings
-        self.watch = Watch(settings.port, Limits(settings.workers, record.calls, settings.sessions, record.next_id,
-                                                 record.moment, record.opening), parts.showing)
+        self._parts, self._settings, self._signals = parts, parts.settings, parts.signals
+        self.record, self.server, self._first_aside = replace(record, server=server.pid), server, first_aside
+        self.looks = Looks(self._settings.port, record, self._settings.workers, self._settings.sessions)
         self._visits: Optional[Visits] = None  # which use up most sessions in the last part of the run
         self._crowd: Optional[Crowd] = None  # so that clients come to leave soon
         self.why = Reason.UNKNOWN  # it ends
-        self.closed: Optional[float] = None  # since when new clients are served no longer, by the monotonic clock
-        self.held_by: Tuple[str, ...] = ()
+        self.closed = 0.0  # since when new clients are served no longer, by the monotonic clock, once they are not
+        self._cut_at, self._why_not = 0.0, ""
+        self._held: Dict[str, float] = {}  # for how many seconds each client was waited for
         self.cut = 0
 
     @property
-    def shown(self) -> Run:
-        it = self.record
-        return Run(it.number, it.id_in(self._parts.folder.id), it.began.date / SECOND, it.moment, it.next_id,
-                   it.opening, it.aside, self.server.pid)
+    def held_by(self) -> Tuple[str, ...]:
+        """Who was waited for longest."""
+        order = sorted(self._held.items(), key=lambda it: -it[1])[:MOST_NAMED]
+        return tuple(f"{name}: {text_of(seconds)}" for name, seconds in order if seconds >= LAST_LOOK)
 
-    def serve(self) -> Optional[Reason]:
+    def go_on(self) -> None:
+        """Watches the server until its run has to end, and brings it to its end if it has not ended by itself. Raises a
+        `LeftBehind` if an end was asked for that can't be had in time."""
+        try:
+            why = self._watched()
+            self.closed = time.monotonic()
+            if why is not None:
+                self.why = why
+                if why is Reason.ASKED:
+                    notify(STOPPING=1)
+                self._parts.showing.enter(Phase.ENDING, why, clients=self.looks.served)
+                self._end()
+        finally:
+            self.looks.own.drop()
+            if self._crowd is not None:  # whoever comes while the last sessions are used up has to wait, too
+                self._crowd.stop()
+
+    def _watched(self) -> Optional[Reason]:
         """Watches the server until its run has to end, and returns why. None if it has ended by itself."""
         try:
             while not self.server.has_ended:
-                self.watch.look()
+                self._see(self.looks.look)
                 self._see_beginning()
                 why = self._why_to_end()
                 if why is not None:
@@ -56,22 +75,24 @@ class Current:
                 if self._parts.keeping.is_renewed(self.server):
                     say("warning", "keeper", run=self.server.run,
                         text="the keeper was killed; another one holds the server")
-                self._parts.signals.wait(LOOK, self.server.process)
+                self._signals.wait(LOOK, self.server.process)
             return None
         finally:
             if self._visits is not None:
                 self._visits.stop()
 
-    def leave(self) -> None:
-        """Ends the service's own sessions. Until the run has ended the crowd stays: whoever comes while the last
-        sessions are used up has to wait, too."""
-        self.watch.own.drop()
-        if self._crowd is not None:
-            self._crowd.stop()
+    def _see(self, look: Callable[[], None]) -> None:
+        """Looks, and shows what is seen."""
+        try:
+            look()
+            self._parts.showing.lower_alert("not-watching")
+        except Unwatchable as fault:
+            self._parts.showing.raise_alert("not-watching", str(fault))
+        self._parts.showing.show()
 
     def _see_beginning(self) -> None:
         """Writes down since when the server's clock goes, as soon as the server has shown it."""
-        record, began = self.record, self.watch.looks.began
+        record, began = self.record, self.looks.began
         if began is not None and not record.is_seen:
             self.record = self._parts.runs.see(record, record.began.after(began - record.began.up))
 
@@ -81,13 +102,13 @@ class Current:
         return elapsed(self.record.began, read_clock()) / SECOND
 
     def _why_to_end(self) -> Optional[Reason]:
-        if self._parts.signals.count:
+        if self._signals.count:
             return Reason.ASKED
-        settings, looks, own = self._parts.settings, self.watch.looks, self.watch.own
+        settings, looks = self._settings, self.looks
         return why_to_end(Seen(
             age=self._age, every=settings.every / SECOND, ending=settings.stop_within / SECOND, calls=looks.calls,
-            sessions=looks.sessions, is_full=own.is_full, unanswered=own.waits,
-            free_workers=settings.workers - looks.served, waiting=looks.waiting_long,
+            sessions=looks.sessions, is_full=looks.own.is_full, unanswered=looks.own.waits,
+            free_workers=looks.free_workers, waiting=looks.waiting_long,
             elements=looks.queue.elements if looks.queue else None, moment=looks.moment, aside=self.record.aside,
             first_aside=self._first_aside, leaving=looks.leaving,
             is_prepared=self._visits is not None and self._visits.are_made))
@@ -95,21 +116,67 @@ class Current:
     def _prepare_end(self) -> None:
         """In the last part of a run, uses up most of its sessions, and lets clients come to leave soon, so that its end
         takes no time."""
-        settings, every, looks = self._parts.settings, self._parts.settings.every / SECOND, self.watch.looks
-        free = settings.workers - looks.served
+        port, every, looks = self._settings.port, self._settings.every / SECOND, self.looks
         if self._visits is None and is_to_prepare(self._age, every):
-            crowded = max(free, 1) / STAYS * (every - self._age)  # sessions that the crowd takes
+            crowded = max(looks.free_workers, 1) / STAYS * (every - self._age)  # sessions that the crowd takes
             most = max(looks.sessions.limit - looks.sessions.used - RESERVE - int(crowded), 0)
-            self._visits, self._crowd = Visits(settings.port, most, self._parts.keeping.make_room()), Crowd(settings.port)
+            self._visits, self._crowd = Visits(port, most, self._parts.keeping.make_room()), Crowd(port)
             looks.crowd = self._crowd.ports
         if self._crowd is not None:
-            self._crowd.free = free
+            self._crowd.free = looks.free_workers
 
     def _cut_silent(self) -> None:
-        silent = self._parts.settings.silent
-        if silent is None:
-            return
-        ports = silent_ports(self.watch.looks.connections, silent / SECOND)
-        if ports:
+        silent = self._settings.silent
+        ports = silent_ports(self.looks.connections, silent / SECOND) if silent is not None else []
+        if silent is not None and ports:
             count, why = self._parts.keeping.cut(ports)
             say("warning", "cut-silent", sessions=count, silent=text_of(silent / SECOND), why=why or None)
+
+    def _end(self) -> None:
+        """Lets clients leave, and cuts their sessions if they do not."""
+        visits, told = Visits(self._settings.port, room=self._parts.keeping.make_room()), self.closed
+        try:
+            while not self.server.has_ended:
+                now = time.monotonic()
+                self._see(self.looks.see)
+                if not self.looks.ports:
+                    self.looks.own.last_call()
+                is_late = now - self.closed >= self._settings.stop_within / SECOND or self._signals.count > 1
+                if is_late and now - self._cut_at >= CUT:
+                    self._cut()
+                if now - told >= TELL:
+                    told = now
+                    self._tell(now - self.closed)
+                self._signals.wait(LAST_LOOK, self.server.process)
+                for it in self.looks.names():
+                    self._held[it] = self._held.get(it, 0.0) + time.monotonic() - now
+        finally:
+            visits.stop()
+
+    def _cut(self) -> None:
+        """Cuts the sessions that are open. Clients may connect again, so this is done until the server has ended."""
+        self._cut_at = time.monotonic()
+        ports, run, pid = self.looks.ports, self.server.run, self.server.pid
+        if not ports:
+            return
+        count, why = self._parts.keeping.cut(ports)
+        if count:
+            self.cut += count
+            say("warning", "cut", run=run, sessions=count, clients="; ".join(self._doings))
+        elif why and self._signals.count:
+            raise LeftBehind(f"run {run} goes on as process {pid}: its clients do not leave, and can't be cut: {why}; "
+                             "start the service again to go on with it")
+        elif why and why != self._why_not:
+            self._why_not = why
+            say("warning", "not-cut", run=run, sessions=len(ports), why=why)
+
+    def _tell(self, seconds: float) -> None:
+        names = self._doings
+        self._parts.showing.waits_for = tuple(f"{it}, for {text_of(seconds)}" for it in names or ["the server"])
+        self._parts.showing.show()
+        say("info", "waiting", run=self.server.run, seconds=round(seconds),
+            clients="; ".join(names[:MOST_NAMED]) or "none")
+
+    @property
+    def _doings(self) -> "list[str]":
+        return [f"{name}: {doing}" for name, doing in self.looks.names().items()]

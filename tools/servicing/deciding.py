@@ -7,9 +7,8 @@ from typing import List, Optional, Sequence
 
 from histories.grammar import MOST_OPENING_ELEMENTS
 from servicing.keeping import Held
-from servicing.record import Record
 from servicing.settings import Keep
-from servicing.state import Reason, Supply
+from servicing.state import Reason, Run, Supply
 
 LOW, HALF = 0.9, 0.5  # shares of what a run has that are used
 UNANSWERED = 3.0  # seconds after which a free worker would have answered
@@ -30,7 +29,7 @@ class Start(Enum):
     LOST = "lost"  # the last run is lost
 
 
-def how_to_start(last: Optional[Record], has_history: bool, held: Optional[Held], is_alive: bool) -> Start:
+def how_to_start(last: Optional[Run], has_history: bool, held: Optional[Held], is_alive: bool) -> Start:
     """`held` is what a keeper of an earlier service holds, and `is_alive` whether the server there still runs."""
     if last is None:
         return Start.FIRST
@@ -108,7 +107,7 @@ def _is_wanted_aside(seen: Seen) -> bool:
     return room > 0 and (seen.first_aside <= seen.moment + SOON or room >= min(seen.aside, MOST_OPENING_ELEMENTS // 10))
 
 
-def runs_to_drop(records: Sequence[Record], keep: Keep, now: float) -> List[int]:
+def runs_to_drop(records: Sequence[Run], keep: Keep, now: float) -> List[int]:
     """The runs that are kept no longer, at this date. The last two are always kept, and one that has not ended."""
     ended = [it for it in records[:-2] if it.end is not None]
     if keep.runs is not None:

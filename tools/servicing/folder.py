@@ -12,15 +12,19 @@ from __future__ import annotations
 
 import contextlib
 import fcntl
+import gzip
 import json
 import os
 import re
 import secrets
+import shutil
 import time
-import zlib
-from typing import Iterable, Iterator, List, Optional
+from dataclasses import asdict
+from pathlib import Path
+from typing import Any, BinaryIO, Dict, Iterable, Iterator, List, Optional
 
-from servicing.record import Record, record_in
+from servicing.clock import Reading
+from servicing.state import End, Reason, Run
 
 _RUN = re.compile(r"run-([1-9][0-9]{0,8})\.(json|txt|txt\.gz)")
 _FILES = ("run-{}.json", "run-{}.txt", "run-{}.txt.gz", "opening-{}.txt", "aside-{}.txt", "damaged-{}.txt")
@@ -48,23 +52,18 @@ class Folder:
         told = json.dumps({"pid": os.getpid(), "port": port, "since": int(time.time())})
         with contextlib.suppress(OSError):  # a full disk
             os.pwrite(self._lock, told.ljust(120).encode() + b"\n", 0)
-        self._remove_unfinished()
+        for unfinished in Path(path).glob("*.new"):
+            unfinished.unlink()
         self.id = self._own_id()
 
     def _own_id(self) -> str:
         with contextlib.suppress(OSError):
             return self.read("id").decode().strip()
         try:
-            id = secrets.token_hex(6)
-            self.write("id", [id.encode() + b"\n"])
-            return id
+            self.write("id", [f"{secrets.token_hex(6)}\n".encode()])
+            return self.read("id").decode().strip()
         except OSError as fault:
             raise Unusable(f"{self.path}: {fault.strerror}") from None
-
-    def _remove_unfinished(self) -> None:
-        for name in os.listdir(self.path):
-            if name.endswith(".new"):
-                os.unlink(f"{self.path}/{name}")
 
     @property
     def keeper_name(self) -> str:
@@ -76,45 +75,45 @@ class Folder:
         return f"{self.path}/{name}"
 
     def read(self, name: str) -> bytes:
-        with open(self.file(name), "rb") as file:
-            return file.read()
+        return Path(self.file(name)).read_bytes()
 
     def write(self, name: str, pieces: Iterable[bytes]) -> None:
-        """Writes a file whole: whoever looks, whenever the machine stops, finds the old one or the new one."""
+        """Writes a file whole."""
+        with self._written(name) as file:
+            file.writelines(pieces)
+
+    @contextlib.contextmanager
+    def _written(self, name: str) -> Iterator[BinaryIO]:
+        """A new file that takes the place of one of this name: whoever looks, whenever the machine stops, finds the old
+        one or the new one, whole."""
         new = self.file(f"{name}.new")
         try:
-            with open(new, "wb", opener=_opener) as file:
-                file.writelines(pieces)
+            with open(new, "wb", opener=lambda path, flags: os.open(path, flags, 0o600)) as file:
+                yield file
                 file.flush()
                 os.fsync(file.fileno())
             os.rename(new, self.file(name))
-            self._sync()
+            it = os.open(self.path, os.O_RDONLY | os.O_DIRECTORY)
+            try:
+                os.fsync(it)
+            finally:
+                os.close(it)
         except BaseException:
-            with contextlib.suppress(OSError):
-                os.unlink(new)
+            self.remove(f"{name}.new")
             raise
 
-    def _sync(self) -> None:
-        it = os.open(self.path, os.O_RDONLY | os.O_DIRECTORY)
-        try:
-            os.fsync(it)
-        finally:
-            os.close(it)
-
     def remove(self, name: str) -> None:
-        with contextlib.suppress(FileNotFoundError):
-            os.unlink(self.file(name))
+        Path(self.file(name)).unlink(missing_ok=True)
 
     def numbers(self) -> List[int]:
         """The numbers of the runs of which there is something, in their order."""
-        found = (_RUN.fullmatch(it) for it in os.listdir(self.path))
-        return sorted({int(it[1]) for it in found if it})
+        return sorted({int(it[1]) for it in map(_RUN.fullmatch, os.listdir(self.path)) if it})
 
-    def record(self, number: int) -> Optional[Record]:
+    def run(self, number: int) -> Optional[Run]:
         """What is known of a run. Raises an `Unusable` if that can't be read."""
         name = f"run-{number}.json"
         try:
-            return record_in(self.read(name))
+            return run_in(self.read(name), f"{self.id}-{number}")
         except FileNotFoundError:
             return None
         except (ValueError, KeyError, TypeError) as fault:
@@ -128,28 +127,15 @@ class Folder:
     def compress(self, number: int) -> None:
         """Puts a compressed history in the place of one."""
         name = f"run-{number}.txt"
-        if os.path.exists(self.file(name)):
-            self.write(f"{name}.gz", _compressed(self.file(name)))
-            os.unlink(self.file(name))
+        with contextlib.suppress(FileNotFoundError), open(self.file(name), "rb") as text:
+            with self._written(f"{name}.gz") as file, gzip.GzipFile("", "wb", 6, file) as packed:
+                shutil.copyfileobj(text, packed, 1 << 18)
+            self.remove(name)
 
     def drop(self, number: int) -> None:
         """Removes all files of a run."""
         for form in _FILES:
             self.remove(form.format(number))
-
-
-def _opener(path: str, flags: int) -> int:
-    return os.open(path, flags, 0o600)
-
-
-def _compressed(path: str) -> Iterator[bytes]:
-    """The bytes of the compressed file. Those who wait for the processor go first."""
-    packer = zlib.compressobj(6, zlib.DEFLATED, 31)
-    with open(path, "rb") as file:
-        for piece in iter(lambda: file.read(1 << 18), b""):
-            yield packer.compress(piece)
-            time.sleep(0)
-    yield packer.flush()
 
 
 def _who(told: bytes) -> str:
@@ -160,3 +146,19 @@ def _who(told: bytes) -> str:
         return f"the service of process {it['pid']} at port {it['port']}, since {since}"
     except (ValueError, KeyError, TypeError):
         return "another service"
+
+
+def record_of(run: Run) -> bytes:
+    """What is written down of a run."""
+    told = {name: value for name, value in asdict(run).items() if name not in ("id", "server", "history")}
+    return json.dumps(told, indent=1).encode() + b"\n"
+
+
+def run_in(text: bytes, id: str) -> Run:
+    """The run of a record. Raises a `ValueError`, `KeyError` or `TypeError` if the text is none."""
+    told: Dict[str, Any] = dict(json.loads(text))
+    end = told["end"]
+    if end is not None:
+        end.update(why=Reason(end["why"]), held_by=tuple(end["held_by"]))
+    told.update(began=Reading(**told["began"]), policy=tuple(told["policy"]), end=end and End(**end))
+    return Run(**told, id=id)

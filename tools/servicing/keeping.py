@@ -50,14 +50,13 @@ class Keeping:
         """Whether a keeper of this user is there."""
         self._link = socket.socket(socket.AF_UNIX, socket.SOCK_SEQPACKET)
         self._link.settimeout(PATIENCE)
-        try:
+        with contextlib.suppress(OSError):
             self._link.connect(self._name)
             _, owner, _ = struct.unpack("3i", self._link.getsockopt(socket.SOL_SOCKET, socket.SO_PEERCRED, 12))
-        except OSError:
-            owner = -1
-        if owner != os.geteuid():
-            self._link.close()
-        return bool(owner == os.geteuid())
+            if owner == os.geteuid():
+                return True
+        self._link.close()
+        return False
 
     def _begin(self) -> None:
         """Begins another one, which outlives this process and gets none of its signals. Raises an `Unusable`."""
@@ -78,10 +77,10 @@ class Keeping:
 
     def held(self) -> Server:
         """The server that it holds."""
-        held = self.status()
-        return Server(held.run or 0, held.pid, *self._ask("take")[1])
+        told, files = self._ask("take")
+        return Server(told["run"] or 0, told["pid"], *files)
 
-    def start(self, run: int, words: Sequence[str], files: Sequence[int]) -> None:
+    def start(self, run: int, words: Sequence[str], files: Sequence[int]) -> Server:
         """Starts a server with a history, what it prints, and an opening; if the keeper was killed, another one does.
         Raises a `NotStarted`."""
         try:
@@ -91,6 +90,7 @@ class Keeping:
             answer, _ = self._ask("start", files, run=run, words=list(words))
         if "fault" in answer:
             raise NotStarted(answer["fault"])
+        return self.held()
 
     def hold(self, server: Server) -> None:
         self._ask("hold", [server.history, server.printed, server.process], run=server.run, pid=server.pid)

@@ -3,12 +3,13 @@ from __future__ import annotations
 
 import time
 from collections import deque
-from dataclasses import dataclass
 from typing import Deque, Dict, List, Optional, Set, Tuple
 
 from servicing.session import OwnSession, Told
-from servicing.sockets import Connection, Sockets
-from servicing.state import Client, Clients, Doing, Queue, Supply
+from servicing.sockets import Connection, Sockets, look_at
+from servicing.state import Client, Clients, Doing, Queue, Run, Supply
+
+ASK = 5.0  # seconds from one question to the server to the next
 
 WINDOW, SHORTEST = 60.0, 5.0  # seconds over which a pace is measured
 BRIEF = 1_000  # milliseconds; a client from which something came since is active
@@ -73,24 +74,14 @@ def silent_ports(connections: List[Connection], seconds: float) -> List[int]:
             and min(it.heard, it.told) >= seconds * 1000]
 
 
-@dataclass(frozen=True)
-class Limits:
-    """How much a run has room for."""
-
-    workers: int
-    calls: int
-    sessions: int
-    next_id: int  # of its first offer
-    moment: int  # at its beginning
-    opening: int
-
-
 class Looks:
-    """What was seen of one run."""
+    """What was seen of one run, whose server is at this port."""
 
-    def __init__(self, limits: Limits, own: OwnSession) -> None:
-        self._limits, self._own = limits, own
+    def __init__(self, port: int, record: Run, workers: int, sessions: int) -> None:
+        self._port, self._record, self._workers, self._limit = port, record, workers, sessions
+        self.own = OwnSession(port)
         self.crowd: Set[int] = set()  # the ports of sessions that the service begins beside its own
+        self._asked = 0.0
         self._unread: Set[str] = set()  # the connections with a queue to the client at the last look
         self._seen: Set[str] = set()  # the connections that were served at the last look
         self._used_sessions = self._used_calls = 0
@@ -104,10 +95,21 @@ class Looks:
         self.began: Optional[int] = None  # when the server's clock began to go at the latest, by `clock.up_time`
         self.offered = self.left = 0  # elements of this run; a job that came back is offered again
 
-    def see(self, sockets: Sockets) -> None:
-        """Takes what the system tells of the connections."""
-        crowd = {*self.crowd}
-        own = {self._own.own_port, *crowd}
+    def look(self, between: float = ASK) -> None:
+        """Looks at the connections, and asks the server if that is so long ago. Raises an `Unwatchable`."""
+        if time.monotonic() - self._asked >= between or self.own.waits:
+            self._asked = time.monotonic()
+            told = self.own.look()
+            if told is not None:
+                self.hear(told)
+        self.see()
+        if self.waiting:
+            self.own.leave()  # a client needs the worker
+
+    def see(self, sockets: Optional[Sockets] = None) -> None:
+        """Takes what the system tells of the connections. Raises an `Unwatchable`."""
+        sockets, crowd = sockets or look_at(self._port), {*self.crowd}
+        own = {self.own.own_port, *crowd}
         served = {it.key for it in sockets.connections if it.is_served and it.port not in crowd}
         self._used_sessions += len(served - self._seen)
         self._seen = served
@@ -116,7 +118,7 @@ class Looks:
         clients = [client_of(it, it.key in self._unread) for it in self.connections if not has_given_up(it)]
         self._unread = {it.key for it in sockets.connections if it.send_queue}
         clients.sort(key=lambda it: (ORDER.index(it.doing), -(it.seconds or 0)))
-        self.clients = Clients(tuple(clients), self._limits.workers, SILENT_FROM)
+        self.clients = Clients(tuple(clients), self._workers, SILENT_FROM)
         self._sessions.add(time.monotonic(), self._used_sessions)
 
     def _time_sessions(self, served: Set[str]) -> None:
@@ -137,26 +139,26 @@ class Looks:
 
     def hear(self, told: Told) -> None:
         """Takes what the server told."""
-        limits, own = self._limits, self._own
+        record, own = self._record, self.own
         self.queue, self.moment = told.queue, told.moment
-        began = told.heard - (told.moment - limits.moment)
+        began = told.heard - (told.moment - record.moment)
         self.began = began if self.began is None else min(self.began, began)
-        ids = told.next_id - limits.next_id
+        ids = told.next_id - record.next_id
         self.offered = ids - own.probes
-        self.left = max(self.offered - told.queue.elements + limits.opening, 0)
+        self.left = max(self.offered - told.queue.elements + record.opening, 0)
         # One call for each id, one for each element that has left, and the looks; that of a probe was counted twice.
         calls = ids + self.left + own.calls - own.probes
-        self._used_calls = max(self._used_calls, min(calls, limits.calls))
+        self._used_calls = max(self._used_calls, min(calls, record.calls))
         for pace, number in ((self._calls, self._used_calls), (self.offers, self.offered), (self.leaves, self.left)):
             pace.add(time.monotonic(), number)
 
     @property
     def sessions(self) -> Supply:
-        return Supply(self._used_sessions, True, self._limits.sessions, self._sessions.a_second)
+        return Supply(self._used_sessions, True, self._limit, self._sessions.a_second)
 
     @property
     def calls(self) -> Supply:
-        is_full, limit = self._own.is_full, self._limits.calls
+        is_full, limit = self.own.is_full, self._record.calls
         return Supply(limit if is_full else self._used_calls, not is_full, limit, self._calls.a_second)
 
     @property
@@ -173,3 +175,18 @@ class Looks:
     @property
     def served(self) -> int:
         return self.clients.served if self.clients else 0
+
+    @property
+    def free_workers(self) -> int:
+        return self._workers - self.served
+
+    @property
+    def ports(self) -> List[int]:
+        """The ports of the clients that a worker serves."""
+        return [it.port for it in self.connections if it.is_served]
+
+    def names(self) -> Dict[str, str]:
+        """Who is served, the worst first, and what each does."""
+        clients = self.clients.all if self.clients else ()
+        return {f"client {it.port}" + (f" ({it.program} {it.pid})" if it.program else ""): it.doing.value
+                for it in clients if it.doing is not Doing.WAITING}

@@ -52,23 +52,16 @@ class Left:
     probes: int = 0  # elements that the service itself offered
 
 
-def opening_after(left: Left, aside: Elements, moment: int) -> Opening:
-    """The opening of the run after one that ended in good order, at this moment or at that of its last event. At most
-    1,000,000 elements are in it, those that expire first; the others wait beside."""
-    return _opening(left.next_id, max(moment, left.moment), left.elements, aside)
-
-
-def opening_again(before: Opening, given: int, moment: int) -> Opening:
-    """The opening of the run after one that was lost, which may have given this many ids."""
-    return _opening(before.next_id + given, max(moment, before.moment), before.elements, before.aside)
-
-
-def _opening(next_id: int, moment: int, elements: Elements, aside: Elements) -> Opening:
+def opening_after(left: Left, aside: Elements, moment: int, given: int = 0) -> Opening:
+    """The opening of the run after one that left this, and beside it elements aside: at this moment, or at that of the
+    last event. One that was lost left its own opening, and may have given so many ids. At most 1,000,000 elements are
+    in it, those that expire first; the others wait beside."""
+    next_id, elements = left.next_id + given, left.elements
     if next_id > GREATEST_OPENING_ID:
         raise NoIdsLeft
     if aside or len(elements) > MOST_OPENING_ELEMENTS:
         elements, aside = _parted({**elements, **aside})
-    return Opening(next_id, min(moment, GREATEST), elements, aside)
+    return Opening(next_id, min(max(moment, left.moment), GREATEST), elements, aside)
 
 
 def _parted(elements: Elements) -> Tuple[Elements, Elements]:
@@ -105,32 +98,27 @@ def left_in(file: BinaryIO, attempts: int = 0) -> Left:
     `ValueError`, an `IndexError` or a `KeyError` for another text.
     """
     left = _left_at_first(file)
-    elements = left.elements
-    last = b" %d " % attempts
-    words_of_event: List[bytes] = []
+    elements, last = left.elements, b" %d " % attempts
+    event: List[bytes] = []
     probes: List[bytes] = []
     for line in file:
-        event = line[:-1].split(b" ", 5)
-        if len(event) < 4:  # the last line
+        words = line[:-1].split(b" ", 5)
+        if len(words) < 4:  # the last line
             break
-        words_of_event = event
-        act = event[3]
-        if act == b"offer":
-            id, words = event[4], event[5]
-            elements[id] = words
+        event = words
+        if event[3] == b"offer":
+            id, element = event[4:]
+            elements[id] = element
             left.next_id += 1
-            left.failed += words.split(b" ", 2)[1] != id
-            if words.endswith(_PROBE_END) and _is_probe(words):
+            left.failed += element.split(b" ", 2)[1] != id
+            if element.endswith(_PROBE_END) and _is_probe(element):
                 probes.append(id)
-        elif act in (b"size", b"peek"):
             continue
-        else:
-            for id in _gone(act, event, elements):
-                words = elements.pop(id)
-                if last in words and act != b"remove":
-                    left.last_attempts += words.split(b" ", 4)[3] == last[1:-1]
-    if words_of_event:
-        left.moment = int(words_of_event[2])
+        for id in _gone(event, elements):
+            element = elements.pop(id)
+            if last in element and event[3] != b"remove":
+                left.last_attempts += element.split(b" ", 4)[3] == last[1:-1]
+    left.moment = int(event[2]) if event else left.moment
     for id in probes:  # a service that was killed may have left one
         elements.pop(id, None)
     left.probes = len(probes)
@@ -149,15 +137,14 @@ def _left_at_first(file: BinaryIO) -> Left:
     return left
 
 
-def _gone(act: bytes, event: List[bytes], elements: Elements) -> Iterable[bytes]:
+def _gone(event: List[bytes], elements: Elements) -> Iterable[bytes]:
     """The ids of the elements that an event took out."""
-    if act in (b"take", b"poll"):
-        return () if event[4] == b"none" else (event[4],)
-    if act == b"pollfor":
-        id = event[5].split(b" ")[1]
+    act = event[3]
+    if act in (b"take", b"poll", b"pollfor"):
+        id = event[-1].rpartition(b" ")[2]
         return () if id == b"none" else (id,)
     if act == b"drain":
-        return event[5].split() if len(event) > 5 else ()
+        return event[-1].split() if len(event) > 5 else ()
     if act == b"remove":
-        return (event[4],) if event[5] == b"yes" else ()
-    return list(elements)  # a clear
+        return event[4:5] if event[5] == b"yes" else ()
+    return [*elements] if act == b"clear" else ()

@@ -12,10 +12,6 @@ const plots = [
     ["returns", "failures", known((it) => rate(it) + " failures a second, over its whole run")]], COUNTS, number),
 ];
 
-const WHY = { asked: "asked to end", time: "its time was over", calls: "few calls were left",
-  sessions: "few sessions were left", elements: "elements that were set aside had room",
-  killed: "lost: its server was killed", unknown: "ended while no service was there" };
-
 const KINDS = { "does not read": "bad", "has hung up": "bad", "waits for a worker": "fair" };
 
 let last = null; // what was shown last
@@ -25,7 +21,7 @@ function show(told) {
   const { queue, run, phase } = told;
   const elements = queue === null ? "" : ", " + counted(queue.elements, "element");
   const alerts = told.alerts.length === 0 ? "" : counted(told.alerts.length, "alert") + ", ";
-  const why = told.why === null ? "" : " (" + WHY[told.why] + ")";
+  const why = told.says === null ? "" : " (" + told.says + ")";
   document.title = alerts + phase + elements + ": rb_broker " + told.port;
   document.body.classList.remove("old");
   put("port", String(told.port));
@@ -40,10 +36,8 @@ function show(told) {
 }
 
 function showAttention({ alerts, disk, waits_for }) {
-  const since = (it) => " (since " + date(it.since) + ")";
-  const texts = [...alerts.map((it) => it.text + since(it)), ...(disk === null ? [] : [disk.file + " can't be written: "
-    + disk.why + "; " + counted(disk.kept, "byte") + " are kept in memory" + since(disk)]),
-    ...waits_for.map((it) => "The service waits: " + it)];
+  const texts = [...alerts, ...(disk === null ? [] : [disk])].map((it) => it.text + " (since " + date(it.since) + ")");
+  texts.push(...waits_for.map((it) => "The service waits: " + it));
   if (isNew("attention", JSON.stringify(texts))) {
     const list = texts.length === 0 ? made("p", "Nothing.") : document.createElement("ul");
     list.append(...texts.map((it) => made("li", it)));
@@ -127,26 +121,12 @@ function showRuns(told) {
     wide(number(it.opening)), wide(number(used)), number(left), report];
   const rows = run === null ? [] : [row(run, told.at - run.began, told.phase === "serving" ? "it goes on" : "it is "
     + told.phase, calls && calls.used, queue && queue.elements, "")];
-  rows.push(...told.runs.map((it) => row(it, it.lasted, words(endOf(it), it.is_lost ? "bad" : ""), it.calls, it.left,
-    it.has_history ? { text: "report", link: "runs/" + it.number } : "")));
+  rows.push(...told.runs.map((it) => row(it, it.lasted, words(it.says.join("; "), it.is_lost ? "bad" : ""), it.calls,
+    it.left, it.has_history ? { text: "report", link: "runs/" + it.number } : "")));
   const more = told.runs_kept - told.runs.length;
   const none = told.runs.length === 0 ? "No run has ended yet." : "";
   put("runs-told", more > 0 ? counted(more, "earlier run is", "earlier runs are") + " kept too." : none);
   fill("runs", rows);
-}
-
-// How a run ended, and what clients felt of that.
-function endOf(run) {
-  const parts = [WHY[run.why]];
-  if (run.closed !== null) {
-    const most = run.held_by.slice(0, 2), more = run.held_by.length - most.length;
-    const by = most.length === 0 ? "" : ", held up by " + most.join(", ") + (more > 0 ? " and " + more + " more" : "");
-    parts.push("new clients waited " + span(run.closed) + by);
-  }
-  if (run.cut > 0) {
-    parts.push(counted(run.cut, "session") + " cut");
-  }
-  return parts.join("; ");
 }
 
 function showLosses(told) {

@@ -1,14 +1,24 @@
-"""What the modules share that begin, watch, end and save the runs of a service."""
+"""What the modules share that begin, watch, end and save the runs of a service, and how they write files: again and
+again while the disk is full."""
 from __future__ import annotations
 
+import time
 from dataclasses import dataclass
+from typing import Callable, Optional, TypeVar
 
+from servicing.durations import SECOND
 from servicing.folder import Folder
 from servicing.keeping import Keeping
 from servicing.runs import Runs
+from servicing.saying import say
 from servicing.settings import Settings
 from servicing.showing import Showing
 from servicing.signals import Signals
+from servicing.state import DiskFault
+
+AGAIN = 1.0  # seconds until something that failed is tried again
+
+Done = TypeVar("Done")
 
 
 class LeftBehind(Exception):
@@ -23,3 +33,30 @@ class Parts:
     runs: Runs
     showing: Showing
     keeping: Keeping
+
+    def until_written(self, name: str, kept: int, write: Callable[[], Done]) -> Done:
+        """Writes a file, of which so many bytes are in memory only. Raises a `LeftBehind` if an end is asked for."""
+        asked: Optional[float] = None
+        while True:
+            try:
+                done = write()
+                if self.showing.disk is not None:
+                    self.showing.disk = None
+                    say("info", "disk-over", file=name)
+                return done
+            except OSError as fault:
+                self._show(self.folder.file(name), kept, fault)
+            if self.signals.count:
+                asked = asked or time.monotonic()
+                if self.signals.count > 1 or time.monotonic() - asked > self.settings.stop_within / SECOND:
+                    raise LeftBehind(f"{name} can't be written, and {kept:,} bytes are kept in memory; make room in "
+                                     f"{self.folder.path}, and start the service again to write them")
+            self.signals.wait(AGAIN)
+
+    def _show(self, path: str, kept: int, fault: OSError) -> None:
+        showing = self.showing
+        if showing.disk is None:
+            showing.disk = DiskFault(path, fault.strerror or repr(fault), time.time(), kept)
+            say("error", "disk", file=path, why=showing.disk.why, kept=kept)
+        showing.waits_for = (f"{showing.disk.file}: {showing.disk.why}",)
+        showing.show()

@@ -16,13 +16,12 @@ from typing import Callable, Dict, Optional, Tuple
 from histories.files import open_history
 from servicing.clock import Reading, elapsed, read_clock
 from servicing.deciding import runs_to_drop
-from servicing.folder import Folder, Unusable
-from servicing.opening import Elements, Left, Opening, left_in, opening_after, opening_again
-from servicing.record import Record
+from servicing.folder import Folder, Unusable, record_of
+from servicing.opening import Left, Opening, left_in, opening_after
 from servicing.saying import say
 from servicing.server import Server
 from servicing.settings import Keep, Settings
-from servicing.state import End, PastRun
+from servicing.state import End, Run
 
 LOW_PRIORITY = 10
 _TIDYING = threading.Lock()
@@ -43,16 +42,16 @@ class Next:
 class Runs:
     def __init__(self, folder: Folder) -> None:
         self.folder = folder
-        self.records: Dict[int, Record] = {}
+        self.records: Dict[int, Run] = {}
         for number in folder.numbers():
-            record = folder.record(number)
+            record = folder.run(number)
             if record is not None:
                 self.records[number] = record
         # Histories of another service may be there, which are never written over.
         self._greatest = max(folder.numbers(), default=0)
 
     @property
-    def last(self) -> Optional[Record]:
+    def last(self) -> Optional[Run]:
         return self.records.get(max(self.records, default=0))
 
     @property
@@ -71,7 +70,7 @@ class Runs:
         why_not = program_accepts(path)
         if why_not:
             raise Unusable(f"{path} can't be continued: {why_not}")
-        left = _left_of(path)
+        left = left_of(path)
         age = max(time.time_ns() - os.stat(path).st_mtime_ns, 0)
         say("info", "begins-with", history=path, elements=len(left.elements))
         return Next(lambda moment: opening_after(left, {}, moment), left.moment + age, None)
@@ -81,19 +80,18 @@ class Runs:
         """How many runs were lost since the folder exists."""
         return self.last.lost if self.last else 0
 
-    def past(self) -> Tuple[PastRun, ...]:
-        """The runs that have ended, the latest first."""
-        records = sorted(self.records.values(), key=lambda it: -it.number)
-        runs = (it.past_run(self.folder.id, self.folder.history(it.number)) for it in records)
-        return tuple(it for it in runs if it is not None)
+    def past(self) -> Tuple[Run, ...]:
+        """The runs that have ended, the latest first, with their histories."""
+        ended = sorted((it for it in self.records.values() if it.end), key=lambda it: -it.number)
+        return tuple(replace(it, history=self.folder.history(it.number)) for it in ended)
 
-    def prepare(self, following: Next, settings: Settings) -> Record:
+    def prepare(self, following: Next, settings: Settings) -> Run:
         """Writes down the next run, whose server is started right behind. Raises an `OSError` if the disk is full."""
         now, number, before = read_clock(), self.next_number, self.last
         opening = following.at(now)
         lost = 0 if before is None else before.lost_before if before.number == number else before.lost
-        record = Record(number, opening.next_id, opening.moment, len(opening.elements), len(opening.aside),
-                        settings.calls, tuple(settings.policy), now, lost_before=lost)
+        record = Run(number, f"{self.folder.id}-{number}", now, opening.moment, opening.next_id, len(opening.elements),
+                     len(opening.aside), settings.calls, tuple(settings.policy), lost_before=lost)
         if opening.aside:
             self.folder.write(f"aside-{number}.txt", opening.aside_lines())
         else:
@@ -103,30 +101,21 @@ class Runs:
         self._greatest = number
         return record
 
-    def see(self, record: Record, began: Reading) -> Record:
+    def see(self, record: Run, began: Reading) -> Run:
         """Writes down when a server really began. It is no harm if that can't be written."""
         self.records[record.number] = seen = replace(record, began=began, is_seen=True)
         with contextlib.suppress(OSError):
             self._write(seen)
         return seen
 
-    def after(self, record: Record, left: Left) -> Next:
-        """What follows a run that ended in good order."""
-        aside = self._aside(record)
-        return Next(lambda moment: opening_after(left, aside, moment), record.moment, record.surely_began)
+    def after(self, record: Run, left: Left, given: int = 0) -> Next:
+        """What follows a run that left this, and may have given so many ids more."""
+        aside = left_of(self.folder.file(f"aside-{record.number}.txt")).elements if record.aside else {}
+        return Next(lambda moment: opening_after(left, aside, moment, given), record.moment, record.surely_began)
 
-    def again(self, record: Record, given: int) -> Next:
+    def again(self, record: Run, given: int) -> Next:
         """What follows a run that was lost, and may have given so many ids."""
-        left = _left_of(self.folder.file(f"opening-{record.number}.txt"))
-        before = Opening(record.next_id, record.moment, left.elements, self._aside(record))
-        return Next(lambda moment: opening_again(before, given, moment), record.moment, record.surely_began)
-
-    def after_file(self, record: Record, path: str) -> Next:
-        """What follows a run that ended in good order, by the file of its history."""
-        return self.after(record, _left_of(path))
-
-    def _aside(self, record: Record) -> Elements:
-        return _left_of(self.folder.file(f"aside-{record.number}.txt")).elements if record.aside else {}
+        return self.after(record, left_of(self.folder.file(f"opening-{record.number}.txt")), given)
 
     def save_history(self, server: Server) -> None:
         """Writes a run's history, unless it is there. Raises an `OSError`."""
@@ -138,12 +127,12 @@ class Runs:
         with contextlib.suppress(OSError):
             self.folder.write(f"damaged-{server.run}.txt", server.text())
 
-    def end(self, record: Record, end: End) -> None:
+    def end(self, record: Run, end: End) -> None:
         """Writes down what became of a run. Raises an `OSError`."""
         self._write(replace(record, end=end))
 
-    def _write(self, record: Record) -> None:
-        self.folder.write(f"run-{record.number}.json", [record.text()])
+    def _write(self, record: Run) -> None:
+        self.folder.write(f"run-{record.number}.json", [record_of(record)])
         self.records[record.number] = record
 
     def tidy(self, keep: Keep, then: Callable[[], None]) -> None:
@@ -169,7 +158,7 @@ class Runs:
         then()
 
 
-def _left_of(path: str) -> Left:
+def left_of(path: str) -> Left:
     """What is left in a file. Raises an `Unusable`."""
     try:
         with open_history(path) as file:

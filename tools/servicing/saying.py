@@ -1,11 +1,16 @@
-"""What the service says on standard error: a line for each change, as words and values that log collectors read."""
+"""What the service says: on standard error a line for each change, as words and values that log collectors read, and
+to systemd how a unit with `Type=notify` is. Elsewhere that one hears nothing."""
 from __future__ import annotations
 
 import contextlib
+import os
 import re
+import socket
 import sys
 import time
 from typing import Dict
+
+PATIENCE = 1.0  # seconds; a manager that takes nothing is not waited for
 
 _PLAIN = re.compile(r"[^\s\"=]+")
 
@@ -26,3 +31,14 @@ def _quoted(value: str) -> str:
         return value
     escaped = value.replace("\\", "\\\\").replace('"', '\\"').replace("\n", "\\n")
     return f'"{escaped}"'
+
+
+def notify(**values: object) -> None:
+    """Sends an assignment for each value, such as READY=1, to systemd."""
+    address = os.environ.get("NOTIFY_SOCKET")
+    if not address:
+        return
+    with contextlib.suppress(OSError), socket.socket(socket.AF_UNIX, socket.SOCK_DGRAM | socket.SOCK_CLOEXEC) as it:
+        it.settimeout(PATIENCE)
+        it.connect("\0" + address[1:] if address.startswith("@") else address)
+        it.sendall("\n".join(f"{name}={value}" for name, value in values.items()).encode())

@@ -7,92 +7,110 @@ import time
 from dataclasses import replace
 from typing import Optional
 
+from servicing.between import resumed, saved
+from servicing.clock import read_clock
 from servicing.current import Current
-from servicing.ending import Ending
 from servicing.folder import Folder, Unusable
-from servicing.keeping import Keeping
-from servicing.notifying import notify
-from servicing.opening import NoIdsLeft
-from servicing.parts import Parts
-from servicing.resuming import resumed
-from servicing.runs import Runs
-from servicing.saving import saved
-from servicing.saying import say
+from servicing.keeping import Keeping, KeeperLost, NotStarted
+from servicing.opening import NoIdsLeft, Opening
+from servicing.parts import AGAIN, Parts
+from servicing.runs import Next, Runs
+from servicing.saying import notify, say
+from servicing.server import Server, file_name
 from servicing.settings import Settings
 from servicing.showing import Showing
 from servicing.signals import Signals
-from servicing.starting import started
-from servicing.state import Board, Phase, Reason
+from servicing.state import Board, Phase, Reason, Run
+
+POLL = 0.005  # seconds from one look whether a server listens to the next
 
 
-class Service:
-    def __init__(self, settings: Settings, folder: Folder, board: Board, signals: Signals) -> None:
-        runs = Runs(folder)
-        self._settings, self._folder, self._signals, self._runs = settings, folder, signals, runs
-        self._showing = Showing(settings, runs, board)
-        self._before: Optional[Current] = None  # the run that ended last, until the next one serves
+def serve(settings: Settings, folder: Folder, board: Board, signals: Signals) -> None:
+    """Serves until a signal asks for the end. Raises an `Unusable` if nothing can be served, and a `LeftBehind`."""
+    runs = Runs(folder)
+    say("info", "service", port=settings.port, folder=folder.path, pid=os.getpid())
+    keeping = Keeping(folder.keeper_name, folder.path)
+    parts = Parts(settings, folder, signals, runs, Showing(settings, runs, board), keeping)
+    try:
+        _serve(parts)
+    except NoIdsLeft:
+        raise Unusable("all ids up to 2^40 are used; begin with another folder") from None
+    finally:
+        keeping.let_go()
+    parts.showing.run = None
+    parts.showing.enter(Phase.STOPPED, Reason.ASKED)
 
-    def run(self) -> None:
-        """Serves until a signal asks for the end. Raises an `Unusable` if nothing can be served, and a `LeftBehind`."""
-        say("info", "service", port=self._settings.port, folder=self._folder.path, pid=os.getpid())
-        keeping = Keeping(self._folder.keeper_name, self._folder.path)
-        parts = Parts(self._settings, self._folder, self._signals, self._runs, self._showing, keeping)
+
+def _serve(parts: Parts) -> None:
+    found, before = resumed(parts), None
+    while True:
+        current = found if isinstance(found, Current) else _started(parts, found, is_first=before is None)
+        if current is None:
+            return
+        _say_serving(parts, current, before)
+        if not isinstance(found, Current):
+            parts.runs.tidy(parts.settings.keep, parts.showing.renew_runs)
+        current.go_on()
+        found, before = saved(parts, current), current
+        if parts.signals.count:
+            return
+
+
+def _say_serving(parts: Parts, current: Current, before: Optional[Current]) -> None:
+    record, showing = current.record, parts.showing
+    showing.lower_alert("not-listening")
+    showing.run, showing.looks = current.record, current.looks
+    closed = None if before is None else time.monotonic() - before.closed
+    showing.enter(Phase.SERVING, None, port=parts.settings.port, elements=record.opening, aside=record.aside or None,
+                  process=current.server.pid, closed=None if closed is None else f"{closed:.3f}s",
+                  held_by="; ".join(before.held_by) or None if before else None)
+    notify(READY=1)
+    last = parts.runs.records.get(before.record.number) if before else None
+    if closed is not None and last is not None and last.end is not None:
+        with contextlib.suppress(OSError):  # it is no harm if that can't be written
+            parts.runs.end(last, replace(last.end, closed=round(closed, 3)))
+
+
+def _started(parts: Parts, following: Next, is_first: bool) -> Optional[Current]:
+    """The next run, whose server listens. None if the end is asked for before that. Raises an `Unusable` if the first
+    one can't be started; later that is tried again, since clients wait."""
+    while not parts.signals.count:
+        record = parts.until_written("opening", 0, lambda: parts.runs.prepare(following, parts.settings))
+        now = read_clock()
+        opening = following.at(now)
+        record = replace(record, moment=opening.moment, began=now)
         try:
-            self._serve(parts)
-        except NoIdsLeft:
-            raise Unusable("all ids up to 2^40 are used; begin with another folder") from None
-        finally:
-            keeping.let_go()
-        self._showing.run = None
-        self._showing.enter(Phase.STOPPED, Reason.ASKED)
+            server = _listening(parts, record, opening)
+            record = replace(record, began=read_clock())  # its clock goes since about now; a look tells exactly
+            return Current(parts, record, server, opening.first_aside)
+        except (NotStarted, KeeperLost) as fault:
+            if is_first:
+                raise Unusable(f"no server at port {parts.settings.port}: {fault}") from None
+            parts.showing.raise_alert("not-listening", f"no server can be started: {fault}", "error")
+            parts.showing.show()
+            parts.signals.wait(AGAIN)
+    return None
 
-    def _serve(self, parts: Parts) -> None:
-        found, has_served = resumed(parts), False
-        while True:
-            current = found if isinstance(found, Current) else started(parts, found, not has_served)
-            if current is None:
-                return
-            self._say_serving(current)
-            if not isinstance(found, Current):
-                self._runs.tidy(self._settings.keep, self._showing.renew_runs)
-            why, has_served = current.serve(), True
-            self._end(parts, current, why)
-            found = saved(parts, current)
-            self._before = current
-            if self._signals.count:
-                return
 
-    def _say_serving(self, current: Current) -> None:
-        record, before = current.record, self._before
-        self._showing.lower_alert("not-listening")
-        self._showing.run, self._showing.looks = current.shown, current.watch.looks
-        closed = time.monotonic() - before.closed if before and before.closed is not None else None
-        self._showing.enter(Phase.SERVING, None, port=self._settings.port, elements=record.opening,
-                            aside=record.aside or None, process=current.server.pid,
-                            closed=None if closed is None else f"{closed:.3f}s",
-                            held_by="; ".join(before.held_by) or None if before else None)
-        notify(READY=1)
-        if before is not None and closed is not None:
-            self._note_closed(before.record.number, closed)
-        self._before = None
+def _listening(parts: Parts, record: Run, opening: Opening) -> Server:
+    """The server of a run, once it listens. Raises a `NotStarted` or a `KeeperLost`.
 
-    def _note_closed(self, number: int, closed: float) -> None:
-        """Writes down for how long new clients were not served. It is no harm if that can't be written."""
-        record = self._runs.records.get(number)
-        if record is not None and record.end is not None:
-            with contextlib.suppress(OSError):
-                self._runs.end(record, replace(record.end, closed=round(closed, 3)))
-
-    def _end(self, parts: Parts, current: Current, why: Optional[Reason]) -> None:
-        """Brings a run to its end, if it has not ended by itself."""
-        try:
-            if why is None:
-                current.closed = time.monotonic()
-                return
-            current.why = why
-            if why is Reason.ASKED:
-                notify(STOPPING=1)
-            self._showing.enter(Phase.ENDING, why, clients=current.watch.looks.served)
-            Ending(parts, current).run()
-        finally:
-            current.leave()
+    It reads its opening from memory, and not from the file, so that its moment is that of now: what passes until its
+    clock goes is time by which jobs are late.
+    """
+    names = (file_name(parts.folder.id, record.number, it) for it in ("history", "printed", "opening"))
+    files = [*map(os.memfd_create, names)]
+    try:
+        with os.fdopen(os.dup(files[2]), "wb") as file:
+            file.writelines(opening.lines())
+        server = parts.keeping.start(record.number, parts.settings.serve_words, files)
+    finally:
+        for it in files:
+            os.close(it)
+    while not server.listens:
+        if parts.signals.wait(POLL, server.process) and not server.listens:
+            why = server.last_line or "its process has ended"
+            server.close()
+            parts.keeping.drop()
+            raise NotStarted(why)
+    return server

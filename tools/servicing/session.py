@@ -26,10 +26,6 @@ class Told:
     heard: int  # when, by the clock that `clock.up_time` reads
 
 
-class Lost(Exception):
-    """The session is lost, or the server does not listen."""
-
-
 class OwnSession:
     """A session that is left after a look if clients wait for its worker, and otherwise stays.
 
@@ -65,8 +61,8 @@ class OwnSession:
             return 0
 
     def look(self) -> Optional[Told]:
-        """Asks the server. None if it does not answer soon, since no worker is free, or if the run is full. Raises a
-        `Lost`."""
+        """Asks the server. None if it does not answer soon, since no worker is free, if the run is full, or if the
+        session is lost: the server has ended, or another session will do."""
         try:
             if not self._greet():
                 return None
@@ -82,9 +78,9 @@ class OwnSession:
             self.probes += 1
             moment = expiry - PROBE_DELAY
             return Told(Queue(time.time(), int(size.split(" ")[1]), _head(head, moment)), id + 1, moment, heard)
-        except (OSError, ValueError, IndexError) as fault:
+        except (OSError, ValueError, IndexError):
             self.drop()
-            raise Lost(repr(fault)) from None
+            return None
 
     def _called(self) -> str:
         """The reply to a request, which is a call unless it is refused."""

@@ -2,17 +2,16 @@
 from __future__ import annotations
 
 import time
+from dataclasses import replace
 from typing import Dict, Iterator, Optional, Tuple
 
 from histories.grammar import MOST_OPENING_ELEMENTS
-from servicing.durations import SECOND, text_of
+from servicing.durations import text_of
 from servicing.looking import Looks
-from servicing.notifying import notify
 from servicing.runs import Runs
-from servicing.saying import say
+from servicing.saying import notify, say
 from servicing.settings import Settings
-from servicing.state import Alert, Board, DiskFault, PastRun, Phase, Reason, Run, State, Traffic
-from servicing.state import Settings as Shown
+from servicing.state import Alert, Board, DiskFault, Phase, Reason, Run, State, Traffic
 
 MANY_ELEMENTS = 900_000
 MANY_IDS = 2**40 - 10**9
@@ -24,18 +23,14 @@ class Showing:
     """Puts a new state on the board whenever something has changed."""
 
     def __init__(self, settings: Settings, runs: Runs, board: Board) -> None:
-        self._board, self._history, self._began = board, runs, time.time()
-        option, span = settings.retry
-        self._settings = Shown(settings.port, settings.folder, settings.every / SECOND, settings.stop_within / SECOND,
-                               settings.attempts, f"{option} {text_of(span / SECOND)}")
-        self.phase, self._since, self.why = Phase.STARTING, self._began, None  # type: Phase, float, Optional[Reason]
-        self.waits_for: Tuple[str, ...] = ()
+        self._board, self._history, began = board, runs, time.time()
+        self._state = State(began, settings, began, Phase.STARTING, began)
         self.run: Optional[Run] = None
         self.looks: Optional[Looks] = None
+        self.waits_for: Tuple[str, ...] = ()
         self.disk: Optional[DiskFault] = None
-        self._told: Dict[str, Alert] = {}  # alerts that the service has raised
-        self._offered = self._left = self._failed = self._last_attempts = 0  # in runs that have ended
-        self._failed_a_second: Optional[float] = None
+        self._raised: Dict[str, Alert] = {}  # alerts that the service has raised
+        self._counted = Traffic()  # in runs that have ended
         self.renew_runs()
 
     def renew_runs(self) -> None:
@@ -44,51 +39,44 @@ class Showing:
 
     def enter(self, phase: Phase, why: Optional[Reason] = None, **told: object) -> None:
         """Another phase begins, which a line says."""
-        self.phase, self.why, self._since, self.waits_for = phase, why, time.time(), ()
+        self._state, self.waits_for = replace(self._state, phase=phase, why=why, since=time.time()), ()
         say("info", phase.value.replace(" ", "-"), run=self.run.number if self.run else None,
             why=why.value if why else None, **told)
         self.show()
 
     def raise_alert(self, name: str, text: str, level: str = "warning") -> None:
         """Raises an alert, or says another text of one. A line says it each time that the text is new."""
-        before = self._told.get(name)
+        before = self._raised.get(name)
         if before is None or before.text != text:
             say(level, name, text=text)
-        self._told[name] = Alert(name, text, before.since if before else time.time())
+        self._raised[name] = Alert(name, text, before.since if before else time.time())
 
     def lower_alert(self, name: str) -> None:
-        if self._told.pop(name, None):
+        if self._raised.pop(name, None):
             say("info", f"{name}-over")
 
-    def count(self, run: PastRun, offered: int, left: int) -> None:
+    def count(self, run: Run, offered: int, left: int) -> None:
         """Adds what is known of a run that has ended."""
-        self._offered += offered
-        self._left += left
-        if run.end.failed is not None:
-            self._failed += run.end.failed
-            self._last_attempts += run.end.last_attempts or 0
-            self._failed_a_second = run.end.failed / max(run.lasted, 1)
+        it, end = self._counted, run.end
+        self._counted = it = replace(it, offered=it.offered + offered, left=it.left + left)
+        if end is not None and end.failed is not None:
+            self._counted = replace(it, failed=it.failed + end.failed, failed_a_second=end.failed / max(run.lasted, 1),
+                                    dead_or_done=it.dead_or_done + (end.last_attempts or 0))
 
     def show(self) -> None:
         """Puts the present state on the board, and tells systemd its line."""
-        looks = self.looks
-        state = State(
-            at=time.time(), settings=self._settings, began=self._began, phase=self.phase, since=self._since,
-            why=self.why, waits_for=self.waits_for, run=self.run, queue=looks.queue if looks else None,
-            clients=looks.clients if looks else None, calls=looks.calls if looks else None,
-            sessions=looks.sessions if looks else None, traffic=self._traffic(), runs=self._runs,
-            lost_runs=self._history.lost, alerts=(*self._told.values(), *self._alerts()), disk=self.disk)
+        looks, traffic = self.looks, self._counted
+        if looks:
+            traffic = replace(traffic, offered=traffic.offered + looks.offered, left=traffic.left + looks.left,
+                              offered_a_second=looks.offers.a_second, left_a_second=looks.leaves.a_second)
+        seen = {it: getattr(looks, it, None) for it in ("queue", "clients", "calls", "sessions")}
+        self._state = state = replace(
+            self._state, at=time.time(), waits_for=self.waits_for, run=self.run, traffic=traffic, runs=self._runs,
+            lost_runs=self._history.lost, alerts=(*self._raised.values(), *self._alerts()), disk=self.disk, **seen)
         self._board.put(state)
         # An end takes as long as --stop-within says, and an opening of many elements its time.
-        longer = {} if self.phase is Phase.SERVING else {"EXTEND_TIMEOUT_USEC": MORE_TIME}
+        longer = {} if state.phase is Phase.SERVING else {"EXTEND_TIMEOUT_USEC": MORE_TIME}
         notify(STATUS=status_line(state), **longer)
-
-    def _traffic(self) -> Traffic:
-        looks = self.looks
-        offered, left, offers, leaves = (
-            (looks.offered, looks.left, looks.offers.a_second, looks.leaves.a_second) if looks else (0, 0, None, None))
-        return Traffic(self._offered + offered, self._left + left, self._failed, self._last_attempts, offers, leaves,
-                       self._failed_a_second)
 
     def _alerts(self) -> Iterator[Alert]:
         """Those that follow from what is seen."""
@@ -99,15 +87,15 @@ class Showing:
         if elements >= MANY_ELEMENTS:
             aside = f", of which {run.aside:,} wait in a file" if run.aside else ""
             text = f"{elements:,} elements wait{aside}; a run can begin with {MOST_OPENING_ELEMENTS:,}"
-            yield Alert("many-elements", text, run.began)
+            yield Alert("many-elements", text, run.date)
         if run.next_id > MANY_IDS:
-            yield Alert("few-ids", f"ids end at {2**40:,}, and this run begins at {run.next_id:,}", run.began)
+            yield Alert("few-ids", f"ids end at {2**40:,}, and this run begins at {run.next_id:,}", run.date)
         lost = next((it for it in self._runs if it.is_lost), None)
-        if lost is not None and time.time() - lost.end.date <= DAY:
+        if lost is not None and lost.end is not None and time.time() - lost.end.date <= DAY:
             yield Alert("lost-run", lost_text(lost), lost.end.date)
 
 
-def lost_text(run: PastRun) -> str:
+def lost_text(run: Run) -> str:
     """What the loss of a run means."""
     return (f"run {run.number} was lost after {text_of(run.lasted)}: what was offered, taken and done in it is gone, "
             f"and the {run.opening:,} elements that it began with are in the queue again")

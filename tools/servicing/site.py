@@ -1,39 +1,64 @@
-"""What is answered to each path.
+"""The page, the metrics and the health of a service, on one thread of their own.
 
     /             the page
     /state.json   what it shows
     /metrics      the same for Prometheus
     /health       200 as long as clients are served, or will be within seconds; 503 otherwise
     /runs/NUMBER  the report on a run that has ended; 202 while it is made
+
+Whatever clients send, or leave out, the service goes on: the thread takes what it shows from the board alone, and no
+exit waits for it. The same is always answered at the socket `status` in the folder, for `tools/service --status`:
+whoever may use the folder may connect there. If there is no room for the socket, nothing else is missing.
 """
 from __future__ import annotations
 
 import dataclasses
 import json
+import os
 import re
 import time
 from http import HTTPStatus
-from typing import Optional
+from typing import List, Optional
 
 from servicing import metrics
-from servicing.http import Answer
+from servicing.address import Address
+from servicing.http import Answer, HttpServer
 from servicing.page import page
-from servicing.reports import Reports
+from servicing.reports import HTML, Reports
 from servicing.state import Board, State, Traffic
 from servicing.told import told
 from servicing.trend import Trend
 
-HTML, JSON = "text/html; charset=utf-8", "application/json"
-NONE_YET = Answer.line(HTTPStatus.SERVICE_UNAVAILABLE, "starting")
+SOCKET = "status"  # in the folder
+JSON = "application/json"
 
 STALE = 60.0  # seconds without a new state after which the service is not healthy
 COUNTS = ("offered", "left", "failed", "dead_or_done")  # of the traffic, which rise
 
-MAKING = """<!DOCTYPE html>
-<html lang="en"><head><meta charset="utf-8"><meta name="viewport" content="width=device-width, initial-scale=1">
-<meta name="color-scheme" content="light dark"><link rel="icon" href="data:,"><title>run {0}: report</title></head>
-<body><p>The report on run {0} is being made. This page asks again every two seconds.</p></body></html>
-"""
+
+class Pages:
+    """What a service shows, at an address if there is one, and at the folder's socket."""
+
+    def __init__(self, board: Board, port: int, folder: str, http: Optional[Address]) -> None:
+        self._reports, self._path, self._http = Reports(), os.path.join(folder, SOCKET), http
+        site = Site(board, port, self._reports)
+        self._server = HttpServer(site.answer, site.beat)
+
+    def start(self) -> List[str]:
+        """Serves from now on. Returns what an operator has to know of that. Raises an `OSError` if the address can't be
+        had."""
+        warnings = [self._server.listen(self._http).warning] if self._http else []
+        try:
+            self._server.listen_in(self._path)
+        except OSError as fault:
+            warnings.append(f"{self._path}: {fault.strerror}: --status does not work")
+        self._server.start()
+        return [it for it in warnings if it]
+
+    def stop(self) -> None:
+        """Cuts all connections, ends a report that is being made, and listens no more, within five seconds."""
+        self._reports.stop()
+        self._server.stop()
 
 
 class Site:
@@ -43,7 +68,7 @@ class Site:
         self._board, self._reports, self._trend, self._page = board, reports, Trend(), page(port)
         self._seen: Optional[State] = None
         self._changed = time.monotonic()
-        self._counted = Traffic(0, 0, 0, 0, None, None, None)
+        self._counted = Traffic()
         self._told: Optional[Answer] = None  # which is made once, however many ask
         self._told_of: Optional[State] = None
 
@@ -60,24 +85,28 @@ class Site:
         """The answer to a path. None if there is nothing."""
         if path == "/":
             return Answer(HTTPStatus.OK, HTML, self._page)
-        run = re.fullmatch(r"/runs/([1-9][0-9]{0,8})", path)
-        if not run and path not in ("/state.json", "/metrics", "/health"):
+        answers = {"/state.json": self._state, "/metrics": self._metrics, "/health": self._health}
+        run, state = re.fullmatch(r"/runs/([1-9][0-9]{0,8})", path), self._board.state
+        if not run and path not in answers:
             return None
-        state = self._board.state
+        if state is None and path == "/state.json":
+            return Answer(HTTPStatus.OK, JSON, b"null")
         if state is None:
-            return Answer(HTTPStatus.OK, JSON, b"null") if path == "/state.json" else NONE_YET
-        if run:
-            return self._report(state, int(run[1]))
-        if path == "/metrics":
-            state = dataclasses.replace(state, traffic=self._risen(state.traffic))
-            return Answer(HTTPStatus.OK, metrics.KIND, metrics.metrics(state, self._is_healthy(state)).encode())
-        return self._state(state) if path == "/state.json" else self._health(state)
+            return Answer.line(HTTPStatus.SERVICE_UNAVAILABLE, "starting")
+        return self._report(state, int(run[1])) if run else answers[path](state)
 
     def _state(self, state: State) -> Answer:
         if self._told is None or self._told_of is not state:
             whole = {**told(state), "is_healthy": self._is_healthy(state), "trend": self._trend.told()}
             self._told, self._told_of = Answer(HTTPStatus.OK, JSON, json.dumps(whole).encode()), state
         return self._told
+
+    def _metrics(self, state: State) -> Answer:
+        """A counter is never less than before: a run whose end corrects a count must not look like a reset."""
+        counts = {it: max(getattr(state.traffic, it), getattr(self._counted, it)) for it in COUNTS}
+        self._counted = dataclasses.replace(state.traffic, **counts)
+        text = metrics.metrics(dataclasses.replace(state, traffic=self._counted), self._is_healthy(state))
+        return Answer(HTTPStatus.OK, metrics.KIND, text.encode())
 
     def _health(self, state: State) -> Answer:
         """In one line, which says what is wrong."""
@@ -87,11 +116,9 @@ class Site:
         why = f"the service has found nothing for {STALE:g} seconds" if self._is_stale else why
         return Answer.line(HTTPStatus.SERVICE_UNAVAILABLE, why)
 
-    def _risen(self, traffic: Traffic) -> Traffic:
-        """What was counted, never less than before: a run whose end corrects a count must not look like a reset."""
-        counts = {it: max(getattr(traffic, it), getattr(self._counted, it)) for it in COUNTS}
-        self._counted = dataclasses.replace(traffic, **counts)
-        return self._counted
+    def _report(self, state: State, number: int) -> Optional[Answer]:
+        run = next((it for it in state.runs if it.number == number and it.history is not None), None)
+        return self._reports.of(run, state.settings) if run else None
 
     def _is_healthy(self, state: State) -> bool:
         return state.is_healthy and not self._is_stale
@@ -99,14 +126,3 @@ class Site:
     @property
     def _is_stale(self) -> bool:
         return time.monotonic() - self._changed > STALE
-
-    def _report(self, state: State, number: int) -> Optional[Answer]:
-        run = next((it for it in state.runs if it.number == number and it.history is not None), None)
-        if run is None:
-            return None
-        report = self._reports.of(run, state.settings)
-        if report is None:
-            return Answer(HTTPStatus.ACCEPTED, HTML, MAKING.format(number).encode(), (("Refresh", "2"),))
-        if report.page is None:
-            return Answer.line(HTTPStatus.INTERNAL_SERVER_ERROR, f"there is no report: {report.fault}")
-        return Answer(HTTPStatus.OK, HTML, report.page)

@@ -9,6 +9,12 @@ from dataclasses import dataclass
 from enum import Enum
 from typing import Optional, Tuple
 
+from servicing.clock import Reading
+from servicing.settings import Settings
+
+# Nanoseconds in which a server begins to serve, and for each element of its opening.
+SLOWEST_START, SLOWEST_ELEMENT = 10_000_000_000, 100_000
+
 
 class Phase(Enum):
     """What the service is doing. A phase follows the one before, or SERVING and the rest again with the next run."""
@@ -121,27 +127,13 @@ class Traffic:
     be told apart before its history is there. So `failed` is that of runs that have ended.
     """
 
-    offered: int  # elements, a job that came back among them
-    left: int  # elements that were given, removed or cleared
-    failed: int  # jobs that came back, in the runs that have ended in good order
-    dead_or_done: int  # jobs that were given their last attempt, in those runs
-    offered_a_second: Optional[float]  # over the last minute
-    left_a_second: Optional[float]
-    failed_a_second: Optional[float]  # over the last run that has ended in good order
-
-
-@dataclass(frozen=True)
-class Run:
-    """The present run, or the one that is about to begin."""
-
-    number: int  # from 1, as in the names of its files
-    id: str  # which no other run of any service has, also after a lost one: FOLDER's id, a hyphen and the number
-    began: float  # when its server began
-    moment: int  # the moment at its beginning
-    next_id: int  # the id of its first offer
-    opening: int  # elements that it began with
-    aside: int  # elements beyond the 1,000,000 of an opening, which wait in a file
-    server: Optional[int]  # the process
+    offered: int = 0  # elements, a job that came back among them
+    left: int = 0  # elements that were given, removed or cleared
+    failed: int = 0  # jobs that came back, in the runs that have ended in good order
+    dead_or_done: int = 0  # jobs that were given their last attempt, in those runs
+    offered_a_second: Optional[float] = None  # over the last minute
+    left_a_second: Optional[float] = None
+    failed_a_second: Optional[float] = None  # over the last run that has ended in good order
 
 
 @dataclass(frozen=True)
@@ -161,29 +153,53 @@ class End:
     held_by: Tuple[str, ...] = ()  # the clients that were waited for longest
     cut: int = 0  # sessions that were cut
 
+    @property
+    def new_jobs(self) -> Optional[int]:
+        return None if self.offered is None or self.failed is None else self.offered - self.failed
+
 
 @dataclass(frozen=True)
-class PastRun:
-    """A run that has ended."""
+class Run:
+    """A run: what is written down of it before its server starts, and what became of it."""
 
-    number: int
-    id: str
-    began: float
-    opening: int
-    history: Optional[str]  # the path of the file, which ends in .gz if it is compressed; None if there is none
-    end: End
+    number: int  # from 1, as in the names of its files
+    id: str  # which no other run of any service has, also after a lost one: FOLDER's id, a hyphen and the number
+    began: Reading  # at which the moment was the opening's, or a little earlier if that was not seen yet
+    moment: int  # the moment at its beginning
+    next_id: int  # the id of its first offer
+    opening: int  # elements that it began with
+    aside: int  # elements beyond the 1,000,000 of an opening, which wait in a file
+    calls: int  # for which it has room, and so at most as many ids
+    policy: Tuple[str, ...]  # the words for `replay --chains`
+    is_seen: bool = False  # whether the server has shown since when its clock goes
+    lost_before: int = 0  # how many runs of the folder were lost before this one
+    server: Optional[int] = None  # the process
+    history: Optional[str] = None  # the path of the file, which ends in .gz if it is compressed, once it is looked for
+    end: Optional[End] = None
+
+    @property
+    def surely_began(self) -> Reading:
+        """At which the moment was the opening's, or later. By an earlier one a job could be early in the next run."""
+        return self.began if self.is_seen else self.began.after(SLOWEST_START + SLOWEST_ELEMENT * self.opening)
+
+    @property
+    def date(self) -> float:
+        """When it began."""
+        return self.began.date / 1e9
 
     @property
     def is_lost(self) -> bool:
-        return self.end.why is Reason.KILLED
+        return self.end is not None and self.end.why is Reason.KILLED
+
+    @property
+    def lost(self) -> int:
+        """How many runs of the folder were lost, this one included."""
+        return self.lost_before + self.is_lost
 
     @property
     def lasted(self) -> float:
-        return self.end.date - self.began
-
-    @property
-    def new_jobs(self) -> Optional[int]:
-        return None if self.end.offered is None or self.end.failed is None else self.end.offered - self.end.failed
+        """The seconds of one that has ended."""
+        return self.end.date - self.date if self.end else 0.0
 
 
 @dataclass(frozen=True)
@@ -206,18 +222,6 @@ class DiskFault:
 
 
 @dataclass(frozen=True)
-class Settings:
-    """How the service was started, as far as others show it."""
-
-    port: int
-    folder: str
-    every: float  # seconds
-    stop_within: float  # seconds
-    attempts: int
-    policy: str  # such as "--delay 30s"
-
-
-@dataclass(frozen=True)
 class State:
     """The whole."""
 
@@ -226,18 +230,18 @@ class State:
     began: float  # when the service began
     phase: Phase
     since: float  # when that phase began
-    why: Optional[Reason]  # in ENDING, BETWEEN and STOPPED: why the run ends
-    waits_for: Tuple[str, ...]  # what the phase waits for, a text each: the clients that hold a run up, a full disk
-    run: Optional[Run]
-    queue: Optional[Queue]
-    clients: Optional[Clients]
-    calls: Optional[Supply]
-    sessions: Optional[Supply]
-    traffic: Traffic
-    runs: Tuple[PastRun, ...]  # those that are kept, the latest first
-    lost_runs: int  # since the folder exists
-    alerts: Tuple[Alert, ...]
-    disk: Optional[DiskFault]
+    why: Optional[Reason] = None  # in ENDING, BETWEEN and STOPPED: why the run ends
+    waits_for: Tuple[str, ...] = ()  # what the phase waits for, a text each: clients that hold a run up, a full disk
+    run: Optional[Run] = None
+    queue: Optional[Queue] = None
+    clients: Optional[Clients] = None
+    calls: Optional[Supply] = None
+    sessions: Optional[Supply] = None
+    traffic: Traffic = Traffic()
+    runs: Tuple[Run, ...] = ()  # those that are kept, the latest first
+    lost_runs: int = 0  # since the folder exists
+    alerts: Tuple[Alert, ...] = ()
+    disk: Optional[DiskFault] = None
 
     @property
     def is_healthy(self) -> bool:

@@ -7,21 +7,13 @@ from typing import Iterator, List, Optional, Tuple
 from reporting.tables import table
 from reporting.units import SECOND, counted, span
 from servicing.state import Doing, Reason
-from servicing.told import Told
+from servicing.told import WHY, Told
 
 PLAIN, BOLD, RED, YELLOW, DIM = "\x1b[0m", "\x1b[1m", "\x1b[31m", "\x1b[33m", "\x1b[2m"
 
 STYLES = {Doing.NOT_READING.value: RED, Doing.HUNG_UP.value: RED, Doing.WAITING.value: YELLOW}
 
 LATE = 1.0  # seconds from which on lateness is marked
-MOST_HELD_BY = 2  # clients that held up a run
-
-ENDS = {
-    Reason.ASKED: "was asked to end", Reason.TIME: "ended when its time was over",
-    Reason.CALLS: "ended when few calls were left", Reason.SESSIONS: "ended when few sessions were left",
-    Reason.ELEMENTS: "ended since elements that were set aside had room",
-    Reason.KILLED: "was lost: its server was killed", Reason.UNKNOWN: "ended while no service was there",
-}
 
 Line = Tuple[str, str]  # a style and a text
 
@@ -52,10 +44,7 @@ def client_lines(told: Told) -> List[Line]:
 
 def _attention(told: Told) -> Iterator[Line]:
     """What an operator has to know of, with an empty line below."""
-    alerts, disk = [*told["alerts"]], told["disk"]
-    if disk:
-        kept = counted(disk["kept"], "byte is kept in memory", "bytes are kept in memory")
-        alerts.append({"text": f"{disk['file']} can't be written: {disk['why']}; {kept}", "since": disk["since"]})
+    alerts = [*told["alerts"], *filter(None, [told["disk"]])]
     lines = [(RED, f"! {it['text']} (since {_date(it['since'])})") for it in alerts]
     lines += [(YELLOW, f"! it waits: {it}") for it in told["waits_for"]]
     yield from [*lines, ("", "")] if lines else []
@@ -117,14 +106,7 @@ def _run(run: Optional[Told]) -> str:
 
 def _before(last: Told) -> str:
     """How the last run ended."""
-    parts = [f"run {last['number']} {ENDS[Reason(last['why'])]}"]
-    if last["closed"] is not None:
-        most, more = last["held_by"][:MOST_HELD_BY], len(last["held_by"]) - MOST_HELD_BY
-        held = f", held up by {', '.join(most)}" + (f" and {more} more" if more > 0 else "") if most else ""
-        parts.append(f"new clients waited {_span(last['closed'])}{held}")
-    if last["cut"]:
-        parts.append(counted(last["cut"], "session") + " cut")
-    return ", ".join(parts)
+    return f"run {last['number']} {WHY[Reason(last['why'])][0]}{', '.join(last['says'])}"
 
 
 def _cells(client: Told) -> List[str]:

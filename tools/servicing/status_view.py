@@ -14,7 +14,8 @@ from typing import List, Optional
 
 from common.words import give_up_output
 from reporting.units import counted
-from servicing.pages import SOCKET
+from servicing.http import short_name
+from servicing.site import SOCKET
 from servicing.status_lines import DIM, PLAIN, RED, Line, client_lines, head_lines
 from servicing.told import Told
 
@@ -36,13 +37,10 @@ class _Connection(http.client.HTTPConnection):
         self._folder = folder
 
     def connect(self) -> None:
-        at = os.open(self._folder, os.O_PATH | os.O_DIRECTORY)
-        try:
+        with short_name(os.path.join(self._folder, SOCKET)) as name:
             self.sock = socket.socket(socket.AF_UNIX, socket.SOCK_STREAM)
             self.sock.settimeout(PATIENCE)
-            self.sock.connect(f"/proc/self/fd/{at}/{SOCKET}")
-        finally:
-            os.close(at)
+            self.sock.connect(name)
 
 
 def state_in(folder: str) -> Optional[Told]:

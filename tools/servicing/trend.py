@@ -2,7 +2,7 @@
 from __future__ import annotations
 
 from collections import deque
-from typing import Deque, Dict, List, NamedTuple, Optional
+from typing import Deque, Dict, List, NamedTuple, Optional, Sequence
 
 from servicing.state import State
 
@@ -18,16 +18,16 @@ class Sample(NamedTuple):
     elements: Optional[int]
     late: Optional[float]  # seconds for which the first element has been due; 0 if none is
     counted_at: float  # when the server last answered, which it is asked more rarely than the system is
-    offered: int  # since the service began
-    left: int
+    offers: int  # since the service began
+    gifts: int
 
 
 def sample_of(state: State) -> Sample:
-    queue, traffic = state.queue, state.traffic
+    queue, counts = state.queue, (state.traffic.offered, state.traffic.left)
     if queue is None:
-        return Sample(state.at, None, None, state.at, traffic.offered, traffic.left)
+        return Sample(state.at, None, None, state.at, *counts)
     late = round(max(queue.head.late, 0.0), 3) if queue.head else 0.0
-    return Sample(state.at, queue.elements, late, queue.at, traffic.offered, traffic.left)
+    return Sample(state.at, queue.elements, late, queue.at, *counts)
 
 
 class Trend:
@@ -41,27 +41,25 @@ class Trend:
         samples = self._samples
         if samples and state.at < samples[-1].at:
             samples.clear()
-        if samples and state.at < samples[-1].at + BETWEEN:
-            return
-        samples.append(sample_of(state))
-        while samples[0].at < state.at - SPAN:
-            samples.popleft()
+        if not samples or state.at >= samples[-1].at + BETWEEN:
+            samples.append(sample_of(state))
+            while samples[0].at < state.at - SPAN:
+                samples.popleft()
 
     def told(self) -> Dict[str, Values]:
         """A list for each value, with a place for each sample. Rates are those between the last two counts."""
-        return {
-            "at": [round(it.at, 1) for it in self._samples], "elements": [it.elements for it in self._samples],
-            "late": [it.late for it in self._samples], "offers": self._rates([it.offered for it in self._samples]),
-            "gifts": self._rates([it.left for it in self._samples]),
-        }
+        at, elements, late, counted_at, offers, gifts = zip(*self._samples) if self._samples else [()] * 6
+        return {"at": [round(it, 1) for it in at], "elements": [*elements], "late": [*late],
+                "offers": _rates(counted_at, offers), "gifts": _rates(counted_at, gifts)}
 
-    def _rates(self, counts: List[int]) -> Values:
-        rates: Values = []
-        since = before = 0.0
-        for sample, count in zip(self._samples, counts):
-            if rates and sample.counted_at <= since:
-                rates.append(rates[-1])
-                continue
-            rates.append(round(max(count - before, 0) / (sample.counted_at - since), 3) if rates else None)
-            since, before = sample.counted_at, count
-        return rates
+
+def _rates(times: Sequence[float], counts: Sequence[int]) -> Values:
+    rates: Values = []
+    since = before = 0.0
+    for at, count in zip(times, counts):
+        if rates and at <= since:
+            rates.append(rates[-1])
+            continue
+        rates.append(round(max(count - before, 0) / (at - since), 3) if rates else None)
+        since, before = at, count
+    return rates

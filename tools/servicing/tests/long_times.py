@@ -5,7 +5,7 @@ from __future__ import annotations
 import contextlib
 import time
 
-from servicing.tests.process import Service, ServiceTest
+from servicing.tests.process import ServiceTest
 from serving.session import Session
 
 ROLLOVERS = 10
@@ -17,19 +17,17 @@ class RolloversTest(ServiceTest):
 
     def test_a_client_that_only_takes(self) -> None:
         """It makes no call but the TAKE that gives the job, so no event of a client's tells the time."""
-        service = self.begin("--every", "1s", "--wait", "500ms", "--sessions", "400")
-        self.ask(f"OFFER {self.DELAY * 10**9} later")
-        offered, reply = time.monotonic(), ""
-        while not reply.startswith("ITEM "):
-            self.assertLess(time.monotonic() - offered, self.DELAY + LATEST, service.lines)
-            with contextlib.suppress(OSError), Session(self.port) as it:
-                reply = it.ask("TAKE")
-        passed, runs = time.monotonic() - offered, len(service.all("serving"))
-        self.assertRegex(reply, "^ITEM [0-9]+ [0-9]+ 1 later$")
-        self.assertGreaterEqual(passed, self.DELAY)
-        self.assertGreater(runs, ROLLOVERS)
-        self.assertEqual(service.stop(), 0)
-        self.assertEqual(service.all("lost-run"), [])
+        with self.serving("--every", "1s", "--wait", "500ms") as service:
+            self.ask(f"OFFER {self.DELAY * 10**9} later")
+            offered, reply = time.monotonic(), ""
+            while not reply.startswith("ITEM "):
+                self.assertLess(time.monotonic() - offered, self.DELAY + LATEST, service.lines)
+                with contextlib.suppress(OSError), Session(self.port) as it:
+                    reply = it.ask("TAKE")
+            passed, runs = time.monotonic() - offered, len(service.all("serving"))
+            self.assertRegex(reply, "^ITEM [0-9]+ [0-9]+ 1 later$")
+            self.assertGreaterEqual(passed, self.DELAY)
+            self.assertGreater(runs, ROLLOVERS)
 
 
 class WithoutServerTest(ServiceTest):
@@ -37,23 +35,18 @@ class WithoutServerTest(ServiceTest):
 
     def test_a_minute_without_a_service(self) -> None:
         """A job that became due meanwhile is given at once, and one that was not when it is due."""
-        service = self.begin()
-        self.ask("OFFER 30000000000 early", "OFFER 90000000000 late")
-        offered = time.monotonic()
-        self.assertEqual(service.stop(), 0)
+        with self.serving():
+            self.ask("OFFER 30000000000 early", "OFFER 90000000000 late")
+            offered = time.monotonic()
         time.sleep(self.WITHOUT)
-        service = self.begin()
-        self.assertEqual(self.names("POLL", "POLL"), ["early", "NONE"])
-        self.until_given(service, offered)
-        self.assertEqual(service.stop(), 0)
-
-    def until_given(self, service: Service, offered: float) -> None:
-        names = ["STOPPED"]
-        while names == ["STOPPED"]:
-            self.assertLess(time.monotonic() - offered, 90 + LATEST, service.lines)
-            names = self.names("TAKE")
-        self.assertEqual(names, ["late"])
-        self.assertGreaterEqual(time.monotonic() - offered, 90)
+        with self.serving() as service:
+            self.assertEqual(self.names("POLL", "POLL"), ["early", "NONE"])
+            names = ["STOPPED"]
+            while names == ["STOPPED"]:
+                self.assertLess(time.monotonic() - offered, 90 + LATEST, service.lines)
+                names = self.names("TAKE")
+            self.assertEqual(names, ["late"])
+            self.assertGreaterEqual(time.monotonic() - offered, 90)
 
     def names(self, *requests: str) -> "list[str]":
         return [it.split(" ")[-1] for it in self.ask(*requests)]

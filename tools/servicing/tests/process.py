@@ -12,7 +12,8 @@ import subprocess
 import sys
 import threading
 import time
-from typing import Callable, Dict, List, Optional, Sequence
+from pathlib import Path
+from typing import Any, Callable, Dict, Iterator, List, Optional, Sequence
 
 from checking.testing import RoomTest
 from common.program import TOP, tested_program
@@ -44,7 +45,6 @@ class Service:
                  "--program", program or tested_program(), *map(str, options)]
         self.process = subprocess.Popen(words, stderr=subprocess.PIPE, encoding="utf-8")
         atexit.register(self.kill_all)
-        self.events: List[Event] = []
         self.lines: List[str] = []
         self._came, self._has_ended = threading.Condition(), False
         self._reader = threading.Thread(target=self._read, daemon=True)
@@ -55,21 +55,18 @@ class Service:
         for line in self.process.stderr:
             with self._came:
                 self.lines.append(line.rstrip("\n"))
-                self.events.append(event_of(line))
                 self._came.notify_all()
         with self._came:
             self._has_ended = True
             self._came.notify_all()
 
     def all(self, event: str) -> List[Event]:
-        with self._came:
-            return [it for it in self.events if it.get("event") == event]
+        return [it for it in map(event_of, [*self.lines]) if it.get("event") == event]
 
     def wait(self, event: str, count: int = 1, patience: float = PATIENCE) -> Event:
         """The last of this many lines of an event, once they are there."""
         with self._came:
-            self._came.wait_for(lambda: len([it for it in self.events if it.get("event") == event]) >= count
-                                or self._has_ended, patience)
+            self._came.wait_for(lambda: len(self.all(event)) >= count or self._has_ended, patience)
         found = self.all(event)
         if len(found) < count:
             raise AssertionError(f"{len(found)} of {count} lines of {event} came: {self.lines}")
@@ -82,18 +79,7 @@ class Service:
 
     def keeper(self) -> int:
         """The keeper of the server that serves now."""
-        with open(f"/proc/{self.server}/stat", encoding="utf-8") as file:
-            return int(file.read().rpartition(")")[2].split()[1])
-
-    def wait_until_seen(self, run: int) -> None:
-        """Waits until it is written down since when the clock of a run's server goes."""
-        until = time.monotonic() + PATIENCE
-        while time.monotonic() < until:
-            with contextlib.suppress(OSError, ValueError), open(f"{self.folder}/run-{run}.json", "rb") as file:
-                if json.load(file)["is_seen"]:
-                    return
-            time.sleep(0.05)
-        raise AssertionError("the server did not show its moment")
+        return int(Path(f"/proc/{self.server}/stat").read_text("utf-8").rpartition(")")[2].split()[1])
 
     def stop(self, number: int = signal.SIGTERM) -> int:
         """Asks for the end, waits for it, and returns the status."""
@@ -114,16 +100,12 @@ class Service:
         """Kills what is left of it: the service, its server and its keeper."""
         atexit.unregister(self.kill_all)
         self.kill()
-        for it in os.listdir("/proc"):
-            with contextlib.suppress(OSError, ValueError):
-                if self._is_mine(int(it)):
+        for it in filter(str.isdigit, os.listdir("/proc")):
+            with contextlib.suppress(OSError):
+                words = Path(f"/proc/{it}/cmdline").read_bytes().decode(errors="replace").split("\0")
+                is_keeper = any(word.endswith("/keeper.py") for word in words) and self.folder in words
+                if is_keeper or ("serve" in words and str(self.port) in words):
                     os.kill(int(it), signal.SIGKILL)
-
-    def _is_mine(self, pid: int) -> bool:
-        with open(f"/proc/{pid}/cmdline", "rb") as file:
-            words = file.read().decode(errors="replace").split("\0")
-        is_keeper = any(it.endswith("/keeper.py") for it in words) and self.folder in words
-        return is_keeper or ("serve" in words and str(self.port) in words)
 
 
 class ServiceTest(RoomTest):
@@ -140,34 +122,41 @@ class ServiceTest(RoomTest):
         kept.setsockopt(socket.SOL_SOCKET, socket.SO_REUSEADDR, 1)
         kept.bind((HOST, self.port))
 
-    def begin(self, *options: object, folder: str = "", before: Sequence[str] = (), program: str = "") -> Service:
+    def start(self, *options: object, folder: str = "", **told: Any) -> Service:
+        """A service with few sessions unless they are named, since each end uses them up."""
+        few = () if "--sessions" in options else ("--sessions", 400)
+        service = Service(folder or self.path("runs"), *options, *few, port=self.port, **told)
+        self.addCleanup(service.kill_all)
+        return service
+
+    def begin(self, *options: object, **told: Any) -> Service:
         """A service that serves."""
-        service = self.start(*options, folder=folder, before=before, program=program)
+        service = self.start(*options, **told)
         service.wait("serving")
         return service
 
-    def start(self, *options: object, folder: str = "", before: Sequence[str] = (), program: str = "") -> Service:
-        """A service with few sessions unless they are named, since each end uses them up."""
-        few = () if "--sessions" in options else ("--sessions", 400)
-        service = Service(folder or self.path("runs"), *options, *few, port=self.port, before=before, program=program)
-        self.addCleanup(service.kill_all)
-        return service
+    @contextlib.contextmanager
+    def serving(self, *options: object, lost: int = 0, **told: Any) -> Iterator[Service]:
+        """A service that serves, and that ends in good order behind the block. This many runs were lost."""
+        service = self.begin(*options, **told)
+        yield service
+        self.ends(service, lost)
+
+    def ends(self, service: Service, lost: int = 0) -> None:
+        """Stops a service, which ends in good order. This many runs were lost."""
+        self.assertEqual((service.stop(), len(service.all("lost-run"))), (0, lost))
 
     def ask(self, *requests: str) -> List[str]:
         """The replies in a session of its own, once a worker serves it; it is begun again if it is not served."""
         until = time.monotonic() + PATIENCE
-        while True:
-            try:
-                with Session(self.port) as it:
-                    if it.ask("AT 0") == "ERR 1 syntax":
-                        replies = [it.ask(request) for request in requests]
-                        it.ask("QUIT")
-                        return replies
-            except OSError:
-                pass
-            if time.monotonic() > until:
-                raise AssertionError(f"nobody answers {requests}")
+        while time.monotonic() < until:
+            with contextlib.suppress(OSError), Session(self.port) as it:
+                if it.ask("AT 0") == "ERR 1 syntax":
+                    replies = [it.ask(request) for request in requests]
+                    it.ask("QUIT")
+                    return replies
             time.sleep(0.02)
+        raise AssertionError(f"nobody answers {requests}")
 
     def offer(self, count: int, delay: int = 0, name: str = "job") -> None:
         """Offers this many jobs."""
@@ -182,3 +171,8 @@ class ServiceTest(RoomTest):
         while not holds():
             self.assertLess(time.monotonic(), until, what)
             time.sleep(0.02)
+
+    def record(self, run: int, folder: str = "") -> Any:
+        """What is written down of a run, once it is."""
+        path = Path(folder or self.path("runs"), f"run-{run}.json")
+        return json.loads(path.read_bytes()) if path.exists() else {}

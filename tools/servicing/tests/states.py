@@ -4,15 +4,16 @@ from __future__ import annotations
 import dataclasses
 from typing import Any
 
+from servicing.settings import parser, settings_of
 from servicing.state import (
-    Alert, Client, Clients, DiskFault, Doing, End, Head, PastRun, Phase, Queue, Reason, Run, Settings, State, Supply,
-    Traffic,
+    Alert, Client, Clients, DiskFault, Doing, End, Head, Phase, Queue, Reason, Run, State, Supply, Traffic,
 )
+from servicing.tests.support import reading, record
 
 AT = 1_795_680_000.5  # 2026-11-26 08:00:00 UTC
 LONG = "!" * 31 + "<b>&\"'" + "~" * 28  # a payload of 64 characters
 
-SETTINGS = Settings(7011, "/var/lib/rb_broker/7011", 3600, 60, 20, "--delay 30s")
+SETTINGS = settings_of(parser("").parse_args(["--folder", "/var/lib/rb_broker/7011"]), "rb_broker")
 
 CLIENTS = (
     Client(41004, "python3", 12, Doing.NOT_READING, 30.0, 163_298, 7),
@@ -23,14 +24,20 @@ CLIENTS = (
     Client(41000, "python3", 9, Doing.ACTIVE, 0.1, 0, 0),
 )
 
-PRESENT = Run(12, "1f6c-12", AT - 4000, 10**15, 44_000, 1200, 0, 30170)
 
-ENDED = PastRun(11, "1f6c-11", AT - 7600, 900, "/nowhere/run-11.txt.gz", End(
-    AT - 4000.3, Reason.TIME, 250_000, 104_000, 4_000, 103_700, 1200, 0, 0, 0.31))
-LOST = PastRun(10, "1f6c-10", AT - 9000, 900, None, End(AT - 7600, Reason.KILLED, closed=1.25))
-HELD = PastRun(9, "1f6c-9", AT - 90_000, 0, "/nowhere/run-9.txt.gz", End(
+def ended(number: int, began: float, opening: int, end: End, history: str = "") -> Run:
+    return record(number, end, began=reading(date=began), opening=opening, history=history or None)
+
+
+PRESENT = record(12, began=reading(date=AT - 4000), moment=10**15, next_id=44_000, opening=1200, server=30170)
+
+ENDED = ended(11, AT - 7600, 900, End(
+    AT - 4000.3, Reason.TIME, 250_000, 104_000, 4_000, 103_700, 1200, 0, 0, 0.31), "/nowhere/run-11.txt.gz")
+LOST = ended(10, AT - 9000, 900, End(AT - 7600, Reason.KILLED, closed=1.25))
+HELD = ended(9, AT - 90_000, 0, End(
     AT - 9000, Reason.CALLS, 1_000_000, 412_345, 12_345, 411_445, 900, 0, 3, 61.5,
-    ("client 41007 (python3 4711): 60s", "client 41008 (python3 4712): 2s", "client 41009: 1s"), 1))
+    ("client 41007 (python3 4711): 60s", "client 41008 (python3 4712): 2s", "client 41009: 1s"), 1),
+    "/nowhere/run-9.txt.gz")
 
 
 def state(**changes: Any) -> State:
@@ -47,8 +54,7 @@ def state(**changes: Any) -> State:
 
 def first_state(**changes: Any) -> State:
     """A service that has just begun: nothing has been seen, and no run is behind it."""
-    return state(began=AT - 1, since=AT - 1, phase=Phase.STARTING, run=None, queue=None, clients=None, calls=None,
-                 sessions=None, traffic=Traffic(0, 0, 0, 0, None, None, None), runs=(), lost_runs=0, **changes)
+    return dataclasses.replace(State(AT, SETTINGS, AT - 1, Phase.STARTING, AT - 1), **changes)
 
 
 def troubled_state(**changes: Any) -> State:

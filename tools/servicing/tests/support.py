@@ -2,12 +2,14 @@
 from __future__ import annotations
 
 import io
-from typing import Dict, Optional
+import unittest
+from dataclasses import replace
+from typing import Any, Optional
+from unittest import mock
 
 from servicing.clock import Reading
 from servicing.opening import Left, Opening, left_in
-from servicing.record import Record
-from servicing.state import End
+from servicing.state import End, Run
 
 SECOND = 1_000_000_000
 
@@ -17,11 +19,9 @@ def reading(up: float = 0, date: float = 1_700_000_000, boot: str = "boot-1") ->
     return Reading(boot, int(up * SECOND), int(date * SECOND))
 
 
-def record(number: int = 1, end: Optional[End] = None, **told: object) -> Record:
-    fields: Dict[str, object] = {
-        "next_id": 0, "moment": 0, "opening": 0, "aside": 0, "calls": 1000, "began": reading(),
-        "policy": ("--delay", "1", "--attempts", "3"), **told}
-    return Record(number, end=end, **fields)  # type: ignore[arg-type]
+def record(number: int = 1, end: Optional[End] = None, **told: Any) -> Run:
+    usual = Run(number, f"1f6c-{number}", reading(), 0, 0, 0, 0, 1000, ("--delay", "1", "--attempts", "3"), end=end)
+    return replace(usual, **told)
 
 
 def left_of(text: str, attempts: int = 3) -> Left:
@@ -30,3 +30,10 @@ def left_of(text: str, attempts: int = 3) -> Left:
 
 def text_of(opening: Opening) -> str:
     return b"".join(opening.lines()).decode()
+
+
+def patch(test: unittest.TestCase, owner: Any, **values: Any) -> None:
+    """Gives an object or a module other values, until the end of the test."""
+    patch = mock.patch.multiple(owner, **values)
+    patch.start()
+    test.addCleanup(patch.stop)

@@ -4,9 +4,7 @@ from __future__ import annotations
 import dataclasses
 import gzip
 import time
-import unittest
 from typing import Any
-from unittest import mock
 
 from histories.tests.support import RUN
 from reporting.tests.support import PageTest
@@ -16,8 +14,9 @@ from servicing.address import Address
 from servicing.http import HttpServer
 from servicing.reports import Reports
 from servicing.site import Site
-from servicing.state import Alert, Board, Client, Clients, Doing, Head, PastRun, Phase, Queue, Reason, State, Traffic
+from servicing.state import Alert, Board, Client, Clients, Doing, Head, Phase, Queue, Reason, Run, State, Traffic
 from servicing.tests.states import AT, ENDED, LONG, first_state, state, troubled_state
+from servicing.tests.support import patch, reading
 
 PATIENCE, BEAT = 60.0, 0.02  # seconds
 WIDTHS, SCHEMES = (420, 1200), ("light", "dark")
@@ -52,24 +51,24 @@ def date(at: float) -> str:
     return time.strftime("%Y-%m-%d %H:%M:%S", time.localtime(at))
 
 
-def ended(**told: Any) -> PastRun:
+def ended(**told: Any) -> Run:
+    assert ENDED.end
     return dataclasses.replace(ENDED, end=dataclasses.replace(ENDED.end, **told))
 
 
 class ServedTest(PageTest):
     def setUp(self) -> None:
-        patch = mock.patch.object(http, "BEAT_SECONDS", BEAT)
-        patch.start()
-        self.addCleanup(patch.stop)
+        patch(self, http, BEAT_SECONDS=BEAT)
+        patch(self, reports, NICENESS=0)
         self.board, self.reports = Board(), Reports()
-        patch = mock.patch.object(reports, "NICENESS", 0)
-        patch.start()
-        self.addCleanup(patch.stop)
         self.addCleanup(self.reports.stop)
         self.browser.go("about:blank")  # or the page of the test before asks a server that is gone
         self.browser.complaints.clear()
         self.browser.resize(1200, 900)
         self.port = self.begin(0)
+
+    def tearDown(self) -> None:
+        self.assertEqual(self.browser.complaints, [])
 
     def begin(self, port: int) -> int:
         site = Site(self.board, 7011, self.reports)
@@ -91,6 +90,10 @@ class ServedTest(PageTest):
         self.board.put(state)
         time.sleep(3 * BEAT)
         self.browser.value("look().then(() => null)")
+
+    def text(self, name: str) -> str:
+        """What stands in a part of the page."""
+        return str(self.browser.value(f"document.getElementById('{name}').textContent"))
 
     def shows(self, expression: str, expected: Any) -> None:
         end = time.monotonic() + PATIENCE
@@ -132,13 +135,12 @@ class ShownTest(ServedTest):
             ["10", date(AT - 9000), "23.3 min",
              "all that happened in it; the next run began again with the 900 elements of its opening"],
             ["9", date(AT - 90_000), "22.5 h", "3 jobs that failed and could not come back, since the run was full"]])
-        self.assertEqual(self.browser.complaints, [])
 
     def test_more_clients_than_are_listed(self) -> None:
         waiting = tuple(Client(40_000 + it, None, None, Doing.WAITING, 1.0, 0, 1) for it in range(130))
         self.show(state(clients=Clients(waiting, 4, 10.0)))
         self.assertEqual(len(self.browser.value(rows("clients"))), 32)
-        told = self.browser.value("document.getElementById('clients-told').textContent")
+        told = self.text("clients-told")
         self.assertTrue(told.startswith("0 served by 4 workers, 130 waiting for one, "), told)
         self.assertTrue(told.endswith(" 98 clients more are not listed."), told)
 
@@ -147,10 +149,9 @@ class ShownTest(ServedTest):
         self.assertEqual(self.browser.value(TITLE), "starting: rb_broker 7011")
         self.assertEqual([self.browser.value(rows(it)) for it in ("clients", "room", "runs", "losses")], [[]] * 4)
         told = ("clients-told", "room-told", "runs-told", "lost-told", "head")
-        self.assertEqual([self.browser.value(f"document.getElementById('{it}').textContent") for it in told], [
+        self.assertEqual([self.text(it) for it in told], [
             "Not known.", "Not known.", "No run has ended yet.", "No run was lost.",
             "The server has not answered yet."])
-        self.assertEqual(self.browser.complaints, [])
 
     def test_before_the_first_state(self) -> None:
         self.browser.go(f"http://127.0.0.1:{self.port}/")
@@ -158,7 +159,6 @@ class ShownTest(ServedTest):
         self.assertEqual(self.browser.value(STATE), "")
         self.board.put(first_state())
         self.shows(STATE, "starting")
-        self.assertEqual(self.browser.complaints, [])
 
     def test_what_needs_attention(self) -> None:
         self.show(troubled_state())
@@ -171,7 +171,6 @@ class ShownTest(ServedTest):
             "The service waits: a-program-of-a-long-name 4000000 at port 42000"])
         self.assertEqual(self.browser.value("document.querySelector('#head code').textContent"), LONG)
         self.assertEqual(self.browser.value("document.getElementById('state').className"), "bad")
-        self.assertEqual(self.browser.complaints, [])
 
     def test_it_changes_without_being_loaded_again(self) -> None:
         self.show(state())
@@ -180,22 +179,20 @@ class ShownTest(ServedTest):
         self.board.put(state(at=AT + 3, phase=Phase.ENDING, why=Reason.SESSIONS, queue=Queue(AT, 7, None)))
         self.shows(STATE, "ending")
         self.assertEqual(self.browser.value(TITLE), "ending, 7 elements: rb_broker 7011")
-        told = self.browser.value("document.getElementById('told').textContent")
-        self.assertIn("(few sessions were left)", told)
+        self.assertIn("(few sessions were left)", self.text("told"))
         self.assertTrue(self.browser.value(f"window.mark === {link}"), "who reads or selects is not disturbed")
-        self.assertEqual(self.browser.complaints, [])
 
     def test_a_service_that_goes_and_comes_back(self) -> None:
         self.show(state())
         self.server.stop()
         self.shows(STATE, "no answer")
         self.assertEqual(self.browser.value(TITLE), "no answer: rb_broker 7011")
-        told = f"the service does not answer, what is shown is of {date(AT)}"
-        self.assertEqual(self.browser.value("document.getElementById('told').textContent"), told)
+        self.assertEqual(self.text("told"), f"the service does not answer, what is shown is of {date(AT)}")
         self.assertEqual(len(self.browser.value(rows("clients"))), 6, "what was shown stays")
         self.begin(self.port)
         self.shows(STATE, "serving")
         self.assertFalse(self.browser.value("document.body.classList.contains('old')"))
+        self.browser.complaints.clear()  # that nobody answered
 
     def test_it_asks_for_nothing_but_the_state(self) -> None:
         self.show(state())
@@ -217,6 +214,7 @@ class ShownTest(ServedTest):
         self.browser.value("document.body.insertAdjacentHTML('beforeend', '<img src=x onerror=\"document.title=1\">')")
         self.assertNotEqual(self.browser.value(TITLE), "1", "even markup that got through is not run")
         self.assertNotEqual(self.browser.complaints, [])
+        self.browser.complaints.clear()
 
     def test_a_report_by_its_link(self) -> None:
         path = f"{self.room}/run-11.txt.gz"
@@ -226,7 +224,6 @@ class ShownTest(ServedTest):
         self.browser.value("document.querySelector('#runs a').click()")
         self.shows("document.title", "run-11.txt.gz: report")
         self.assertEqual(self.browser.value("document.querySelectorAll('.plot').length > 3"), True)
-        self.assertEqual(self.browser.complaints, [])
         self.shows("document.readyState", "complete")  # or the next test would take its end for that of its own page
 
 
@@ -241,8 +238,8 @@ class PlotsTest(ServedTest):
     def moment(place: int) -> State:
         """Ten seconds after the one before: ten elements more, 50 offers, 40 gifts, and a second later."""
         queue = Queue(AT + 10 * place, 100 + 10 * place, Head(1, 1, 1, "a", float(place)))
-        traffic = Traffic(50 * place, 40 * place, 0, 0, None, None, None)
-        run = dataclasses.replace(ended(date=AT + 15, failed=230), began=AT - 100)
+        traffic = Traffic(50 * place, 40 * place)
+        run = dataclasses.replace(ended(date=AT + 15, failed=230), began=reading(date=AT - 100))
         return state(at=AT + 10 * place, queue=queue, traffic=traffic, runs=(run,))
 
     def test_the_value_at_the_keyboard(self) -> None:
@@ -261,7 +258,6 @@ class PlotsTest(ServedTest):
                 self.shows(f"document.querySelector('#plot-{plot} .reading').textContent", says)
                 spoken = self.browser.value("document.activeElement.getAttribute('aria-valuetext')")
                 self.assertEqual(spoken, says.replace("\n", ", "))
-        self.assertEqual(self.browser.complaints, [])
 
     def test_lines_as_long_as_their_values(self) -> None:
         points = {}
@@ -293,7 +289,6 @@ class SightTest(ServedTest):
                         self.assertEqual(self.browser.value(TOO_WIDE), [])
                         self.assertEqual(self.browser.value(TOUCHING), [])
                         self.readable(scheme == "dark")
-        self.assertEqual(self.browser.complaints, [])
 
     def readable(self, is_dark: bool) -> None:
         """What WCAG 2 asks of words at its level AA."""
@@ -305,7 +300,3 @@ class SightTest(ServedTest):
     def test_nothing_moves(self) -> None:
         self.show(state())
         self.assertEqual(self.browser.value("document.getAnimations().length"), 0)
-
-
-if __name__ == "__main__":
-    unittest.main()

@@ -3,13 +3,11 @@ from __future__ import annotations
 
 import time
 
+from servicing.looking import Looks
+from servicing.tests.support import record
+from servicing.visits import Crowd, Visits
 from serving.session import Session
 from serving.testing import ServingTest
-from servicing.crowd import Crowd
-from servicing.looking import Limits, Looks
-from servicing.session import OwnSession
-from servicing.sockets import look_at
-from servicing.visits import Visits
 
 TAKEN_FOR_A_WAIT = 0.1  # seconds, by the client package for Python
 
@@ -56,10 +54,10 @@ class CrowdTest(ServingTest):
         crowd = Crowd(server.port)
         self.addCleanup(crowd.stop)
         crowd.free = 3
-        looks = Looks(Limits(4, 1000, 1000, 0, 0, 0), OwnSession(server.port))
+        looks = Looks(server.port, record(), 4, 1000)
         looks.crowd = crowd.ports
         with Session(server.port) as client:
             client.ask("SIZE")
             time.sleep(0.5)
-            looks.see(look_at(server.port))
+            looks.see()
             self.assertEqual((looks.served, looks.waiting), (1, 0))

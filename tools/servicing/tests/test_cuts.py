@@ -12,12 +12,12 @@ import unittest
 from contextlib import ExitStack
 
 from common.program import TOP
+from servicing.cutting import ROOM, cut_sessions, make_room
+from servicing.sockets import look_at
 from serving import HOST, PATIENCE
 from serving.server import Server, free_port
 from serving.session import Session
 from serving.testing import ServingTest
-from servicing.cutting import ROOM, cut_sessions, make_room
-from servicing.sockets import look_at
 
 # A failed job is back at once.
 OPTIONS = ("--workers", 2, "--sessions", 400, "--turns", 50, "--delay", 0)

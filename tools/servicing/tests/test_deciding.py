@@ -6,8 +6,8 @@ from dataclasses import replace
 from typing import Optional
 
 from servicing.deciding import Seen, Start, how_to_start, is_to_prepare, runs_to_drop, why_to_end
+from servicing.folder import record_of, run_in
 from servicing.keeping import Held
-from servicing.record import record_in
 from servicing.settings import Keep
 from servicing.state import End, Reason, Supply
 from servicing.tests.support import record
@@ -110,9 +110,9 @@ class RecordTest(unittest.TestCase):
     def test_it_is_read_as_it_was_written(self) -> None:
         for end in (None, LOST, replace(WELL, held_by=("client 5: 3s",), cut=2, closed=0.25)):
             it = record(12, end, next_id=2**40, moment=2**64 - 1)
-            self.assertEqual(record_in(it.text()), it)
+            self.assertEqual(run_in(record_of(it), it.id), it)
 
     def test_other_texts_are_refused(self) -> None:
         for text in (b"", b"{}", b"[]", b'{"end": null}', b"null"):
             with self.subTest(text), self.assertRaises((ValueError, KeyError, TypeError)):
-                record_in(text)
+                run_in(text, "1f6c-1")

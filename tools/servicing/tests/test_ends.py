@@ -1,20 +1,18 @@
 """Runs end in good order, whatever their clients do."""
 from __future__ import annotations
 
-import fcntl
 import os
-import pty
 import shutil
 import signal
-import subprocess
 import sys
-import termios
 import time
 import unittest
+from pathlib import Path
 
 from common.program import TOP, tested_program
 from serving.session import Session
 from servicing.tests.process import SYSTEMS_PYTHON, ServiceTest
+from servicing.tests.terminal import Terminal
 
 
 class EndsTest(ServiceTest):
@@ -37,9 +35,8 @@ class EndsTest(ServiceTest):
             self.assertRegex(it.ask("OFFER 0 held"), "^OFFERED ")
             self.assertRegex(it.ask("TAKE"), "^ITEM [0-9]+ [0-9]+ 1 held$")
             began = time.monotonic()
-            self.assertEqual(service.stop(), 0)
-            self.assertGreaterEqual(time.monotonic() - began, 2)
-            self.assertLess(time.monotonic() - began, 20)  # and not the minute that is usual
+            self.ends(service)
+            self.assertTrue(2 <= time.monotonic() - began < 20)  # and not the minute that is usual
             self.assertTrue(it.is_cut())
         saved = service.all("saved")[0]
         self.assertEqual((saved["left"], saved["cut"]), ("1", "1"))
@@ -84,19 +81,16 @@ class EndsTest(ServiceTest):
     def test_it_cuts_clients_that_wait_or_do_not_read(self) -> None:
         service = self.begin("--stop-within", "1s", "--wait", "1s")
         with Session(self.port) as waiting, Session(self.port, receive_buffer=4096) as full:
-            waiting.send("TAKE", "TAKE", "TAKE", "TAKE", "TAKE", "TAKE", "TAKE", "TAKE")
+            waiting.send(*["TAKE"] * 8)
             full.fill()
-            self.assertEqual(service.stop(), 0)
-        self.assertEqual(service.all("lost-run"), [])
+            self.ends(service)
 
     def test_a_rollover_cuts_clients_that_stay(self) -> None:
-        service = self.begin("--every", "1s", "--stop-within", "1s")
-        with Session(self.port) as it:
-            it.ask("OFFER 0 job")
-            served = service.wait("serving", 2)
-            self.assertIn(f"client {it.own_port}", served["held_by"])
-        self.assertEqual(self.ask("SIZE"), ["SIZE 1"])
-        self.assertEqual(service.stop(), 0)
+        with self.serving("--every", "1s", "--stop-within", "1s") as service:
+            with Session(self.port) as it:
+                it.ask("OFFER 0 job")
+                self.assertIn(f"client {it.own_port}", service.wait("serving", 2)["held_by"])
+            self.assertEqual(self.ask("SIZE"), ["SIZE 1"])
 
     def test_silent_clients_are_cut(self) -> None:
         service = self.begin("--silent", "2s", "--delay", "0s", "--every", "1h")
@@ -113,46 +107,30 @@ class EndsTest(ServiceTest):
 
     def test_signals_in_each_state(self) -> None:
         for wait in (0.0, 0.02, 0.05, 0.08, 0.1, 0.15, 0.2, 0.3, 0.5):
-            service = self.start("--every", "1s", "--sessions", "400")
+            service = self.start("--every", "1s")
             service.wait("service")
             time.sleep(wait)
             with self.subTest(wait=wait):
-                self.assertEqual(service.stop(), 0)
-                self.assertEqual(service.all("lost-run"), [])
-        service = self.begin("--every", "1s", "--sessions", "400")
-        service.wait("between-runs")
-        self.assertEqual(service.stop(), 0)
-        service = self.begin("--every", "1s", "--sessions", "400")
-        service.wait("ending")
-        self.assertEqual(service.stop(), 0)
+                self.ends(service)
+        for state in ("between-runs", "ending"):
+            with self.serving("--every", "1s") as service:
+                service.wait(state)
 
     def test_ctrl_c_in_a_terminal(self) -> None:
-        screen, terminal = pty.openpty()
-        words = [sys.executable, "-B", f"{TOP}/tools/service", "--port", str(self.port), "--folder", self.path("runs"),
-                 "--program", tested_program()]
-        process = subprocess.Popen(words, stdin=terminal, stdout=terminal, stderr=terminal, preexec_fn=_own_terminal)
-        os.close(terminal)
-        self.addCleanup(process.kill)
-        said = b""
-        while b"event=serving" not in said:
-            said += os.read(screen, 4096)
+        terminal = Terminal([sys.executable, "-B", f"{TOP}/tools/service", "--port", str(self.port), "--folder",
+                             self.path("runs"), "--program", tested_program()], 1000, 40)
+        self.addCleanup(terminal.close)
+        terminal.lines(lambda lines: any("event=serving" in it for it in lines))
         self.offer(3)
-        os.write(screen, b"\x03")
-        self.assertEqual(process.wait(60), 0)
+        terminal.type("\x03")
+        self.assertEqual(terminal.end(), 0)
         service = self.begin()
         self.assertEqual(service.all("lost-run"), [])
         self.assertEqual(self.ask("SIZE"), ["SIZE 3"])
 
     def test_the_last_call_tells_when_a_run_ended(self) -> None:
-        service = self.begin()
-        self.ask("OFFER 0 job")
-        time.sleep(2.5)
-        self.assertEqual(service.stop(), 0)
-        with open(self.path("runs/run-1.txt"), encoding="ascii") as file:
-            *_, last, _ = file.read().splitlines()
+        with self.serving():
+            self.ask("OFFER 0 job")
+            time.sleep(2.5)
+        *_, last, _ = Path(self.path("runs/run-1.txt")).read_text("ascii").splitlines()
         self.assertGreaterEqual(int(last.split(" ")[2]), 2_500_000_000)
-
-
-def _own_terminal() -> None:
-    os.setsid()
-    fcntl.ioctl(0, termios.TIOCSCTTY, 0)

@@ -17,6 +17,7 @@ from checking.testing import RoomTest
 from servicing import http as served
 from servicing.address import Address, address_of
 from servicing.http import Answer, HttpServer
+from servicing.tests.support import patch
 
 LONG = b"x" * 8_000_000  # more than a connection holds by itself
 PATIENCE = 10.0
@@ -61,12 +62,6 @@ class HttpTest(RoomTest):
             connection.request(method, path)
             got = connection.getresponse()
             return got.status, got.read(), got.headers
-
-    def limit(self, name: str, seconds: float) -> None:
-        """Makes a limit shorter for this test."""
-        patch = mock.patch.object(served, name, seconds)
-        patch.start()
-        self.addCleanup(patch.stop)
 
 
 def all_of(connection: socket.socket) -> bytes:
@@ -148,7 +143,7 @@ class HostileTest(HttpTest):
         self.assertEqual(self.get("/")[0], 200)
 
     def test_a_request_that_comes_byte_by_byte(self) -> None:
-        self.limit("HEAD_SECONDS", 0.5)
+        patch(self, served, HEAD_SECONDS=0.5)
         connection, began = self.connect(), time.monotonic()
         with contextlib.suppress(ConnectionError):
             while time.monotonic() < began + 1:
@@ -159,7 +154,7 @@ class HostileTest(HttpTest):
 
     def test_a_client_that_does_not_read(self) -> None:
         """It is cut, and meanwhile others are answered."""
-        self.limit("TALK_SECONDS", 1.0)
+        patch(self, served, TALK_SECONDS=1.0)
         connection = self.connect()
         connection.sendall(b"GET /long HTTP/1.1\r\n\r\n")
         time.sleep(0.2)
@@ -199,7 +194,7 @@ class HostileTest(HttpTest):
 
     def test_a_flood_of_requests(self) -> None:
         """Each is answered in its turn, and then who comes is answered at once."""
-        self.limit("MOST_A_SECOND", 10)
+        patch(self, served, MOST_A_SECOND=10)
         began = time.monotonic()
         for _ in range(25):
             self.assertEqual(self.get("/")[0], 200)

@@ -1,6 +1,7 @@
 """Processes are killed: the service in each of its states, its server, and its keeper."""
 from __future__ import annotations
 
+import contextlib
 import os
 import signal
 import threading
@@ -23,27 +24,20 @@ class KilledTest(ServiceTest):
             self.assertEqual(again.all("resume")[0]["how"], "go on")
             self.assertEqual(again.server, service.server)
             self.assertEqual(it.ask(f"DONE {id}"), f"DONE {id}")
-        self.assertEqual(again.stop(), 0)
+        self.ends(again)
         self.assertEqual(again.all("saved")[0]["left"], "0")
 
     def test_the_server_ends_while_no_service_is_there(self) -> None:
         service = self.begin("--sessions", "3")
         service.kill()
         self.ask("OFFER 0 job")
-        while True:
-            try:
-                self.ask_once("SIZE")
-            except OSError:
-                break
-        again = self.begin()
-        self.assertEqual(again.all("resume")[0]["how"], "collect")
-        self.assertEqual(again.all("lost-run"), [])
-        self.assertRegex(self.ask("TAKE")[0], "^ITEM [0-9]+ [0-9]+ 1 job$")
-        self.assertEqual(again.stop(), 0)
-
-    def ask_once(self, request: str) -> str:
-        with Session(self.port) as it:
-            return it.ask(request)
+        with contextlib.suppress(OSError):
+            while True:
+                with Session(self.port) as it:
+                    it.ask("SIZE")
+        with self.serving() as again:
+            self.assertEqual(again.all("resume")[0]["how"], "collect")
+            self.assertRegex(self.ask("TAKE")[0], "^ITEM [0-9]+ [0-9]+ 1 job$")
 
     def test_it_is_killed_while_a_run_ends(self) -> None:
         service = self.begin("--sessions", "50")
@@ -57,9 +51,8 @@ class KilledTest(ServiceTest):
             self.assertEqual(it.ask("SIZE"), "SIZE 1")
             self.assertEqual(again.wait("ending")["why"], "sessions")
         again.wait("serving", 2)
-        self.assertEqual(again.all("lost-run"), [])
         self.assertEqual(self.ask("SIZE"), ["SIZE 1"])
-        self.assertEqual(again.stop(), 0)
+        self.ends(again)
 
     def test_it_is_killed_at_any_moment(self) -> None:
         """Services are killed after ever other times, while jobs are offered and done. Each is done once."""
@@ -85,8 +78,7 @@ class KilledTest(ServiceTest):
             for it in clients:
                 it.join()
         self.drain(done)
-        self.assertEqual(service.stop(), 0)
-        self.assertEqual(service.all("lost-run"), [])
+        self.ends(service)
         self.assertGreater(len(offered), 100)
         self.assertEqual(sorted(done), sorted(offered))
 
@@ -104,17 +96,14 @@ class KilledTest(ServiceTest):
 
     def drain(self, done: List[str]) -> None:
         """Does all jobs that are due. Whether one is done is known before it is noted."""
-        try:
-            with Session(self.port) as it:
-                while it.ask("AT 0") == "ERR 1 syntax":
-                    item = it.ask("TAKE").split(" ")
-                    if item[0] != "ITEM":
-                        break
-                    if it.ask(f"DONE {item[1]}") == f"DONE {item[1]}":
-                        done.append(item[4])
-                it.ask("QUIT")
-        except OSError:
-            pass
+        with contextlib.suppress(OSError), Session(self.port) as it:
+            while it.ask("AT 0") == "ERR 1 syntax":
+                item = it.ask("TAKE").split(" ")
+                if item[0] != "ITEM":
+                    break
+                if it.ask(f"DONE {item[1]}") == f"DONE {item[1]}":
+                    done.append(item[4])
+            it.ask("QUIT")
 
     def test_the_keeper_is_killed(self) -> None:
         service = self.begin()
@@ -123,10 +112,9 @@ class KilledTest(ServiceTest):
         os.kill(keeper, signal.SIGKILL)
         service.wait("keeper")
         service.kill()
-        again = self.begin()
-        self.assertEqual(again.all("resume")[0]["how"], "go on")
-        self.assertRegex(self.ask("SIZE")[0], "^SIZE [34]$")  # the service's own element may be there
-        self.assertEqual(again.stop(), 0)
+        with self.serving() as again:
+            self.assertEqual(again.all("resume")[0]["how"], "go on")
+            self.assertRegex(self.ask("SIZE")[0], "^SIZE [34]$")  # the service's own element may be there
         self.assertEqual(again.all("saved")[0]["left"], "3")
 
     def test_the_service_and_the_keeper_are_killed(self) -> None:
@@ -135,31 +123,27 @@ class KilledTest(ServiceTest):
         self.offer(3)
         service.kill()
         os.kill(keeper, signal.SIGKILL)
-        again = self.begin()
-        self.assertEqual(again.all("resume")[0]["how"], "go on")
-        self.assertEqual(again.stop(), 0)
+        with self.serving() as again:
+            self.assertEqual(again.all("resume")[0]["how"], "go on")
         self.assertEqual(again.all("saved")[0]["left"], "3")
 
     def test_all_are_killed(self) -> None:
-        service = self.begin()
-        self.offer(3)
-        self.assertEqual(service.stop(), 0)
+        with self.serving():
+            self.offer(3)
         service = self.begin()
         self.offer(5, name="lost")
         service.kill_all()
-        again = self.begin()
-        self.assertEqual(again.all("lost-run")[0]["opening"], "3")
-        self.assertEqual(self.ask("SIZE"), ["SIZE 3"])
-        self.assertEqual(again.stop(), 0)
+        with self.serving(lost=1) as again:
+            self.assertEqual(again.all("lost-run")[0]["opening"], "3")
+            self.assertEqual(self.ask("SIZE"), ["SIZE 3"])
 
     def test_the_server_is_killed_while_no_service_is_there(self) -> None:
         service = self.begin()
         server = service.server
         service.kill()
         os.kill(server, signal.SIGKILL)
-        again = self.begin()
-        self.assertEqual(again.all("lost-run")[0]["run"], "1")
-        self.assertEqual(again.stop(), 0)
+        with self.serving(lost=1) as again:
+            self.assertEqual(again.all("lost-run")[0]["run"], "1")
 
     def test_the_server_is_killed_while_it_ends(self) -> None:
         service = self.begin()
@@ -174,9 +158,8 @@ class KilledTest(ServiceTest):
     def test_a_second_service_says_who_has_the_folder(self) -> None:
         service = self.begin()
         second = Service(self.path("runs"), port=self.port)
-        self.assertEqual(second.end(), 1)
+        self.assertEqual((second.end(), len(second.lines)), (1, 1))
         self.assertIn(f"is in use by the service of process {service.process.pid} at port {self.port}", second.lines[0])
-        self.assertEqual(len(second.lines), 1)
         self.assertEqual(self.ask("SIZE"), ["SIZE 0"])
 
     def test_a_second_folder_at_the_port_is_refused(self) -> None:

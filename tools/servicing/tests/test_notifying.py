@@ -7,7 +7,7 @@ import threading
 from typing import List
 from unittest import mock
 
-from servicing.notifying import notify
+from servicing.saying import notify
 from servicing.tests.process import ServiceTest
 
 
@@ -35,8 +35,8 @@ class NotifyingTest(ServiceTest):
             reader = threading.Thread(target=self.read, args=(it, told))
             reader.start()
             with mock.patch.dict(os.environ, NOTIFY_SOCKET=self.path("notify")):
-                service = self.begin()
-                self.assertEqual(service.stop(), 0)
+                with self.serving():
+                    pass
                 notify(END=1)
             reader.join()
         self.assertEqual((told.count("READY=1"), told.count("STOPPING=1")), (1, 1))

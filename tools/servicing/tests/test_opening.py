@@ -6,7 +6,7 @@ from typing import List, Tuple
 from unittest import mock
 
 from servicing import opening
-from servicing.opening import NoIdsLeft, Opening, opening_after, opening_again
+from servicing.opening import Left, NoIdsLeft, opening_after
 from servicing.tests.support import left_of, text_of
 
 # The example of docs/HISTORY.md: two offers, a poll of the first, and what a run was opened with.
@@ -66,16 +66,16 @@ class OpeningTest(unittest.TestCase):
         self.assertEqual(opening_after(left_of(HISTORY), {}, 2**64 + 5).moment, 2**64 - 1)
 
     def test_ids_rise_above_all_that_a_lost_run_could_have_given(self) -> None:
-        before = Opening(500, 7, {b"3": b"9 3 9 1 a"}, {b"4": b"90 4 90 1 b"})
-        again = opening_again(before, 1000, 60)
+        before, aside = Left(500, 7, {b"3": b"9 3 9 1 a"}), {b"4": b"90 4 90 1 b"}
+        again = opening_after(before, aside, 60, 1000)
         self.assertEqual((again.next_id, again.moment), (1500, 60))
-        self.assertEqual({**again.elements, **again.aside}, {**before.elements, **before.aside})
-        self.assertEqual(opening_again(before, 0, 3).moment, 7)
+        self.assertEqual({**again.elements, **again.aside}, {**before.elements, **aside})
+        self.assertEqual(opening_after(before, aside, 3).moment, 7)
 
     def test_ids_end(self) -> None:
-        self.assertEqual(opening_again(Opening(2**40 - 5, 0, {}), 5, 0).next_id, 2**40)
+        self.assertEqual(opening_after(Left(2**40 - 5, 0, {}), {}, 0, 5).next_id, 2**40)
         with self.assertRaises(NoIdsLeft):
-            opening_again(Opening(2**40 - 5, 0, {}), 6, 0)
+            opening_after(Left(2**40 - 5, 0, {}), {}, 0, 6)
 
     def test_those_that_expire_last_wait_beside(self) -> None:
         elements = {b"%d" % it: b"%d %d 0 1 p" % (100 - it, it) for it in range(10)}

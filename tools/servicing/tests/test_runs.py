@@ -1,7 +1,6 @@
 """Services that run: time, ids and elements from run to run."""
 from __future__ import annotations
 
-import json
 import os
 import re
 import signal
@@ -17,68 +16,56 @@ class RunsTest(ServiceTest):
         return [int(it) for it in re.findall(r"\d+", reply.split(" ", 1)[1])]
 
     def test_a_job_comes_when_it_is_due_through_many_runs(self) -> None:
-        service = self.begin("--every", "1s", "--wait", "100ms", "--sessions", "400")
-        offered = time.monotonic()
-        self.assertRegex(self.ask("OFFER 6000000000 later")[0], "^OFFERED ")
-        reply = "STOPPED"
-        while reply == "STOPPED" and time.monotonic() < offered + 30:
-            reply = self.ask("TAKE")[0]
-        passed = time.monotonic() - offered
-        self.assertRegex(reply, "^ITEM [0-9]+ [0-9]+ 1 later$")
-        self.assertGreaterEqual(passed, 6)
-        self.assertLess(passed, 12)  # on a machine that does much else
-        self.assertGreaterEqual(len(service.all("serving")), 2)
-        self.assertEqual(service.stop(), 0)
+        with self.serving("--every", "1s", "--wait", "100ms") as service:
+            offered, reply = time.monotonic(), "STOPPED"
+            self.assertRegex(self.ask("OFFER 6000000000 later")[0], "^OFFERED ")
+            while reply == "STOPPED" and time.monotonic() < offered + 30:
+                reply = self.ask("TAKE")[0]
+            passed = time.monotonic() - offered
+            self.assertRegex(reply, "^ITEM [0-9]+ [0-9]+ 1 later$")
+            self.assertGreaterEqual(passed, 6)
+            self.assertLess(passed, 12)  # on a machine that does much else
+            self.assertGreaterEqual(len(service.all("serving")), 2)
 
     def test_a_job_comes_when_it_is_due_though_no_service_was_there(self) -> None:
-        service = self.begin()
-        self.ask("OFFER 4000000000 later")
-        self.assertEqual(service.stop(), 0)
+        with self.serving():
+            self.ask("OFFER 4000000000 later")
         time.sleep(4)
-        service = self.begin()
-        self.assertRegex(self.ask("POLL")[0], "^ITEM [0-9]+ [0-9]+ 1 later$")
-        self.assertEqual(service.stop(), 0)
+        with self.serving():
+            self.assertRegex(self.ask("POLL")[0], "^ITEM [0-9]+ [0-9]+ 1 later$")
 
     def test_elements_go_on_with_their_ids_and_attempts(self) -> None:
-        service = self.begin("--delay", "0s")
         never = 2**64 - 1
-        with Session(self.port) as it:
+        with self.serving("--delay", "0s") as service, Session(self.port) as it:
             self.assertRegex(it.ask("OFFER 0 job"), "^OFFERED ")
             id = self.numbers(it.ask("TAKE"))[0]
             again = self.numbers(it.ask(f"FAIL {id}"))[0]
             last = self.numbers(it.ask(f"OFFERAT {never} never"))[0]
             it.ask("QUIT")
-        self.assertEqual(service.stop(), 0)
         self.assertEqual(service.all("saved")[0]["left"], "2")
-        service = self.begin("--delay", "0s")
-        with Session(self.port) as it:
+        with self.serving("--delay", "0s"), Session(self.port) as it:
             self.assertRegex(it.ask("TAKE"), f"^ITEM {again} [0-9]+ 2 job$")
             self.assertEqual(it.ask(f"DONE {again}"), f"DONE {again}")
             self.assertEqual(it.ask("PEEK"), f"HEAD {last} {never} 1 never")
             self.assertGreater(self.numbers(it.ask("OFFER 0 new"))[0], last)
             it.ask("QUIT")
-        self.assertEqual(service.stop(), 0)
 
     def test_a_killed_server_loses_its_run_and_says_so_once(self) -> None:
-        service = self.begin()
-        self.offer(500)
-        self.assertEqual(service.stop(), 0)
-        service = self.begin("--calls", "5000")
-        lost = self.numbers(self.ask("TAKE", "OFFER 0 new")[1])[0]
-        os.kill(service.server, signal.SIGKILL)
-        service.wait("serving", 2)
-        told = service.all("lost-run")
-        self.assertEqual(len(told), 1)
-        self.assertEqual((told[0]["run"], told[0]["opening"], told[0]["level"]), ("2", "500", "error"))
-        self.assertIn("the 500 elements that it began with are in the queue again", told[0]["text"])
-        size, offered = self.ask("SIZE", "OFFER 0 other")
-        self.assertEqual(size, "SIZE 500")
-        self.assertGreaterEqual(self.numbers(offered)[0], 500 + 5000)
-        self.assertGreater(self.numbers(offered)[0], lost)
-        self.assertEqual(service.stop(), 0)
-        service = self.begin()
-        self.assertEqual(self.ask("SIZE"), ["SIZE 501"])
-        self.assertEqual(len(service.all("lost-run")), 0)
+        with self.serving():
+            self.offer(500)
+        with self.serving("--calls", "5000", lost=1) as service:
+            lost = self.numbers(self.ask("TAKE", "OFFER 0 new")[1])[0]
+            os.kill(service.server, signal.SIGKILL)
+            service.wait("serving", 2)
+            told = service.all("lost-run")[0]
+            self.assertEqual((told["run"], told["opening"], told["level"]), ("2", "500", "error"))
+            self.assertIn("the 500 elements that it began with are in the queue again", told["text"])
+            size, offered = self.ask("SIZE", "OFFER 0 other")
+            self.assertEqual(size, "SIZE 500")
+            self.assertGreaterEqual(self.numbers(offered)[0], 500 + 5000)
+            self.assertGreater(self.numbers(offered)[0], lost)
+        with self.serving():
+            self.assertEqual(self.ask("SIZE"), ["SIZE 501"])
 
     def test_calls_run_low(self) -> None:
         service = self.begin("--calls", "60")
@@ -88,12 +75,10 @@ class RunsTest(ServiceTest):
         self.assertEqual(self.ask("SIZE"), ["SIZE 54"])
 
     def test_sessions_run_out_unseen(self) -> None:
-        service = self.begin("--sessions", "20")
-        for _ in range(40):
-            self.ask("SIZE")
-        service.wait("serving", 2)
-        self.assertEqual(service.all("lost-run"), [])
-        self.assertEqual(service.stop(), 0)
+        with self.serving("--sessions", "20") as service:
+            for _ in range(40):
+                self.ask("SIZE")
+            service.wait("serving", 2)
 
     def test_what_an_earlier_series_of_runs_has_left_is_continued(self) -> None:
         folder = Path(self.path("runs"))
@@ -108,21 +93,17 @@ class RunsTest(ServiceTest):
 
     def test_it_begins_with_a_history_of_another_folder(self) -> None:
         history = self.file("other.txt", "history 3\nopen 0 0 0\n1 5 5 offer 0 9 0 9 1 mail\nend 1\n")
-        service = self.begin("--from", history)
-        self.assertRegex(self.ask("TAKE", "DONE 0")[0], "^ITEM 0 9 1 mail$")
-        self.assertEqual(service.stop(), 0)
+        with self.serving("--from", history):
+            self.assertRegex(self.ask("TAKE", "DONE 0")[0], "^ITEM 0 9 1 mail$")
         service = self.start("--from", history)
         self.assertEqual(service.end(), 1)
         self.assertIn("--from begins an empty folder", service.lines[-1])
 
     def test_old_runs_are_compressed_and_dropped(self) -> None:
-        service = self.begin("--every", "1s", "--keep", "3")
-        service.wait("serving", 6)
-        self.assertEqual(service.stop(), 0)
-        service = self.begin("--keep", "3")
-        last = int(service.all("serving")[0]["run"])
-        folder = self.path("runs")
+        with self.serving("--every", "1s", "--keep", "3") as service:
+            service.wait("serving", 6)
+        last = int(self.begin("--keep", "3").all("serving")[0]["run"])
         wanted = {f"run-{last - 1}.json", f"run-{last - 1}.txt.gz", f"run-{last - 2}.json", f"run-{last - 2}.txt.gz",
                   f"run-{last}.json", f"opening-{last}.txt", "id", "lock", "status"}
-        self.until(lambda: set(os.listdir(folder)) <= wanted, "old files are gone")
-        self.assertEqual(json.loads(Path(f"{folder}/run-{last - 1}.json").read_text("ascii"))["end"]["why"], "asked")
+        self.until(lambda: set(os.listdir(self.path("runs"))) <= wanted, "old files are gone")
+        self.assertEqual(self.record(last - 1)["end"]["why"], "asked")

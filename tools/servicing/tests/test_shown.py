@@ -14,11 +14,11 @@ from checking.testing import run_tool
 from common.program import tested_program
 from reporting import tests as browsing
 from reporting.tests.browser import Browser
-from servicing.looking import Limits, Looks, client_of
-from servicing.session import OwnSession
+from servicing.looking import Looks, client_of
 from servicing.sockets import Connection, Sockets
 from servicing.state import Doing
 from servicing.tests.process import Service, ServiceTest
+from servicing.tests.support import record
 from servicing.tests.test_metrics import PROMTOOL, promtool
 from serving.server import free_port
 
@@ -39,7 +39,7 @@ class DoingTest(unittest.TestCase):
         connections = [Connection(port, str(port), has_hung_up, is_served, sent, 0, 0, 0, False, None)
                        for port, has_hung_up, is_served, sent in (
                            (1, True, False, 1), (2, True, False, 9), (3, False, False, 0), (4, True, True, 1))]
-        looks = Looks(Limits(4, 1000, 20, 0, 0, 0), OwnSession(1))
+        looks = Looks(1, record(), 4, 20)
         looks.see(Sockets(True, None, connections))
         assert looks.clients is not None
         told = {it.port: it.doing for it in looks.clients.all}

@@ -17,6 +17,7 @@ from servicing.reports import Reports
 from servicing.site import Site
 from servicing.state import Board, DiskFault, Head, Phase, Queue, State, Traffic
 from servicing.tests.states import AT, ENDED, LOST, first_state, state
+from servicing.tests.support import patch
 from servicing.told import told
 from servicing.trend import BETWEEN, SPAN, Trend
 
@@ -68,7 +69,7 @@ class PathsTest(SiteTest):
 
     def test_counters_never_fall(self) -> None:
         for offered, shown in ((10, 10), (7, 10), (12, 12)):
-            self.put(state(traffic=Traffic(offered, 3, 2, 1, None, None, None)))
+            self.put(state(traffic=Traffic(offered, 3, 2, 1)))
             self.assertIn(b'rb_broker_offered_total{port="7011"} %d\n' % shown, self.answer("/metrics").body)
 
     def test_health(self) -> None:
@@ -144,14 +145,14 @@ class PathsTest(SiteTest):
 class TrendTest(SiteTest):
     def moments(self, count: int, step: float) -> List[State]:
         return [state(at=AT + it * step, queue=Queue(AT + it * step, 1204, Head(1, 1, 1, "a", 3.25)),
-                      traffic=Traffic(100 * it, 50 * it, 0, 0, None, None, None)) for it in range(count)]
+                      traffic=Traffic(100 * it, 50 * it, 0, 0)) for it in range(count)]
 
     def test_a_server_that_is_asked_more_rarely_than_states_are_put(self) -> None:
         """It answers every six seconds, of which each had 10 offers a second."""
         for place in range(7):
             at = AT + place // 3 * 6
             self.put(state(at=AT + 2 * place, queue=Queue(at, 0, None),
-                           traffic=Traffic(60 * (place // 3), 0, 0, 0, None, None, None)))
+                           traffic=Traffic(60 * (place // 3), 0, 0, 0)))
         self.assertEqual(self.told()["trend"]["offers"], [None, None, None, 10, 10, 10, 10])
 
     def test_the_last_minutes_with_their_rates(self) -> None:
@@ -187,16 +188,14 @@ class TrendTest(SiteTest):
 
     def test_counts_that_are_corrected(self) -> None:
         for offered, at in ((100, AT), (90, AT + 2)):
-            self.put(state(at=at, queue=None, traffic=Traffic(offered, 0, 0, 0, None, None, None)))
+            self.put(state(at=at, queue=None, traffic=Traffic(offered, 0, 0, 0)))
         self.assertEqual(self.told()["trend"]["offers"], [None, 0])
 
 
 class ReportsTest(SiteTest):
     def setUp(self) -> None:
         super().setUp()
-        patch = mock.patch.object(making, "NICENESS", 0)  # so that other tests do not come first
-        patch.start()
-        self.addCleanup(patch.stop)
+        patch(self, making, NICENESS=0)  # so that other tests do not come first
 
     def serve(self, text: bytes, number: int = 11) -> None:
         """A service behind which this run lies."""

@@ -16,7 +16,7 @@ from unittest import mock
 
 from checking.testing import RoomTest
 from common.program import TOP
-from servicing.pages import Pages
+from servicing.site import Pages
 from servicing.state import Board, Client, Clients, Doing, Head, Queue, State
 from servicing.status_view import frame, show
 from servicing.tests.states import AT, HELD, LONG, SETTINGS, first_state, state, troubled_state

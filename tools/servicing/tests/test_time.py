@@ -6,8 +6,8 @@ import unittest
 
 from servicing.clock import elapsed, read_clock
 from servicing.durations import nanoseconds_of, text_of
-from servicing.runs import Next
 from servicing.opening import Opening
+from servicing.runs import Next
 from servicing.tests.support import SECOND, reading
 
 

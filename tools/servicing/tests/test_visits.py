@@ -4,11 +4,11 @@ from __future__ import annotations
 import time
 from typing import Optional
 
-from serving import PATIENCE
-from serving.testing import ServingTest
-from serving.session import Session
 from servicing.sockets import look_at
 from servicing.visits import ROOM, Visits
+from serving import PATIENCE
+from serving.session import Session
+from serving.testing import ServingTest
 
 
 class VisitsTest(ServingTest):

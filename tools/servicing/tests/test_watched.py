@@ -7,13 +7,13 @@ import time
 import unittest
 from typing import Callable, List, Optional
 
+from servicing.looking import WINDOW, Looks, Pace, silent_ports
+from servicing.sockets import look_at
+from servicing.state import Doing
+from servicing.tests.support import record
 from serving.server import Server
 from serving.session import Session
 from serving.testing import ServingTest
-from servicing.looking import WINDOW, Limits, Looks, Pace, silent_ports
-from servicing.session import OwnSession
-from servicing.sockets import look_at
-from servicing.state import Doing
 
 FAR = 3_600_000_000_000
 PATIENCE = 30  # seconds after which something that has to happen has not
@@ -23,17 +23,11 @@ class Seen:
     """What a service sees of a server, at each look."""
 
     def __init__(self, server: Server, workers: int = 4, calls: int = 1000, sessions: int = 20) -> None:
-        self.own = OwnSession(server.port)
-        self.looks = Looks(Limits(workers, calls, sessions, 0, 0, 0), self.own)
-        self._port = server.port
+        self.looks = Looks(server.port, record(calls=calls), workers, sessions)
+        self.own = self.looks.own
 
     def look(self) -> Looks:
-        told = self.own.look()
-        if told is not None:
-            self.looks.hear(told)
-        self.looks.see(look_at(self._port))
-        if self.looks.waiting:
-            self.own.leave()
+        self.looks.look(0)
         return self.looks
 
     def until(self, holds: Callable[[Looks], bool]) -> Looks:
@@ -147,11 +141,10 @@ class WatchedTest(ServingTest):
         before = time.clock_gettime_ns(time.CLOCK_BOOTTIME)
         server = self.serve("--workers", 3, "--sessions", 20, "--from", opening)
         after = time.clock_gettime_ns(time.CLOCK_BOOTTIME)
-        own = OwnSession(server.port)
-        self.addCleanup(own.drop)
-        looks = Looks(Limits(3, 1000, 20, 7, last, 1), own)
+        looks = Looks(server.port, record(next_id=7, moment=last, opening=1), 3, 20)
+        self.addCleanup(looks.own.drop)
         for _ in range(20):
-            told = own.look()
+            told = looks.own.look()
             assert told is not None
             looks.hear(told)
         assert looks.began is not None

@@ -1,0 +1,123 @@
+"""What a service does between two runs: it finds what the one before left, and saves what a run has left."""
+from __future__ import annotations
+
+import subprocess
+import time
+from typing import Optional, Union
+
+from histories.files import open_history
+from servicing.current import Current
+from servicing.deciding import Start, how_to_start
+from servicing.folder import Unusable
+from servicing.keeping import Held
+from servicing.parts import Parts
+from servicing.runs import Next, left_of
+from servicing.saying import say
+from servicing.server import Damaged, Server, orphan_of
+from servicing.showing import lost_text
+from servicing.state import End, Phase, Reason, Run
+
+
+def resumed(parts: Parts) -> Union[Current, Next]:
+    """A server that goes on, or what the next one begins with. Raises an `Unusable`."""
+    last, settings = parts.runs.last, parts.settings
+    if last is None:
+        return parts.runs.first(settings.begin_with, lambda path: _why_not(settings.program, path))
+    if settings.begin_with:
+        raise Unusable(f"--from begins an empty folder, and {parts.folder.path} has runs")
+    held = parts.keeping.status() if parts.keeping.was_found else None
+    server = _held_server(parts, last, held)
+    if server is not None:
+        held = Held(server.run, server.run, server.pid, None)
+    history = parts.folder.history(last.number)
+    start = how_to_start(last, history is not None, held, server is not None and not server.has_ended)
+    say("info", "resume", run=last.number, how=start.value)
+    if server is not None and start in (Start.GO_ON, Start.COLLECT):
+        current = Current(parts, last, server)
+        if start is Start.GO_ON:
+            return current
+        parts.showing.run = current.record
+        return saved(parts, current)
+    if server is not None:
+        server.close()
+    parts.keeping.drop()
+    if start is Start.CONTINUE and history is not None:
+        return _continued(parts, last, history)
+    if start is Start.AGAIN:
+        return parts.runs.again(last, last.calls if last.end is not None else 0)
+    return lost(parts, last, "its server and its keeper were gone")
+
+
+def _held_server(parts: Parts, last: Run, held: Optional[Held]) -> Optional[Server]:
+    """The server of the last run, if a keeper holds it, or if it is found without one."""
+    if held is not None:
+        return parts.keeping.held() if held.run == last.number else None
+    server = orphan_of(parts.folder.id, last.number)
+    if server is not None:
+        parts.keeping.hold(server)
+    return server
+
+
+def _continued(parts: Parts, last: Run, history: str) -> Next:
+    """What follows a run that ended in good order, by the file of its history."""
+    why_not = _why_not(parts.settings.program, history, "--chains", *last.policy)
+    if why_not:
+        raise Unusable(f"{history} can't be continued: {why_not}")
+    if last.end is None:
+        write_end(parts, last, End(time.time(), Reason.UNKNOWN))
+    return parts.runs.after(last, left_of(history))
+
+
+def _why_not(program: str, path: str, *words: str) -> str:
+    """Why no run can continue a history, or nothing if one can."""
+    try:
+        with open_history(path) as file:
+            ran = subprocess.run([program, "replay", "/dev/stdin", *words], input=file.read(), capture_output=True,
+                                 check=False)
+    except OSError as fault:
+        return fault.strerror or repr(fault)
+    return "" if ran.returncode == 0 else (ran.stdout + ran.stderr).decode(errors="replace").strip()
+
+
+def saved(parts: Parts, run: Current) -> Next:
+    """Has the history of a run that has ended checked, and writes it, or the run is lost. Returns what follows."""
+    record, server, looks = run.record, run.server, run.looks
+    why = Reason.ASKED if parts.signals.count and run.why is not Reason.UNKNOWN else run.why
+    parts.showing.enter(Phase.BETWEEN, why)
+    try:
+        audit, left = server.collect(parts.settings.program, record.policy)
+    except Damaged as fault:
+        if server.size:
+            parts.runs.save_damaged(server)
+        following = lost(parts, record, str(fault))
+        offered, gone = looks.offered, looks.left
+    else:
+        parts.until_written(f"run-{record.number}.txt", server.size, lambda: parts.runs.save_history(server))
+        offered, stays = audit["offered"] - left.probes, len(left.elements)
+        gone = record.opening + offered - stays
+        end = End(time.time(), why, audit["calls"], offered, left.failed, audit["given"], stays, left.last_attempts,
+                  server.lost_jobs, None, run.held_by, run.cut)
+        write_end(parts, record, end)
+        following = parts.runs.after(record, left)
+        say("info", "saved", run=record.number, calls=end.calls, offered=end.offered, given=end.given, left=end.left,
+            lost_jobs=end.lost_jobs or None, cut=end.cut or None)
+    parts.showing.count(parts.runs.records[record.number], offered, gone)
+    parts.showing.looks = None
+    parts.showing.renew_runs()
+    parts.keeping.drop()
+    server.close()
+    return following
+
+
+def lost(parts: Parts, record: Run, why: str) -> Next:
+    """A run is lost: it is said once, and the next one begins where it began."""
+    write_end(parts, record, End(time.time(), Reason.KILLED))
+    it = parts.runs.records[record.number]
+    say("error", "lost-run", run=record.number, lasted=f"{it.lasted:.1f}s", opening=record.opening,
+        aside=record.aside or None, why=why, text=lost_text(it))
+    parts.showing.renew_runs()
+    return parts.runs.again(record, record.calls)
+
+
+def write_end(parts: Parts, record: Run, end: End) -> None:
+    parts.until_written(f"run-{record.number}.json", 0, lambda: parts.runs.end(record, end))
