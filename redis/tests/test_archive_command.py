@@ -1,12 +1,11 @@
 """The command `archive` with a Redis: kills at any moment, a process that goes on, an archive that begins anew."""
 from __future__ import annotations
 
-import os
 import random
 import signal
-import subprocess
 from pathlib import Path
 
+from judging import replay_chains
 from nodes import wait_until
 from rb_broker_redis.archive_folder import ArchiveFolder
 from rb_broker_redis.history import read_text
@@ -107,9 +106,7 @@ class InHandTest(ArchiveCommandTest):
         queue.request("FAIL 1", SEAT)
         self.assert_prints([f"{self.name}: 3 events in {self.folder}/{self.name}-{2:012}.txt"], "archive", self.folder)
         for path in self.files():
-            ran = subprocess.run([os.environ["RB_BROKER_PROGRAM"], "replay", str(path), "--chains", "--delay", "0"],
-                                 capture_output=True, text=True, check=False)
-            self.assertEqual((ran.returncode, ran.stderr), (0, ""), ran.stdout)
+            replay_chains(path, 0, 3)
 
 
 class RefusalTest(ArchiveCommandTest):

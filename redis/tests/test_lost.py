@@ -13,13 +13,14 @@ import tempfile
 import threading
 import time
 import unittest
+from itertools import count
 from pathlib import Path
 from typing import Callable, NamedTuple, Sequence
 
 from gateways import Gateway
 from nodes import ALWAYS, EVERYSEC, FORGETFUL, PATIENCE, Node, Replicas, Sentinels, wait_until
-from recorded_session import Broken, Notes, RecordedSession
 from redis_test import RoomTest
+from serving.session import Session
 
 ROUNDS = int(os.environ.get("RB_BROKER_ROUNDS", 1))
 PRODUCERS = 4
@@ -32,26 +33,19 @@ SHIM = Path(__file__).with_name("power_cut.c")
 class Offers:
     """Producers in threads, which offer as fast as they can until their session breaks."""
 
-    def __init__(self, port: int, record: Path) -> None:
+    def __init__(self, port: int) -> None:
         self.answered: dict[str, float] = {}  # payload to the time of the answer
-        self._threads = [threading.Thread(target=self._offer, args=(port, Notes(record), it), daemon=True)
-                         for it in range(PRODUCERS)]
+        self._threads = [threading.Thread(target=self._offer, args=(port, it), daemon=True) for it in range(PRODUCERS)]
         self.is_over = False
         for it in self._threads:
             it.start()
 
-    def _offer(self, port: int, record: Notes, producer: int) -> None:
-        session = RecordedSession(port, record)
-        try:
-            for number in range(10**6):
-                if self.is_over:
+    def _offer(self, port: int, producer: int) -> None:
+        with Session(port) as session:
+            for number in count():
+                if self.is_over or not session.ask(f"OFFER 3600000000000 {producer}-{number}").startswith("OFFERED "):
                     return
-                if session.ask(f"OFFER 3600000000000 {producer}-{number}")[0].startswith("OFFERED "):
-                    self.answered[f"{producer}-{number}"] = time.monotonic()
-        except Broken:
-            pass
-        finally:
-            session.hang_up()
+                self.answered[f"{producer}-{number}"] = time.monotonic()
 
     def end(self) -> None:
         self.is_over = True
@@ -82,7 +76,7 @@ class LostTest(RoomTest):
         """Offers through a gateway until the kill. The answers, and the time of the kill."""
         gateway = Gateway(room / "gateway", redis, QUEUE, ("--timeout", "1s", *options))
         gateway.wait()
-        offers = Offers(gateway.port, room / "record")
+        offers = Offers(gateway.port)
         time.sleep(random.uniform(0.6, 1.0) * SECONDS)
         kill()
         killed = time.monotonic()

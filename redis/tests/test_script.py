@@ -13,7 +13,6 @@ from random_script import RandomScript
 from rb_broker_redis import script
 from rb_broker_redis.command import parser
 from rb_broker_redis.history import FollowedQueue
-from rb_broker_redis.script_session import ScriptSession
 from redis_test import RedisTest
 
 TOP = Path(__file__).resolve().parents[2]
@@ -73,7 +72,7 @@ class RandomScriptsTest(RedisTest):
         asked = parser().parse_args(["script", "--redis", self.node.url, *made.words])
         queue = self.queue("random")
         script.begin(queue, FollowedQueue(), asked)
-        session = ScriptSession(queue, 0)
+        session = script.ScriptSession(queue, 0)
         replies = b"".join(session.carry_out(piece) for piece in made.pieces) + session.come_to_end()
         session.fail_held()
         history = b"history 3\nopen 0 0 0\n" + b"".join(script.events_of(queue))

@@ -8,6 +8,7 @@ from typing import Optional, Union
 
 from .address import Address
 from .calls import Calls
+from .link import is_set_in_time
 from .protocol import SECOND
 from .session import Session
 from .sharded_calls import ShardedCalls
@@ -62,11 +63,8 @@ class Gateway:
         self._server.close()
         self._all_ended.clear()
         self.stop_all()
-        if self._sessions:
-            try:
-                await asyncio.wait_for(self._all_ended.wait(), SECONDS_TO_END)
-            except asyncio.TimeoutError:
-                LOG.warning("%d sessions did not end, and will when the lease is over", len(self._sessions))
+        if self._sessions and not await is_set_in_time(self._all_ended, SECONDS_TO_END):
+            LOG.warning("%d sessions did not end, and will when the lease is over", len(self._sessions))
         await self.leave()
         return self._count, self._lost
 

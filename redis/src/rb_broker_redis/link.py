@@ -2,14 +2,17 @@
 from __future__ import annotations
 
 import asyncio
+import contextlib
 import ssl
 from collections import deque
-from typing import Callable, Optional, cast
+from typing import Awaitable, Callable, Optional, TypeVar, cast
 
 from .address import Address
 from .resp import Answer, ErrorAnswer, command, reader
 
 MOST_SECONDS_TO_CONNECT = 5.0
+
+Answered = TypeVar("Answered")
 
 
 class Link(asyncio.Protocol):
@@ -46,10 +49,7 @@ class Link(asyncio.Protocol):
         """Makes one command. Raises its `ErrorAnswer`, or a `ConnectionError` if there is no answer in time."""
         answered: asyncio.Future[Answer] = asyncio.get_running_loop().create_future()
         self.send(command(*words), lambda answer: None if answered.done() else answered.set_result(answer))
-        try:
-            answer = await asyncio.wait_for(answered, MOST_SECONDS_TO_CONNECT)
-        except asyncio.TimeoutError:
-            raise ConnectionError("it does not answer") from None
+        answer = await answer_of(answered)
         if isinstance(answer, ErrorAnswer):
             raise answer
         return answer
@@ -64,13 +64,25 @@ class Link(asyncio.Protocol):
         self._transport.abort()
 
 
+async def answer_of(asked: Awaitable[Answered]) -> Answered:
+    """What was asked for. Raises a `ConnectionError` if that does not come in time."""
+    try:
+        return await asyncio.wait_for(asked, MOST_SECONDS_TO_CONNECT)
+    except asyncio.TimeoutError:
+        raise ConnectionError("it does not answer") from None
+
+
+async def is_set_in_time(event: asyncio.Event, seconds: float) -> bool:
+    """Waits until something has come about, or for so long. Whether it has."""
+    with contextlib.suppress(asyncio.TimeoutError):
+        await asyncio.wait_for(event.wait(), seconds)
+    return event.is_set()
+
+
 async def connect(host: str, port: int, address: Address, heard: Optional[Callable[[bytes], None]] = None) -> Link:
     """A connection to this node, with the login and the TLS of the address. Raises `OSError` or `ErrorAnswer`."""
     opening = asyncio.get_running_loop().create_connection(lambda: Link(heard), host, port, ssl=tls_of(address))
-    try:
-        _, link = await asyncio.wait_for(opening, MOST_SECONDS_TO_CONNECT)
-    except asyncio.TimeoutError:
-        raise ConnectionError("it does not answer") from None
+    _, link = await answer_of(opening)
     try:
         if address.password:
             await link.ask("AUTH", *([address.username] if address.username else []), address.password)

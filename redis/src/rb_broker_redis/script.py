@@ -11,13 +11,17 @@ from typing import BinaryIO, Iterator, Optional
 
 from .ending import Failed
 from .history import GREATEST_ID, HEADER, MOST_KEPT, Damaged, FollowedQueue, read_text
-from .protocol import MOST_CALLS
+from .protocol import MOST_CALLS, ErrorReply
 from .queue import Queue, connect
-from .script_session import ScriptSession
+from .request import Kind, LineCutter, read_request
+from .session import BYE
+from .waits import LATER, STOPPED
 from .words import Parser, add_command, add_policy_words, add_redis_word, address_in, policy_in, whole
 
+SEAT = b"0 "
 LEASE = 60_000_000
 CHUNK = 10_000
+MOST_CALLS_AT_ONCE = 500
 MOST_READS = 10_000_000
 BUFFER_BYTES = 64 * 1024
 
@@ -134,3 +138,59 @@ def events_of(queue: Queue) -> Iterator[bytes]:
         for line in queue.command("LRANGE", queue.history, start, start + CHUNK - 1):
             yield line + b"\n"
     yield b"end %d\n" % count
+
+
+class ScriptSession:
+    """A session whose moment only AT moves. What would have to wait is answered STOPPED, since nobody else could end
+    the wait."""
+
+    def __init__(self, queue: Queue, moment: int) -> None:
+        self._queue, self._moment = queue, moment
+        self._cutter = LineCutter()
+        self._calls: list[bytes] = []
+        self._replies: list[bytes] = []
+        self.is_over = False
+        """QUIT was answered."""
+
+    def carry_out(self, data: bytes) -> bytes:
+        """Carries out the lines that these bytes end. Gives the replies."""
+        for line in self._cutter.cut(data):
+            if not self.is_over:
+                self._carry_out(line)
+        self._make_calls()
+        replies, self._replies = b"".join(self._replies), []
+        return replies
+
+    def come_to_end(self) -> bytes:
+        """The input is over. Gives the reply to a line that this has cut off."""
+        return ErrorReply.LINE.value if self._cutter.rest and not self.is_over else b""
+
+    def fail_held(self) -> None:
+        """Lets what is held fail."""
+        self._perform([SEAT + b"END"])
+
+    def _carry_out(self, line: bytes) -> None:
+        kind, text = read_request(line)
+        if kind in (Kind.CALL, Kind.WAIT):
+            self._calls.append(SEAT + text)
+            if len(self._calls) == MOST_CALLS_AT_ONCE:
+                self._make_calls()
+            return
+        self._make_calls()
+        if kind is Kind.AT:
+            self._moment = max(self._moment, int(text))
+            text = b"NOW %d\n" % self._moment
+        elif kind is Kind.QUIT:
+            self.is_over = True
+            text = BYE
+        self._replies.append(text)
+
+    def _make_calls(self) -> None:
+        """Makes the calls that were gathered."""
+        if self._calls:
+            self._replies += [STOPPED if reply.startswith(LATER) else reply for reply in self._perform(self._calls)]
+            self._calls = []
+
+    def _perform(self, calls: list[bytes]) -> list[bytes]:
+        replies: list[bytes] = self._queue.call("rb_calls", f"{self._moment:020}", "", *calls)
+        return replies

@@ -12,7 +12,7 @@ from . import library
 from .address import Address
 from .calls import UNKNOWN, Calls
 from .keys import channel_of, keys_of
-from .link import Link
+from .link import Link, is_set_in_time
 from .place import connect_to_queue
 from .resp import ErrorAnswer
 from .words import NO_POLICY
@@ -153,8 +153,10 @@ class Upkeep:
             link = await self._until_done(self._subscribe)
             self._gateway.waits.look_now(self._shard)
             try:
-                while not link.lost.is_set():
-                    await self._look_after(link)
+                while not await is_set_in_time(link.lost, SECONDS_BETWEEN_PINGS):
+                    await link.ask("PING")
+            except (OSError, ErrorAnswer):
+                pass  # nothing is heard for another reason than that nothing is published
             finally:
                 link.close()
 
@@ -164,20 +166,9 @@ class Upkeep:
         await link.ask("SUBSCRIBE", channel_of(self._queue))
         return link
 
-    async def _look_after(self, link: Link) -> None:
-        """Closes a link on which nothing is heard for another reason than that nothing is published."""
-        try:
-            await asyncio.wait_for(link.lost.wait(), SECONDS_BETWEEN_PINGS)
-        except asyncio.TimeoutError:
-            try:
-                await link.ask("PING")
-            except (OSError, ErrorAnswer):
-                link.close()
-
     async def _keep_lease(self) -> None:
         while True:
-            with contextlib.suppress(asyncio.TimeoutError):
-                await asyncio.wait_for(self._must_join.wait(), self._lease / 3e6)
+            await is_set_in_time(self._must_join, self._lease / 3e6)
             self._must_join.clear()
             try:
                 if self._link and not self.is_joined:

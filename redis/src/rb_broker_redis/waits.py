@@ -36,7 +36,8 @@ class Later(NamedTuple):
 def laters_in(reply: bytes) -> list[Later]:
     """What a LATER tells, which has three words for each queue."""
     words = iter(reply.split()[1:])
-    return [Later(None if head == b"-" else int(head), int(now), start) for head, now, start in zip(words, words, words)]
+    told = zip(words, words, words)
+    return [Later(None if head == b"-" else int(head), int(now), start) for head, now, start in told]
 
 
 @dataclass(eq=False)
