@@ -18,11 +18,23 @@ LONGEST_LINE = 48_000_000
 
 HEADERS: Dict[bytes, int] = {b"history 1\n": 1, b"history 2\n": 2, b"history 3\n": 3}
 
-_NUMBER = rb"(0|[1-9][0-9]{0,19})"
-_NAMED = rb"(?P<%s>0|[1-9][0-9]{0,19})"
-_GIVEN = rb"(?P<%s>0|[1-9][0-9]{0,19}|none)"
-_ATTEMPT = rb"([1-9][0-9]{0,2}|1000)"
-_PAYLOAD = rb"(?P<%s>[!-~]{1,64})"
+# An element's words end with a group of its act's name, or of `keep`. If a version leaves the first expiry out, its
+# group is empty. Each alternative of an event ends with a group of the act's name, or is one.
+_ELEMENT = "({n}) ({n}) ({n}) {first} ([1-9][0-9]{{0,2}}|1000) (?P<%s>[!-~]{{1,64}})"
+_ACTS = (
+    "offer " + _ELEMENT % "offer", "take (?P<take>{n})", "poll (?P<poll>{n}|none)",
+    "pollfor (?P<start>{n}) (?P<timeout>{n}) (?P<pollfor>{n}|none)", "peek (?P<peek>{n}|none)",
+    "remove (?P<removed>{n}) (?P<remove>yes|no)", "drain (?P<most>{n})(?P<drain>(?: (?:{n}))*)", "(?P<clear>clear)",
+    "size (?P<size>{n})",
+)
+
+OFFERED_GROUPS = tuple(range(4, 10))  # of an element's words in an event; in a `keep` line there are no others
+
+
+def _pattern(form: str, tells_first: bool = True) -> Pattern[bytes]:
+    number = "0|[1-9][0-9]{0,19}"  # always in a group
+    told = form if tells_first else form.replace("{first} ", "()")
+    return re.compile(told.format(n=number, first=f"({number})").encode() + b"\n")
 
 
 class Grammar(NamedTuple):
@@ -41,36 +53,8 @@ class Head(NamedTuple):
     kept: int = 0
 
 
-OFFERED_GROUPS = tuple(range(4, 10))  # of an element's words in an event; in a `keep` line there are no others
+OPEN, END = _pattern("open ({n}) ({n}) ({n})"), _pattern("end ({n})")
 
-OPEN: Pattern[bytes] = re.compile(rb"open " + b" ".join([_NUMBER] * 3) + rb"\n")
-END: Pattern[bytes] = re.compile(rb"end " + _NUMBER + rb"\n")
-
-
-def _element(name: bytes, tells_first: bool) -> bytes:
-    """The words of an element. If the version leaves the first expiry out, its group is empty."""
-    first = _NUMBER + rb" " if tells_first else rb"()"
-    return b" ".join([_NUMBER] * 3) + rb" " + first + _ATTEMPT + rb" " + _PAYLOAD % name
-
-
-def _acts(tells_first: bool) -> bytes:
-    """The words of the acts. Each alternative ends with a group of the act's name, or is one."""
-    return b"|".join([
-        rb"offer " + _element(b"offer", tells_first),
-        rb"take " + _NAMED % b"take",
-        rb"poll " + _GIVEN % b"poll",
-        rb"pollfor " + _NAMED % b"start" + rb" " + _NAMED % b"timeout" + rb" " + _GIVEN % b"pollfor",
-        rb"peek " + _GIVEN % b"peek",
-        rb"remove " + _NAMED % b"removed" + rb" (?P<remove>yes|no)",
-        rb"drain " + _NAMED % b"most" + rb"(?P<drain>(?: (?:0|[1-9][0-9]{0,19}))*)",
-        rb"(?P<clear>clear)",
-        rb"size " + _NAMED % b"size",
-    ])
-
-
-def _grammar(tells_first: bool) -> Grammar:
-    event = b" ".join([_NUMBER] * 3) + rb" (?:" + _acts(tells_first) + rb")\n"
-    return Grammar(re.compile(rb"keep " + _element(b"keep", tells_first) + rb"\n"), re.compile(event))
-
-
-GRAMMARS: Dict[int, Grammar] = {1: _grammar(False), 2: _grammar(False), 3: _grammar(True)}
+GRAMMARS: Dict[int, Grammar] = {version: Grammar(
+    _pattern("keep " + _ELEMENT % "keep", version == 3),
+    _pattern(f"({{n}}) ({{n}}) ({{n}}) (?:{'|'.join(_ACTS)})", version == 3)) for version in HEADERS.values()}

@@ -45,7 +45,7 @@ class Reader:
             _take([(text.head_lines, head)], self._continue)
             _take(text.kept(), self._keeper(head.version))
         else:
-            history.next_id = head.next_id
+            history.next_id = self._queue.next_id = head.next_id
             _take(text.kept(), self._queue.keep)
         self._last, rows = head.opened_at, len(history.elements)
         _take(text.events(), self._add)

@@ -20,13 +20,9 @@ class ReportedQueue:
     def __init__(self, history: History) -> None:
         self._history, self._elements = history, history.elements
         self._left_in, self._expiries = history.elements.left_in, history.elements.expiries
-        self._rows = self._number = 0
+        self._strays = history.strays
+        self.next_id = self._rows = self._number = 0
         self._cleared = 0  # all rows before this one have left
-
-    @property
-    def next_id(self) -> int:
-        """The id of the element that is offered next."""
-        return self._history.next_id + self._rows - self._history.kept
 
     def __len__(self) -> int:
         return self._number
@@ -45,9 +41,10 @@ class ReportedQueue:
 
     def offer(self, words: ElementWords, event: int) -> int:
         """Adds an element that was offered. Returns its row."""
-        id, due = int(words[0]), self.next_id
-        if id != due:
-            raise Wrong(f"element {id} is offered, and the next id is {due}")
+        id = int(words[0])
+        if id != self.next_id:
+            raise Wrong(f"element {id} is offered, and the next id is {self.next_id}")
+        self.next_id += 1
         return self._add(id, words, event)
 
     def give(self, id: int, moment: int, event: int) -> int:
@@ -106,7 +103,7 @@ class ReportedQueue:
         elements.expiries.append(int(expiry))
         elements.origins.append(origin)
         # Most elements are the first of their job, and nothing has to be looked up.
-        root = row if origin == id and not self._history.strays else self._root(row, origin)
+        root = row if origin == id and not self._strays else self._root(row, origin)
         elements.roots.append(root)
         # The versions that do not tell a first expiry mean that of the job's earliest line.
         elements.firsts.append(int(first) if first else self._expiries[root])
@@ -122,4 +119,4 @@ class ReportedQueue:
     def _root(self, row: int, origin: int) -> int:
         """The first row with this origin, which may be the new one."""
         root = self._history.root_of(origin)
-        return self._history.strays.setdefault(origin, row) if root is None else root
+        return self._strays.setdefault(origin, row) if root is None else root

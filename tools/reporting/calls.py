@@ -1,4 +1,4 @@
-"""The calls by kind, and what each seat did, and when. A server has a seat for each worker; a text may have a million."""
+"""The calls by kind, and what each seat did. A server has a seat for each worker; a text may have a million."""
 from __future__ import annotations
 
 from collections import Counter

@@ -5,8 +5,8 @@ was done and one that is dead both end with a gift, and have the same bytes.
 """
 from __future__ import annotations
 
-from dataclasses import dataclass, field
-from typing import List, NamedTuple, Optional, Set
+from array import array
+from typing import List, NamedTuple, Optional
 
 from histories.grammar import GREATEST
 from histories.history import NONE, History
@@ -29,52 +29,46 @@ class Policy(NamedTuple):
         return self.delay is None or expiry == min(GREATEST, asked + self.delay)
 
 
-@dataclass
-class Retries:
+class Retries(NamedTuple):
     """Jobs are named by their roots, each once, in rising order."""
 
-    returns: int = 0
-    misfits: int = 0  # returns with another expiry than the policy's
-    at_once: int = 0  # returns
-    jobs_at_once: List[int] = field(default_factory=list)  # that came back at once
-    greatest_wait: int = 0  # of the returns at once
-    reached: int = 0  # the greatest attempt among them
-    reached_by: int = 0  # how many jobs came back at once as that attempt
-    soonest: int = 0  # the least time from a first gift until that attempt was offered
-    last_given: List[int] = field(default_factory=list)  # jobs that were given their last attempt
-    beyond: List[int] = field(default_factory=list)  # jobs with an attempt beyond the last one
+    returns: int
+    misfits: int  # returns with another expiry than the policy's
+    at_once: int  # returns
+    jobs_at_once: List[int]  # that came back at once
+    greatest_wait: int  # of the returns at once
+    reached: int  # the greatest attempt among them
+    reached_by: int  # how many jobs came back at once as that attempt
+    soonest: int  # the least time from a first gift until that attempt was offered
+    last_given: List[int]  # jobs that were given their last attempt
+    beyond: List[int]  # jobs with an attempt beyond the last one
 
 
 def retries_of(history: History, policy: Policy) -> Retries:
     """Looks at each return, and at each last attempt if the policy tells which that is."""
-    elements, retries = history.elements, Retries()
-    came: Set[int] = set()
+    elements, roots, attempts = history.elements, history.elements.roots, history.elements.attempts
+    at_once = array("i")  # the rows of these returns
+    returns = misfits = greatest_wait = 0
     for row, event in history.returns():
-        expiry, attempt, asked = elements.expiries[row], elements.attempts[row], history.events.asked(event)
-        retries.returns += 1
-        retries.misfits += not policy.fits(expiry, asked, elements.firsts[row], attempt)
+        expiry, asked = elements.expiries[row], history.events.asked(event)
+        returns += 1
+        misfits += not policy.fits(expiry, asked, elements.firsts[row], attempts[row])
         wait = max(0, expiry - asked)
         if wait <= AT_ONCE:
-            came.add(elements.roots[row])
-            retries.at_once += 1
-            retries.greatest_wait = max(retries.greatest_wait, wait)
-            _note_reached(history, retries, row, event)
-    retries.jobs_at_once = sorted(came)
-    last = policy.attempts
+            at_once.append(row)
+            greatest_wait = max(greatest_wait, wait)
+    reached = max((attempts[row] for row in at_once), default=0)
+    times = [_since_first_gift(history, row) for row in at_once if attempts[row] == reached]
+    given, beyond, last = [], [], policy.attempts
     if last is not None:
-        roots, attempts = elements.roots, elements.attempts
-        retries.last_given = sorted({roots[row] for row, _, _ in history.gifts() if attempts[row] == last})
-        retries.beyond = sorted({root for root, attempt in zip(roots, attempts) if attempt > last})
-    return retries
+        given = sorted({roots[row] for row, _, _ in history.gifts() if attempts[row] == last})
+        beyond = sorted({root for root, attempt in zip(roots, attempts) if attempt > last})
+    return Retries(returns, misfits, len(at_once), sorted({roots[row] for row in at_once}), greatest_wait,
+                   reached, len(times), min(times, default=0), given, beyond)
 
 
-def _note_reached(history: History, retries: Retries, row: int, event: int) -> None:
-    """Notes which attempt a job reached that came back at once."""
+def _since_first_gift(history: History, row: int) -> int:
+    """The time from a job's first gift, or if it had none from the moment 0, until this row was offered."""
     elements, moments = history.elements, history.events.moments
-    attempt, first_gift = elements.attempts[row], elements.left_in[elements.roots[row]]
-    if attempt > retries.reached:
-        retries.reached, retries.reached_by, retries.soonest = attempt, 0, moments[event]
-    if attempt == retries.reached:
-        retries.reached_by += 1
-        if first_gift != NONE:
-            retries.soonest = min(retries.soonest, moments[event] - moments[first_gift])
+    first_gift = elements.left_in[elements.roots[row]]
+    return moments[elements.offered_in[row]] - (0 if first_gift == NONE else moments[first_gift])

@@ -13,7 +13,7 @@ from html import escape
 from typing import Iterable, List, NamedTuple, Sequence, Tuple
 
 from reporting.columns import Point
-from reporting.units import compact, unit_of
+from reporting.units import compact
 
 HEIGHT, TOP, BOTTOM = 270, 28, 222
 LEFT = 72  # the room for labels at the left, as in page.css
@@ -59,16 +59,6 @@ def count_scale(values: Iterable[int]) -> Scale:
 
 def count_ticks(scale: Scale) -> List[Tick]:
     return [Tick(scale.at(value), compact(value)) for value in steps_of(int(scale.high), 5)]
-
-
-def time_ticks(scale: Scale) -> Tuple[List[Tick], str]:
-    """Ticks of an axis of moments, counted from its start, and their unit."""
-    length = int(scale.high - scale.low)
-    size, unit = unit_of(max(1, length))
-    # Tenths of a unit are asked for, so that a length of three seconds has more than four ticks.
-    tenth = max(1, size // 10)
-    shown = steps_of(length // tenth, 10)
-    return [Tick(scale.at(scale.low + it * tenth), f"{it * tenth / size:g}") for it in shown], unit
 
 
 def _width(words: str) -> float:

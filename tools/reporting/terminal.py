@@ -73,7 +73,8 @@ def _calls(figures: Figures) -> List[str]:
 def _depth(figures: Figures) -> List[str]:
     depth = figures.depth
     rows = [(name, number(greatest), f"{first} ns", number(series[-1])) for name, (greatest, first), series in (
-        ("elements in the queue", depth.deepest, depth.standing), ("of these expired", depth.most_expired, depth.expired))]
+        ("elements in the queue", depth.deepest, depth.standing),
+        ("of these expired", depth.most_expired, depth.expired))]
     return ["Depth", *table(("", "greatest", "first at", "at the end"), rows)]
 
 

@@ -9,7 +9,7 @@ from reporting import svg
 from reporting.columns import Buckets
 from reporting.dates import Dates, date_text
 from reporting.svg import BOTTOM, SHARES, TOP, Reading, Scale, Tick
-from reporting.units import SECOND, SIZES
+from reporting.units import SECOND, unit_of
 
 MINUTE, HOUR, DAY = 60 * SECOND, 3600 * SECOND, 86_400 * SECOND
 MOST_TICKS = 10
@@ -27,22 +27,19 @@ class TimeAxis:
     """Places moments, and tells them: as dates if they are known, otherwise as time since the first event."""
 
     def __init__(self, history: History, dates: Optional[Dates], most_buckets: int = 1) -> None:
-        self.scale, self.buckets = (
-            Scale(history.start, history.end, 0, SHARES), Buckets.over(history.start, history.end, most_buckets))
+        self.scale = Scale(history.start, history.end, 0, SHARES)
+        self.buckets = Buckets.over(history.start, history.end, most_buckets)
         self._history, self._dates = history, dates
-        self._ticks, self._unit = svg.time_ticks(self.scale)
-        self._size = next(size for size, unit in SIZES if unit == self._unit)
+        self._size, self._unit = unit_of(max(1, history.end - history.start))
 
     def drawn(self, bottom: float = BOTTOM) -> str:
         """The axis, and a line where each further run begins."""
-        if self._dates is None:
-            return svg.x_axis(self._ticks, f"time since the first event ({self._unit})", bottom) + self._runs(bottom)
-        title = f"UTC, from {self._dates.text(self._history.start, 0)} on"
-        return svg.x_axis(self._date_ticks(self._dates), title, bottom) + self._runs(bottom)
-
-    def _runs(self, bottom: float) -> str:
         places = [svg.share(self.scale.at(run.opened_at)) for run in self._history.runs[1:]]
-        return "".join(svg.line("run", (at, TOP), (at, bottom)) for at in places)
+        runs = "".join(svg.line("run", (at, TOP), (at, bottom)) for at in places)
+        if self._dates is None:
+            return svg.x_axis(self._ticks(), f"time since the first event ({self._unit})", bottom) + runs
+        title = f"UTC, from {self._dates.text(self._history.start, 0)} on"
+        return svg.x_axis(self._date_ticks(self._dates), title, bottom) + runs
 
     def told(self, moment: int, width: float) -> str:
         """A moment, as exactly as a stretch of time of this width needs it."""
@@ -55,6 +52,12 @@ class TimeAxis:
         """What is said of each bucket: its moment, and these lines."""
         return [Reading(self.scale.at(edge), "\n".join([self.told(edge, self.buckets.width), *some]))
                 for edge, some in zip(self.buckets.edges, lines)]
+
+    def _ticks(self) -> List[Tick]:
+        # Tenths of a unit are asked for, so that a length of three seconds has more than four ticks.
+        start, tenth = self._history.start, max(1, self._size // 10)
+        steps = svg.steps_of((self._history.end - start) // tenth, 10)
+        return [Tick(self.scale.at(start + it * tenth), f"{it * tenth / self._size:g}") for it in steps]
 
     def _date_ticks(self, dates: Dates) -> List[Tick]:
         step = next(it for it in DATE_STEPS if it * MOST_TICKS >= self._history.end - self._history.start)

@@ -11,13 +11,10 @@ UNITS: Tuple[Tuple[int, str, int], ...] = (
     (60 * SECOND, "min", 2), (3600 * SECOND, "h", 2), (86_400 * SECOND, "d", 2),
 )
 
-SIZES: Tuple[Tuple[int, str], ...] = tuple((size, name) for size, name, _ in UNITS)
-
 
 def unit_of(nanoseconds: int) -> Tuple[int, str]:
     """The unit in which a span is shown: its nanoseconds and its name."""
-    fitting = [(size, name) for size, name, least in UNITS if nanoseconds >= size * least]
-    return fitting[-1]
+    return [(size, name) for size, name, least in UNITS if nanoseconds >= size * least][-1]
 
 
 def span(nanoseconds: int) -> str:

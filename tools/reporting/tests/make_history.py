@@ -13,7 +13,6 @@ it. Status: 0; 2 if a word is wrong.
 """
 from __future__ import annotations
 
-import argparse
 import heapq
 import os
 import random
@@ -22,6 +21,7 @@ from typing import Dict, Iterator, List, TextIO, Tuple
 
 sys.path.insert(0, os.path.dirname(os.path.dirname(os.path.dirname(os.path.realpath(__file__)))))
 
+from common.words import parser_of  # noqa: E402
 from histories.history import Element  # noqa: E402
 
 RETRY_DELAY, ATTEMPTS = 50_000_000, 3
@@ -152,9 +152,7 @@ def mostly_offers(events: int) -> Iterator[str]:
 
 
 def main() -> int:
-    about, _, rest = (__doc__ or "").partition("\n\n")
-    form = argparse.RawDescriptionHelpFormatter
-    asked = argparse.ArgumentParser("make_history.py", description=about, epilog=rest, formatter_class=form)
+    asked = parser_of("make_history.py", __doc__)
     asked.add_argument("events", type=int, metavar="EVENTS", help="how many events, up to 1,000,000")
     asked.add_argument("--version", type=int, choices=(1, 2, 3), default=3, help="of the text (default: 3)")
     asked.add_argument("--seats", type=int, default=8, help="how many seats call (default: 8)")

@@ -12,11 +12,12 @@ from checking.testing import RoomTest, call_tool, run_tool
 from histories.tests.support import read
 from reporting import tests
 from reporting.figures import Figures, figures_of
+from reporting.retries import Policy
 from reporting.tests.browser import Browser
 
 
-def figures(text: str) -> Figures:
-    return figures_of("run.txt", read(text))
+def figures(text: str, policy: Policy = Policy()) -> Figures:
+    return figures_of("run.txt", read(text), policy=policy)
 
 
 def made(events: int, *options: str) -> str:

@@ -213,7 +213,8 @@ class BrowserTest(PageTest):
                 f"[...document.querySelectorAll('#plot-{plot} {mark}')].reduce((sum, it) => sum + ({count}), 0)"))
 
         for kind in ("standing", "expired"):
-            self.assertIn(f"{kind} {1 + drawn('depth', f'.line.{kind}', 'V'):,} points", self.told("#plot-depth ~ .note"))
+            points = 1 + drawn("depth", f".line.{kind}", "V")
+            self.assertIn(f"{kind} {points:,} points", self.told("#plot-depth ~ .note"))
         for plot, count in (("lateness", drawn("lateness", ".dash.median", "M")), ("spread", drawn("spread", "rect")),
                             ("attempts", drawn("attempts", "rect")), ("seats", drawn("seats", ".line.seat"))):
             note = self.told(f"#plot-{plot} ~ .note")

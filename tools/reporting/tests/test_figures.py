@@ -3,7 +3,7 @@ from __future__ import annotations
 
 import unittest
 from array import array
-from typing import List
+from typing import List, Tuple
 
 from histories.tests.support import RUN, offer, read, text_of
 from reporting.bar_plots import bins_of, grouped
@@ -13,7 +13,7 @@ from reporting.depth import depth_of
 from reporting.jobs import Attempts, NoJob, life
 from reporting.lateness import rank
 from reporting.tests.support import figures
-from reporting.units import percent, span
+from reporting.units import SECOND, compact, mark, percent, span
 
 
 def attempts_of_one_job(*moments: int) -> List[str]:
@@ -82,33 +82,32 @@ class FiguresTest(unittest.TestCase):
         self.assertEqual(others, [84])
 
 
+BURST = "1 job was given 3 times or more within 1.00 ms"
+
+# Events, and what looks wrong in them.
+FINDINGS: List[Tuple[List[str], List[str]]] = [
+    (attempts_of_one_job(0, 5, 1_000_000), [BURST]),
+    (attempts_of_one_job(0, 2_000_000, 2_000_001, 2_000_002), [BURST]),
+    (attempts_of_one_job(0, 5, 1_000_001), []),
+    (attempts_of_one_job(0, 5), []),
+    ([offer(0, 5), offer(1, 10), offer(2, 11), "1 10 10 size 3"],
+     ["3 elements never left the queue; 2 of them had expired at the end, the earliest 5 ns before"]),
+    ([offer(0, 5), offer(1, 9), "1 0 0 clear"], ["2 elements were discarded by 1 clear"]),
+    (["1 0 0 clear"], []),
+    (["1 0 0 poll none"] * 100,
+     ["100.0 % of 100 polls found nothing; a take or a timed poll waits, and is one call"]),
+    (["1 0 0 poll none"] * 99, []),
+    ([offer(id, 5) for id in range(100)],
+     ["100 elements never left the queue; 0 of them had expired at the end",
+      "the queue was about as deep at the end (100) as ever (100): more came than left"]),
+    ([offer(id, 5) for id in range(99)], ["99 elements never left the queue; 0 of them had expired at the end"]),
+]
+
+
 class FindingsTest(unittest.TestCase):
-    def says(self, *events: str) -> str:
-        return "; ".join(it.says for it in figures(text_of(*events)).findings)
-
-    def test_a_job_given_three_times_within_a_millisecond(self) -> None:
-        says = self.says(*attempts_of_one_job(0, 5, 1_000_000))
-        self.assertIn("1 job was given 3 times or more within 1.00 ms", says)
-        self.assertEqual(self.says(*attempts_of_one_job(0, 5, 1_000_001)), "")
-        self.assertEqual(self.says(*attempts_of_one_job(0, 5)), "")
-        self.assertIn("1 job", self.says(*attempts_of_one_job(0, 2_000_000, 2_000_001, 2_000_002)))
-
-    def test_elements_that_never_left(self) -> None:
-        says = self.says(offer(0, 5), offer(1, 10), offer(2, 11), "1 10 10 size 3")
-        self.assertIn("3 elements never left the queue; 2 of them had expired at the end", says)
-        self.assertIn("the earliest 5 ns before", says)
-
-    def test_discarded_elements(self) -> None:
-        self.assertEqual(self.says(offer(0, 5), offer(1, 9), "1 0 0 clear"), "2 elements were discarded by 1 clear")
-        self.assertEqual(self.says("1 0 0 clear"), "")
-
-    def test_polls_that_find_nothing(self) -> None:
-        self.assertIn("100.0 % of 100 polls found nothing", self.says(*["1 0 0 poll none"] * 100))
-        self.assertEqual(self.says(*["1 0 0 poll none"] * 99), "")
-
-    def test_a_queue_that_grows_to_the_end(self) -> None:
-        self.assertIn("more came than left", self.says(*[offer(id, 5) for id in range(100)]))
-        self.assertNotIn("more came", self.says(*[offer(id, 5) for id in range(99)]))
+    def test_what_looks_wrong(self) -> None:
+        for events, says in FINDINGS:
+            self.assertEqual([it.says for it in figures(text_of(*events)).findings], says)
 
 
 class SeriesTest(unittest.TestCase):
@@ -146,7 +145,13 @@ class SeriesTest(unittest.TestCase):
         self.assertEqual(grouped(attempts[:2], 40), [("1", 2, 1), ("2", 2, 1)])
 
     def test_numbers_as_people_read_them(self) -> None:
-        told = [span(it) for it in (0, 999, 1_000, 20_500, 123_400_000, 2_000_000_000, 7200 * 10**9, 2**64 - 1)]
-        self.assertEqual(told, ["0 ns", "999 ns", "1.00 µs", "20.5 µs", "123 ms", "2.00 s", "2.00 h", "213,504 d"])
+        for form, told in (
+            (span, {0: "0 ns", 999: "999 ns", 1_000: "1.00 µs", 20_500: "20.5 µs", 123_400_000: "123 ms",
+                    2 * SECOND: "2.00 s", 7200 * SECOND: "2.00 h", 2**64 - 1: "213,504 d"}),
+            (mark, {0: "0 ns", 1: "1 ns", 500: "500 ns", 1000: "1 µs", SECOND: "1 s", 90 * SECOND: "90 s",
+                    120 * SECOND: "2 min", 3600 * SECOND: "1 h", 86_400 * SECOND: "1 d", 10**12: "1,000 s"}),
+            (compact, {0: "0", 999: "999", 1_000_000: "1,000,000", 10_000_000: "10 M", 20_000_000_000: "20 G"}),
+        ):
+            self.assertEqual({it: form(it) for it in told}, told)
         shares = [percent(1, 3), percent(1, 5000), percent(0, 9), percent(0, 0)]
         self.assertEqual(shares, ["33.3 %", "< 0.1 %", "0.0 %", "0.0 %"])

@@ -1,7 +1,4 @@
-"""Reports on large histories, with their pages: 1,000,000 events within 200 MB, and 20 or 30 seconds of processor time.
-
-`begin` starts the processes that make the histories and report on them, so that other tests can run meanwhile.
-"""
+"""Reports on large histories, with their pages: 1,000,000 events within 200 MB, and 20 or 30 s of a processor."""
 from __future__ import annotations
 
 import os
@@ -11,23 +8,16 @@ import tempfile
 import time
 import unittest
 from concurrent.futures import Future, ThreadPoolExecutor
-from typing import Dict, List, NamedTuple
+from typing import Dict, List, NamedTuple, Tuple
 
 from checking.testing import tool
 from reporting import tests
 
 MOST_BYTES = 200 * 10**6
 
-
-class Kind(NamedTuple):
-    """The words with which make_history.py makes a history, and the most seconds of a processor for its report."""
-
-    words: List[str]
-    seconds: float
-
-
-# Histories by name: of a busy server, and of which 97 events in 100 are offers.
-LARGE: Dict[str, Kind] = {"busy": Kind([], 20.0), "offers": Kind(["--offers"], 30.0)}
+# Histories by name, of a busy server, and of which 97 events in 100 are offers: the words with which make_history.py
+# makes each, and the most seconds of a processor for its report.
+LARGE: Dict[str, Tuple[List[str], float]] = {"busy": ([], 20.0), "offers": (["--offers"], 30.0)}
 
 
 class Measured(NamedTuple):
@@ -44,7 +34,7 @@ def measured(room: str, name: str) -> Measured:
     """Makes a history, and then a report on it."""
     path, page = f"{room}/{name}.txt", f"{room}/{name}.html"
     with open(path, "w", encoding="ascii") as file:
-        words = [sys.executable, tests.MAKE_HISTORY, str(tests.EVENTS), *LARGE[name].words]
+        words = [sys.executable, tests.MAKE_HISTORY, str(tests.EVENTS), *LARGE[name][0]]
         subprocess.run(words, stdout=file, check=True, timeout=300)
     start = time.monotonic()
     report = subprocess.Popen([*tool("report"), path, "--html", page], stdout=subprocess.DEVNULL)
@@ -54,20 +44,16 @@ def measured(room: str, name: str) -> Measured:
     return Measured(status, time.monotonic() - start, used.ru_utime + used.ru_stime, memory, os.path.getsize(page))
 
 
-_room = tempfile.TemporaryDirectory(prefix="rb-report-")
-_threads = ThreadPoolExecutor(len(LARGE))
 _reports: Dict[str, Future[Measured]] = {}
 
 
 def setUpModule() -> None:
     """Begins all reports, each in a thread of its own."""
+    room, threads = tempfile.TemporaryDirectory(prefix="rb-report-"), ThreadPoolExecutor(len(LARGE))
+    unittest.addModuleCleanup(room.cleanup)
+    unittest.addModuleCleanup(threads.shutdown)
     if tests.EVENTS:
-        _reports.update({name: _threads.submit(measured, _room.name, name) for name in LARGE})
-
-
-def tearDownModule() -> None:
-    _threads.shutdown()
-    _room.cleanup()
+        _reports.update({name: threads.submit(measured, room.name, name) for name in LARGE})
 
 
 class LargeTest(unittest.TestCase):
@@ -80,6 +66,6 @@ class LargeTest(unittest.TestCase):
                   f"{told.memory / 1e6:.0f} MB, a page of {told.page / 1e6:.1f} MB", flush=True)
             with self.subTest(history=name):
                 self.assertEqual(told.status, 0)
-                self.assertLess(told.seconds, LARGE[name].seconds)
+                self.assertLess(told.seconds, LARGE[name][1])
                 self.assertLess(told.memory, MOST_BYTES)
                 self.assertLess(told.page, 5 * 10**6)

@@ -1,15 +1,13 @@
 """What the report says of returns: jobs that came back at once, last attempts, and the options that it was told."""
 from __future__ import annotations
 
-import io
 import unittest
 from typing import List
 
-from histories.reader import read_history
+from histories.grammar import GREATEST
 from histories.tests.support import offer, text_of
-from reporting.figures import Figures, figures_of
 from reporting.retries import Policy
-from reporting.tests.support import ReportTest
+from reporting.tests.support import ReportTest, figures
 
 MILLISECOND = 1_000_000
 
@@ -30,81 +28,67 @@ def failing(jobs: int, attempts: int, delay: int, pause: int = 0) -> str:
     return text_of(*lines)
 
 
-def figures(text: str, policy: Policy = Policy()) -> Figures:
-    return figures_of("run.txt", read_history(io.BytesIO(text.encode())), policy=policy)
+# Ten jobs of a rate whose next moment, 500, had passed when they were given at 900.
+PASSED = text_of(*(offer(job, 0) for job in range(10)), "1 900 900 drain 10 " + " ".join(map(str, range(10))),
+                 *(f"1 900 900 offer {10 + job} 500 {job} 0 2 a" for job in range(10)))
 
+# 200 jobs wait while each is failed after a tenth of a millisecond: none is given thrice within one.
+DEAD_SOON = failing(200, 3, 1000, pause=100_000)
 
-def says(text: str, policy: Policy = Policy()) -> str:
-    return "; ".join(it.says for it in figures(text, policy).findings)
+# A text, what the report is told, and a part of what looks wrong, or nothing.
+SAID = [
+    # Attempt 3 of the first job is offered when all 200 had failed once, and it a second time: after 201 pauses.
+    (DEAD_SOON, Policy(), "200 jobs came back at once, 400 times in all, at most 1.00 µs after failing; 200 reached"
+                          " attempt 3, the quickest 20.1 ms after its first gift; either the delay is tiny"),
+    (DEAD_SOON, Policy(delay=1000), "the delay of 1.00 µs leaves no time for what failed to recover"),
+    (failing(10, 2, MILLISECOND), Policy(),
+     "10 jobs came back at once, 10 times in all, at most 1.00 ms after failing"),
+    (failing(10, 2, MILLISECOND + 1), Policy(), ""),
+    (failing(9, 2, MILLISECOND), Policy(), ""),
+    # A tiny delay that was told looks wrong for one job.
+    (failing(1, 2, 1000), Policy(), ""),
+    (failing(1, 2, 1000), Policy(delay=1000), "1 job came back at once, 1 time in all"),
+    (PASSED, Policy(rate=500), "10 jobs came back at once, 10 times in all, at most 0 ns after failing; 10 reached"
+                               " attempt 2, the quickest 0 ns after its first gift; the next moment of their rate had"
+                               " passed or was near"),
+    (failing(3, 3, 5 * MILLISECOND), Policy(attempts=2), "3 jobs had attempts beyond --attempts 2"),
+    (failing(3, 3, 5 * MILLISECOND), Policy(attempts=3), ""),
+    (failing(3, 3, 5 * MILLISECOND), Policy(delay=5 * MILLISECOND), ""),
+    (failing(3, 3, 5 * MILLISECOND), Policy(delay=5_000_001),
+     "6 of 6 returns have another expiry than --delay 5000001 gives"),
+    # With a first expiry of 0 the second attempts are at the rate, and the third ones too.
+    (failing(3, 3, 5 * MILLISECOND), Policy(rate=5 * MILLISECOND), ""),
+    (failing(3, 3, 5 * MILLISECOND), Policy(rate=1), "6 of 6 returns have another expiry than --rate 1 gives"),
+]
 
-
-class AtOnceTest(unittest.TestCase):
-    def test_jobs_that_are_dead_before_anybody_looked(self) -> None:
-        """200 jobs wait while each is failed after a tenth of a millisecond: none is given thrice within one."""
-        text = failing(200, 3, 1000, pause=100_000)
-        said = says(text)
-        # Attempt 3 of the first job is offered when all 200 had failed once, and it a second time: after 201 pauses.
-        self.assertIn("200 jobs came back at once, 400 times in all, at most 1.00 µs after failing; 200 reached"
-                      " attempt 3, the quickest 20.1 ms after its first gift; either the delay is tiny", said)
-        self.assertNotIn("given 3 times or more", said)
-        self.assertIn("the delay of 1.00 µs leaves no time for what failed to recover", says(text, Policy(delay=1000)))
-
-    def test_the_limits(self) -> None:
-        self.assertIn("10 jobs came back at once, 10 times in all, at most 1.00 ms after failing",
-                      says(failing(10, 2, MILLISECOND)))
-        self.assertEqual(says(failing(10, 2, MILLISECOND + 1)), "")
-        self.assertEqual(says(failing(9, 2, MILLISECOND)), "")
-
-    def test_a_tiny_delay_that_was_told_looks_wrong_for_one_job(self) -> None:
-        text = failing(1, 2, 1000)
-        self.assertEqual(says(text), "")
-        self.assertIn("1 job came back at once, 1 time in all", says(text, Policy(delay=1000)))
-
-    def test_a_rate_whose_moment_has_passed(self) -> None:
-        lines = [*(offer(job, 0) for job in range(10)), "1 900 900 drain 10 " + " ".join(map(str, range(10)))]
-        lines += [f"1 900 900 offer {10 + job} 500 {job} 0 2 a" for job in range(10)]
-        self.assertIn("10 jobs came back at once, 10 times in all, at most 0 ns after failing; 10 reached attempt 2,"
-                      " the quickest 0 ns after its first gift; the next moment of their rate had passed or was near",
-                      says(text_of(*lines), Policy(rate=500)))
+# A call that was asked at 5 took effect at 9: the delay counts from 5.
+ASKED = text_of(offer(0, 0), "1 0 0 take 0", "2 9 9 size 0", "1 5 9 offer 1 5000005 0 0 2 a")
+LATEST = text_of(offer(0, 0), "1 9 9 take 0", f"1 9 9 offer 1 {GREATEST} 0 0 2 a")
 
 
 class PolicyTest(unittest.TestCase):
+    def test_what_looks_wrong(self) -> None:
+        for text, policy, part in SAID:
+            with self.subTest(part=part, policy=policy):
+                said = "; ".join(it.says for it in figures(text, policy).findings)
+                self.assertIn(part, said)
+                self.assertNotIn("given 3 times or more", said)
+                self.assertEqual(bool(said), bool(part))
+
     def test_last_attempts(self) -> None:
-        text = failing(3, 3, 1000)
-        last = figures(text, Policy(attempts=3)).retries.last_given
-        self.assertEqual(list(last), [0, 1, 2])
-        self.assertEqual(list(figures(text, Policy(attempts=4)).retries.last_given), [])
-        self.assertEqual(list(figures(text).retries.last_given), [])
+        begun = (offer(0, 0), "1 0 0 take 0", "1 0 0 offer 1 5 0 0 2 a")
+        for text, attempts, last in [
+            (failing(3, 3, 1000), 3, [0, 1, 2]), (failing(3, 3, 1000), 4, []), (failing(3, 3, 1000), None, []),
+            *((text_of(*begun, end), 2, []) for end in ("1 9 9 size 1", "1 9 9 remove 1 yes", "1 9 9 clear")),
+        ]:
+            self.assertEqual(figures(text, Policy(attempts=attempts)).retries.last_given, last)
 
-    def test_a_last_attempt_that_was_not_given(self) -> None:
-        for end in ("1 9 9 size 1", "1 9 9 remove 1 yes", "1 9 9 clear"):
-            text = text_of(offer(0, 0), "1 0 0 take 0", "1 0 0 offer 1 5 0 0 2 a", end)
-            self.assertEqual(list(figures(text, Policy(attempts=2)).retries.last_given), [])
-
-    def test_attempts_beyond_the_last(self) -> None:
-        self.assertIn("3 jobs had attempts beyond --attempts 2", says(failing(3, 3, 5_000_000), Policy(attempts=2)))
-        self.assertEqual(says(failing(3, 3, 5_000_000), Policy(attempts=3)), "")
-
-    def test_returns_that_do_not_fit_the_policy(self) -> None:
-        text = failing(3, 3, 5_000_000)
-        self.assertEqual(says(text, Policy(delay=5_000_000)), "")
-        said = says(text, Policy(delay=5_000_001))
-        self.assertIn("6 of 6 returns have another expiry than --delay 5000001 gives", said)
-        # With a first expiry of 0 the second attempts are at the rate, and the third ones too.
-        self.assertEqual(says(text, Policy(rate=5_000_000)), "")
-        self.assertIn("6 of 6 returns have another expiry than --rate 1 gives", says(text, Policy(rate=1)))
-
-    def test_the_moment_asked_counts(self) -> None:
-        """A call that was asked at 5 took effect at 9: the delay counts from 5."""
-        text = text_of(offer(0, 0), "1 0 0 take 0", "2 9 9 size 0", "1 5 9 offer 1 5000005 0 0 2 a")
-        self.assertEqual(figures(text, Policy(delay=5_000_000)).retries.misfits, 0)
-        self.assertEqual(figures(text, Policy(delay=4_999_996)).retries.misfits, 1)
-
-    def test_the_greatest_expiry(self) -> None:
-        greatest = 2**64 - 1
-        text = text_of(offer(0, 0), "1 9 9 take 0", f"1 9 9 offer 1 {greatest} 0 0 2 a")
-        for policy in (Policy(delay=greatest), Policy(rate=greatest)):
-            self.assertEqual(figures(text, policy).retries.misfits, 0)
+    def test_returns_that_do_not_fit(self) -> None:
+        for text, policy, misfits in (
+            (ASKED, Policy(delay=5_000_000), 0), (ASKED, Policy(delay=4_999_996), 1),
+            (LATEST, Policy(delay=GREATEST), 0), (LATEST, Policy(rate=GREATEST), 0),
+        ):
+            self.assertEqual(figures(text, policy).retries.misfits, misfits, policy)
 
 
 class AskedTest(ReportTest):

@@ -81,9 +81,17 @@ class SeriesTest(RunsTest):
         one, two, three = self.paths
         self.assertEqual(self.lines(three, one, two), self.lines(one, two, three))
 
-    def test_later_runs_alone(self) -> None:
-        head = self.lines(*self.paths[1:])[1]
-        self.assertEqual(head, "2 elements at the start, 1 offered, 3 given, 0 left at the end")
+    def test_what_runs_did_together(self) -> None:
+        # What the first run left is cleared; and versions may change from run to run.
+        cleared = [RUNS[0], RUNS[1].partition("1 600")[0] + "1 30 30 clear\n1 30 30 size 0\nend 2\n"]
+        versions = ["history 1\n1 0 0 offer 0 90 0 1 a\n1 5 5 offer 1 99 1 1 b\nend 2\n",
+                    "history 2\nopen 2 5 2\nkeep 0 90 0 1 a\nkeep 1 99 1 1 b\n1 90 90 take 0\nend 1\n",
+                    "history 3\nopen 2 90 1\nkeep 1 99 1 99 1 b\n1 99 99 take 1\nend 1\n"]
+        for texts, told in ((RUNS[1:], "2 elements at the start, 1 offered, 3 given, 0 left at the end"),
+                            (cleared, "0 elements at the start, 3 offered, 1 given, 0 left at the end"),
+                            (versions, "0 elements at the start, 2 offered, 2 given, 0 left at the end")):
+            paths = [self.file(f"part-{place}.txt", text) for place, text in enumerate(texts)]
+            self.assertEqual(self.lines(*paths)[1], told)
 
     def test_a_run_that_does_not_continue(self) -> None:
         for text, line, says in NOT_CONTINUED:
@@ -106,25 +114,12 @@ class SeriesTest(RunsTest):
         self.assertIn("  greatest         6.50 µs  6501 ns", lines)
         self.assertNotIn("The time between two runs is left out, so later dates are too early by it.", lines)
 
-    def test_a_run_that_is_missing(self) -> None:
-        one, _, three = self.paths
+    def test_a_run_that_is_missing_or_damaged_is_named(self) -> None:
+        one, two, three = self.paths
         self.assertIn(f"{three}: line 2: it does not continue {one}", self.refused(1, one, three))
-
-    def test_a_damaged_run_is_named(self) -> None:
         damaged = self.file("run-2.txt", RUNS[1].replace("take 1\n", "take 7\n"))
         says = f"report: {damaged}: line 6: element 7 is not in the queue\n"
         self.assertEqual(self.refused(1, *self.paths), says)
-
-    def test_versions_may_change(self) -> None:
-        first = self.file("first.txt", "history 1\n1 0 0 offer 0 90 0 1 a\n1 5 5 offer 1 99 1 1 b\nend 2\n")
-        second = self.file(
-            "second.txt", "history 2\nopen 2 5 2\nkeep 0 90 0 1 a\nkeep 1 99 1 1 b\n1 90 90 take 0\nend 1\n")
-        third = self.file("third.txt", "history 3\nopen 2 90 1\nkeep 1 99 1 99 1 b\n1 99 99 take 1\nend 1\n")
-        self.assertEqual(self.lines(first, second, third)[1].split(",")[1:3], [" 2 offered", " 2 given"])
-
-    def test_a_clear_empties_what_an_earlier_run_left(self) -> None:
-        cleared = self.file("cleared.txt", RUNS[1].partition("1 600")[0] + "1 30 30 clear\n1 30 30 size 0\nend 2\n")
-        self.assertIn("0 left at the end", self.lines(self.paths[0], cleared)[1])
 
     def test_the_columns_of_all_runs(self) -> None:
         history = read_series(self.paths)
