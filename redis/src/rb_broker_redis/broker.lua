@@ -81,25 +81,24 @@ local function pad(number) return ZEROS[#number] .. number end
 local function plain(digits) return string.match(digits, '^0*(%d+)$') end
 local function whole(number) return string.format('%d', number) end
 
-local function high_of(digits) return tonumber(string.sub(digits, 1, 10)) end
-local function low_of(digits) return tonumber(string.sub(digits, 11)) end
-
--- The 20 digits of two halves, or nil if they pass 2^64 - 1.
-local function digits_of(high, low)
-    local carry = math.floor(low / 1e10)
-    if high + carry >= 1e10 then return nil end
-    local digits = string.format('%010d%010d', high + carry, low - carry * 1e10)
-    return digits <= LAST and digits or nil
+-- The sum as 20 digits, or nil if it passes 2^64 - 1.
+local function add(a, b)
+    local low = tonumber(string.sub(a, 11)) + tonumber(string.sub(b, 11))
+    local high = tonumber(string.sub(a, 1, 10)) + tonumber(string.sub(b, 1, 10))
+    if low >= 1e10 then low, high = low - 1e10, high + 1 end
+    if high >= 1e10 then return nil end
+    local sum = string.format('%010d%010d', high, low)
+    return sum <= LAST and sum or nil
 end
 
-local function add(a, b) return digits_of(high_of(a) + high_of(b), low_of(a) + low_of(b)) end
-
--- The product with a number of at most 1,000.
-local function multiply(a, times) return digits_of(high_of(a) * times, low_of(a) * times) end
-
--- The bounds of all texts that begin with this one, as ranges of a sorted set take them.
-local function beginning(text)
-    return '[' .. text, '(' .. string.sub(text, 1, -2) .. string.char(string.byte(text, -1) + 1)
+-- The product with a number of at most 1,000, as 20 digits, or nil if it passes 2^64 - 1.
+local function multiply(a, times)
+    local low = tonumber(string.sub(a, 11)) * times
+    local carry = math.floor(low / 1e10)
+    local high = tonumber(string.sub(a, 1, 10)) * times + carry
+    if high >= 1e10 then return nil end
+    local product = string.format('%010d%010d', high, low - carry * 1e10)
+    return product <= LAST and product or nil
 end
 
 local function microseconds()
@@ -185,15 +184,13 @@ end
 
 -- How many jobs the session holds.
 local function count_of(queue, seat)
-    if not queue.counts[seat] then
-        queue.counts[seat] = redis.call('ZLEXCOUNT', queue.keys[3], beginning(pad(seat) .. ':'))
+    local count = queue.counts[seat]
+    if not count then
+        local prefix = pad(seat)
+        count = redis.call('ZLEXCOUNT', queue.keys[3], '[' .. prefix .. ':', '(' .. prefix .. ';')
+        queue.counts[seat] = count
     end
-    return queue.counts[seat]
-end
-
--- The session holds one job less.
-local function count_off(queue, seat)
-    if queue.counts[seat] then queue.counts[seat] = queue.counts[seat] - 1 end
+    return count
 end
 
 -- Takes out the earliest element, if it has expired, and lets the session hold it. -> its id and its ITEM line
@@ -249,13 +246,14 @@ local function fail_job(queue, seat, job)
         reply = 'AGAIN ' .. id .. ' ' .. shown .. '\n'
     end
     redis.call('ZREM', queue.keys[3], job.member)
-    count_off(queue, seat)
+    if queue.counts[seat] then queue.counts[seat] = queue.counts[seat] - 1 end
     return reply
 end
 
 -- Ends a session: what it holds fails in the order of the fetches. -> how many jobs are lost
 local function end_session(queue, seat)
-    local members = redis.call('ZRANGEBYLEX', queue.keys[3], beginning(pad(seat) .. ':'))
+    local prefix = pad(seat)
+    local members = redis.call('ZRANGEBYLEX', queue.keys[3], '[' .. prefix .. ':', '(' .. prefix .. ';')
     local jobs, lost = {}, 0
     for place, member in ipairs(members) do jobs[place] = job_of(member) end
     table.sort(jobs, function(one, other) return one.fetch < other.fetch end)
@@ -275,36 +273,32 @@ local requests = {}
 local HELD, FULL, NOT_HELD = 'ERR 9 held\n', 'ERR 6 full\n', 'ERR 5 not-held\n'
 local MEMORY = 'ERR 7 memory\n'
 
--- The requests that are refused where the session holds enough, and those that are where no call is left.
-local FETCHES = { POLL = true, TAKE = true, POLLFOR = true, WAIT = true }
-local ARE_CALLS = { POLL = true, TAKE = true, POLLFOR = true, WAIT = true, PEEK = true, REMOVE = true, DRAIN = true,
-    CLEAR = true, SIZE = true, OFFERAT = true }
-
-local function reply_to(queue, seat, word, number, rest)
-    if FETCHES[word] and count_of(queue, seat) >= MOST_HELD then return HELD end
-    if ARE_CALLS[word] and is_full(queue) then return FULL end
-    return requests[word](queue, seat, number, rest)
-end
-
-function requests.OFFERAT(queue, seat, expiry, payload)
+local function offer_at(queue, seat, expiry, payload)
+    if is_full(queue) then return FULL end
     if queue.spare then return MEMORY end
-    local id, shown = insert(queue, seat, pad(expiry), nil, nil, '1', payload)
+    local id, shown = insert(queue, seat, expiry, nil, nil, '1', payload)
     return 'OFFERED ' .. id .. ' ' .. shown .. '\n'
 end
 
 function requests.OFFER(queue, seat, delay, payload)
     local expiry = delay == '0' and queue.asked or add(queue.asked, pad(delay))
     if not expiry then return 'ERR 3 range\n' end
-    return reply_to(queue, seat, 'OFFERAT', expiry, payload)
+    return offer_at(queue, seat, expiry, payload)
 end
 
+function requests.OFFERAT(queue, seat, expiry, payload) return offer_at(queue, seat, pad(expiry), payload) end
+
 function requests.POLL(queue, seat)
+    if count_of(queue, seat) >= MOST_HELD then return HELD end
+    if is_full(queue) then return FULL end
     local id, item = fetch(queue, seat)
-    record(queue, seat, 'poll ' .. (id or 'none'))
+    record(queue, seat, id and 'poll ' .. id or 'poll none')
     return item or 'NONE\n'
 end
 
 function requests.TAKE(queue, seat)
+    if count_of(queue, seat) >= MOST_HELD then return HELD end
+    if is_full(queue) then return FULL end
     local id, item = fetch(queue, seat)
     if not id then return later(queue, queue.plain_asked) end
     record(queue, seat, 'take ' .. id)
@@ -312,6 +306,8 @@ function requests.TAKE(queue, seat)
 end
 
 function requests.POLLFOR(queue, seat, timeout, start)
+    if count_of(queue, seat) >= MOST_HELD then return HELD end
+    if is_full(queue) then return FULL end
     if start == '' then start = queue.plain_asked end
     local id, item = fetch(queue, seat)
     if not id and (add(pad(start), pad(timeout)) or LAST) > queue.at then return later(queue, start) end
@@ -319,29 +315,37 @@ function requests.POLLFOR(queue, seat, timeout, start)
     return item or 'NONE\n'
 end
 
-function requests.WAIT(queue) return later(queue, queue.plain_asked) end
+function requests.WAIT(queue, seat)
+    if count_of(queue, seat) >= MOST_HELD then return HELD end
+    if is_full(queue) then return FULL end
+    return later(queue, queue.plain_asked)
+end
 
 function requests.PEEK(queue, seat)
-    local expiry, id, attempt, payload =
-        string.match(head_of(queue) or '', '^0*(%d+):0*(%d+) %d+ %d+ (%d+) (.*)$')
+    if is_full(queue) then return FULL end
+    local head = head_of(queue) or ''
+    local expiry, id, attempt, payload = string.match(head, '^0*(%d+):0*(%d+) %d+ %d+ (%d+) (.*)$')
     record(queue, seat, 'peek ' .. (id or 'none'))
     if not id then return 'NONE\n' end
     return 'HEAD ' .. id .. ' ' .. expiry .. ' ' .. attempt .. ' ' .. payload .. '\n'
 end
 
 function requests.REMOVE(queue, seat, id)
+    if is_full(queue) then return FULL end
     local expiry = redis.call('HGET', queue.keys[2], id)
-    local found = expiry and 'yes' or 'no'
-    record(queue, seat, 'remove ' .. id .. ' ' .. found)
     if expiry then
-        redis.call('ZREMRANGEBYLEX', queue.keys[1], beginning(expiry .. ':' .. pad(id) .. ' '))
+        local member = expiry .. ':' .. pad(id)
+        redis.call('ZREMRANGEBYLEX', queue.keys[1], '[' .. member .. ' ', '(' .. member .. '!')
         redis.call('HDEL', queue.keys[2], id)
         queue.head = nil
     end
-    return 'REMOVED ' .. found .. '\n'
+    local answer = expiry and 'yes' or 'no'
+    record(queue, seat, 'remove ' .. id .. ' ' .. answer)
+    return 'REMOVED ' .. answer .. '\n'
 end
 
 function requests.DRAIN(queue, seat, most)
+    if is_full(queue) then return FULL end
     if queue.spare then return MEMORY end
     local max = math.min(tonumber(most), MOST_HELD - count_of(queue, seat))
     local act, items = { 'drain ' .. whole(max) }, { '' }
@@ -356,6 +360,7 @@ function requests.DRAIN(queue, seat, most)
 end
 
 function requests.CLEAR(queue, seat)
+    if is_full(queue) then return FULL end
     redis.call('UNLINK', queue.keys[1], queue.keys[2])
     queue.head = false
     record(queue, seat, 'clear')
@@ -363,20 +368,23 @@ function requests.CLEAR(queue, seat)
 end
 
 function requests.SIZE(queue, seat)
+    if is_full(queue) then return FULL end
     local count = whole(redis.call('ZCARD', queue.keys[1]))
     record(queue, seat, 'size ' .. count)
     return 'SIZE ' .. count .. '\n'
 end
 
 function requests.DONE(queue, seat, id)
-    local ended = redis.call('ZREMRANGEBYLEX', queue.keys[3], beginning(pad(seat) .. ':' .. pad(id) .. ' '))
+    local member = pad(seat) .. ':' .. pad(id)
+    local ended = redis.call('ZREMRANGEBYLEX', queue.keys[3], '[' .. member .. ' ', '(' .. member .. '!')
     if ended == 0 then return NOT_HELD end
-    count_off(queue, seat)
+    if queue.counts[seat] then queue.counts[seat] = queue.counts[seat] - 1 end
     return 'DONE ' .. id .. '\n'
 end
 
 function requests.FAIL(queue, seat, id)
-    local member = redis.call('ZRANGEBYLEX', queue.keys[3], beginning(pad(seat) .. ':' .. pad(id) .. ' '))[1]
+    local member = pad(seat) .. ':' .. pad(id)
+    member = redis.call('ZRANGEBYLEX', queue.keys[3], '[' .. member .. ' ', '(' .. member .. '!')[1]
     if not member then return NOT_HELD end
     local job = job_of(member)
     if queue.spare and job.attempt < queue.attempts and not is_full(queue) then return MEMORY end
@@ -386,7 +394,7 @@ end
 function requests.END(queue, seat) return 'ENDED ' .. end_session(queue, seat) .. '\n' end
 
 local function dead_job(queue, id)
-    return redis.call('ZRANGEBYLEX', queue.keys[6], beginning(pad(id) .. ' '))[1]
+    return redis.call('ZRANGEBYLEX', queue.keys[6], '[' .. pad(id) .. ' ', '(' .. pad(id) .. '!')[1]
 end
 
 function requests.REVIVE(queue, seat, id, delay)
@@ -420,7 +428,7 @@ local function perform(keys, args, spare)
     local replies = {}
     for place = 3, #args do
         local seat, word, number, rest = string.match(args[place], '^(%d+) (%u+) ?(%S*) ?(%S*)$')
-        replies[place - 2] = reply_to(queue, seat, word, number, rest)
+        replies[place - 2] = requests[word](queue, seat, number, rest)
     end
     close(queue)
     return replies
