@@ -9,12 +9,15 @@ from __future__ import annotations
 from array import array
 from bisect import bisect_left, bisect_right
 from dataclasses import dataclass, field
-from typing import Any, Dict, Iterator, List, NamedTuple, Optional, Tuple
+from itertools import compress, count
+from typing import Any, Dict, Iterable, Iterator, List, NamedTuple, Optional, Tuple, TypeVar
 
 from histories.acts import DRAIN, GIVES, GIVES_ONE
 
 # Takes the place of a row or an event if there is none.
 NONE = -1
+
+Value = TypeVar("Value")
 
 
 def column(kind: str) -> Any:
@@ -81,11 +84,14 @@ class Events:
         found = place < len(self.late) and self.late[place] == event
         return self.late_asked[place] if found else self.moments[event]
 
+    def with_act(self, act: int, column: Iterable[Value], part: slice = slice(None)) -> Iterator[Value]:
+        """Of the values of some events those of the events with this act."""
+        return compress(column, self.acts[part].translate(bytes(it == act for it in range(256))))
+
     def given(self, part: slice) -> int:
         """How many elements these events gave."""
-        acts = self.acts[part]
-        drained = sum(number for act, number in zip(acts, self.subjects[part]) if act == DRAIN)
-        return drained + sum(map(acts.count, GIVES_ONE))
+        return (sum(map(self.acts[part].count, GIVES_ONE))
+                + sum(self.with_act(DRAIN, self.subjects[part], part)))
 
 
 class Run(NamedTuple):
@@ -145,12 +151,12 @@ class History:
     def gifts(self) -> Iterator[Tuple[int, int, int]]:
         """The rows of the elements that were given, in their order, each with the event and how late that was."""
         moments, acts = self.events.moments, self.events.acts
-        for row, (expiry, event) in enumerate(zip(self.elements.expiries, self.elements.left_in)):
+        for row, expiry, event in zip(count(), self.elements.expiries, self.elements.left_in):
             if event != NONE and acts[event] in GIVES:
                 yield row, event, moments[event] - expiry
 
     def returns(self) -> Iterator[Tuple[int, int]]:
         """The rows of the later attempts that were offered, in their order, each with the event."""
-        for row, (attempt, event) in enumerate(zip(self.elements.attempts, self.elements.offered_in)):
+        for row, attempt, event in zip(count(), self.elements.attempts, self.elements.offered_in):
             if attempt > 1 and event != NONE:
                 yield row, event

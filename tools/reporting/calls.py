@@ -21,12 +21,11 @@ class Calls(NamedTuple):
 
 def calls_of(history: History) -> Dict[str, Calls]:
     """Counts the calls."""
-    counts, elements = Counter(history.events.acts), Counter[int]()
-    for act, number in zip(history.events.acts, history.events.subjects):
-        if act in (acts.DRAIN, acts.CLEAR):
-            elements[act] += number
-    for act in acts.FINDS_ONE:
-        elements[act] = counts[act]
+    events = history.events
+    counts = [events.acts.count(it) for it in range(len(acts.KEYWORDS))]
+    elements = [count if act in acts.FINDS_ONE else 0 for act, count in enumerate(counts)]
+    for act in (acts.DRAIN, acts.CLEAR):
+        elements[act] = sum(events.with_act(act, events.subjects))
     return {keyword: Calls(sum(counts[it] for it in told), sum(elements[it] for it in told),
                            sum(counts[it] for it in told if it in acts.FINDS_NONE))
             for keyword, told in acts.BY_KEYWORD.items()}
@@ -63,9 +62,8 @@ def seats_of(history: History) -> Seats:
     busiest = sorted(seat for seat, _ in calls.most_common(MOST_SEATS))
     chosen = set(busiest)
     by_act = Counter(pair for pair in zip(events.seats, events.acts) if pair[0] in chosen)
-    for seat, act, number in zip(events.seats, events.acts, events.subjects):
-        if act == acts.DRAIN:
-            drained[seat] += number
+    for seat, number in events.with_act(acts.DRAIN, zip(events.seats, events.subjects)):
+        drained[seat] += number
     lasts = dict(zip(events.seats, events.moments))
 
     def told(seat: int) -> Seat:

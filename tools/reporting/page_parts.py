@@ -72,8 +72,10 @@ def _link(origin: int) -> str:
 
 def _runs(figures: Figures) -> str:
     """A row for each run, if there are several."""
+    if len(figures.history.runs) == 1:
+        return ""
     heading, rows = runs_table(figures)
-    return _section("Runs", _table(heading, [map(escape, row) for row in rows], "words")) if len(rows) > 1 else ""
+    return _section("Runs", _table(heading, [map(escape, row) for row in rows], "words"))
 
 
 def _plot(plot: Plot) -> str:

@@ -1,14 +1,14 @@
-"""A headless browser, driven over two pipes by the protocol of Chromium's developer tools."""
+"""A headless browser, driven over a socket by the protocol of Chromium's developer tools."""
 from __future__ import annotations
 
 import base64
+import contextlib
 import itertools
 import json
 import os
-import select
 import signal
+import socket
 import subprocess
-import time
 from typing import Any, Dict, List
 
 PATIENCE = 60.0  # seconds for each answer
@@ -24,19 +24,17 @@ class Browser:
     """A browser with one page, and a folder of its own for everything that it stores."""
 
     def __init__(self, command: str, room: str) -> None:
-        to_browser, self._write = os.pipe()
-        self._read, from_browser = os.pipe()
+        self._socket, theirs = socket.socketpair()
+        self._socket.settimeout(PATIENCE)
         words = [command, "--headless", "--no-sandbox", "--disable-gpu", "--disable-dev-shm-usage", "--hide-scrollbars",
                  "--no-first-run", "--remote-debugging-pipe", f"--user-data-dir={room}/profile", "about:blank"]
         # The browser reads descriptor 3 and writes descriptor 4.
-        script = f'exec "$@" 3<&{to_browser} 4>&{from_browser}'
-        self._process = subprocess.Popen(
-            ["bash", "-c", script, "bash", *words], pass_fds=(to_browser, from_browser), start_new_session=True,
-            env={**os.environ, "HOME": room},
-            stdin=subprocess.DEVNULL, stdout=subprocess.DEVNULL, stderr=subprocess.DEVNULL,
-        )
-        os.close(to_browser)
-        os.close(from_browser)
+        script = f'exec "$@" 3<&{theirs.fileno()} 4>&{theirs.fileno()}'
+        with theirs:
+            self._process = subprocess.Popen(
+                ["bash", "-c", script, "bash", *words], pass_fds=[theirs.fileno()], start_new_session=True,
+                env={**os.environ, "HOME": room},
+                stdin=subprocess.DEVNULL, stdout=subprocess.DEVNULL, stderr=subprocess.DEVNULL)
         self._numbers, self._rest, self._session = itertools.count(1), b"", ""
         self.complaints: List[Dict[str, Any]] = []
         self._is_loaded = False
@@ -107,16 +105,11 @@ class Browser:
 
     def end(self) -> None:
         """Ends the browser and all processes that it started."""
-        for descriptor in (self._write, self._read):
-            os.close(descriptor)
-        try:
+        self._socket.close()
+        with contextlib.suppress(subprocess.TimeoutExpired):
             self._process.wait(timeout=5)
-        except subprocess.TimeoutExpired:
-            pass
-        try:
+        with contextlib.suppress(ProcessLookupError):
             os.killpg(self._process.pid, signal.SIGKILL)
-        except ProcessLookupError:
-            pass
         self._process.wait()
 
     def _ask(self, method: str, **parameters: Any) -> Dict[str, Any]:
@@ -124,7 +117,7 @@ class Browser:
         request: Dict[str, Any] = {"id": number, "method": method, "params": parameters}
         if self._session:
             request["sessionId"] = self._session
-        os.write(self._write, json.dumps(request).encode() + b"\0")
+        self._socket.sendall(json.dumps(request).encode() + b"\0")
         while True:
             message = self._message()
             if message.get("id") == number:
@@ -143,12 +136,10 @@ class Browser:
             self.complaints.append(message)
 
     def _message(self) -> Dict[str, Any]:
-        end = time.monotonic() + PATIENCE
         while b"\0" not in self._rest:
-            ready, _, _ = select.select([self._read], [], [], max(0.0, end - time.monotonic()))
-            some = os.read(self._read, 1 << 16) if ready else b""
+            some = self._socket.recv(1 << 16)
             if not some:
-                raise AssertionError("the browser does not answer")
+                raise AssertionError("the browser has gone")
             self._rest += some
         text, _, self._rest = self._rest.partition(b"\0")
         message: Dict[str, Any] = json.loads(text)

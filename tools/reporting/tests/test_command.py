@@ -3,7 +3,7 @@ from __future__ import annotations
 
 import os
 import subprocess
-from typing import Tuple
+from pathlib import Path
 
 from checking.testing import tool
 from common.tests.support import long_work_at_terminal
@@ -15,13 +15,6 @@ class CommandTest(ReportTest):
     def setUp(self) -> None:
         super().setUp()
         self.history = self.file("run.txt", RUN)
-
-    def ended(self, *words: str) -> Tuple[int, str]:
-        """The status of a run that prints nothing, and its last line on standard error, which is not a traceback."""
-        ran = run(*words)
-        self.assertEqual(ran.stdout, "")
-        self.assertNotIn("Traceback", ran.stderr)
-        return ran.returncode, ran.stderr.splitlines()[-1]
 
     def test_the_report(self) -> None:
         ran = run(self.history)
@@ -65,22 +58,19 @@ class CommandTest(ReportTest):
         ran = run("/dev/stdin", given=RUN)
         self.assertEqual((ran.returncode, ran.stderr), (0, ""))
 
-    def test_a_damaged_history(self) -> None:
+    def test_what_ends_without_a_report(self) -> None:
         damaged = self.file("damaged.txt", RUN.replace("size 1", "size 2"))
-        page = f"{self.room}/page.html"
-        says = f"report: {damaged}: line 8: the queue holds 1, not 2"
-        self.assertEqual(self.ended(damaged, "--html", page), (1, says))
+        page, none = self.path("page.html"), self.path("none")
+        for words, status, says in (
+            ((damaged, "--html", page), 1, f"{damaged}: line 8: the queue holds 1, not 2"),
+            ((self.history, "--job", "7"), 1, f"{self.history}: no job of origin 7"),
+            ((none,), 2, f"{none}: No such file or directory"),
+            ((self.room,), 2, f"{self.room}: Is a directory"),
+            ((self.history, "--html", f"{none}/page.html"), 2, f"{none}/page.html: No such file or directory"),
+        ):
+            ran = run(*words)
+            self.assertEqual((ran.returncode, ran.stdout, ran.stderr), (status, "", f"report: {says}\n"))
         self.assertFalse(os.path.exists(page))
-
-    def test_a_job_that_is_not_there(self) -> None:
-        self.assertEqual(self.ended(self.history, "--job", "7"), (1, f"report: {self.history}: no job of origin 7"))
-
-    def test_files_that_can_not_be_used(self) -> None:
-        none = f"{self.room}/none.txt"
-        self.assertEqual(self.ended(none), (2, f"report: {none}: No such file or directory"))
-        self.assertEqual(self.ended(self.room), (2, f"report: {self.room}: Is a directory"))
-        page = f"{self.room}/none/page.html"
-        self.assertEqual(self.ended(self.history, "--html", page), (2, f"report: {page}: No such file or directory"))
 
     def test_refused_words(self) -> None:
         for words in ((), (self.history, "--job", "-1"), (self.history, "--job", "1_0"), (self.history, "--job", "٣"),
@@ -88,14 +78,13 @@ class CommandTest(ReportTest):
             self.assertTrue(self.refused(2, *words), words)
 
     def test_the_page_is_not_the_history(self) -> None:
-        self.assertEqual(self.ended(self.history, "--html", self.history)[0], 2)
-        with open(self.history, encoding="utf-8") as file:
-            self.assertEqual(file.read(), RUN)
+        self.assertIn("--html names a history itself", self.refused(2, self.history, "--html", self.history))
+        self.assertEqual(Path(self.history).read_text("utf-8"), RUN)
 
     def test_a_reader_that_has_seen_enough(self) -> None:
-        words = [*tool("report"), self.history]
         reading, writing = os.pipe()
         os.close(reading)
+        words = [*tool("report"), self.history]
         ran = subprocess.run(words, stdout=writing, stderr=subprocess.PIPE, encoding="utf-8", timeout=60)
         os.close(writing)
         self.assertEqual((ran.returncode, ran.stderr), (2, "report: cannot write output\n"))

@@ -78,15 +78,12 @@ class PageTest(unittest.TestCase):
         text = page(figures_of("</title><img src=x>\udcff&", read(RUN)))
         self.assertEqual(Outline(text).count("img"), 0)
 
-    def test_no_script_but_its_own_may_run(self) -> None:
-        text = page(figures(RUN))
-        policy = next(told["content"] for tag, told in Outline(text).tags if tag == "meta" and "http-equiv" in told)
+    def test_it_needs_nothing_else_and_no_script_but_its_own_may_run(self) -> None:
+        tags = Outline(page(figures(RUN))).tags
+        self.assertEqual([name for _, attributes in tags for name in attributes if name == "src"], [])
+        policy = next(told["content"] for tag, told in tags if tag == "meta" and "http-equiv" in told)
         self.assertIn("default-src 'none'", policy or "")
         self.assertNotIn("unsafe", policy or "")
-
-    def test_it_needs_nothing_else(self) -> None:
-        loads = [name for _, attributes in Outline(page(figures(RUN))).tags for name in attributes if name == "src"]
-        self.assertEqual(loads, [])
 
     def test_the_plots_have_as_many_points_as_the_captions_say(self) -> None:
         lines = [offer(id, 50 * id, at=id) for id in range(3000)]
@@ -96,10 +93,8 @@ class PageTest(unittest.TestCase):
                 path = re.findall(f'<path class="line {kind}" d="([^"]*)"', text)[0]
                 self.assertEqual(1 + path.count("V"), int(told.replace(",", "")))
 
-    def test_all_changes_of_a_short_run_are_points(self) -> None:
+    def test_all_changes_of_a_short_run_are_points_and_a_long_run_is_thinned(self) -> None:
         self.assertIn("standing 10 points, expired 10 points, of 10 changes.", page(figures(RUN)))
-
-    def test_a_long_run_is_thinned_and_says_so(self) -> None:
         text = page(figures(text_of(*[offer(id, 9_000_000, at=1000 * id) for id in range(3000)])))
         points = int(re.findall(r"standing ([\d,]+) points", text)[0].replace(",", ""))
         self.assertTrue(400 <= points <= 1600)
@@ -110,8 +105,7 @@ class PageTest(unittest.TestCase):
         self.assertEqual(set(lives), {"0", "1", "3"})
         self.assertEqual(lives["3"], ["c", 100, [[3, 1, 100, 100, 1, 120, 2, 3], [4, 2, 300, 160, 1, 310, 1, 10]]])
         self.assertEqual(lives["1"][2], [[2, 2, 150, None, None, 170, 2, 4]])
-
-    def test_numbers_that_a_browser_can_not_tell_exactly_are_text(self) -> None:
+        # Numbers that a browser can't tell exactly are text.
         lives = lives_in(page(figures(text_of(offer(0, 2**64 - 1), offer(1, 2**53 - 1)))))
         self.assertEqual([lives["0"][1], lives["1"][1]], [str(2**64 - 1), 2**53 - 1])
 
