@@ -45,10 +45,11 @@ def spread_plot(figures: Figures) -> Plot:
         median, high, greatest = map(span, lateness[1:])
         caption += f" The median is {median}, the 99th percentile {high}, the greatest {greatest}."
     return Plot(
-        "spread", "How late elements were given", "how many elements were how late", (("given", "elements given"),),
-        [svg.y_axis(svg.count_ticks(y), "elements given"), *bars,
-         svg.x_axis(ticks, "lateness: moment given, less expiry")],
-        caption, [Reading(round(place * width, 1), says) for place, says in enumerate(told)])
+        name="spread", title="How late elements were given", about="how many elements were how late",
+        legend=(("given", "elements given"),), caption=caption,
+        parts=[svg.y_axis(svg.count_ticks(y), "elements given"), *bars,
+               svg.x_axis(ticks, "lateness: moment given, less expiry")],
+        readings=[Reading(round(place * width, 1), says) for place, says in enumerate(told)])
 
 
 def grouped(attempts: Sequence[Attempts], most: int) -> List[Tuple[str, int, int]]:
@@ -81,7 +82,7 @@ def attempts_plot(figures: Figures) -> Plot:
     readings.append(Reading(round(len(groups) * width, 1), ""))
     noun = "attempt" if len(groups) == len(figures.jobs.attempts) else "range"
     return Plot(
-        "attempts", "Attempts", "elements of each attempt",
-        (("offered", "offered, or there at the start"), ("given", "given")),
-        [svg.y_axis(svg.count_ticks(y), "elements"), *bars, svg.x_axis(ticks, "attempt of the job")],
-        f"{counted(2 * len(groups), 'bar')}: two for each of {counted(len(groups), noun)}.", readings)
+        name="attempts", title="Attempts", about="elements of each attempt",
+        legend=(("offered", "offered, or there at the start"), ("given", "given")),
+        parts=[svg.y_axis(svg.count_ticks(y), "elements"), *bars, svg.x_axis(ticks, "attempt of the job")],
+        caption=f"{counted(2 * len(groups), 'bar')}: two for each of {counted(len(groups), noun)}.", readings=readings)

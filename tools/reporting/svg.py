@@ -45,7 +45,7 @@ class Tick(NamedTuple):
     kind: str = ""
 
 
-def steps_of(high: int, most: int = 6) -> List[int]:
+def steps_of(high: int, most: int) -> List[int]:
     """Round values from 0 to `high`, some `most` of them: 1, 2 or 5 and zeros apart."""
     steps = (factor * 10**power for power in itertools.count() for factor in (1, 2, 5))
     step = next(it for it in steps if it * most >= high)

@@ -55,11 +55,13 @@ def runs_table(figures: Figures) -> Tuple[Sequence[str], List[Sequence[str]]]:
     dates = figures.dates
     heading = ("run", "history", "began (UTC)" if dates else "began at (ns)", "lasted", "events", "at the start",
                "offered", "given", "left")
-    return heading, [(
-        str(place), run.name, dates.text(run.opened_at, run=place) if dates else str(run.opened_at),
-        span(run.end - run.opened_at), *map(number, (
-            run.events.stop - run.events.start, run.kept, run.offered, figures.history.events.given(run.events),
-            run.left))) for place, run in enumerate(figures.history.runs, 1)]
+    rows: List[Sequence[str]] = []
+    for place, run in enumerate(figures.history.runs, 1):
+        began = dates.text(run.opened_at, run=place) if dates else str(run.opened_at)
+        events, given = run.events.stop - run.events.start, figures.history.events.given(run.events)
+        rows.append((str(place), run.name, began, span(run.end - run.opened_at), number(events), number(run.kept),
+                     number(run.offered), number(given), number(run.left)))
+    return heading, rows
 
 
 def _calls(figures: Figures) -> List[str]:
@@ -72,9 +74,9 @@ def _calls(figures: Figures) -> List[str]:
 
 def _depth(figures: Figures) -> List[str]:
     depth = figures.depth
-    rows = [(name, number(greatest), f"{first} ns", number(series[-1])) for name, (greatest, first), series in (
-        ("elements in the queue", depth.deepest, depth.standing),
-        ("of these expired", depth.most_expired, depth.expired))]
+    (deepest, when), (expired, since) = depth.deepest, depth.most_expired
+    rows = [("elements in the queue", number(deepest), f"{when} ns", number(depth.standing[-1])),
+            ("of these expired", number(expired), f"{since} ns", number(depth.expired[-1]))]
     return ["Depth", *table(("", "greatest", "first at", "at the end"), rows)]
 
 
@@ -134,11 +136,12 @@ def found_jobs(history: History, payload: str, roots: Sequence[int]) -> List[str
 
 def _jobs(history: History, roots: Sequence[int]) -> List[str]:
     """A table of jobs, and how many more there are."""
-    events = history.events
-    rows = [(str(it.origin), it.payload, number(it.elements), number(it.given), *(
-        ("in the queue", "") if it.left_in == NONE
-        else (acts.KEYWORDS[events.acts[it.left_in]], str(events.moments[it.left_in]))))
-        for it in told_jobs(history, roots[:MOST_LISTED])]
+    events, rows = history.events, []
+    for it in told_jobs(history, roots[:MOST_LISTED]):
+        left = ("in the queue", "")
+        if it.left_in != NONE:
+            left = (acts.KEYWORDS[events.acts[it.left_in]], str(events.moments[it.left_in]))
+        rows.append((str(it.origin), it.payload, number(it.elements), number(it.given), *left))
     heading = ("origin", "payload", "elements", "given", "last left by", "at (ns)")
     return [*table(heading, rows, left=2), *_more(len(roots) - MOST_LISTED, "job")]
 

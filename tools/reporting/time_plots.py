@@ -42,10 +42,11 @@ def depth_plot(figures: Figures) -> Plot:
     areas = [svg.filled(kind, some, axis.scale, y) for kind, some in points.items()]
     ranges = zip(*(_ranges(depth.moments, values, buckets) for values in series.values()))
     return Plot(
-        "depth", "Depth of the queue", "depth over time",
-        (("standing", "in the queue"), ("expired", "of these expired, and not given yet")),
-        [svg.y_axis(svg.count_ticks(y), "elements"), svg.marks(areas), axis.drawn()], caption,
-        axis.readings((f"{standing} in the queue", f"{expired} of these expired") for standing, expired in ranges))
+        name="depth", title="Depth of the queue", about="depth over time", caption=caption,
+        legend=(("standing", "in the queue"), ("expired", "of these expired, and not given yet")),
+        parts=[svg.y_axis(svg.count_ticks(y), "elements"), svg.marks(areas), axis.drawn()],
+        readings=axis.readings((f"{standing} in the queue", f"{expired} of these expired")
+                               for standing, expired in ranges))
 
 
 def _ranges(moments: array[int], values: array[int], buckets: Buckets) -> Iterator[str]:
@@ -88,13 +89,15 @@ def rates_plot(figures: Figures) -> Plot:
              for kind, values in rates._asdict().items()]
     total = [counted(sum(some), noun) for some, noun in zip(counts, ("offer", "gift", "return"))]
     return Plot(
-        "rates", f"Offers, gifts and returns a {name}", f"offers, gifts and returns a {name} over time",
-        (("offers", "offers (first attempts)"), ("gifts", "gifts"), ("returns", "returns (later attempts)")),
-        [svg.y_axis(svg.count_ticks(y), f"a {name}"), svg.marks(lines), axis.drawn()],
-        f"{counted(len(lines), 'line')} of {counted(len(buckets), 'point')}: what happened in each"
-        f" {span(round(buckets.width))}. In all {total[0]}, {total[1]} and {total[2]}.",
-        axis.readings((f"{_rate(offers)} offers", f"{_rate(gifts)} gifts", f"{_rate(returns)} returns a {name}")
-                      for offers, gifts, returns in zip(*rates)))
+        name="rates", title=f"Offers, gifts and returns a {name}",
+        about=f"offers, gifts and returns a {name} over time",
+        legend=(("offers", "offers (first attempts)"), ("gifts", "gifts"), ("returns", "returns (later attempts)")),
+        parts=[svg.y_axis(svg.count_ticks(y), f"a {name}"), svg.marks(lines), axis.drawn()],
+        caption=f"{counted(len(lines), 'line')} of {counted(len(buckets), 'point')}: what happened in each"
+                f" {span(round(buckets.width))}. In all {total[0]}, {total[1]} and {total[2]}.",
+        readings=axis.readings(
+            (f"{_rate(offers)} offers", f"{_rate(gifts)} gifts", f"{_rate(returns)} returns a {name}")
+            for offers, gifts, returns in zip(*rates)))
 
 
 def _rate(rate: float) -> str:
@@ -122,11 +125,12 @@ def lateness_plot(figures: Figures) -> Plot:
                       for low, high, it in zip(places, places[1:], found) if it) for kind in ("greatest", "median")]
     paths = [f'<path class="dash {kind}" d="{path}"/>' for kind, path in zip(("greatest", "median"), dashes)]
     return Plot(
-        "lateness", "Lateness over time", "lateness over time", (("median", "median"), ("greatest", "greatest")),
-        [svg.y_axis(y.ticks(), "lateness"), svg.marks(paths), axis.drawn()],
-        f"{counted(len(some), 'median')} and as many greatest values, of {counted(figures.given, 'gift')}: one of each"
-        f" {span(round(buckets.width))} in which something was given. Equal steps are equal ratios.",
-        axis.readings(map(_late, found)))
+        name="lateness", title="Lateness over time", about="lateness over time",
+        legend=(("median", "median"), ("greatest", "greatest")),
+        parts=[svg.y_axis(y.ticks(), "lateness"), svg.marks(paths), axis.drawn()],
+        caption=f"{counted(len(some), 'median')} and as many greatest values, of {counted(figures.given, 'gift')}: one"
+                f" of each {span(round(buckets.width))} in which something was given. Equal steps are equal ratios.",
+        readings=axis.readings(map(_late, found)))
 
 
 def _late(late: Optional[Late]) -> Sequence[str]:
@@ -150,11 +154,11 @@ def seats_plot(figures: Figures) -> Plot:
     told = ([f"{name}: {counted(counts[place], 'call')}" for name, counts in rows]
             for place in range(len(axis.buckets)))
     return Plot(
-        "seats", "Calls of each seat", "calls of each seat over time", (("seat", "calls"),),
-        [*labels, svg.marks(paths, height), axis.drawn(bottom)],
-        f"{counted(len(rows), 'row')} of {counted(len(axis.buckets), 'point')}: the calls in each "
-        f"{span(round(axis.buckets.width))}. The height of a row is {counted(most, 'call')}.",
-        axis.readings(told), height)
+        name="seats", title="Calls of each seat", about="calls of each seat over time", legend=(("seat", "calls"),),
+        parts=[*labels, svg.marks(paths, height), axis.drawn(bottom)],
+        caption=f"{counted(len(rows), 'row')} of {counted(len(axis.buckets), 'point')}: the calls in each"
+                f" {span(round(axis.buckets.width))}. The height of a row is {counted(most, 'call')}.",
+        readings=axis.readings(told), height=height)
 
 
 def _seat_rows(figures: Figures, buckets: Buckets) -> List[Tuple[str, List[int]]]:
