@@ -7,16 +7,16 @@ import os
 import shutil
 import sys
 import time
-from typing import Any, BinaryIO
+from typing import Any, BinaryIO, Optional
 
-PATIENCE, BETWEEN = 2.0, 0.2  # seconds before the line is first written, and until it is written again
+PATIENCE = 2.0  # seconds before anything is said
 
 
 class Progress:
     """The line of a `with` block, at whose end it is empty. Work of less than two seconds has none."""
 
     def __init__(self) -> None:
-        self._next = time.monotonic() + PATIENCE if sys.stderr.isatty() else math.inf
+        self._begin = time.monotonic() + PATIENCE if sys.stderr.isatty() else math.inf
         self._width = 0
 
     def __enter__(self) -> Progress:
@@ -28,10 +28,8 @@ class Progress:
             self._write("")  # which puts the cursor back to the left
 
     def say(self, what: str) -> None:
-        """Says what is done now. May be called often: what comes too soon is not written."""
-        now = time.monotonic()
-        if now >= self._next:
-            self._next = now + BETWEEN
+        """Says what is done now."""
+        if time.monotonic() >= self._begin:
             self._write(what[:shutil.get_terminal_size().columns - 1])
 
     def reading(self, path: str) -> BinaryIO:
@@ -48,9 +46,11 @@ class _ToldFile(io.FileIO):
     def __init__(self, path: str, progress: Progress) -> None:
         super().__init__(path)
         self._path, self._progress = path, progress
-        self._size = os.fstat(self.fileno()).st_size
+        self._size, self._told = os.fstat(self.fileno()).st_size, -1
 
-    def readinto(self, buffer: Any) -> int:
-        if self._size:
-            self._progress.say(f"reading {self._path}: {min(100, 100 * self.tell() // self._size)} %")
+    def readinto(self, buffer: Any) -> Optional[int]:
+        percent = min(100, 100 * self.tell() // self._size) if self._size else -1
+        if percent != self._told:
+            self._progress.say(f"reading {self._path}: {percent} %")
+            self._told = percent
         return super().readinto(buffer)

@@ -27,5 +27,5 @@ class Terminal(io.TextIOWrapper):
 def long_work_at_terminal() -> Iterator[None]:
     """Within, standard error of `call_tool` is a terminal, at which nothing of the progress is left out."""
     with mock.patch("io.TextIOWrapper", Terminal), mock.patch.dict(os.environ, COLUMNS="200"), \
-            mock.patch.multiple("common.progress", PATIENCE=0.0, BETWEEN=0.0):
+            mock.patch("common.progress.PATIENCE", 0.0):
         yield

@@ -2,6 +2,9 @@
 from __future__ import annotations
 
 import os
+import threading
+from pathlib import Path
+from typing import List
 from unittest import mock
 
 from checking.testing import RoomTest
@@ -20,9 +23,16 @@ class ProgressTest(RoomTest):
                     progress.say(what)
         return stderr.told
 
+    def reading(self, path: str) -> List[str]:
+        """What is said at a terminal while a file is read that has the text `a` in each of its lines."""
+        with long_work_at_terminal(), mock.patch("sys.stderr", Terminal()) as stderr:
+            with Progress() as progress, progress.reading(path) as file:
+                self.assertEqual(set(iter(file.readline, b"")), {b"a\n"})
+        return stderr.told.split("\r")
+
     def test_only_long_work_says_how_far_it_is(self) -> None:
         self.assertEqual(self.written(1.9), "")
-        self.assertEqual(self.written(1.9, 2.0), "\rcounting" + EMPTY)
+        self.assertEqual(self.written(1.9, 2.0, 2.1), 2 * "\rcounting" + EMPTY)
 
     def test_nothing_is_said_where_there_is_no_terminal(self) -> None:
         with mock.patch("sys.stderr") as stderr, mock.patch("time.monotonic", side_effect=[0.0, 100.0]):
@@ -30,9 +40,6 @@ class ProgressTest(RoomTest):
             with Progress() as progress:
                 progress.say("counting")
             self.assertFalse(stderr.write.called)
-
-    def test_it_is_not_written_too_often(self) -> None:
-        self.assertEqual(self.written(2.0, 2.1, 2.3), 2 * "\rcounting" + EMPTY)
 
     def test_the_line_is_empty_after_a_fault(self) -> None:
         with long_work_at_terminal(), mock.patch("sys.stderr", Terminal()) as stderr:
@@ -53,21 +60,17 @@ class ProgressTest(RoomTest):
             self.assertEqual(self.written(2.0, what=30 * "a").split("\r")[1], 19 * "a")
 
     def test_how_much_of_a_file_has_been_read(self) -> None:
-        path = self.file("text.txt", 40_000 * "a\n")
-        with long_work_at_terminal(), mock.patch("sys.stderr", Terminal()) as stderr:
-            with Progress() as progress, progress.reading(path) as file:
-                self.assertEqual(file.readlines(), 40_000 * [b"a\n"])
-        told = stderr.told.split("\r")
-        self.assertEqual(told[1], f"reading {path}: 0 %")
-        self.assertIn(f"reading {path}: 51 %", told)  # of 80,000 bytes, 8,192 at a time
-        self.assertIn(f"reading {path}: 100 %", told)
+        for lines, most in ((40_000, 10), (1_000_000, 101)):  # of 8,192 bytes, of which a percent may have several
+            path = self.file("text.txt", lines * "a\n")
+            told = self.reading(path)
+            self.assertEqual(told[1], f"reading {path}: 0 %")
+            self.assertIn(f"reading {path}: 51 %", told)
+            self.assertIn(f"reading {path}: 100 %", told)
+            self.assertLessEqual(len(told), most + 4)
 
     def test_a_file_without_a_size(self) -> None:
         os.mkfifo(self.path("pipe"))
-        holder = os.open(self.path("pipe"), os.O_RDWR)  # so that neither end waits
-        self.addCleanup(os.close, holder)
-        os.write(holder, b"a\n")
-        with long_work_at_terminal(), mock.patch("sys.stderr", Terminal()) as stderr:
-            with Progress() as progress, progress.reading(self.path("pipe")) as file:
-                self.assertEqual(file.readline(), b"a\n")
-        self.assertEqual(stderr.told, "")
+        writer = threading.Thread(target=Path(self.path("pipe")).write_text, args=("a\n",))
+        writer.start()
+        self.addCleanup(writer.join)
+        self.assertEqual(self.reading(self.path("pipe")), [""])
