@@ -13,6 +13,7 @@ import shutil
 import subprocess
 import sys
 import tempfile
+from typing import Callable
 
 TOOLS = os.path.dirname(os.path.dirname(os.path.dirname(os.path.realpath(__file__))))
 sys.path[:0] = [TOOLS, f"{os.path.dirname(TOOLS)}/dev/lib"]
@@ -42,14 +43,15 @@ def picture_of_page(command: str, room: str) -> bytes:
         browser.end()
 
 
-def main() -> int:
+def main(name: str = "report.png", take: Callable[[str, str], bytes] = picture_of_page) -> int:
+    """Writes a picture of this name in docs/, which is taken with a browser's command and a folder."""
     command = shutil.which("chromium")
     if command is None or len(sys.argv) > 2:
         print("make_picture: name one file or none, and have chromium on the path", file=sys.stderr)
         return 1
-    path = sys.argv[1] if len(sys.argv) == 2 else f"{TOP}/docs/report.png"
+    path = sys.argv[1] if len(sys.argv) == 2 else f"{TOP}/docs/{name}"
     with tempfile.TemporaryDirectory(prefix="rb-picture-") as room:
-        picture = picture_of_page(command, room)
+        picture = take(command, room)
     if shutil.which("pngquant"):
         picture = subprocess.run(["pngquant", "64", "-"], input=picture, stdout=subprocess.PIPE, check=True).stdout
     with open(path, "wb") as out:

@@ -11,11 +11,8 @@ from __future__ import annotations
 import logging
 import os
 import random
-import shutil
 import signal
-import subprocess
 import sys
-import tempfile
 import threading
 import time
 from typing import Any, Callable, List
@@ -23,15 +20,16 @@ from typing import Any, Callable, List
 TOOLS = os.path.dirname(os.path.dirname(os.path.dirname(os.path.realpath(__file__))))
 sys.path[:0] = [TOOLS, *(f"{os.path.dirname(TOOLS)}/{it}" for it in ("dev/lib", "clients/python/src"))]
 
-from common.program import TOP, test_with  # noqa: E402
+from common.program import test_with  # noqa: E402
 from rb_broker_client import BrokerError, Job, Producer, Worker  # noqa: E402
 from reporting.tests.browser import Browser  # noqa: E402
+from reporting.tests.make_picture import WIDTH, main  # noqa: E402
 from servicing.status_view import state_in  # noqa: E402
 from servicing.tests.process import Service  # noqa: E402
 from serving.server import free_port  # noqa: E402
 from serving.session import Session  # noqa: E402
 
-WIDTH, SECONDS, KILLED_AT = 1100, 240, 100
+SECONDS, KILLED_AT = 240, 100
 OPTIONS = ("--every", "60s", "--stop-within", "2s", "--delay", "3s", "--workers", "8")
 
 
@@ -75,23 +73,29 @@ class Scene:
             session.send("SIZE")
 
 
-def picture_of(service: Service, page: str, command: str, room: str) -> bytes:
+def picture_of_page(command: str, room: str) -> bytes:
     """Lets the scene go on, and takes a picture of the whole page once clients were served for a while."""
-    Scene(service.port)
-    time.sleep(KILLED_AT)
-    os.kill(service.server, signal.SIGKILL)
-    browser = Browser(command, room)
+    logging.disable()  # a worker says each job that fails
+    test_with(None)
+    page, browser = free_port(), Browser(command, room)
+    service = Service(f"{room}/runs", *OPTIONS, "--http", f"127.0.0.1:{page}")
     try:
+        service.wait("serving")
+        Scene(service.port)
+        time.sleep(KILLED_AT)
+        os.kill(service.server, signal.SIGKILL)
         time.sleep(SECONDS - KILLED_AT - 60)
         while not _has_served_for(20, service.folder):
             time.sleep(1)
         browser.prefer("light")
         browser.resize(WIDTH, 800)
-        browser.go(page)
+        browser.go(f"http://127.0.0.1:{page}/")
         time.sleep(3)
         return browser.picture(WIDTH, int(browser.value("document.documentElement.scrollHeight")))
     finally:
         browser.end()
+        service.stop()
+        service.kill_all()
 
 
 def _has_served_for(seconds: float, folder: str) -> bool:
@@ -99,28 +103,5 @@ def _has_served_for(seconds: float, folder: str) -> bool:
     return told is not None and told["phase"] == "serving" and told["at"] - told["since"] > seconds
 
 
-def main() -> int:
-    command = shutil.which("chromium")
-    if command is None or len(sys.argv) > 2:
-        print("make_picture: name one file or none, and have chromium on the path", file=sys.stderr)
-        return 1
-    logging.disable()  # a worker says each job that fails
-    test_with(None)
-    with tempfile.TemporaryDirectory(prefix="rb-picture-") as room:
-        port = free_port()
-        service = Service(f"{room}/runs", *OPTIONS, "--http", f"127.0.0.1:{port}")
-        try:
-            service.wait("serving")
-            picture = picture_of(service, f"http://127.0.0.1:{port}/", command, room)
-        finally:
-            service.stop()
-            service.kill_all()
-    if shutil.which("pngquant"):
-        picture = subprocess.run(["pngquant", "64", "-"], input=picture, stdout=subprocess.PIPE, check=True).stdout
-    with open(sys.argv[1] if len(sys.argv) == 2 else f"{TOP}/docs/service.png", "wb") as out:
-        out.write(picture)
-    return 0
-
-
 if __name__ == "__main__":
-    sys.exit(main())
+    sys.exit(main("service.png", picture_of_page))
