@@ -3,7 +3,7 @@ from __future__ import annotations
 
 import time
 from dataclasses import replace
-from typing import Callable, Dict, Optional, Tuple
+from typing import Callable, Dict, List, Optional, Tuple
 
 from servicing.clock import elapsed, read_clock
 from servicing.deciding import Seen, is_to_prepare, why_to_end
@@ -18,6 +18,7 @@ from servicing.visits import Crowd, STAYS, Visits
 
 LOOK, LAST_LOOK = 1.0, 0.1  # seconds between two looks, and while the run ends
 RESERVE = 200  # sessions that are left to clients before a run ends
+BEGINNING = 5.0  # seconds of a run in which clients that outnumbered the workers of the one before come back
 TELL, CUT = 10.0, 1.0  # seconds after which it is said again who is waited for, and after which is cut again
 MOST_NAMED = 5
 
@@ -25,15 +26,19 @@ MOST_NAMED = 5
 class Current:
     """The run that goes on, or that has just ended."""
 
-    def __init__(self, parts: Parts, record: Run, server: Server, first_aside: int = 0) -> None:
-        """`first_aside` is the moment at which the first element aside expires."""
+    def __init__(
+        self, parts: Parts, record: Run, server: Server, first_aside: int = 0, before: Optional[Current] = None
+    ) -> None:
+        """`first_aside` is the moment at which the first element aside expires, `before` the run behind which it is."""
         self._parts, self._settings, self._signals = parts, parts.settings, parts.signals
         self.record, self.server, self._first_aside = replace(record, server=server.pid), server, first_aside
         self.looks = Looks(self._settings.port, record, self._settings.workers, self._settings.sessions)
         self._visits: Optional[Visits] = None  # which use up most sessions in the last part of the run
         self._crowd: Optional[Crowd] = None  # so that clients come to leave soon
+        self.is_crowded: bool = False  # whether clients outnumbered the workers when its end began
+        self._was_crowded = before is not None and before.is_crowded
         self.why = Reason.UNKNOWN  # it ends
-        self.closed = 0.0  # since when new clients are served no longer, by the monotonic clock, once they are not
+        self.closed = 0.0  # since when new clients are served no longer, by the monotonic clock
         self._cut_at, self._why_not = 0.0, ""
         self._held: Dict[str, float] = {}  # for how many seconds each client was waited for
         self.cut = 0
@@ -49,7 +54,7 @@ class Current:
         `LeftBehind` if an end was asked for that can't be had in time."""
         try:
             why = self._watched()
-            self.closed = time.monotonic()
+            self.closed = self._end_began = time.monotonic()
             if why is not None:
                 self.why = why
                 if why is Reason.ASKED:
@@ -58,11 +63,11 @@ class Current:
                 self._end()
         finally:
             self.looks.own.drop()
-            if self._crowd is not None:  # whoever comes while the last sessions are used up has to wait, too
-                self._crowd.stop()
+            self._leave()  # not before: whoever comes while the last sessions are used up has to wait, too
 
     def _watched(self) -> Optional[Reason]:
         """Watches the server until its run has to end, and returns why. None if it has ended by itself."""
+        self._keep_busy()  # before the first look: clients come at once
         try:
             while not self.server.has_ended:
                 self._see(self.looks.look)
@@ -71,6 +76,7 @@ class Current:
                 if why is not None:
                     return why
                 self._prepare_end()
+                self._keep_busy()
                 self._cut_silent()
                 if self._parts.keeping.is_renewed(self.server):
                     say("warning", "keeper", run=self.server.run,
@@ -107,23 +113,36 @@ class Current:
         settings, looks = self._settings, self.looks
         return why_to_end(Seen(
             age=self._age, every=settings.every / SECOND, ending=settings.stop_within / SECOND, calls=looks.calls,
-            sessions=looks.sessions, is_full=looks.own.is_full, unanswered=looks.own.waits,
+            sessions=looks.sessions, is_full=looks.own.is_full, unanswered=looks.unanswered,
             free_workers=looks.free_workers, waiting=looks.waiting_long,
             elements=looks.queue.elements if looks.queue else None, moment=looks.moment, aside=self.record.aside,
             first_aside=self._first_aside, leaving=looks.leaving,
             is_prepared=self._visits is not None and self._visits.are_made))
 
     def _prepare_end(self) -> None:
-        """In the last part of a run, uses up most of its sessions, and lets clients come to leave soon, so that its end
-        takes no time."""
-        port, every, looks = self._settings.port, self._settings.every / SECOND, self.looks
+        """In the last part of a run, uses up most of its sessions, so that its end takes no time."""
+        every, looks = self._settings.every / SECOND, self.looks
         if self._visits is None and is_to_prepare(self._age, every):
             crowded = max(looks.free_workers, 1) / STAYS * (every - self._age)  # sessions that the crowd takes
             most = max(looks.sessions.limit - looks.sessions.used - RESERVE - int(crowded), 0)
-            self._visits, self._crowd = Visits(port, most, self._parts.keeping.make_room()), Crowd(port)
-            looks.crowd = self._crowd.ports
+            self._visits = Visits(self._settings.port, most, self._parts.keeping.make_room())
+
+    def _keep_busy(self) -> None:
+        """Lets clients come to leave soon: in the last part of a run, so that its end takes no time, and in the first
+        seconds if they outnumber the workers, so that those who come first do not keep the others waiting."""
+        is_beginning = self._was_crowded and self._age < BEGINNING
+        if self._crowd is None and (is_beginning or self._visits is not None):
+            self._crowd = Crowd(self._settings.port)
+            self.looks.crowd = self._crowd.ports
+        elif self._visits is None and not is_beginning:
+            self._leave()
         if self._crowd is not None:
-            self._crowd.free = looks.free_workers
+            self._crowd.free = self.looks.free_workers
+
+    def _leave(self) -> None:
+        if self._crowd is not None:
+            self._crowd.stop()
+            self._crowd, self.looks.crowd = None, set()
 
     def _cut_silent(self) -> None:
         silent = self._settings.silent
@@ -133,36 +152,43 @@ class Current:
             say("warning", "cut-silent", sessions=count, silent=text_of(silent / SECOND), why=why or None)
 
     def _end(self) -> None:
-        """Lets clients leave, and cuts their sessions if they do not."""
-        visits, told = Visits(self._settings.port, room=self._parts.keeping.make_room()), self.closed
+        """Lets clients leave, and cuts their sessions if they do not.
+
+        Where clients outnumber the workers they go on in turn until the sessions are used up, so none is cut that has
+        just begun. One who asks for an end does not wait for that.
+        """
+        visits, told = Visits(self._settings.port, room=self._parts.keeping.make_room()), self._end_began
+        within = self._settings.stop_within / SECOND
+        self.is_crowded = self.looks.waiting_long > self.looks.free_workers
         try:
             while not self.server.has_ended:
                 now = time.monotonic()
                 self._see(self.looks.see)
                 if not self.looks.ports:
                     self.looks.own.last_call()
-                is_late = now - self.closed >= self._settings.stop_within / SECOND or self._signals.count > 1
-                if is_late and now - self._cut_at >= CUT:
-                    self._cut()
+                seconds = now - self._end_began
+                is_over = self._signals.count > 1 or (self._signals.count and seconds >= within)
+                late = self.looks.ports if is_over else self.looks.stayed(within, self._end_began)
+                if late and now - self._cut_at >= CUT:
+                    self._cut(late)
                 if now - told >= TELL:
                     told = now
-                    self._tell(now - self.closed)
+                    self._tell(seconds)
                 self._signals.wait(LAST_LOOK, self.server.process)
-                for it in self.looks.names():
+                for it in self.looks.names(self.looks.ports):
                     self._held[it] = self._held.get(it, 0.0) + time.monotonic() - now
         finally:
             visits.stop()
+            self.closed = max(self._end_began, self.looks.last_begun)
 
-    def _cut(self) -> None:
-        """Cuts the sessions that are open. Clients may connect again, so this is done until the server has ended."""
+    def _cut(self, ports: List[int]) -> None:
+        """Cuts sessions. Clients may connect again, so this is done until the server has ended."""
         self._cut_at = time.monotonic()
-        ports, run, pid = self.looks.ports, self.server.run, self.server.pid
-        if not ports:
-            return
+        run, pid = self.server.run, self.server.pid
         count, why = self._parts.keeping.cut(ports)
         if count:
             self.cut += count
-            say("warning", "cut", run=run, sessions=count, clients="; ".join(self._doings))
+            say("warning", "cut", run=run, sessions=count, clients="; ".join(self._doings(ports)))
         elif why and self._signals.count:
             raise LeftBehind(f"run {run} goes on as process {pid}: its clients do not leave, and can't be cut: {why}; "
                              "start the service again to go on with it")
@@ -171,12 +197,11 @@ class Current:
             say("warning", "not-cut", run=run, sessions=len(ports), why=why)
 
     def _tell(self, seconds: float) -> None:
-        names = self._doings
+        names = self._doings(self.looks.ports)
         self._parts.showing.waits_for = tuple(f"{it}, for {text_of(seconds)}" for it in names or ["the server"])
         self._parts.showing.show()
         say("info", "waiting", run=self.server.run, seconds=round(seconds),
             clients="; ".join(names[:MOST_NAMED]) or "none")
 
-    @property
-    def _doings(self) -> "list[str]":
-        return [f"{name}: {doing}" for name, doing in self.looks.names().items()]
+    def _doings(self, ports: List[int]) -> List[str]:
+        return [f"{name}: {doing}" for name, doing in self.looks.names(ports).items()]

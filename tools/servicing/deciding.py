@@ -54,7 +54,7 @@ class Seen:
     calls: Supply
     sessions: Supply
     is_full: bool
-    unanswered: float  # seconds that the service's own session waits for a worker
+    unanswered: float  # seconds that the service's own session waits for a worker, though one is free
     free_workers: int
     waiting: int  # clients
     elements: Optional[int]

@@ -3,7 +3,7 @@ from __future__ import annotations
 
 import time
 from collections import deque
-from typing import Deque, Dict, List, Optional, Set, Tuple
+from typing import Collection, Deque, Dict, List, Optional, Set, Tuple
 
 from servicing.session import OwnSession, Told
 from servicing.sockets import Connection, Sockets, look_at
@@ -86,6 +86,7 @@ class Looks:
         self._seen: Set[str] = set()  # the connections that were served at the last look
         self._used_sessions = self._used_calls = 0
         self._since: Dict[str, float] = {}  # when each client that is served now was first seen so
+        self.last_begun = self._all_busy = 0.0  # when one was last, and when each worker had one
         self._lasted: Deque[float] = deque(maxlen=MANY)  # seconds that others were served, until they left
         self._sessions, self._calls, self.offers, self.leaves = Pace(), Pace(), Pace(), Pace()
         self.clients: Optional[Clients] = None
@@ -120,12 +121,14 @@ class Looks:
         clients.sort(key=lambda it: (ORDER.index(it.doing), -(it.seconds or 0)))
         self.clients = Clients(tuple(clients), self._workers, SILENT_FROM)
         self._sessions.add(time.monotonic(), self._used_sessions)
+        if self.free_workers <= 0:
+            self._all_busy = time.monotonic()
 
     def _time_sessions(self, served: Set[str]) -> None:
         now = time.monotonic()
         self._lasted.extend(now - self._since.pop(it) for it in [*self._since] if it not in served)
-        for it in served:
-            self._since.setdefault(it, now)
+        for it in served - self._since.keys():
+            self._since[it] = self.last_begun = now
 
     @property
     def leaving(self) -> Optional[float]:
@@ -181,12 +184,23 @@ class Looks:
         return self._workers - self.served
 
     @property
+    def unanswered(self) -> float:
+        """For how many seconds the service's own session waits, though a worker was free at each look."""
+        return min(self.own.waits, time.monotonic() - self._all_busy)
+
+    @property
     def ports(self) -> List[int]:
         """The ports of the clients that a worker serves."""
         return [it.port for it in self.connections if it.is_served]
 
-    def names(self) -> Dict[str, str]:
-        """Who is served, the worst first, and what each does."""
+    def stayed(self, seconds: float, since: float) -> List[int]:
+        """Those that it has served for so long, from this reading of the monotonic clock on."""
+        now = time.monotonic()
+        return [it.port for it in self.connections
+                if it.is_served and now - max(self._since[it.key], since) >= seconds]
+
+    def names(self, ports: Collection[int]) -> Dict[str, str]:
+        """Who is at these ports, the worst first, and what each does."""
         clients = self.clients.all if self.clients else ()
         return {f"client {it.port}" + (f" ({it.program} {it.pid})" if it.program else ""): it.doing.value
-                for it in clients if it.doing is not Doing.WAITING}
+                for it in clients if it.port in ports}

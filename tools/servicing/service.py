@@ -44,7 +44,7 @@ def serve(settings: Settings, folder: Folder, board: Board, signals: Signals) ->
 def _serve(parts: Parts) -> None:
     found, before = resumed(parts), None
     while True:
-        current = found if isinstance(found, Current) else _started(parts, found, is_first=before is None)
+        current = found if isinstance(found, Current) else _started(parts, found, before)
         if current is None:
             return
         _say_serving(parts, current, before)
@@ -71,9 +71,9 @@ def _say_serving(parts: Parts, current: Current, before: Optional[Current]) -> N
             parts.runs.end(last, replace(last.end, closed=round(closed, 3)))
 
 
-def _started(parts: Parts, following: Next, is_first: bool) -> Optional[Current]:
-    """The next run, whose server listens. None if the end is asked for before that. Raises an `Unusable` if the first
-    one can't be started; later that is tried again, since clients wait."""
+def _started(parts: Parts, following: Next, before: Optional[Current]) -> Optional[Current]:
+    """The run behind the one before, whose server listens. None if the end is asked for before that. Raises an
+    `Unusable` if the first one can't be started; later that is tried again, since clients wait."""
     while not parts.signals.count:
         record = parts.until_written("opening", 0, lambda: parts.runs.prepare(following, parts.settings))
         now = read_clock()
@@ -82,9 +82,9 @@ def _started(parts: Parts, following: Next, is_first: bool) -> Optional[Current]
         try:
             server = _listening(parts, record, opening)
             record = replace(record, began=read_clock())  # its clock goes since about now; a look tells exactly
-            return Current(parts, record, server, opening.first_aside)
+            return Current(parts, record, server, opening.first_aside, before)
         except (NotStarted, KeeperLost) as fault:
-            if is_first:
+            if before is None:
                 raise Unusable(f"no server at port {parts.settings.port}: {fault}") from None
             parts.showing.raise_alert("not-listening", f"no server can be started: {fault}", "error")
             parts.showing.show()

@@ -1,10 +1,10 @@
 """Runs end in good order, whatever their clients do."""
-from __future__ import annotations
-
+import contextlib
 import os
 import shutil
 import signal
 import sys
+import threading
 import time
 import unittest
 from pathlib import Path
@@ -91,6 +91,42 @@ class EndsTest(ServiceTest):
                 it.ask("OFFER 0 job")
                 self.assertIn(f"client {it.own_port}", service.wait("serving", 2)["held_by"])
             self.assertEqual(self.ask("SIZE"), ["SIZE 1"])
+
+    def test_a_rollover_cuts_no_client_that_takes_its_turn(self) -> None:
+        """With two clients for one worker it takes much longer than --stop-within until the sessions are used up. In
+        the first seconds of the next run a client waits for a moment, though nobody else is there."""
+        is_over, whole = threading.Event(), []  # type: threading.Event, list[str]
+        clients = [threading.Thread(target=self.take_turns, args=(whole, is_over)) for _ in range(2)]
+        with self.serving("--every", "1s", "--stop-within", "3s", "--workers", "1", "--sessions", "3000") as service:
+            for it in clients:
+                it.start()
+            service.wait("ending")
+            began = time.monotonic()
+            closed = service.wait("serving", 2)["closed"]
+            passed = time.monotonic() - began
+            is_over.set()
+            for it in clients:
+                it.join()
+            self.assertGreaterEqual(sorted(self.wait() for _ in range(3))[1], 0.1)
+            self.assertEqual(service.all("cut"), [])
+        self.assertGreater(passed, 3)
+        self.assertLess(float(closed.rstrip("s")), passed)
+        self.assertGreater(len(whole), 5)
+        self.assertEqual({*whole}, {"BYE"})
+
+    def wait(self) -> float:
+        """For how long a client waits for a worker."""
+        began = time.monotonic()
+        self.ask("AT 0")
+        return time.monotonic() - began
+
+    def take_turns(self, whole: list[str], is_over: threading.Event) -> None:
+        """Has one short session after the other, and notes how each ends in which a worker answered."""
+        while not is_over.is_set():
+            with contextlib.suppress(OSError), Session(self.port) as it:
+                if it.ask("AT 0") == "ERR 1 syntax":
+                    time.sleep(0.3)
+                    whole.append(it.ask("QUIT"))
 
     def test_silent_clients_are_cut(self) -> None:
         service = self.begin("--silent", "2s", "--delay", "0s", "--every", "1h")

@@ -1,14 +1,13 @@
 """What a service that runs shows: over HTTP, in a browser and in a terminal, through rollovers and a killed server."""
-from __future__ import annotations
-
 import http.client
 import os
 import re
 import signal
 import subprocess
 import tempfile
+import time
 import unittest
-from typing import Tuple
+from unittest import mock
 
 from checking.testing import run_tool
 from common.program import tested_program
@@ -46,6 +45,19 @@ class DoingTest(unittest.TestCase):
         self.assertEqual(told, {2: Doing.WAITING, 3: Doing.WAITING, 4: Doing.HUNG_UP})
 
 
+    def test_a_worker_is_free_between_two_clients(self) -> None:
+        """While clients take turns this tells nothing, and only a worker that stays free takes nobody."""
+        looks = Looks(1, record(), 1, 20)
+        looks.own._since = time.monotonic() - 10
+        client = Connection(5, "5", False, True, 0, 0, 0, 0, False, None)
+        looks.see(Sockets(True, None, [client]))
+        looks.see(Sockets(True, None, []))
+        self.assertLess(looks.unanswered, 3)
+        with mock.patch("time.monotonic", return_value=time.monotonic() + 5):
+            looks.see(Sockets(True, None, []))
+            self.assertGreater(looks.unanswered, 4)
+
+
 class ShownTest(ServiceTest):
     def setUp(self) -> None:
         super().setUp()
@@ -54,7 +66,7 @@ class ShownTest(ServiceTest):
     def begin_shown(self, *options: object) -> Service:
         return self.begin("--http", f"127.0.0.1:{self.page}", "--stop-within", "2s", *options)
 
-    def get(self, path: str) -> Tuple[int, str]:
+    def get(self, path: str) -> tuple[int, str]:
         connection = http.client.HTTPConnection("127.0.0.1", self.page, timeout=PATIENCE)
         try:
             connection.request("GET", path)
@@ -131,7 +143,7 @@ class ShownTest(ServiceTest):
         self.assertEqual(self.status().returncode, 1)
         self.assertFalse(os.path.exists(self.path("runs/status")))
 
-    def status(self, *options: str) -> "subprocess.CompletedProcess[str]":
+    def status(self, *options: str) -> subprocess.CompletedProcess[str]:
         return run_tool("service", "--status", "--folder", self.path("runs"), *options)
 
     def test_an_address_that_can_not_be_had(self) -> None:
