@@ -1,7 +1,5 @@
 """Jobs that are due after real time, through many rollovers and over a minute without a server. They take two minutes,
 so `dev/check service --long` alone runs them."""
-from __future__ import annotations
-
 import contextlib
 import time
 
@@ -48,5 +46,5 @@ class WithoutServerTest(ServiceTest):
             self.assertEqual(names, ["late"])
             self.assertGreaterEqual(time.monotonic() - offered, 90)
 
-    def names(self, *requests: str) -> "list[str]":
+    def names(self, *requests: str) -> list[str]:
         return [it.split(" ")[-1] for it in self.ask(*requests)]

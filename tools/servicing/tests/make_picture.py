@@ -6,8 +6,6 @@ then, a client that says nothing and one that does not read. Its server is kille
 colors, 1100 pixels wide. It needs chromium on the path, and pngquant to make the file a third as large. Status: 0; 1 if
 it can't be made.
 """
-from __future__ import annotations
-
 import logging
 import os
 import random
@@ -15,7 +13,8 @@ import signal
 import sys
 import threading
 import time
-from typing import Any, Callable, List
+from collections.abc import Callable
+from typing import Any
 
 TOOLS = os.path.dirname(os.path.dirname(os.path.dirname(os.path.realpath(__file__))))
 sys.path[:0] = [TOOLS, *(f"{os.path.dirname(TOOLS)}/{it}" for it in ("dev/lib", "clients/python/src"))]
@@ -38,7 +37,7 @@ class Scene:
 
     def __init__(self, port: int) -> None:
         self._port, self._end, self._chance = port, time.monotonic() + SECONDS, random.Random(7)
-        self._workers: List[Worker] = [Worker(self._deliver, port) for _ in range(2)]
+        self._workers: list[Worker] = [Worker(self._deliver, port) for _ in range(2)]
         for act in (self._produce, *(it.run for it in self._workers), self._say_nothing, self._read_nothing):
             threading.Thread(target=self._again, args=(act,), daemon=True).start()
 

@@ -1,6 +1,4 @@
 """The service as a process, with the lines that it says."""
-from __future__ import annotations
-
 import atexit
 import contextlib
 import json
@@ -12,8 +10,9 @@ import subprocess
 import sys
 import threading
 import time
+from collections.abc import Callable, Iterator, Sequence
 from pathlib import Path
-from typing import Any, Callable, Dict, Iterator, List, Optional, Sequence
+from typing import Any
 
 from checking.testing import RoomTest
 from common.program import TOP, tested_program
@@ -25,7 +24,7 @@ WORD = re.compile(r'([a-z_]+)=(?:"((?:[^"\\]|\\.)*)"|(\S+))')
 
 SYSTEMS_PYTHON = "/usr/bin/python3"
 
-Event = Dict[str, str]
+Event = dict[str, str]
 
 
 def event_of(line: str) -> Event:
@@ -37,7 +36,7 @@ class Service:
     """A service in a folder, until its end."""
 
     def __init__(
-        self, folder: str, *options: object, port: Optional[int] = None, before: Sequence[str] = (), program: str = ""
+        self, folder: str, *options: object, port: int | None = None, before: Sequence[str] = (), program: str = ""
     ) -> None:
         self.folder, self.port = folder, port or free_port()
         python = SYSTEMS_PYTHON if before else sys.executable  # which another user may not run
@@ -45,7 +44,7 @@ class Service:
                  "--program", program or tested_program(), *map(str, options)]
         self.process = subprocess.Popen(words, stderr=subprocess.PIPE, encoding="utf-8")
         atexit.register(self.kill_all)
-        self.lines: List[str] = []
+        self.lines: list[str] = []
         self._came, self._has_ended = threading.Condition(), False
         self._reader = threading.Thread(target=self._read, daemon=True)
         self._reader.start()
@@ -60,7 +59,7 @@ class Service:
             self._has_ended = True
             self._came.notify_all()
 
-    def all(self, event: str) -> List[Event]:
+    def all(self, event: str) -> list[Event]:
         return [it for it in map(event_of, [*self.lines]) if it.get("event") == event]
 
     def wait(self, event: str, count: int = 1, patience: float = PATIENCE) -> Event:
@@ -117,8 +116,7 @@ class ServiceTest(RoomTest):
         super().setUp()
         self.port = free_port()
         # Until the end, no other process finds the port free while none of its services listens.
-        kept = socket.socket()
-        self.addCleanup(kept.close)
+        kept = self.enterContext(socket.socket())
         kept.setsockopt(socket.SOL_SOCKET, socket.SO_REUSEADDR, 1)
         kept.bind((HOST, self.port))
 
@@ -146,7 +144,7 @@ class ServiceTest(RoomTest):
         """Stops a service, which ends in good order. This many runs were lost."""
         self.assertEqual((service.stop(), len(service.all("lost-run"))), (0, lost))
 
-    def ask(self, *requests: str) -> List[str]:
+    def ask(self, *requests: str) -> list[str]:
         """The replies in a session of its own, once a worker serves it; it is begun again if it is not served."""
         until = time.monotonic() + PATIENCE
         while time.monotonic() < until:

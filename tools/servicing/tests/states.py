@@ -1,6 +1,4 @@
 """States that were written by hand: a service with a run behind it, one that begins, and one in trouble."""
-from __future__ import annotations
-
 import dataclasses
 from typing import Any
 

@@ -1,11 +1,7 @@
 """What the tests of tools/service share: clocks, records and openings made by hand."""
-from __future__ import annotations
-
 import io
-import unittest
 from dataclasses import replace
-from typing import Any, Optional
-from unittest import mock
+from typing import Any
 
 from servicing.clock import Reading
 from servicing.opening import Left, Opening, left_in
@@ -19,7 +15,7 @@ def reading(up: float = 0, date: float = 1_700_000_000, boot: str = "boot-1") ->
     return Reading(boot, int(up * SECOND), int(date * SECOND))
 
 
-def record(number: int = 1, end: Optional[End] = None, **told: Any) -> Run:
+def record(number: int = 1, end: End | None = None, **told: Any) -> Run:
     usual = Run(number, f"1f6c-{number}", reading(), 0, 0, 0, 0, 1000, ("--delay", "1", "--attempts", "3"), end=end)
     return replace(usual, **told)
 
@@ -30,10 +26,3 @@ def left_of(text: str, attempts: int = 3) -> Left:
 
 def text_of(opening: Opening) -> str:
     return b"".join(opening.lines()).decode()
-
-
-def patch(test: unittest.TestCase, owner: Any, **values: Any) -> None:
-    """Gives an object or a module other values, until the end of the test."""
-    patch = mock.patch.multiple(owner, **values)
-    patch.start()
-    test.addCleanup(patch.stop)

@@ -1,6 +1,4 @@
 """A pseudo terminal, and what a program draws on it."""
-from __future__ import annotations
-
 import errno
 import fcntl
 import os
@@ -11,7 +9,7 @@ import struct
 import subprocess
 import termios
 import time
-from typing import Callable, List
+from collections.abc import Callable
 
 PATIENCE = 30
 
@@ -21,7 +19,7 @@ _SEQUENCE = re.compile(r"\x1b\[([0-9;]*)([A-Za-z])")
 class Terminal:
     """A program whose input, output and errors are a terminal of this size."""
 
-    def __init__(self, words: List[str], columns: int, rows: int) -> None:
+    def __init__(self, words: list[str], columns: int, rows: int) -> None:
         self._screen = Screen(columns, rows)
         self._master, slave = pty.openpty()
         self.resize(columns, rows)
@@ -38,7 +36,7 @@ class Terminal:
     def type(self, keys: str) -> None:
         os.write(self._master, keys.encode())
 
-    def lines(self, until: Callable[[List[str]], bool]) -> List[str]:
+    def lines(self, until: Callable[[list[str]], bool]) -> list[str]:
         """What the screen shows, once this holds for it."""
         end = time.monotonic() + PATIENCE
         while time.monotonic() < end:
@@ -84,7 +82,7 @@ class Screen:
 
     def __init__(self, columns: int, rows: int) -> None:
         self._row = self._column = 0
-        self._cells: List[List[str]] = []
+        self._cells: list[list[str]] = []
         self.resize(columns, rows)
 
     def resize(self, columns: int, rows: int) -> None:
@@ -92,7 +90,7 @@ class Screen:
         self._cells = [(line + [" "] * columns)[:columns] for line in self._cells[:rows]]
         self._cells += [[" "] * columns for _ in range(rows - len(self._cells))]
 
-    def lines(self) -> List[str]:
+    def lines(self) -> list[str]:
         return ["".join(it).rstrip() for it in self._cells]
 
     def write(self, text: str) -> None:

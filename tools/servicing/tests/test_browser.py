@@ -1,10 +1,9 @@
 """The page in a browser, which asks a server of this process for states that were written by hand."""
-from __future__ import annotations
-
 import dataclasses
 import gzip
 import time
 from typing import Any
+from unittest import mock
 
 from histories.tests.support import RUN
 from reporting.tests.support import PageTest
@@ -16,7 +15,7 @@ from servicing.reports import Reports
 from servicing.site import Site
 from servicing.state import Alert, Board, Client, Clients, Doing, Head, Phase, Queue, Reason, Run, State, Traffic
 from servicing.tests.states import AT, ENDED, LONG, first_state, state, troubled_state
-from servicing.tests.support import patch, reading
+from servicing.tests.support import reading
 
 PATIENCE, BEAT = 60.0, 0.02  # seconds
 WIDTHS, SCHEMES = (420, 1200), ("light", "dark")
@@ -58,8 +57,8 @@ def ended(**told: Any) -> Run:
 
 class ServedTest(PageTest):
     def setUp(self) -> None:
-        patch(self, http, BEAT_SECONDS=BEAT)
-        patch(self, reports, NICENESS=0)
+        self.enterContext(mock.patch.multiple(http, BEAT_SECONDS=BEAT))
+        self.enterContext(mock.patch.multiple(reports, NICENESS=0))
         self.board, self.reports = Board(), Reports()
         self.addCleanup(self.reports.stop)
         self.browser.go("about:blank")  # or the page of the test before asks a server that is gone

@@ -1,6 +1,4 @@
 """Cuts of a server's sessions: those of its clients that are named, and nothing else."""
-from __future__ import annotations
-
 import os
 import shutil
 import socket
@@ -9,7 +7,6 @@ import sys
 import threading
 import time
 import unittest
-from contextlib import ExitStack
 
 from common.program import TOP
 from servicing.cutting import ROOM, cut_sessions, make_room
@@ -23,18 +20,13 @@ from serving.testing import ServingTest
 OPTIONS = ("--workers", 2, "--sessions", 400, "--turns", 50, "--delay", 0)
 
 
-def served(server: Server) -> "list[int]":
+def served(server: Server) -> list[int]:
     return [it.port for it in look_at(server.port).connections if it.is_served]
 
 
 class CutsTest(ServingTest):
-    def setUp(self) -> None:
-        super().setUp()
-        self.stack = ExitStack()
-        self.addCleanup(self.stack.close)
-
-    def client(self, port: int, own_port: int = 0) -> Session:
-        return self.stack.enter_context(Session(port, own_port=own_port))
+    def client(self, port: int, own_port: int = 0, receive_buffer: int = 0) -> Session:
+        return self.enterContext(Session(port, own_port, receive_buffer))
 
     def test_nobody_is_cut(self) -> None:
         server = self.serve(*OPTIONS)
@@ -89,7 +81,7 @@ class CutsTest(ServingTest):
 
     def test_a_client_that_does_not_read_is_cut_the_second_time(self) -> None:
         server = self.serve(*OPTIONS)
-        it = self.stack.enter_context(Session(server.port, receive_buffer=4096))
+        it = self.client(server.port, receive_buffer=4096)
         it.ask("OFFER 0 deaf")
         it.ask("TAKE")
         it.fill()

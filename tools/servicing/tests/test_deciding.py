@@ -1,9 +1,6 @@
 """What a service does about what the one before left, and when a run has to end."""
-from __future__ import annotations
-
 import unittest
 from dataclasses import replace
-from typing import Optional
 
 from servicing.deciding import Seen, Start, how_to_start, is_to_prepare, runs_to_drop, why_to_end
 from servicing.folder import record_of, run_in
@@ -15,7 +12,7 @@ from servicing.tests.support import record
 WELL, LOST = End(1000.0, Reason.TIME, 5, 2, 0, 2, 0, 0, 0), End(1000.0, Reason.KILLED)
 
 
-def supply(used: int, limit: int = 1000, pace: Optional[float] = None) -> Supply:
+def supply(used: int, limit: int = 1000, pace: float | None = None) -> Supply:
     return Supply(used, True, limit, pace)
 
 
@@ -44,7 +41,7 @@ class StartTest(unittest.TestCase):
 
 
 class EndTest(unittest.TestCase):
-    def why(self, **told: object) -> Optional[Reason]:
+    def why(self, **told: object) -> Reason | None:
         return why_to_end(replace(QUIET, **told))
 
     def test_a_quiet_run_goes_on(self) -> None:

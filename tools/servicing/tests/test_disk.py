@@ -1,6 +1,4 @@
 """Disks that are full, and folders that are not as they should be."""
-from __future__ import annotations
-
 import json
 import os
 import shutil

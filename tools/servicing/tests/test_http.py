@@ -1,6 +1,4 @@
 """The server of the page and the metrics, with clients that are slow, wrong or hostile."""
-from __future__ import annotations
-
 import contextlib
 import http.client
 import io
@@ -10,20 +8,18 @@ import threading
 import time
 import unittest
 from http import HTTPStatus
-from typing import List, Optional, Tuple
 from unittest import mock
 
 from checking.testing import RoomTest
 from servicing import http as served
 from servicing.address import Address, address_of
 from servicing.http import Answer, HttpServer
-from servicing.tests.support import patch
 
 LONG = b"x" * 8_000_000  # more than a connection holds by itself
 PATIENCE = 10.0
 
 
-def answer(path: str) -> Optional[Answer]:
+def answer(path: str) -> Answer | None:
     """A page, a long one, and one with a fault."""
     if path == "/fault":
         raise ZeroDivisionError("of a test")
@@ -37,7 +33,7 @@ class HttpTest(RoomTest):
         self.server, address = self.begin(0)
         self.port = address.port
 
-    def begin(self, port: int) -> Tuple[HttpServer, Address]:
+    def begin(self, port: int) -> tuple[HttpServer, Address]:
         server = HttpServer(answer)
         address = server.listen(Address("127.0.0.1", port))
         server.start()
@@ -45,34 +41,31 @@ class HttpTest(RoomTest):
         return server, address
 
     def connect(self) -> socket.socket:
-        made = socket.create_connection(("127.0.0.1", self.port), timeout=PATIENCE)
-        self.addCleanup(made.close)
-        return made
+        return self.enterContext(socket.create_connection(("127.0.0.1", self.port), timeout=PATIENCE))
 
-    def ask(self, sent: bytes, before: Optional[socket.socket] = None) -> Tuple[str, bytes]:
+    def ask(self, sent: bytes, before: socket.socket | None = None) -> tuple[str, bytes]:
         """The first line and the body of what is answered to these bytes."""
         connection = before or self.connect()
         connection.sendall(sent)
         return split(all_of(connection))
 
-    def get(self, path: str, method: str = "GET") -> Tuple[int, bytes, http.client.HTTPMessage]:
+    def get(self, path: str, method: str = "GET") -> tuple[int, bytes, http.client.HTTPMessage]:
         """What Python's own client makes of an answer."""
-        connection = http.client.HTTPConnection("127.0.0.1", self.port, timeout=PATIENCE)
-        with contextlib.closing(connection):
+        with contextlib.closing(http.client.HTTPConnection("127.0.0.1", self.port, timeout=PATIENCE)) as connection:
             connection.request(method, path)
             got = connection.getresponse()
             return got.status, got.read(), got.headers
 
 
 def all_of(connection: socket.socket) -> bytes:
-    parts: List[bytes] = []
+    parts: list[bytes] = []
     with contextlib.suppress(ConnectionResetError):
         while part := connection.recv(65_536):
             parts.append(part)
     return b"".join(parts)
 
 
-def split(message: bytes) -> Tuple[str, bytes]:
+def split(message: bytes) -> tuple[str, bytes]:
     head, _, body = message.partition(b"\r\n\r\n")
     return head.split(b"\r\n")[0].decode(), body
 
@@ -143,7 +136,7 @@ class HostileTest(HttpTest):
         self.assertEqual(self.get("/")[0], 200)
 
     def test_a_request_that_comes_byte_by_byte(self) -> None:
-        patch(self, served, HEAD_SECONDS=0.5)
+        self.enterContext(mock.patch.multiple(served, HEAD_SECONDS=0.5))
         connection, began = self.connect(), time.monotonic()
         with contextlib.suppress(ConnectionError):
             while time.monotonic() < began + 1:
@@ -154,7 +147,7 @@ class HostileTest(HttpTest):
 
     def test_a_client_that_does_not_read(self) -> None:
         """It is cut, and meanwhile others are answered."""
-        patch(self, served, TALK_SECONDS=1.0)
+        self.enterContext(mock.patch.multiple(served, TALK_SECONDS=1.0))
         connection = self.connect()
         connection.sendall(b"GET /long HTTP/1.1\r\n\r\n")
         time.sleep(0.2)
@@ -180,7 +173,7 @@ class HostileTest(HttpTest):
         self.assertEqual(self.ask(b"GET / HTTP/1.1\r\n\r\n", idle[-1])[1], b"<p>page</p>")
 
     def test_many_clients_at_once(self) -> None:
-        found: List[int] = []
+        found: list[int] = []
 
         def ask() -> None:
             found.extend(self.get("/")[0] for _ in range(10))
@@ -194,7 +187,7 @@ class HostileTest(HttpTest):
 
     def test_a_flood_of_requests(self) -> None:
         """Each is answered in its turn, and then who comes is answered at once."""
-        patch(self, served, MOST_A_SECOND=10)
+        self.enterContext(mock.patch.multiple(served, MOST_A_SECOND=10))
         began = time.monotonic()
         for _ in range(25):
             self.assertEqual(self.get("/")[0], 200)
@@ -242,7 +235,7 @@ class StartedTest(HttpTest):
             socket.create_connection(("127.0.0.1", port))
 
     def test_it_beats_as_long_as_it_runs(self) -> None:
-        beats: List[float] = []
+        beats: list[float] = []
         with mock.patch.object(served, "BEAT_SECONDS", 0.05):
             server = HttpServer(answer, lambda: beats.append(time.monotonic()))
             server.start()

@@ -1,12 +1,9 @@
 """Jobs through several runs, with workers in Perl that leave between two jobs, and with one whose sessions are cut."""
-from __future__ import annotations
-
 import gzip
 import io
 import time
 from collections import Counter
 from pathlib import Path
-from typing import List
 
 from examples.tests.processes import Worker
 from histories.history import Element
@@ -22,7 +19,7 @@ JOBS = 200
 DELIVER = 'case $1 in *7) mkdir "$0/$1" 2> /dev/null && exit 1; esac; echo "$1" >> "$0/delivered"'
 
 
-def offered(path: Path) -> List[Element]:
+def offered(path: Path) -> list[Element]:
     """The elements that are offered in a history, without the service's own."""
     text = gzip.decompress(path.read_bytes()) if path.suffix == ".gz" else path.read_bytes()
     return [it for it in offers_in(Text(io.BytesIO(text))) if it.payload != PROBE]

@@ -1,12 +1,9 @@
 """Processes are killed: the service in each of its states, its server, and its keeper."""
-from __future__ import annotations
-
 import contextlib
 import os
 import signal
 import threading
 import time
-from typing import List
 
 from serving.session import Session
 from servicing.tests.process import Service, ServiceTest
@@ -56,8 +53,8 @@ class KilledTest(ServiceTest):
 
     def test_it_is_killed_at_any_moment(self) -> None:
         """Services are killed after ever other times, while jobs are offered and done. Each is done once."""
-        done: List[str] = []
-        offered: List[str] = []
+        done: list[str] = []
+        offered: list[str] = []
         is_over = threading.Event()
         clients = [threading.Thread(target=self.produce, args=(offered, is_over)),
                    threading.Thread(target=self.work, args=(done, is_over))]
@@ -82,19 +79,19 @@ class KilledTest(ServiceTest):
         self.assertGreater(len(offered), 100)
         self.assertEqual(sorted(done), sorted(offered))
 
-    def produce(self, offered: List[str], is_over: threading.Event) -> None:
+    def produce(self, offered: list[str], is_over: threading.Event) -> None:
         while not is_over.is_set():
             name = f"job-{len(offered)}"
             self.assertRegex(self.ask(f"OFFER 0 {name}")[0], "^OFFERED ")
             offered.append(name)
             time.sleep(0.01)
 
-    def work(self, done: List[str], is_over: threading.Event) -> None:
+    def work(self, done: list[str], is_over: threading.Event) -> None:
         while not is_over.is_set():
             self.drain(done)
             time.sleep(0.01)
 
-    def drain(self, done: List[str]) -> None:
+    def drain(self, done: list[str]) -> None:
         """Does all jobs that are due. Whether one is done is known before it is noted."""
         with contextlib.suppress(OSError), Session(self.port) as it:
             while it.ask("AT 0") == "ERR 1 syntax":

@@ -1,11 +1,9 @@
 """The text for Prometheus, which promtool checks if it is there. The states are written by hand."""
-from __future__ import annotations
-
 import dataclasses
 import re
 import shutil
 import subprocess
-from typing import Any, Dict
+from typing import Any
 
 from checking.testing import RoomTest
 from common.program import TOP
@@ -17,7 +15,7 @@ PROMTOOL = shutil.which("promtool")
 ALERTS = f"{TOP}/examples/alerts.yml"
 
 
-def promtool(what: str, given: str, *paths: str) -> "tuple[int, str]":
+def promtool(what: str, given: str, *paths: str) -> tuple[int, str]:
     """What promtool says of something that it checks."""
     words = [str(PROMTOOL), "check", what, *paths]
     ran = subprocess.run(words, input=given, capture_output=True, encoding="utf-8", check=False)
@@ -25,7 +23,7 @@ def promtool(what: str, given: str, *paths: str) -> "tuple[int, str]":
 
 
 class MetricsTest(RoomTest):
-    def told(self, state: State, is_healthy: bool = True) -> Dict[str, float]:
+    def told(self, state: State, is_healthy: bool = True) -> dict[str, float]:
         """The metrics of a text, which promtool takes if it is there."""
         text = metrics(state, is_healthy)
         if PROMTOOL:

@@ -1,10 +1,7 @@
 """What systemd is told."""
-from __future__ import annotations
-
 import os
 import socket
 import threading
-from typing import List
 from unittest import mock
 
 from servicing.saying import notify
@@ -24,14 +21,14 @@ class NotifyingTest(ServiceTest):
             with mock.patch.dict(os.environ, NOTIFY_SOCKET=address):
                 notify(READY=1)
 
-    def read(self, notified: socket.socket, told: List[str]) -> None:
+    def read(self, notified: socket.socket, told: list[str]) -> None:
         while "END=1" not in told:
             told += notified.recv(4096).decode().splitlines()
 
     def test_what_a_service_says(self) -> None:
         with socket.socket(socket.AF_UNIX, socket.SOCK_DGRAM) as it:
             it.bind(self.path("notify"))
-            told: List[str] = []
+            told: list[str] = []
             reader = threading.Thread(target=self.read, args=(it, told))
             reader.start()
             with mock.patch.dict(os.environ, NOTIFY_SOCKET=self.path("notify")):

@@ -1,8 +1,5 @@
 """What a run begins with, by what the one before left."""
-from __future__ import annotations
-
 import unittest
-from typing import List, Tuple
 from unittest import mock
 
 from servicing import opening
@@ -27,7 +24,7 @@ class LeftTest(unittest.TestCase):
 
     def test_each_way_of_leaving(self) -> None:
         offers = "".join(f"1 {at} {at} offer {at} 5 {at} 5 1 p{at}\n" for at in range(10))
-        cases: List[Tuple[str, List[int]]] = [
+        cases: list[tuple[str, list[int]]] = [
             ("poll 3", [3]), ("take 4", [4]), ("pollfor 9 5 7", [7]), ("drain 5 0 1 2", [0, 1, 2]), ("drain 5", []),
             ("remove 6 yes", [6]), ("remove 77 no", []), ("clear", [*range(10)]), ("poll none", []),
             ("pollfor 9 5 none", []), ("peek 2", []), ("peek none", []), ("size 10", []),

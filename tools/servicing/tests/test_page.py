@@ -1,6 +1,4 @@
 """The page as a text."""
-from __future__ import annotations
-
 import unittest
 
 from reporting.tests.test_page import Outline

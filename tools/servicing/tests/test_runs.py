@@ -1,6 +1,4 @@
 """Services that run: time, ids and elements from run to run."""
-from __future__ import annotations
-
 import os
 import re
 import signal
@@ -12,7 +10,7 @@ from servicing.tests.process import ServiceTest
 
 
 class RunsTest(ServiceTest):
-    def numbers(self, reply: str) -> "list[int]":
+    def numbers(self, reply: str) -> list[int]:
         return [int(it) for it in re.findall(r"\d+", reply.split(" ", 1)[1])]
 
     def test_a_job_comes_when_it_is_due_through_many_runs(self) -> None:

@@ -1,11 +1,9 @@
 """What is answered to each path, from states that were written by hand and from reports that tools/report makes."""
-from __future__ import annotations
-
 import dataclasses
 import gzip
 import json
 import time
-from typing import Any, List
+from typing import Any
 from unittest import mock
 
 from checking.testing import RoomTest
@@ -17,7 +15,6 @@ from servicing.reports import Reports
 from servicing.site import Site
 from servicing.state import Board, DiskFault, Head, Phase, Queue, State, Traffic
 from servicing.tests.states import AT, ENDED, LOST, first_state, state
-from servicing.tests.support import patch
 from servicing.told import told
 from servicing.trend import BETWEEN, SPAN, Trend
 
@@ -43,7 +40,7 @@ class SiteTest(RoomTest):
     def told(self) -> Any:
         return json.loads(self.answer("/state.json").body)
 
-    def health(self) -> "tuple[int, bytes]":
+    def health(self) -> tuple[int, bytes]:
         answer = self.answer("/health")
         return answer.status.value, answer.body
 
@@ -143,7 +140,7 @@ class PathsTest(SiteTest):
 
 
 class TrendTest(SiteTest):
-    def moments(self, count: int, step: float) -> List[State]:
+    def moments(self, count: int, step: float) -> list[State]:
         return [state(at=AT + it * step, queue=Queue(AT + it * step, 1204, Head(1, 1, 1, "a", 3.25)),
                       traffic=Traffic(100 * it, 50 * it, 0, 0)) for it in range(count)]
 
@@ -195,7 +192,7 @@ class TrendTest(SiteTest):
 class ReportsTest(SiteTest):
     def setUp(self) -> None:
         super().setUp()
-        patch(self, making, NICENESS=0)  # so that other tests do not come first
+        self.enterContext(mock.patch.multiple(making, NICENESS=0))  # so that other tests do not come first
 
     def serve(self, text: bytes, number: int = 11) -> None:
         """A service behind which this run lies."""

@@ -1,6 +1,4 @@
 """What `ss` prints, and what is read from it."""
-from __future__ import annotations
-
 import os
 import tempfile
 import unittest

@@ -1,6 +1,4 @@
 """The terminal view, of states that were written by hand: its lines, its screen in a pseudo terminal, and its ends."""
-from __future__ import annotations
-
 import contextlib
 import io
 import json
@@ -11,7 +9,6 @@ import subprocess
 import sys
 import time
 import unittest
-from typing import List, Tuple
 from unittest import mock
 
 from checking.testing import RoomTest
@@ -36,17 +33,15 @@ def shown(state: State, columns: int, lines: int, is_gone: bool = False, **envir
         return frame(told(state), is_gone)
 
 
-def plain(text: str) -> List[str]:
+def plain(text: str) -> list[str]:
     """The lines of a frame without its sequences."""
     return re.sub(r"\x1b\[[0-9;]*[A-Za-z]", "", text).split("\r\n")
 
 
 class ScreenTest(unittest.TestCase):
     def setUp(self) -> None:
-        patch = mock.patch.dict(os.environ, {"TZ": "UTC"})
-        patch.start()
         self.addCleanup(time.tzset)
-        self.addCleanup(patch.stop)
+        self.enterContext(mock.patch.dict(os.environ, {"TZ": "UTC"}))
         time.tzset()
 
     def test_a_screen(self) -> None:
@@ -135,7 +130,7 @@ class ServedTest(RoomTest):
         self.assertEqual(self.pages.start(), [])
         self.addCleanup(self.pages.stop)
 
-    def show(self, as_json: bool = False) -> Tuple[int, str, str]:
+    def show(self, as_json: bool = False) -> tuple[int, str, str]:
         """The status of a view whose output is no terminal, and what it prints."""
         with contextlib.redirect_stdout(io.StringIO()) as out, contextlib.redirect_stderr(io.StringIO()) as errors:
             status = show(self.room, as_json)

@@ -1,6 +1,4 @@
 """Moments follow real time, whatever happens between two runs."""
-from __future__ import annotations
-
 import argparse
 import unittest
 

@@ -1,11 +1,9 @@
 """A server with clients of every kind, as the service sees them."""
-from __future__ import annotations
-
 import json
 import os
 import time
 import unittest
-from typing import Callable, List, Optional
+from collections.abc import Callable
 
 from servicing.looking import WINDOW, Looks, Pace, silent_ports
 from servicing.sockets import look_at
@@ -38,7 +36,7 @@ class Seen:
             time.sleep(0.1)
         raise AssertionError(f"it did not come to that: {self.looks.clients}, {self.looks.queue}")
 
-    def doing(self, client: Session) -> Optional[Doing]:
+    def doing(self, client: Session) -> Doing | None:
         assert self.looks.clients
         return next((it.doing for it in self.looks.clients.all if it.port == client.own_port), None)
 
@@ -46,8 +44,7 @@ class Seen:
 class WatchedTest(ServingTest):
     def connect(self, server: Server, *requests: str, receive_buffer: int = 0) -> Session:
         """A client that has sent these requests and reads no reply."""
-        client = Session(server.port, receive_buffer=receive_buffer)
-        self.addCleanup(client.hang_up)
+        client = self.enterContext(Session(server.port, receive_buffer=receive_buffer))
         client.send(*requests)
         return client
 
@@ -230,7 +227,7 @@ class WatchedTest(ServingTest):
     def test_silent_clients(self) -> None:
         server = self.serve("--workers", 3, "--sessions", 10)
         silent, busy = self.ask(server, "SIZE"), self.ask(server, "SIZE")
-        waiting: List[Session] = []
+        waiting: list[Session] = []
         until = time.monotonic() + 1.5
         while time.monotonic() < until:
             busy.ask("SIZE")
