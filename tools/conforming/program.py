@@ -1,4 +1,4 @@
-"""The program under test, and its runs as a command.
+"""The program under test, its runs as a command, and their standard inputs.
 
 A run is given its input in pieces, by a thread, and may leave processes of its own behind. So none is started by
 serving.server, which starts servers of this repository's program.
@@ -8,17 +8,52 @@ from __future__ import annotations
 import contextlib
 import os
 import signal
+import socket
 import subprocess
+import sys
 import threading
 from dataclasses import dataclass
-from typing import IO, Iterator, Union
+from typing import IO, Iterable, Iterator
 
-from conforming.inputs import BrokenOff, Halves, Pieces
-
+CAN_BREAK_OFF = sys.platform == "linux"  # there a socket gives its bytes first, and fails only then
 
 # Held while a process starts and while an output is closed. A process that another thread starts has copies of all
 # descriptors until its command runs, so an output that is closed meanwhile would not look closed to its writer.
 STARTING = threading.Lock()
+
+
+class Input:
+    """An input in pieces, which are given once the program has started, and which ends behind them."""
+
+    def __init__(self, pieces: Iterable[bytes], ends: tuple[int, int] | None = None):
+        """`ends` are the descriptors of the program's end and of this one, of a pipe unless they are given."""
+        self._pieces = pieces
+        self.descriptor, self._end = ends or os.pipe()
+
+    def give(self) -> None:
+        """Gives all, or as much as the program reads."""
+        with contextlib.suppress(OSError), open(self._end, "wb") as end:
+            for piece in self._pieces:
+                end.write(piece)
+                end.flush()
+
+
+def in_pieces(content: bytes, size: int) -> Input:
+    """An input in pieces of `size` bytes. Where the system has pipes that keep pieces apart, as Linux does, a read gives
+    one piece; elsewhere it may give several."""
+    pieces = (content[at : at + size] for at in range(0, len(content), size))
+    try:
+        return Input(pieces, os.pipe2(os.O_CLOEXEC | os.O_DIRECT))
+    except (AttributeError, OSError):
+        return Input(pieces)
+
+
+def broken_off(content: bytes) -> Input:
+    """An input whose read fails after the last byte. It is one end of a pair of sockets. Something lies unread at the
+    other end when that is closed, so the connection counts as reset."""
+    theirs, ours = socket.socketpair()
+    theirs.sendall(b"unread")
+    return Input([content], (theirs.detach(), ours.detach()))
 
 
 @dataclass
@@ -30,92 +65,85 @@ class Ended:
     errors: bytes
 
 
-class Running:
-    """A process in a group of its own, so that everything it started ends with it."""
-
-    def __init__(self, command: list[str], descriptor: int):
-        pipe = subprocess.PIPE
-        with STARTING:
-            self.process = subprocess.Popen(
-                command, stdin=descriptor, stdout=pipe, stderr=pipe, bufsize=0, start_new_session=True
-            )
-        self.had_to_be_ended = False
-
-    def end(self) -> None:
-        """Ends the process and what it started, unless it has ended by itself."""
-        if self.process.poll() is None:
-            self.had_to_be_ended = True
-            with contextlib.suppress(ProcessLookupError):
-                os.killpg(self.process.pid, signal.SIGKILL)
-
-    def ended(self, output: bytes, errors: bytes) -> Ended:
-        """How the process ended, once it has."""
-        status = self.process.wait()
-        return Ended(None if self.had_to_be_ended else status, output, errors)
-
-
 class Program:
     """A command, to which the words of each run are appended. A run that takes longer than `patience` seconds is
     ended."""
 
     def __init__(self, command: list[str], patience: float):
         self.command, self.patience = command, patience
-        self._running: set[Running] = set()
+        self._running: set[subprocess.Popen[bytes]] = set()
+        self._had_to_be_ended: set[subprocess.Popen[bytes]] = set()
         self._is_over = False
 
-    def run(self, words: list[str], given: Union[Pieces, BrokenOff]) -> Ended:
+    def run(self, words: list[str], given: Input) -> Ended:
         """Runs the program to its end."""
-        with self._started(words, given) as running:
-            return running.ended(*running.process.communicate())
+        with self._started(words, given) as process:
+            return self._ended(process, *process.communicate())
 
     def run_until_closed(self, words: list[str], content: bytes, replies: int) -> Ended:
         """Runs the program, and closes its standard output once it has sent this many replies, each to one line. Only
         then are the other lines sent."""
-        lines = content.splitlines(keepends=True)
-        given = Halves(b"".join(lines[:replies]), b"".join(lines[replies:]))
-        with self._started(words, given) as running:
+        lines, is_closed = content.splitlines(keepends=True), threading.Event()
+
+        def halves() -> Iterator[bytes]:
+            yield b"".join(lines[:replies])
+            is_closed.wait()
+            yield b"".join(lines[replies:])
+
+        with self._started(words, Input(halves())) as process:
             try:
-                output = read_lines(running.process.stdout, replies)
+                output = read_lines(process.stdout, replies)
             finally:
-                given.goes_on.set()
-            return running.ended(output, running.process.stderr.read())
+                is_closed.set()
+            return self._ended(process, output, process.stderr.read())
 
     @contextlib.contextmanager
-    def _started(self, words: list[str], given: Union[Pieces, BrokenOff]) -> Iterator[Running]:
+    def _started(self, words: list[str], given: Input) -> Iterator[subprocess.Popen[bytes]]:
+        """A process in a group of its own, so that everything it started ends with it."""
+        pipe = subprocess.PIPE
         try:
-            running = Running([*self.command, *words], given.descriptor)
+            with STARTING:
+                process = subprocess.Popen(
+                    [*self.command, *words], stdin=given.descriptor, stdout=pipe, stderr=pipe, bufsize=0,
+                    start_new_session=True,
+                )
         finally:
             os.close(given.descriptor)
-        self._running.add(running)
+        self._running.add(process)
         if self._is_over:
-            running.end()
-        watch = threading.Timer(self.patience, running.end)
-        giver = threading.Thread(target=given.give)
+            self._end(process)
+        watch, giver = threading.Timer(self.patience, self._end, [process]), threading.Thread(target=given.give)
         watch.start()
         giver.start()
         try:
-            yield running
+            yield process
         finally:
-            running.end()
+            self._end(process)
             watch.cancel()
             giver.join()
-            self._running.discard(running)
+            self._running.discard(process)
+
+    def _end(self, process: subprocess.Popen[bytes]) -> None:
+        """Ends a process and what it started, unless it has ended by itself."""
+        if process.poll() is None:
+            self._had_to_be_ended.add(process)
+            with contextlib.suppress(ProcessLookupError):
+                os.killpg(process.pid, signal.SIGKILL)
+
+    def _ended(self, process: subprocess.Popen[bytes], output: bytes, errors: bytes) -> Ended:
+        status = process.wait()
+        return Ended(None if process in self._had_to_be_ended else status, output, errors)
 
     def end(self) -> None:
         """Ends all runs, and those that begin later."""
         self._is_over = True
-        for running in list(self._running):
-            running.end()
+        for process in list(self._running):
+            self._end(process)
 
 
 def read_lines(output: IO[bytes], count: int) -> bytes:
     """Reads this many lines, or fewer if there are no more, and closes the output."""
-    told = b""
-    while told.count(b"\n") < count:
-        piece = output.read(1)
-        if not piece:
-            break
-        told += piece
+    told = b"".join(output.readline() for _ in range(count))
     with STARTING:
         output.close()
     return told

@@ -4,8 +4,7 @@ from __future__ import annotations
 import tempfile
 import unittest
 
-from conforming.case_reader import read_cases
-from conforming.malformed import Malformed
+from conforming.cases import Malformed, read_cases
 
 
 class CaseReaderTest(unittest.TestCase):
@@ -29,7 +28,7 @@ class CaseReaderTest(unittest.TestCase):
 
     def test_a_replay(self):
         case = self.read("case b\nends input 0\ncase c\n= history 3\nverdict unreadable 2 end\nstatus 1\n")[1]
-        told = (case.is_script, case.value("verdict"), case.number("status", 0))
+        told = (case.is_script, case.value("verdict"), case.number("status"))
         self.assertEqual(told, (False, "unreadable 2 end", 1))
 
     def test_each_flaw_has_its_line(self):
