@@ -1,16 +1,12 @@
 """What a session's replies say about its calls, one reply after the other."""
 from __future__ import annotations
 
-from typing import Callable, Dict, List, NamedTuple, Optional
+import re
+from typing import Callable, Dict, List, Match, NamedTuple, Optional, Sequence, Tuple
 
 from verifying.history import ANY, NONE, Element, History
 
 MOST_HELD = 64
-
-REFUSALS = frozenset((
-    "ERR 1 syntax", "ERR 2 number", "ERR 3 range", "ERR 4 payload", "ERR 5 not-held", "ERR 6 full", "ERR 7 memory",
-    "ERR 8 line", "ERR 9 held",
-))
 
 
 class Rules(NamedTuple):
@@ -34,10 +30,6 @@ class Expected(NamedTuple):
     flaw: str = ""  # what the reply says about that element, and the history does not
 
 
-Words = List[str]
-Answer = Callable[["Account", Words, Words, List[str]], Optional[Expected]]
-
-
 class Account:
     """What a session holds, by its replies so far."""
 
@@ -51,140 +43,144 @@ class Account:
 
     def expected(self, request: str, reply: List[str]) -> Optional[Expected]:
         """The event that a reply speaks of, if it speaks of one. Raises `Strange` for no right reply."""
-        asked = (request[:-1] if request.endswith("\r") else request).split(" ")
-        words = reply[0].split(" ")
-        answer = ANSWERS.get(words[0])
-        if answer is None or (len(reply) > 1 and words[0] != "DRAINED"):
+        keyword = reply[0].partition(" ")[0]
+        if self._is_over and keyword not in ("ERR", "BYE"):
             raise Strange
-        if self._is_over and words[0] not in ("ERR", "BYE"):
-            raise Strange
-        try:
-            return answer(self, asked, words, reply)
-        except (ValueError, IndexError):  # a number that is none, or too few words
-            raise Strange from None
+        told = "\n".join([request, *reply])
+        for form, read in FORMS.get(keyword, ()):
+            found = form(told)
+            if found:
+                return read(self, *found.groups())
+        raise Strange
 
-    def _offered(self, asked: Words, words: Words, reply: List[str]) -> Expected:
-        keyword, number, payload = asked
-        _, id, expiry = words
-        first = f" {expiry}" if self._history.version == 3 else ""
-        act = f"offer {id} {expiry} {id}{first} 1 {payload}"
-        event = self._history.offers[int(id)]
+    def _offered(self, keyword: str, number: str, payload: str, id: str, expiry: str) -> Expected:
+        event, flaw = self._history.offers[int(id)], ""
         if keyword == "OFFERAT":
-            return Expected(act, event, "" if number == expiry else f"{reply[0]} answers {' '.join(asked)}")
-        moment = int(expiry) - int(number)
-        if event != NONE and self._history.asked(event) != moment:
-            return Expected(act, event, f"it was offered at {self._history.asked(event)}, {number} before its expiry")
-        return _answered(keyword == "OFFER", Expected(act, event))
+            flaw = "" if number == expiry else f"OFFERED {id} {expiry} answers OFFERAT {number} {payload}"
+        elif event != NONE and self._history.asked(event) != int(expiry) - int(number):
+            flaw = f"it was offered at {self._history.asked(event)}, {number} before its expiry"
+        first = f" {expiry}" if self._history.version == 3 else ""
+        return Expected(f"offer {id} {expiry} {id}{first} 1 {payload}", event, flaw)
 
-    def _item(self, asked: Words, words: Words, reply: List[str]) -> Expected:
-        id = int(words[1])
-        wait = f" {ANY} {asked[1]}" if asked[0] == "POLLFOR" else ""
-        act = f"{asked[0].lower()}{wait} {words[1]}"
-        expected = Expected(act, self._history.exits[id], self._fetched(id, words))
-        return _answered(len(asked) == (2 if wait else 1) and asked[0] in ("TAKE", "POLL", "POLLFOR"), expected)
+    def _item(self, asked: str, timeout: Optional[str], *words: str) -> Expected:
+        id = int(words[0])
+        return Expected(f"{_look(asked, timeout)} {words[0]}", self._history.exits[id], self._fetched(id, words))
 
-    def _fetched(self, id: int, words: Words) -> str:
-        """The flaw of a line that gives an element, which is held from then on."""
-        element = self.held[id] = self._history.element(id)
-        return self._flaw(words, element)
+    def _none(self, asked: str, timeout: Optional[str]) -> Expected:
+        return Expected(f"{_look(asked, timeout)} none")
 
-    @staticmethod
-    def _flaw(words: Words, element: Optional[Element]) -> str:
-        """What a line that shows an element says about it, and the history does not."""
-        keyword, id, expiry, attempt, payload = words
-        if element is None:
-            return f"element {id} was not offered"
-        if (id, expiry, attempt, payload) == (element.id, element.expiry, element.attempt, element.payload):
-            return ""
-        return f"it says {' '.join(words[1:])}, and was {id} {element.expiry} {element.attempt} {element.payload}"
+    def _head(self, *words: str) -> Expected:
+        return Expected(f"peek {words[0]}", NONE, _flaw(words, self._history.element(int(words[0]))))
 
-    def _none(self, asked: Words, words: Words, reply: List[str]) -> Expected:
-        if asked[0] == "POLLFOR":
-            return _answered(words == ["NONE"], Expected(f"pollfor {ANY} {asked[1]} none"))
-        return _answered(words == ["NONE"] and asked in (["POLL"], ["PEEK"]), Expected(f"{asked[0].lower()} none"))
+    def _drained(self, asked: str, count: str, items: str) -> Expected:
+        most = ANY if self._rules.is_shard else min(int(asked), MOST_HELD - len(self.held))
+        given = [tuple(line.split(" ")[1:]) for line in items.split("\n")[1:]]
+        _test(str(len(given)) == count)
+        flaws = "; ".join(filter(None, (self._fetched(int(words[0]), words) for words in given)))
+        event = self._history.exits[int(given[0][0])] if given else NONE
+        return Expected(" ".join(["drain", str(most), *(words[0] for words in given)]), event, flaws)
 
-    def _head(self, asked: Words, words: Words, reply: List[str]) -> Expected:
-        flaw = self._flaw(words, self._history.element(int(words[1])))
-        return _answered(asked == ["PEEK"], Expected(f"peek {words[1]}", NONE, flaw))
+    def _removed(self, id: str, found: str) -> Expected:
+        return Expected(f"remove {id} {found}", self._history.exits[int(id)] if found == "yes" else NONE)
 
-    def _drained(self, asked: Words, words: Words, reply: List[str]) -> Expected:
-        most = ANY if self._rules.is_shard else min(int(asked[1]), MOST_HELD - len(self.held))
-        items = [line.split(" ") for line in reply[1:]]
-        ids = [int(it[1]) for it in items]
-        event = self._history.exits[ids[0]] if ids else NONE
-        flaws = "; ".join(filter(None, map(self._fetched, ids, items)))
-        expected = Expected(" ".join(map(str, ["drain", most, *ids])), event, flaws)
-        is_right = words[1:] == [str(len(ids))] and all(it[0] == "ITEM" for it in items)
-        return _answered(is_right and asked[0] == "DRAIN", expected)
-
-    def _removed(self, asked: Words, words: Words, reply: List[str]) -> Expected:
-        _, found = words
-        event = self._history.exits[int(asked[1])] if found == "yes" else NONE
-        return _answered(asked[0] == "REMOVE" and found in ("yes", "no"), Expected(f"remove {asked[1]} {found}", event))
-
-    def _cleared(self, asked: Words, words: Words, reply: List[str]) -> Expected:
-        return _answered(words == ["CLEARED"] and asked == ["CLEAR"], Expected("clear"))
-
-    def _size(self, asked: Words, words: Words, reply: List[str]) -> Expected:
-        _, count = words
-        return _answered(asked == ["SIZE"] and count.isdigit(), Expected(f"size {count}"))
-
-    def _again(self, asked: Words, words: Words, reply: List[str]) -> Expected:
-        job = self._settled(asked, "FAIL")
-        _, id, expiry = words
+    def _again(self, failed: str, id: str, expiry: str) -> Expected:
+        job = self._settled(failed)
         if job is None:  # it was not offered, which was told when it was fetched
             raise Strange
         first = f" {job.first}" if self._history.version == 3 else ""
         act = f"offer {id} {expiry} {job.origin}{first} {int(job.attempt) + 1} {job.payload}"
         return Expected(act, self._history.offers[int(id)])
 
-    def _settled(self, asked: Words, keyword: str) -> Optional[Element]:
+    def _settled(self, id: str) -> Optional[Element]:
         """The job that a request names, which is no longer held."""
-        if asked[0] != keyword or len(asked) != 2 or int(asked[1]) not in self.held:
-            raise Strange
-        return self.held.pop(int(asked[1]))
+        try:
+            return self.held.pop(int(id))
+        except KeyError:
+            raise Strange from None
 
-    def _done(self, asked: Words, words: Words, reply: List[str]) -> None:
-        self._settled(asked, "DONE")
-        _answered(asked == words)
+    def _done(self, id: str) -> None:
+        self._settled(id)
 
-    def _dead(self, asked: Words, words: Words, reply: List[str]) -> None:
-        job = self._settled(asked, "FAIL")
-        _answered(asked[1:] == words[1:])
+    def _dead(self, id: str) -> None:
+        job = self._settled(id)
         self.last_attempt = job.attempt if job else ""
 
-    def _stopped(self, asked: Words, words: Words, reply: List[str]) -> None:
-        _answered(words == ["STOPPED"] and asked[0] in ("TAKE", "POLLFOR"))
+    def _now(self, asked: str, now: str) -> None:
+        _test(int(now) >= int(asked))
 
-    def _bye(self, asked: Words, words: Words, reply: List[str]) -> None:
-        _answered(words == ["BYE"] and asked == ["QUIT"])
+    def _left(self) -> None:
         self.has_left = True
 
-    def _now(self, asked: Words, words: Words, reply: List[str]) -> None:
-        _answered(asked[0] == "AT" and int(words[1]) >= int(asked[1]))
+    def _not_held(self, id: str) -> None:
+        is_held = int(id) in self.held
+        _test(self._rules.has_leases or not is_held)
+        self._is_over |= is_held
 
-    def _refused(self, asked: Words, words: Words, reply: List[str]) -> None:
-        if words[1] == "5":
-            is_held = int(asked[1]) in self.held
-            _answered(asked[0] in ("DONE", "FAIL") and (self._rules.has_leases or not is_held))
-            self._is_over |= is_held
-        if words[1] == "9":
-            _answered(asked[0] in ("POLL", "POLLFOR", "TAKE") and len(self.held) == MOST_HELD)
-        _answered(reply[0] in REFUSALS)
-        self.was_full |= words[1] == "6"
+    def _too_many(self) -> None:
+        _test(len(self.held) == MOST_HELD)
+
+    def _full(self) -> None:
+        self.was_full = True
+
+    def _unchanged(self) -> None:
+        """Such a reply says nothing about a job or a call."""
+
+    def _fetched(self, id: int, words: Sequence[str]) -> str:
+        """The flaw of a line that gives an element, which is held from then on."""
+        element = self.held[id] = self._history.element(id)
+        return _flaw(words, element)
 
 
-def _answered(is_right: bool, expected: Expected = Expected("")) -> Expected:
-    """Raises `Strange` unless the reply is one that its request may get."""
+def _test(is_right: bool) -> None:
     if not is_right:
         raise Strange
-    return expected
 
 
-# Which of them reads a reply, by its first word.
-ANSWERS: Dict[str, Answer] = {
-    "OFFERED": Account._offered, "ITEM": Account._item, "NONE": Account._none, "HEAD": Account._head,
-    "DRAINED": Account._drained, "REMOVED": Account._removed, "CLEARED": Account._cleared, "SIZE": Account._size,
-    "AGAIN": Account._again, "DONE": Account._done, "DEAD": Account._dead, "STOPPED": Account._stopped,
-    "BYE": Account._bye, "NOW": Account._now, "ERR": Account._refused,
+def _look(asked: str, timeout: Optional[str]) -> str:
+    """The words of a fetch, or of a peek, but what it found."""
+    return asked.lower() if timeout is None else f"pollfor {ANY} {timeout}"
+
+
+def _flaw(words: Sequence[str], element: Optional[Element]) -> str:
+    """What a line that shows an element says about it, and the history does not."""
+    if element is None:
+        return f"element {words[0]} was not offered"
+    was = element.id, element.expiry, element.attempt, element.payload
+    return "" if words == was else f"it says {' '.join(words)}, and was {' '.join(was)}"
+
+
+def _compiled(form: str) -> Callable[[str], Optional[Match[str]]]:
+    return re.compile(form.replace("\n", "\r?\n", 1), re.DOTALL).fullmatch
+
+
+# A number, a word, and the words that show an element.
+N, W = "[0-9]{1,20}", r"[^ \r\n]+"
+ELEMENT = f"({N}) ({N}) ({N}) ({W})"
+
+# What reads a reply: a request with its reply, by their form, whose groups it takes.
+Read = Callable[..., Optional[Expected]]
+REPLIES: Dict[str, Read] = {
+    f"(OFFER|OFFERAT) ({N}) ({W})\nOFFERED ({N}) ({N})": Account._offered,
+    f"(TAKE|POLL|POLLFOR ({N}))\nITEM {ELEMENT}": Account._item,
+    f"(POLL|PEEK|POLLFOR ({N}))\nNONE": Account._none,
+    f"PEEK\nHEAD {ELEMENT}": Account._head,
+    f"DRAIN ({N})\nDRAINED ({N})((?:\nITEM {N} {N} {N} {W})*)": Account._drained,
+    f"REMOVE ({N})\nREMOVED (yes|no)": Account._removed,
+    "CLEAR\nCLEARED": lambda account: Expected("clear"),
+    f"SIZE\nSIZE ({N})": lambda account, count: Expected(f"size {count}"),
+    f"FAIL ({N})\nAGAIN ({N}) ({N})": Account._again,
+    f"FAIL ({N})\nDEAD \\1": Account._dead,
+    f"DONE ({N})\nDONE \\1": Account._done,
+    f"AT ({N})\nNOW ({N})": Account._now,
+    f"(?:TAKE|POLLFOR {N})\nSTOPPED": Account._unchanged,
+    "QUIT\nBYE": Account._left,
+    f"(?:DONE|FAIL) ({N})\nERR 5 not-held": Account._not_held,
+    f"(?:TAKE|POLL|POLLFOR {N})\nERR 9 held": Account._too_many,
+    ".*\nERR 6 full": Account._full,
+    ".*\nERR (?:1 syntax|2 number|3 range|4 payload|7 memory|8 line)": Account._unchanged,
 }
+
+# The same, by the first word of the reply. A request may end with a carriage return.
+FORMS: Dict[str, List[Tuple[Callable[[str], Optional[Match[str]]], Read]]] = {}
+for _form, _read in REPLIES.items():
+    FORMS.setdefault(_form.partition("\n")[2].split()[0], []).append((_compiled(_form), _read))

@@ -1,8 +1,8 @@
-"""The calls of all records, in columns, and the sessions that made them."""
+"""The calls of all records, in columns, the sessions that made them, and which event each is."""
 from __future__ import annotations
 
 from array import array
-from typing import Dict, List, NamedTuple, Optional, Tuple
+from typing import Dict, List, NamedTuple, Optional, Set, Tuple
 
 from verifying.account import Account, Expected, Rules, Strange
 from verifying.faults import Faults
@@ -24,12 +24,15 @@ class Unanswered(NamedTuple):
 class Session:
     """One connection: its calls, in the order of its requests."""
 
-    def __init__(self, name: str, path: str, account: Account) -> None:
-        self.name, self.path, self.account = name, path, account
+    def __init__(self, index: int, name: str, path: str, account: Account) -> None:
+        self.index, self.name, self.path, self.account = index, name, path, account
         self.calls = array("I")
         self.unanswered: List[Unanswered] = []
         self.seat: Optional[int] = None  # the index of the seat at which its calls stand, once that is known
         self.end = 0  # the place in the seat's row behind its last call
+
+    def __str__(self) -> str:
+        return f"{self.path}: session {self.name}"
 
     @property
     def is_cut(self) -> bool:
@@ -38,79 +41,90 @@ class Session:
 
 
 class Calls:
-    """Every request that made an event by its reply. A call has a number, from 0."""
+    """Every request that made an event by its reply, by its number, from 0. A reply that names an element shows which
+    event that is; the others are placed by these."""
 
-    def __init__(self) -> None:
+    def __init__(self, history: History, faults: Faults, rules: Rules = Rules()) -> None:
+        self.history, self.faults, self._rules = history, faults, rules
         self.sent, self.received = array("q"), array("q")
-        self.lines, self.sessions = array("I"), array("I")
-        self.events = array("i")  # the event that names its element, or the complement of an index into `expected`
-        self.expected: List[Expected] = []
+        self.lines, self.owners = array("I"), array("I")  # the owner is the index of a session
+        self.events = array("i")  # the event that it is, or the complement of an index into what is expected
+        self.claims = array("i", [NONE]) * len(history)  # the number of the call that each event is
+        self.astray: Set[int] = set()  # events of calls that stand at another seat, or out of order
+        self.sessions: List[Session] = []
+        self._by_name: Dict[Tuple[str, str], Session] = {}
+        self._expected: List[Expected] = []
         self._indexes: Dict[Expected, int] = {}
 
     def __len__(self) -> int:
         return len(self.sent)
 
-    def add(self, exchange: Exchange, session: int, event: int) -> int:
-        """Adds a call, and returns its number."""
-        self.sent.append(exchange.sent)
-        self.received.append(NEVER if exchange.received is None else exchange.received)
-        self.lines.append(exchange.line)
-        self.sessions.append(session)
-        self.events.append(event)
-        return len(self.sent) - 1
-
-    def place_of(self, expected: Expected) -> int:
-        """What stands in `events` for a call whose event is yet to be found."""
-        index = self._indexes.setdefault(expected, len(self.expected))
-        if index == len(self.expected):
-            self.expected.append(expected)
-        return ~index
-
-    def expectation(self, call: int) -> Expected:
-        """What the event of a call must be that is yet to be found."""
-        return self.expected[~self.events[call]]
-
-
-class Reading:
-    """Reads records: finds the event of each reply that names an element, and leaves the others to be placed."""
-
-    def __init__(self, history: History, faults: Faults, rules: Rules = Rules()) -> None:
-        self._history, self._faults, self._rules = history, faults, rules
-        self.calls = Calls()
-        self.sessions: List[Session] = []
-        self._indexes: Dict[Tuple[str, str], int] = {}
-
-    def add(self, path: str, exchange: Exchange) -> None:
-        """Adds the next line of the record at this path."""
-        index = self._session(path, exchange.session)
-        session = self.sessions[index]
+    def read(self, path: str, exchange: Exchange) -> None:
+        """Takes the next line of the record at this path."""
+        session = self._by_name.get((path, exchange.session))
+        if session is None:
+            session = Session(len(self.sessions), exchange.session, path, Account(self.history, self._rules))
+            self._by_name[path, exchange.session] = session
+            self.sessions.append(session)
         if exchange.received is None:
             session.unanswered.append(Unanswered(exchange.line, exchange.sent, exchange.request))
             return
         try:
             expected = session.account.expected(exchange.request, exchange.reply)
         except Strange:
-            tell_strange(self._faults, path, exchange)
+            self.faults.add_strange(path, exchange)
             return
         if expected is not None:
-            session.calls.append(self.calls.add(exchange, index, self._event(expected)))
+            event = self._event(expected)
+            session.calls.append(self.add(session, exchange.line, exchange.sent, exchange.received, event))
+
+    def add(self, session: Session, line: int, sent: int, received: int, event: int) -> int:
+        """Adds a call, and returns its number."""
+        self.sent.append(sent)
+        self.received.append(received)
+        self.lines.append(line)
+        self.owners.append(session.index)
+        self.events.append(event)
+        return len(self.sent) - 1
 
     def _event(self, expected: Expected) -> int:
         """The event that names the element, if it is as expected."""
         event = expected.event
-        if event != NONE and not expected.flaw and self._history.fits(event, expected.act):
+        if event != NONE and not expected.flaw and self.history.fits(event, expected.act):
             return event
-        return self.calls.place_of(expected)
+        index = self._indexes.setdefault(expected, len(self._expected))
+        if index == len(self._expected):
+            self._expected.append(expected)
+        return ~index
 
-    def _session(self, path: str, name: str) -> int:
-        index = self._indexes.get((path, name))
-        if index is None:
-            index = self._indexes[path, name] = len(self.sessions)
-            self.sessions.append(Session(name, path, Account(self._history, self._rules)))
-        return index
+    def expectation(self, call: int) -> Expected:
+        """What the event of a call must be that is yet to be found."""
+        return self._expected[~self.events[call]]
 
+    def session(self, call: int) -> Session:
+        return self.sessions[self.owners[call]]
 
-def tell_strange(faults: Faults, path: str, exchange: Exchange) -> None:
-    """Adds a reply of the record at this path that its request can't get."""
-    where = f"{path}:{exchange.line}: session {exchange.session}"
-    faults.add("strange", where, f"{exchange.reply[0][:80]!a} answers {exchange.request[:80]!a}")
+    def where(self, call: int) -> str:
+        session = self.session(call)
+        return f"{session.path}:{self.lines[call]}: session {session.name}"
+
+    def tell(self, kind: str, call: int, what: str) -> None:
+        """Adds a fault of a call."""
+        self.faults.add(kind, self.where(call), what)
+
+    def tell_missing(self, call: int) -> None:
+        self.tell("missing", call, f"{self.expectation(call).act} stands nowhere at its place")
+
+    def may_be(self, call: int, event: int) -> bool:
+        """Whether an event is nobody's, and what a call's reply says."""
+        return self.claims[event] == NONE and self.history.fits(event, self.expectation(call).act)
+
+    def settle(self, call: int, event: int) -> None:
+        """This event is the call's, by its place. It must be as the reply says."""
+        expected = self.expectation(call)
+        if not self.history.fits(event, expected.act):
+            self.tell("changed", call, f"its reply says {expected.act}, and {self.history.told(event)}")
+        elif expected.flaw:
+            self.tell("changed", call, f"{self.history.told(event)}: {expected.flaw}")
+        self.events[call] = event
+        self.claims[event] = call

@@ -5,144 +5,126 @@ is under way then is in no record.
 """
 from __future__ import annotations
 
-from collections import deque
-from typing import Deque, Iterator, List
+from array import array
+from collections import Counter, deque
+from typing import List
 
 from histories.given import given_ids
 from verifying.account import MOST_HELD
-from verifying.calls import Session, Unanswered
+from verifying.calls import NEVER, Calls, Session
 from verifying.history import NONE
-from verifying.placing import Placing
-from verifying.record import Exchange
 
 
-class Endings:
-    """Follows each session from its last reply to its end."""
+def follow_ends(calls: Calls) -> Counter[str]:
+    """Takes the events of each session's end. Counts the events of requests that got no reply as `unheard`, those of
+    jobs that came back as `returned`, and jobs that a session held and that did not come back as `gone`."""
+    counts: Counter[str] = Counter()
+    for session in calls.sessions:
+        if session.seat is not None:
+            Ending(calls, session, counts).follow(calls.history.rows[session.seat][session.end:])
+    return counts
 
-    def __init__(self, placing: Placing) -> None:
-        self._placing = placing
-        self.unheard = 0  # events of requests that got no reply
-        self.returned = 0  # events of jobs that came back at a session's end
-        self.gone = 0  # jobs that a session held at its end, and that did not come back
-        accounts = [it.account for it in placing.sessions]
-        self._last_attempts = {it.last_attempt for it in accounts if it.last_attempt}
-        self._is_full = any(it.was_full for it in accounts)
 
-    def follow(self, session: Session) -> None:
-        """Takes the events of a session's end."""
-        if session.seat is None:
-            return
-        placing, history = self._placing, self._placing.history
-        requests = deque(session.unanswered)
-        returns = deque(it for it in map(self._return_of, session.account.held) if it != NONE)
-        self.gone += len(session.account.held) - len(returns)
-        for event in history.rows[session.seat][session.end:]:
-            if placing.claims[event] != NONE:
-                if self._is_own(session, event):  # out of order, which was told
+class Ending:
+    """Follows a session from its last reply to its end."""
+
+    def __init__(self, calls: Calls, session: Session, counts: Counter[str]) -> None:
+        self._calls, self._history, self._session, self._counts = calls, calls.history, session, counts
+        self._requests = session.unanswered
+        self._held = [self._history.returns[id] for id in session.account.held]
+        self._returns = deque(event for event in self._held if event != NONE)
+        counts["gone"] += len(self._held) - len(self._returns)
+
+    def follow(self, row: array[int]) -> None:
+        """Takes the events that are the session's among these, which stand at its seat behind its last call."""
+        for event in row:
+            owner = self._calls.claims[event]
+            if owner != NONE:
+                if self._calls.session(owner) is self._session:  # out of order, which was told
                     continue
                 break
-            if returns and event == returns[0]:
-                self._take(session, event, Unanswered(0, placing.calls.sent[session.calls[-1]], ""))
-                returns.popleft()
-                self.returned += 1
-            elif not self._is_of_request(session, event, requests, returns):
-                if not (returns and history.seats[returns[0]] == session.seat and event < returns[0]):
+            if self._returns and event == self._returns[0]:
+                self._take(event, 0, self._calls.sent[self._session.calls[-1]])
+                self._returns.popleft()
+                self._counts["returned"] += 1
+            elif not self._is_of_request(event):
+                if not self._is_before_return(event):
                     break
-                if not self._is_unrecorded(session, event, returns):
-                    self._tell("gap", session, event, "stands before the return of a job that it held at its end")
-        for event in returns:
-            self._tell("return", session, event, "returns a job of its end, and is not right behind its last call")
+                if not self._is_unrecorded(event):
+                    self._tell("gap", event, "stands before the return of a job that it held at its end")
+        for event in self._returns:
+            self._tell("return", event, "returns a job of its end, and is not right behind its last call")
 
-    def unrecorded_events(self) -> Iterator[int]:
-        """The events that are nobody's, once all sessions were followed."""
-        for event, call in enumerate(self._placing.claims):
-            if call == NONE and self._placing.history.is_looked_for(event):
-                yield event
+    def _tell(self, kind: str, event: int, what: str) -> None:
+        self._calls.faults.add(kind, str(self._session), f"{self._history.told(event)} {what}")
 
-    @property
-    def unrecorded(self) -> int:
-        """How many they are."""
-        return sum(1 for _ in self.unrecorded_events())
+    def _take(self, event: int, line: int, sent: int) -> None:
+        self._calls.claims[event] = self._calls.add(self._session, line, sent, NEVER, event)
 
-    def _tell(self, kind: str, session: Session, event: int, what: str) -> None:
-        where = f"{session.path}: session {session.name}"
-        self._placing.faults.add(kind, where, f"{self._placing.history.told(event)} {what}")
+    def _is_before_return(self, event: int) -> bool:
+        """Whether an event stands before the first return that is still to come, at the same seat."""
+        first = self._returns[0] if self._returns else NONE
+        return event < first and self._history.seats[first] == self._session.seat
 
-    def _is_own(self, session: Session, event: int) -> bool:
-        """Whether an event is that of a session's call."""
-        calls = self._placing.calls
-        return calls.sessions[self._placing.claims[event]] == calls.sessions[session.calls[0]]
-
-    def _return_of(self, id: int) -> int:
-        return self._placing.history.returns[id]
-
-    def _is_of_request(
-        self, session: Session, event: int, requests: Deque[Unanswered], returns: Deque[int]
-    ) -> bool:
+    def _is_of_request(self, event: int) -> bool:
         """Whether an event may be that of a request without a reply. Those before it were then refused."""
-        act = self._placing.history.act(event).split(" ")
-        rest = deque(requests)
-        while rest:
-            request = rest.popleft()
+        act = self._history.act(event).split(" ")
+        for number, request in enumerate(self._requests, 1):
             if self._may_answer(request.request.rstrip("\r").split(" "), event, act):
-                requests.clear()
-                requests.extend(rest)
-                self._take(session, event, request)
-                self.unheard += 1
-                if event in returns:
-                    returns.remove(event)
-                for id in given_ids(act):
-                    back = self._return_of(id)
-                    if back == NONE:
-                        self.gone += 1
-                    else:
-                        returns.append(back)
+                self._requests = self._requests[number:]
+                self._take(event, request.line, request.sent)
+                self._counts["unheard"] += 1
+                if event in self._returns:
+                    self._returns.remove(event)
+                self._counts["gone"] += sum(not self._comes_back(id) for id in given_ids(act))
                 return True
         return False
 
     def _may_answer(self, asked: List[str], event: int, act: List[str]) -> bool:
         """Whether an event may be that of a request."""
         if asked[0] == "FAIL":
-            return len(asked) == 2 and asked[1].isdecimal() and self._return_of(int(asked[1])) == event
+            return len(asked) == 2 and asked[1].isdecimal() and self._history.returns[int(asked[1])] == event
         return may_answer(asked, act)
 
-    def _is_unrecorded(self, session: Session, event: int, returns: Deque[int]) -> bool:
+    def _comes_back(self, id: int) -> bool:
+        """Whether a job that was given came back, which then has to be at the end."""
+        back = self._history.returns[id]
+        if back != NONE:
+            self._returns.append(back)
+        return back != NONE
+
+    def _is_unrecorded(self, event: int) -> bool:
         """Whether an event before these returns may be that of a request which a client that was killed did not come
         to note: the FAIL of a job that it held, or any other."""
-        if not session.is_cut:
+        if not self._session.is_cut:
             return False
-        if event in map(self._return_of, session.account.held):
-            returns.remove(event)
+        if event in self._held:
+            self._returns.remove(event)
             return True
-        act = self._placing.history.act(event).split(" ")
+        act = self._history.act(event).split(" ")
         is_return = act[0] == "offer" and act[-2] != "1"
-        return not is_return and self._may_have_given(session, event, given_ids(act), returns)
+        return not is_return and self._may_have_given(event, given_ids(act))
 
-    def _may_have_given(self, session: Session, event: int, given: List[int], returns: Deque[int]) -> bool:
+    def _may_have_given(self, event: int, given: List[int]) -> bool:
         """Whether a session may have got these jobs without a note. They were then held too, and must come back."""
-        if len(returns) + len(given) > MOST_HELD or any(self._placing.history.exits[id] != event for id in given):
+        if len(self._returns) + len(given) > MOST_HELD or any(self._history.exits[id] != event for id in given):
             return False
         for id in given:
-            if self._return_of(id) != NONE:
-                returns.append(self._return_of(id))
-            elif self._is_gone(id, event, returns):
-                self.gone += 1
+            if self._comes_back(id):
+                continue
+            if self._is_gone(id, event):
+                self._counts["gone"] += 1
             else:
-                self._tell("return", session, event, f"gave job {id}, which did not come back")
+                self._tell("return", event, f"gave job {id}, which did not come back")
         return True
 
-    def _is_gone(self, id: int, event: int, returns: Deque[int]) -> bool:
+    def _is_gone(self, id: int, event: int) -> bool:
         """Whether replies say that a job which this event gave could not come back: its attempt was the last, or the
         run was full."""
-        history = self._placing.history
-        element = history.element(id)
-        is_last = element is not None and element.attempt in self._last_attempts
-        return is_last or (self._is_full and history.last_beside(event) in (event, *returns))
-
-    def _take(self, session: Session, event: int, request: Unanswered) -> None:
-        index = self._placing.calls.sessions[session.calls[0]]
-        exchange = Exchange(request.line, session.name, request.sent, None, request.request, [])
-        self._placing.claims[event] = self._placing.calls.add(exchange, index, event)
+        element, accounts = self._history.element(id), [it.account for it in self._calls.sessions]
+        if element is not None and any(it.last_attempt == element.attempt for it in accounts):
+            return True
+        return any(it.was_full for it in accounts) and self._history.last_beside(event) in (event, *self._returns)
 
 
 def may_answer(asked: List[str], act: List[str]) -> bool:

@@ -4,6 +4,9 @@ from __future__ import annotations
 import collections
 from typing import Counter, Dict, List
 
+from reporting.units import counted
+from verifying.record import Exchange
+
 # The kinds of faults, each with the sentence that it breaks.
 KINDS: Dict[str, str] = {
     "strange": "each reply is one that its request may get, with what the session holds",
@@ -24,15 +27,36 @@ class Faults:
 
     def __init__(self, most: int) -> None:
         """Keeps the words of at most so many of each kind."""
-        self.counts: Counter[str] = collections.Counter()
-        self.lines: Dict[str, List[str]] = {kind: [] for kind in KINDS}
+        self._counts: Counter[str] = collections.Counter()
+        self._lines: Dict[str, List[str]] = {kind: [] for kind in KINDS}
         self._most = most
 
     def add(self, kind: str, where: str, what: str) -> None:
-        self.counts[kind] += 1
-        if len(self.lines[kind]) < self._most:
-            self.lines[kind].append(f"{where}: {kind}: {what}")
+        self._counts[kind] += 1
+        if len(self._lines[kind]) < self._most:
+            self._lines[kind].append(f"{where}: {kind}: {what}")
+
+    def add_strange(self, path: str, exchange: Exchange) -> None:
+        """Adds a reply of the record at this path that its request can't get."""
+        where = f"{path}:{exchange.line}: session {exchange.session}"
+        self.add("strange", where, f"{exchange.reply[0][:80]!a} answers {exchange.request[:80]!a}")
 
     @property
     def total(self) -> int:
-        return sum(self.counts.values())
+        return sum(self._counts.values())
+
+    def lines(self) -> List[str]:
+        """The lines that are printed, and behind those of each kind how many more there are."""
+        lines = []
+        for kind, told in self._lines.items():
+            more = self._counts[kind] - len(told)
+            lines += told
+            if more:
+                lines.append(f"and {counted(more, f'fault more of the kind {kind}', f'faults more of the kind {kind}')}")
+        return lines
+
+    def sentences(self, is_whole: bool) -> List[str]:
+        """Each sentence with the number of its faults, and their sum. With some records only, other events are right."""
+        kinds = [it for it in KINDS if is_whole or it != "unrecorded"]
+        told = [f"{kind + ':':<11} {counted(self._counts[kind], 'fault')}: {KINDS[kind]}" for kind in kinds]
+        return [*told, counted(self.total, "fault")]

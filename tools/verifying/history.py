@@ -1,14 +1,12 @@
 """A history as verify looks at it: its events by seat, and by the ids of the elements that they name."""
 from __future__ import annotations
 
-import collections
 import re
 from array import array
 from bisect import bisect_left, bisect_right
-from typing import BinaryIO, Dict, List, Match, NamedTuple, Optional
+from typing import BinaryIO, Dict, List, Match, NamedTuple, Optional, Sequence
 
 from histories.faults import Damaged
-from histories.grammar import Head
 from histories.text import Text
 
 # Takes the place of an event if there is none.
@@ -24,6 +22,7 @@ IN_VAIN = re.compile(rb"\S+ \S+ \S+ (?:poll none|pollfor \S+ \S+ none|drain \S+|
 ANY = "…"
 
 FURTHEST_ID = 1 << 22  # above the opening's next id; no run gives as many
+MOST_SEATS = 1 << 16
 
 
 class Element(NamedTuple):
@@ -62,28 +61,58 @@ class EventsById:
 
 
 class History:
-    """The events of a run, each by its index, from 0. Whether they are legal is the affair of `rb_broker replay`."""
+    """The events of a run, each by its index, from 0. Whether they are legal is the affair of `rb_broker replay`.
 
-    def __init__(self, version: int, next_id: int, name: str = "") -> None:
-        self.version, self._name = version, name
+    Its files are read one after the other. A queue that nobody has used has none.
+    """
+
+    def __init__(self, shard: Optional[int] = None) -> None:
+        """`shard` is the number of the queue, if it is one of several with one name."""
+        self._shard = shard
+        self.version = 3  # of the first file
         self.text = bytearray()  # of the events
         self.starts = array("Q", [0])  # where each event's line begins, and where the next one would
         self.seat_names: List[int] = []
         self.seats = array("H")  # by an index into the names
         self.rows: List[array[int]] = []  # the events of each seat
         self.places = array("I")  # of each event in its seat's row
-        self.offers = EventsById(next_id)
-        self.exits = EventsById(next_id)  # which events took an element out, by its id
-        self.returns = EventsById(next_id)  # which events offered a job again, by the id of its attempt before
+        self.offers = self.exits = self.returns = EventsById(0)
         self.kept: Dict[int, Element] = {}  # the elements of the opening
         self.files = array("I")  # the first event of each file, whose clock may be another than that of the one before
+        self._first = self._next = 0  # the ids with which the file begins, and with which one would that goes on
+        self._last = 0  # the moment of the last event
+        self._latest: Dict[int, int] = {}  # the id of the latest attempt of each job that was offered again
+        self._seat_indexes: Dict[bytes, int] = {}
+        self._looked_at, self._seen = NONE, [""]  # the event whose words were asked for last, and these
 
     def __len__(self) -> int:
         return len(self.seats)
 
+    def read(self, file: BinaryIO) -> None:
+        """Adds a file. Ids and time may have gone on since the one before, as between the runs of a service. Whether it
+        begins with the elements that were left then is the affair of tools/report."""
+        text, is_first = Text(file), not self.files
+        head = text.head
+        if head.next_id < self._next or head.opened_at < self._last:
+            raise Damaged(2, f"it opens with {head.next_id} {head.opened_at}, and the file before it ends with "
+                             f"{self._next} {self._last}")
+        self._first = self._next = head.next_id
+        self._last = head.opened_at
+        if is_first:
+            self.version = head.version
+            self.offers = EventsById(head.next_id)
+            self.exits = EventsById(head.next_id)  # which events took an element out, by its id
+            self.returns = EventsById(head.next_id)  # which offered a job again, by the id of its attempt before
+        for _, line in text.kept():
+            if is_first:
+                self._keep(element_of(line.string[:-1].decode("ascii").split(" ")[1:]))
+        self.files.append(len(self))
+        for number, line in text.events():
+            self._add(line, number)
+
     def act(self, event: int) -> str:
         """The words of what an event did."""
-        return self._words(event, 3)[3]
+        return self._words(event)[3]
 
     def fits(self, event: int, expected: str) -> bool:
         """Whether an event did what these words say, of which ANY stands for each word that is not told."""
@@ -96,15 +125,17 @@ class History:
 
     def asked(self, event: int) -> int:
         """The moment that was handed in."""
-        return int(self._words(event, 2)[1])
-
-    def seat(self, event: int) -> int:
-        """The number of an event's seat."""
-        return self.seat_names[self.seats[event]]
+        return int(self._words(event)[1])
 
     def told(self, event: int) -> str:
         """How messages name an event."""
-        return f"{self._name}event {event} ({self.act(event)}, seat {self.seat(event)})"
+        shard = "" if self._shard is None else f"shard {self._shard} "
+        return f"{shard}event {event} ({self.act(event)}, seat {self.seat_names[self.seats[event]]})"
+
+    def row_from(self, event: int, count: int) -> Sequence[int]:
+        """So many events, or fewer if there are no more, from this one on at its seat."""
+        place = self.places[event]
+        return self.rows[self.seats[event]][place:place + count]
 
     def file_of(self, event: int) -> int:
         """The number of the file that has an event, from 0."""
@@ -124,122 +155,69 @@ class History:
         event = self.offers[id]
         return self.kept.get(id) if event == NONE else element_of(self.act(event).split(" ")[1:])
 
-    def _words(self, event: int, cuts: int) -> List[str]:
-        return self.text[self.starts[event]:self.starts[event + 1] - 1].decode("ascii").split(" ", cuts)
+    def _words(self, event: int) -> List[str]:
+        """Seat, moments and act. One event is often looked at several times, one time after the other."""
+        if event != self._looked_at:
+            line = self.text[self.starts[event]:self.starts[event + 1] - 1]
+            self._looked_at, self._seen = event, line.decode("ascii").split(" ", 3)
+        return self._seen
+
+    def _keep(self, element: Element) -> None:
+        """Adds an element of the opening."""
+        self.kept[int(element.id)] = element
+        self._latest[int(element.origin)] = int(element.id)
+
+    def _add(self, line: Match[bytes], number: int) -> None:
+        """Adds the event of the line of this number."""
+        event = len(self)
+        seat = self._seat_indexes.get(line[1])
+        if seat is None:
+            seat = self._new_seat(line[1], number)
+        self.seats.append(seat)
+        if self._shard is not None and IN_VAIN.fullmatch(line.string):
+            self.places.append(NOWHERE)
+        else:
+            self.places.append(len(self.rows[seat]))
+            self.rows[seat].append(event)
+        self.text += line.string
+        self.starts.append(len(self.text))
+        self._last = int(line[3])
+        act = line.lastgroup
+        if act == "offer":
+            self._offer(event, line, number)
+        elif act in ("take", "poll", "pollfor"):
+            if line[act] != b"none":
+                self.exits[self._id(line[act], number)] = event
+        elif act == "drain":
+            for id in line["drain"].split():
+                self.exits[self._id(id, number)] = event
+        elif act == "remove" and line["remove"] == b"yes":
+            self.exits[self._id(line["removed"], number)] = event
+
+    def _new_seat(self, name: bytes, number: int) -> int:
+        index = self._seat_indexes[name] = len(self.rows)
+        if index == MOST_SEATS:
+            raise Damaged(number, f"a seat more than {MOST_SEATS:,}")
+        self.seat_names.append(int(name))
+        self.rows.append(array("I"))
+        return index
+
+    def _offer(self, event: int, line: Match[bytes], number: int) -> None:
+        id, origin = self._id(line[4], number, self._first), int(line[6])
+        self.offers[id] = event
+        self._next = id + 1
+        if id != origin:
+            self.returns[self._latest.get(origin, origin)] = event
+            self._latest[origin] = id
+
+    def _id(self, word: bytes, number: int, least: int = 0) -> int:
+        id = int(word)
+        if not least <= id < self._first + FURTHEST_ID:
+            raise Damaged(number, f"the id {id}, where the first one is {self._first}")
+        return id
 
 
 def element_of(words: List[str]) -> Element:
     """The element of an offer's words, or of a `keep` line's."""
     first = words[3] if len(words) == 6 else ""
     return Element(words[0], words[1], words[2], first, words[-2], words[-1])
-
-
-def read_history(*files: BinaryIO) -> History:
-    """The history in a file, in any version, or in several, each of which goes on where the one before ends."""
-    series = Series()
-    for file in files:
-        series.read(file)
-    return series.history
-
-
-class Series:
-    """Reads the files of a series, one after the other."""
-
-    def __init__(self, shard: Optional[int] = None) -> None:
-        """`shard` is the number of the queue, if it is one of several with one name."""
-        self._shard = shard
-        self._reader: Optional[_Reader] = None
-
-    @property
-    def history(self) -> History:
-        """What was read so far. A queue that nobody has used has no file."""
-        return self._reader.history if self._reader else History(3, 0)
-
-    def read(self, file: BinaryIO) -> None:
-        """Adds a file. Whether it begins with the elements that the one before left is the affair of tools/report."""
-        text = Text(file)
-        if self._reader is None:
-            self._reader = _Reader(text.head, self._shard)
-            for _, line in text.kept():
-                self._reader.keep(line)
-        else:
-            self._reader.go_on(text.head)
-            collections.deque(text.kept(), maxlen=0)
-        self.history.files.append(len(self.history))
-        for number, line in text.events():
-            self._reader.add(line, number)
-
-
-class _Reader:
-    """Fills the columns and indexes of a history, line by line."""
-
-    def __init__(self, head: Head, shard: Optional[int]) -> None:
-        self._is_shard = shard is not None
-        self.history = History(head.version, head.next_id, f"shard {shard} " if self._is_shard else "")
-        self._next_id = head.next_id  # of the file that is read
-        self._next, self._last = head.next_id, head.opened_at  # with which a file begins that goes on
-        self._latest: Dict[int, int] = {}  # the id of the latest attempt of each job that was offered again
-        self._seat_indexes: Dict[bytes, int] = {}
-
-    def go_on(self, head: Head) -> None:
-        """Begins the next file. Ids and time may have gone on between the two, as between the runs of a service."""
-        if head.next_id < self._next or head.opened_at < self._last:
-            raise Damaged(2, f"it opens with {head.next_id} {head.opened_at}, and the file before it ends with "
-                             f"{self._next} {self._last}")
-        self._next_id = head.next_id
-
-    def keep(self, line: Match[bytes]) -> None:
-        """Adds an element of the opening."""
-        element = element_of(line.string[:-1].decode("ascii").split(" ")[1:])
-        self.history.kept[int(element.id)] = element
-        self._latest[int(element.origin)] = int(element.id)
-
-    def add(self, line: Match[bytes], number: int) -> None:
-        """Adds the event of the line of this number."""
-        history, event = self.history, len(self.history)
-        index = self._seat_indexes.get(line[1])
-        if index is None:
-            index = self._new_seat(line[1], number)
-        history.seats.append(index)
-        if self._is_shard and IN_VAIN.fullmatch(line.string):
-            history.places.append(NOWHERE)
-        else:
-            history.places.append(len(history.rows[index]))
-            history.rows[index].append(event)
-        history.text += line.string
-        history.starts.append(len(history.text))
-        self._last = int(line[3])
-        act = line.lastgroup
-        if act == "offer":
-            self._offer(event, int(line[4]), int(line[6]), number)
-        elif act in ("take", "poll", "pollfor"):
-            if line[act] != b"none":
-                history.exits[self._id(line[act], number)] = event
-        elif act == "drain":
-            for id in line["drain"].split():
-                history.exits[self._id(id, number)] = event
-        elif act == "remove" and line["remove"] == b"yes":
-            history.exits[self._id(line["removed"], number)] = event
-
-    def _new_seat(self, name: bytes, number: int) -> int:
-        index = self._seat_indexes[name] = len(self.history.rows)
-        if index == 1 << 16:
-            raise Damaged(number, "a seat more than 65,536")
-        self.history.seat_names.append(int(name))
-        self.history.rows.append(array("I"))
-        return index
-
-    def _offer(self, event: int, id: int, origin: int, number: int) -> None:
-        if not self._next_id <= id < self._next_id + FURTHEST_ID:
-            raise Damaged(number, f"the id {id}, where the first one is {self._next_id}")
-        self.history.offers[id] = event
-        self._next = id + 1
-        if id != origin:
-            self.history.returns[self._latest.get(origin, origin)] = event
-            self._latest[origin] = id
-
-    def _id(self, word: bytes, number: int) -> int:
-        id = int(word)
-        if id >= self._next_id + FURTHEST_ID:
-            raise Damaged(number, f"the id {id}, where the first one is {self._next_id}")
-        return id

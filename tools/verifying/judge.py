@@ -1,75 +1,103 @@
 """Judges a run by its history and the records of its clients."""
 from __future__ import annotations
 
-from dataclasses import dataclass
-from typing import Iterable, Sequence, Set, Tuple
+from collections import Counter
+from typing import Iterable, List, Sequence, Set, Tuple
 
+from reporting.units import counted
 from verifying.account import Rules, Strange
-from verifying.calls import Reading, tell_strange
-from verifying.endings import Endings
+from verifying.calls import NEVER, Calls
+from verifying.endings import follow_ends
 from verifying.faults import Faults
-from verifying.history import History
+from verifying.history import NONE, History
 from verifying.loose import place_loose
-from verifying.placing import Placing
-from verifying.real_time import check_real_time
+from verifying.placing import place_named
 from verifying.record import Exchange
 from verifying.shards import parts_of
 
 Exchanges = Iterable[Tuple[str, Exchange]]
 
 
-@dataclass(frozen=True)
 class Verdict:
     """What was found, and over how much."""
 
-    faults: Faults
-    seats: int
-    events: int
-    sessions: int
-    requests: int
-    calls: int  # replies that speak of an event
-    without_reply: int
-    unheard: int  # events of requests that got no reply
-    returned: int  # events of jobs that came back at a session's end
-    gone: int  # jobs that a session held at its end, and that did not come back
-    unrecorded: int  # events of no record
+    def __init__(self, histories: Sequence[History], most: int, rules: Rules) -> None:
+        self.faults = Faults(most)
+        self._queues = [Calls(it, self.faults, rules) for it in histories]
+        self._sessions: Set[Tuple[str, str]] = set()
+        self._counts: Counter[str] = Counter()
+
+    def read(self, exchanges: Exchanges) -> None:
+        """Takes the lines of all records, each with the path of its own."""
+        queues, requests, without_reply = self._queues, 0, 0
+        for requests, (path, exchange) in enumerate(exchanges, 1):
+            without_reply += exchange.received is None
+            self._sessions.add((path, exchange.session))
+            try:
+                for queue, part in ((0, exchange),) if len(queues) == 1 else parts_of(exchange, len(queues)):
+                    queues[queue].read(path, part)
+            except Strange:
+                self.faults.add_strange(path, exchange)
+        self._counts.update({"requests": requests, "without reply": without_reply})
+
+    def compare(self, is_whole: bool) -> None:
+        """Compares the calls of all records with the events. If the records are those of all clients, an event of none
+        of them is a fault."""
+        for calls in self._queues:
+            self._counts["calls"] += len(calls)
+            place_loose(calls, place_named(calls))
+            self._counts += follow_ends(calls)
+            check_real_time(calls)
+            for event, call in enumerate(calls.claims):
+                if call == NONE and calls.history.is_looked_for(event):
+                    self._counts["unrecorded"] += 1
+                    if is_whole:
+                        told = f"{calls.history.told(event)} is the call of no record"
+                        self.faults.add("unrecorded", f"event {event}", told)
+
+    def lines(self, is_whole: bool) -> List[str]:
+        """The lines that are printed: faults, what was compared, and each sentence with the number of its faults."""
+        counts, histories = self._counts, [it.history for it in self._queues]
+        events, seats = sum(map(len, histories)), sum(len(it.rows) for it in histories)
+        return [
+            *self.faults.lines(),
+            f"{counted(events, 'event')} at {counted(seats, 'seat')}; "
+            f"{counted(counts['requests'], 'request')} of {counted(len(self._sessions), 'session')}",
+            f"{counted(counts['calls'], 'reply', 'replies')} that speak of an event; "
+            f"{counted(counts['without reply'], 'request')} without a reply, of which "
+            f"{counts['unheard']:,} were carried out",
+            f"{counted(counts['returned'], 'job')} came back at the end of a session; {counts['gone']:,} did not, in "
+            f"the last attempt or a full run; {counted(counts['unrecorded'], 'event')} of no record",
+            *self.faults.sentences(is_whole),
+        ]
 
 
 def judge(
     histories: Sequence[History], exchanges: Exchanges, most: int, is_whole: bool, has_leases: bool = False
 ) -> Verdict:
     """Compares the history of a queue, or those of its shards, with the exchanges of its clients, each with the path of
-    its record. Keeps the words of at most so many faults of a kind. If the records are those of all clients, an event
-    of none of them is a fault."""
-    faults, rules = Faults(most), Rules(has_leases, len(histories) > 1)
-    readings = [Reading(it, faults, rules) for it in histories]
-    sessions: Set[Tuple[str, str]] = set()
-    requests = without_reply = 0
-    for path, exchange in exchanges:
-        requests += 1
-        without_reply += exchange.received is None
-        sessions.add((path, exchange.session))
-        try:
-            for queue, part in parts_of(exchange, len(histories)):
-                readings[queue].add(path, part)
-        except Strange:
-            tell_strange(faults, path, exchange)
-    calls = sum(len(it.calls) for it in readings)
-    endings = [_follow(it, reading, faults, is_whole) for it, reading in zip(histories, readings)]
-    return Verdict(
-        faults, sum(len(it.rows) for it in histories), sum(map(len, histories)), len(sessions), requests, calls,
-        without_reply, sum(it.unheard for it in endings), sum(it.returned for it in endings),
-        sum(it.gone for it in endings), sum(it.unrecorded for it in endings))
+    its record. Keeps the words of at most so many faults of a kind."""
+    verdict = Verdict(histories, most, Rules(has_leases, len(histories) > 1))
+    verdict.read(exchanges)
+    verdict.compare(is_whole)
+    return verdict
 
 
-def _follow(history: History, reading: Reading, faults: Faults, is_whole: bool) -> Endings:
-    """Finds the places of a queue's calls, and adds the faults."""
-    placing = Placing(history, reading.calls, reading.sessions, faults)
-    place_loose(placing, placing.place_all())
-    endings = Endings(placing)
-    for session in reading.sessions:
-        endings.follow(session)
-    check_real_time(placing)
-    for event in endings.unrecorded_events() if is_whole else ():
-        faults.add("unrecorded", f"event {event}", f"{history.told(event)} is the call of no record")
-    return endings
+def check_real_time(calls: Calls) -> None:
+    """Adds a fault for each call that was sent after the reply of another had come, and stands before it.
+
+    From the last event to the first: none of those behind may have been answered before this one was sent, so it is
+    compared with the one among them that was answered first.
+    """
+    earliest, answered = NEVER, NONE  # the reply that came first of those behind, and its event
+    for event in range(len(calls.claims) - 1, -1, -1):
+        call = calls.claims[event]
+        if call == NONE:
+            continue
+        if calls.sent[call] > earliest:
+            before, behind = calls.history.told(event), calls.history.told(answered)
+            calls.tell("time", call, (
+                f"{before} was asked for {calls.sent[call] - earliest} ns after the reply of {behind} had come, "
+                f"to {calls.where(calls.claims[answered])}, and stands before it"))
+        if calls.received[call] < earliest:
+            earliest, answered = calls.received[call], event

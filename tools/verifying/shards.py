@@ -38,72 +38,56 @@ def shard_of_file(path: str) -> Optional[int]:
 
 def parts_of(exchange: Exchange, count: int) -> List[Part]:
     """What an exchange is at each of so many queues that it concerns. Raises `Strange` for no right reply."""
-    if count == 1:
-        return [(0, exchange)]
-    try:
-        return _unanswered(exchange, count) if exchange.received is None else _answered(exchange, count)
-    except (ValueError, IndexError):  # a number that is none, or too few words
-        raise Strange from None
-
-
-def _unanswered(exchange: Exchange, count: int) -> List[Part]:
-    """It may have been carried out at each queue, unless it names an id."""
     asked = exchange.request.rstrip("\r").split(" ")
-    parts = [(queue, exchange) for queue in range(count)]
-    if asked[0] in BY_ID and asked[1].isdecimal():
-        queue, request = _inner(asked)
-        parts = [(it, exchange._replace(request=request if it == queue else "")) for it in range(count)]
+    try:
+        parts = _unanswered(exchange, asked, count) if exchange.received is None else _answered(exchange, asked, count)
+    except (ValueError, IndexError):  # a number that is none, too few words, or elements of two queues
+        raise Strange from None
+    if any(queue >= count for queue, _ in parts):
+        raise Strange
     return parts
 
 
-def _answered(exchange: Exchange, count: int) -> List[Part]:
-    asked, words = exchange.request.rstrip("\r").split(" "), exchange.reply[0].split(" ")
-    if words[0] in ("BYE", "CLEARED"):
+def _unanswered(exchange: Exchange, asked: List[str], count: int) -> List[Part]:
+    """It may have been carried out at each queue, unless it names an id."""
+    if asked[0] not in BY_ID or not "".join(asked[1:2]).isdecimal():
         return [(queue, exchange) for queue in range(count)]
-    if words[0] == "DRAINED" and len(exchange.reply) > 1:
-        return _drained(exchange, count)
-    if asked[0] in IN_VAIN.get(words[0], ()) or exchange.reply[0] == "ERR 9 held":
+    owner, request = _inner(asked)
+    return [(it, exchange._replace(request=request if it == owner else "")) for it in range(count)]
+
+
+def _answered(exchange: Exchange, asked: List[str], count: int) -> List[Part]:
+    (reply, *items), request, queue = exchange.reply, exchange.request, 0
+    words = reply.split(" ")
+    if words[0] in ("BYE", "CLEARED"):
+        return [(it, exchange) for it in range(count)]
+    if words[0] == "DRAINED" and items:
+        return _drained(exchange, reply, items)
+    if asked[0] in IN_VAIN.get(words[0], ()) or reply == "ERR 9 held":
         return []
     if asked[0] in BY_ID:
         queue, request = _inner(asked)
-        if queue >= count and exchange.reply[0] in NOT_THERE:
+        if queue >= count and reply in NOT_THERE:
             return []
-        exchange = exchange._replace(request=request)
-    elif words[0] in NAMES_AN_ELEMENT:
-        queue = int(words[1]) % MOST_SHARDS
-    else:
-        return [(0, exchange)]
-    reply = _inner_reply(queue, words) if words[0] in NAMES_AN_ELEMENT else exchange.reply[0]
-    return [(_there(queue, count), exchange._replace(reply=[reply]))]
+    if words[0] in NAMES_AN_ELEMENT:
+        owner, reply = _inner(words)
+        if asked[0] in BY_ID and owner != queue:
+            raise ValueError
+        queue = owner
+    return [(queue, exchange._replace(request=request, reply=[reply, *items]))]
 
 
-def _drained(exchange: Exchange, count: int) -> List[Part]:
+def _drained(exchange: Exchange, reply: str, items: List[str]) -> List[Part]:
     """The items of each queue are what it gave."""
-    items: Dict[int, List[str]] = {}
-    if exchange.reply[0] != f"DRAINED {len(exchange.reply) - 1}":
+    given: Dict[int, List[str]] = {}
+    if reply != f"DRAINED {len(items)}":
         raise ValueError
-    for words in (line.split(" ") for line in exchange.reply[1:]):
-        queue = _there(int(words[1]) % MOST_SHARDS, count)
-        items.setdefault(queue, []).append(_inner_reply(queue, words))
-    return [(queue, exchange._replace(reply=[f"DRAINED {len(its)}", *its])) for queue, its in items.items()]
+    for queue, item in (_inner(it.split(" ")) for it in items):
+        given.setdefault(queue, []).append(item)
+    return [(queue, exchange._replace(reply=[f"DRAINED {len(its)}", *its])) for queue, its in given.items()]
 
 
-def _inner(asked: List[str]) -> Tuple[int, str]:
-    """The queue of a request that names an id, and what the request is there."""
-    id, queue = divmod(int(asked[1]), MOST_SHARDS)
-    return queue, " ".join([asked[0], str(id), *asked[2:]])
-
-
-def _inner_reply(queue: int, words: List[str]) -> str:
-    """A line that names an element, with its id at its queue. An element of another queue makes no sense."""
-    id, its_queue = divmod(int(words[1]), MOST_SHARDS)
-    if its_queue != queue:
-        raise ValueError
-    return " ".join([words[0], str(id), *words[2:]])
-
-
-def _there(queue: int, count: int) -> int:
-    """The number of a queue, if it is one."""
-    if queue >= count:
-        raise ValueError
-    return queue
+def _inner(words: List[str]) -> Tuple[int, str]:
+    """The queue of a request or a line that names an id, and what it is there."""
+    id, queue = divmod(int(words[1]), MOST_SHARDS)
+    return queue, " ".join([words[0], str(id), *words[2:]])

@@ -6,28 +6,19 @@ history keeps the order of real time by the way in which it is made.
 from __future__ import annotations
 
 import heapq
-import json
 import random
-from typing import Any, Dict, List, Optional, Tuple
+from typing import Dict, List, Optional, Tuple
 
-Line = Dict[str, Any]
+from histories.history import Element
+from verifying.tests.support import Line
 
 DELAY, ATTEMPTS = 400, 3
 BEHIND = 5_000_000  # how far the clients' clock is ahead of the server's
 
 
-class Element:
-    """An element of the queue."""
-
-    def __init__(self, id: int, expiry: int, before: Optional[Element], payload: str) -> None:
-        self.id, self.expiry, self.payload = id, expiry, payload
-        self.origin: int = before.origin if before else id
-        self.first: int = before.first if before else expiry
-        self.attempt: int = before.attempt + 1 if before else 1
-
-    @property
-    def item(self) -> str:
-        return f"{self.id} {self.expiry} {self.attempt} {self.payload}"
+def shown(element: Element) -> str:
+    """The words of a line that shows an element."""
+    return f"{element.id} {element.expiry} {element.attempt} {element.payload}"
 
 
 class Client:
@@ -75,14 +66,6 @@ class Simulation:
             self._at += 20
             self._leave(client)
 
-    @property
-    def history(self) -> str:
-        return "\n".join(["history 3", "open 0 0 0", *self.events, f"end {len(self.events)}", ""])
-
-    @property
-    def record(self) -> str:
-        return "".join(f"{json.dumps(it)}\n" for it in self.lines)
-
     def _client(self, seat: int) -> Client:
         self._sessions += 1
         return Client(f"s{self._sessions}", seat)
@@ -112,11 +95,13 @@ class Simulation:
         self.events.append(f"{client.seat} {self._at} {self._at} {act}")
 
     def _offer(self, client: Client, expiry: int, payload: str, before: Optional[Element]) -> Element:
-        element = Element(self._next_id, expiry, before, payload)
+        element = Element(self._next_id, expiry, self._next_id, expiry, 1, payload)
+        if before:
+            element = before._replace(id=self._next_id, expiry=expiry, attempt=before.attempt + 1)
         self._next_id += 1
         self._elements[element.id] = element
         heapq.heappush(self._queue, (expiry, element.id))
-        self._event(client, f"offer {element.id} {expiry} {element.origin} {element.first} {element.attempt} {payload}")
+        self._event(client, " ".join(map(str, ("offer", *element))))
         return element
 
     def _taken(self, client: Client) -> Optional[Element]:
@@ -152,14 +137,12 @@ class Simulation:
                 most = min(random.choice([3, 1000]) if len(given) < 3 else 3, 64 - held)
             self._event(client, " ".join(map(str, ["drain", most, *(it.id for it in given)])))
             request = f"DRAIN {most if most < 64 - held else 1000}"
-            client.note(self._at, request, f"DRAINED {len(given)}", *(f"ITEM {it.item}" for it in given))
+            client.note(self._at, request, f"DRAINED {len(given)}", *(f"ITEM {shown(it)}" for it in given))
             return
         element = self._taken(client)
-        wait = [str(self._at), "0"] if keyword == "POLLFOR" else []
-        id = "none" if element is None else str(element.id)
-        self._event(client, " ".join([keyword.lower(), *wait, id]))
-        request = "POLLFOR 0" if wait else keyword
-        client.note(self._at, request, "NONE" if element is None else f"ITEM {element.item}")
+        wait, request = (f" {self._at} 0", "POLLFOR 0") if keyword == "POLLFOR" else ("", keyword)
+        self._event(client, f"{keyword.lower()}{wait} {element.id if element else 'none'}")
+        client.note(self._at, request, f"ITEM {shown(element)}" if element else "NONE")
 
     def _settle(self, client: Client) -> None:
         if not client.held:
@@ -181,7 +164,7 @@ class Simulation:
         elif kind == "PEEK":
             head = self._elements[self._queue[0][1]] if self._queue else None
             self._event(client, f"peek {head.id}" if head else "peek none")
-            client.note(self._at, "PEEK", f"HEAD {head.item}" if head else "NONE")
+            client.note(self._at, "PEEK", f"HEAD {shown(head)}" if head else "NONE")
         else:
             self._remove(client, random.randrange(self._next_id + 2))
 

@@ -5,13 +5,13 @@ import io
 import json
 import re
 import subprocess
-from typing import Any, Dict, List, Tuple
+from typing import Any, Dict, List, Tuple, Union
 
 from checking.testing import RoomTest, run_tool
-from verifying.history import read_history
+from histories.tests.support import text_of
+from verifying.history import History
 from verifying.judge import judge
 from verifying.record import read_record
-from verifying.report import report
 
 Line = Dict[str, Any]
 
@@ -39,9 +39,9 @@ def line(session: str, sent: int, received: int, request: str, *reply: str) -> L
     return {"session": session, **times, "request": request, "reply": list(reply)}
 
 
-def lines() -> List[Line]:
-    """The record of the three sessions."""
-    return [
+def lines(number: int = 0, **changes: object) -> List[Line]:
+    """The record of the three sessions, of which one line is changed."""
+    record = [
         line("a", 5, 12, "OFFER 0 x", "OFFERED 0 10"),
         line("a", 35, 42, "POLL", "NONE"),
         line("a", 45, 52, "OFFER 10 y", "OFFERED 1 60"),
@@ -57,6 +57,8 @@ def lines() -> List[Line]:
         line("c", 107, 108, "DONE 4", "DONE 4"),
         line("c", 109, 110, "DONE 3", "DONE 3"),
     ]
+    record[number].update(changes)
+    return record
 
 
 def record_of(record: List[Line]) -> str:
@@ -64,18 +66,22 @@ def record_of(record: List[Line]) -> str:
 
 
 class RunTest(RoomTest):
-    """A test of runs that are files in its folder, or texts."""
+    """A test of runs that are files in its folder, or events and lines of records."""
 
     has_leases = False
 
     def verify(self, *words: str) -> subprocess.CompletedProcess[str]:
         return run_tool("verify", *words)
 
-    def judged(self, history: str, record: str, is_whole: bool = True) -> Tuple[Dict[str, int], List[str]]:
-        """The number of faults of each kind that has any, and the lines of the faults."""
-        exchanges = (("record.jsonl", it) for it in read_record(io.BytesIO(record.encode())))
-        verdict = judge([read_history(io.BytesIO(history.encode()))], exchanges, 10, is_whole, self.has_leases)
-        lines = report(verdict, is_whole)
+    def judged(
+        self, events: Union[str, List[str]], record: List[Line], is_whole: bool = True
+    ) -> Tuple[Dict[str, int], List[str]]:
+        """The number of faults of each kind that has any, and the lines of the faults. The history is that of these
+        events, or a whole text."""
+        text, history = events if isinstance(events, str) else text_of(*events), History()
+        history.read(io.BytesIO(text.encode()))
+        exchanges = (("record.jsonl", it) for it in read_record(io.BytesIO(record_of(record).encode())))
+        lines = judge([history], exchanges, 10, is_whole, self.has_leases).lines(is_whole)
         told = re.findall(r"^(\w+): +([\d,]+) faults?:", "\n".join(lines), re.M)
         counts = {kind: int(count.replace(",", "")) for kind, count in told}
         self.assertEqual(counts.keys() - {"unrecorded"}, {
@@ -83,3 +89,9 @@ class RunTest(RoomTest):
         self.assertRegex(lines[-1], rf"^{sum(counts.values()):,} faults?$")
         faults = [it for it in lines if re.search(r": (%s): " % "|".join(counts), it)]
         return {kind: count for kind, count in counts.items() if count}, faults
+
+    def expect_none(
+        self, events: Union[str, List[str]], record: List[Line], is_whole: bool = True, about: object = None
+    ) -> None:
+        """Expects no fault."""
+        self.assertEqual(self.judged(events, record, is_whole), ({}, []), about)

@@ -1,7 +1,7 @@
 """A run that was written by hand, as it must be and changed: what the changes are called, and where."""
 from __future__ import annotations
 
-from typing import Dict, List, Optional
+from typing import Dict, List, Optional, Union
 
 from histories.tests.support import text_of
 from verifying.tests.support import EVENTS, Line, RunTest, line, lines, record_of
@@ -9,16 +9,16 @@ from verifying.tests.support import EVENTS, Line, RunTest, line, lines, record_o
 
 class HandMadeTest(RunTest):
     def expect(
-        self, kind: str, says: str, events: Optional[List[str]] = None, record: Optional[List[Line]] = None,
+        self, kind: str, says: str, events: Union[str, List[str]] = EVENTS, record: Optional[List[Line]] = None,
         counts: Optional[Dict[str, int]] = None,
     ) -> None:
         """Expects one fault of this kind and no other, whose line ends with these words."""
-        found = self.judged(text_of(*(events or EVENTS)), record_of(record or lines()))
+        found = self.judged(events, record or lines())
         self.assertEqual(found[0], counts or {kind: 1}, found[1])
         self.assertTrue(any(f": {kind}: {says}" in it for it in found[1]), found[1])
 
     def test_the_run_as_it_was(self) -> None:
-        self.assertEqual(self.judged(text_of(*EVENTS), record_of(lines())), ({}, []))
+        self.expect_none(EVENTS, lines())
 
     def test_what_was_compared(self) -> None:
         ran = self.verify(self.file("run.txt", text_of(*EVENTS)), self.file("a.jsonl", record_of(lines())))
@@ -41,8 +41,8 @@ class HandMadeTest(RunTest):
 
     def test_clients_without_a_record(self) -> None:
         others = [it for it in lines() if it["session"] != "b"]
-        self.assertEqual(self.judged(text_of(*EVENTS), record_of(others), is_whole=False), ({}, []))
-        counts, _ = self.judged(text_of(*EVENTS), record_of(others))
+        self.expect_none(EVENTS, others, is_whole=False)
+        counts, _ = self.judged(EVENTS, others)
         self.assertEqual(counts, {"unrecorded": 5})
 
     def test_a_reply_that_came_in_part(self) -> None:
@@ -50,7 +50,7 @@ class HandMadeTest(RunTest):
         events = ["1 10 10 offer 0 10 0 10 1 x", "1 20 20 drain 5 0", "1 30 30 offer 1 40 0 10 2 x"]
         drain = {**line("a", 15, 22, "DRAIN 5", "DRAINED 1"), "received": None}
         record = [line("a", 5, 12, "OFFER 0 x", "OFFERED 0 10"), drain]
-        self.assertEqual(self.judged(text_of(*events), record_of(record)), ({}, []))
+        self.expect_none(events, record)
 
     # The six ways.
 
@@ -67,15 +67,11 @@ class HandMadeTest(RunTest):
             (8, "AGAIN 2 66", "its reply says offer 2 66 0 10 2 x, and event 5 (offer 2 65 0 10 2 x, seat 2)"),
         ]:
             with self.subTest(reply=reply):
-                record = lines()
-                record[number]["reply"] = [reply]
-                self.expect("changed", says, record=record)
+                self.expect("changed", says, record=lines(number, reply=[reply]))
 
     def test_an_offer_that_expires_at_another_moment_than_it_asks_for(self) -> None:
-        record = lines()
-        record[2]["request"] = "OFFER 11 y"
-        self.expect("changed", "event 4 (offer 1 60 1 60 1 y, seat 1): it was offered at 50, 11 before its expiry",
-                    record=record)
+        says = "event 4 (offer 1 60 1 60 1 y, seat 1): it was offered at 50, 11 before its expiry"
+        self.expect("changed", says, record=lines(2, request="OFFER 11 y"))
 
     def test_a_reply_that_is_there_twice(self) -> None:
         for number, says in [
@@ -92,15 +88,12 @@ class HandMadeTest(RunTest):
         self.expect("twice", "event 2 (take 0, seat 2) is the call of", record=record)
 
     def test_a_call_that_the_history_leaves_out(self) -> None:
-        events = EVENTS[:7] + EVENTS[8:]
-        self.expect("missing", "peek 2 stands nowhere at its place", events)
-        events = EVENTS[:3] + EVENTS[4:]
-        self.expect("missing", "poll none stands nowhere at its place", events)
+        for event, act in ((7, "peek 2"), (3, "poll none")):
+            self.expect("missing", f"{act} stands nowhere at its place", EVENTS[:event] + EVENTS[event + 1:])
 
     def test_an_offer_that_the_history_leaves_out(self) -> None:
         record = [it for it in lines() if it["session"] != "c"] + [line("d", 111, 112, "OFFER 0 q", "OFFERED 7 111")]
-        counts, faults = self.judged(text_of(*EVENTS[:11]), record_of(record))
-        self.assertEqual(counts, {"missing": 1}, faults)
+        self.expect("missing", "", EVENTS[:11], record)
 
     def test_a_call_that_the_record_leaves_out(self) -> None:
         record = lines()
@@ -122,34 +115,27 @@ class HandMadeTest(RunTest):
             (3, 4, "event 7 (peek 2, seat 1) does not stand where its request does"),
         ]:
             with self.subTest(says=says):
-                counts, faults = self.judged(text_of(*EVENTS), record_of(exchanged(one, other)))
+                counts, faults = self.judged(EVENTS, exchanged(one, other))
                 self.assertEqual(counts.keys(), {"order", "time"}, faults)
                 self.assertTrue(any(f": order: {says}" in it for it in faults), faults)
 
     def test_a_call_at_another_seat(self) -> None:
-        events = list(EVENTS)
-        events[4] = "2" + events[4][1:]
         says = "event 4 (offer 1 60 1 60 1 y, seat 2), and the session's other calls stand at seat 1"
-        self.expect("seat", says, events)
+        self.expect("seat", says, [*EVENTS[:4], "2" + EVENTS[4][1:], *EVENTS[5:]])
 
     def test_a_reply_that_came_before_another_call_was_sent_stands_behind_it(self) -> None:
-        record = lines()
-        record[6]["received"] = 1000 + 4
-        record[6]["sent"] = 1000 + 3
         self.expect("time", "event 0 (offer 0 10 0 10 1 x, seat 1) was asked for 1 ns after the reply of event 1 "
-                    "(size 1, seat 2) had come", record=record)
+                    "(size 1, seat 2) had come", record=lines(6, sent=1003, received=1004))
 
     def test_replies_that_came_as_the_next_request_was_sent(self) -> None:
         """Calls that touch are not in order by real time."""
-        record = lines()
-        record[6]["sent"], record[6]["received"] = 1000 + 3, 1000 + 5
-        self.assertEqual(self.judged(text_of(*EVENTS), record_of(record)), ({}, []))
+        self.expect_none(EVENTS, lines(6, sent=1003, received=1005))
 
     # More of what may be wrong.
 
     def test_a_job_that_comes_back_elsewhere(self) -> None:
         events = [*EVENTS[:8], EVENTS[8].replace("1 ", "2 ", 1), *EVENTS[9:]]
-        counts, _ = self.judged(text_of(*events), record_of(lines()), is_whole=False)
+        counts, _ = self.judged(events, lines(), is_whole=False)
         self.assertEqual(counts, {"return": 1})
 
     def test_strange_replies(self) -> None:
@@ -159,9 +145,7 @@ class HandMadeTest(RunTest):
             (1, "NONE x"), (6, "SIZE 1 2"), (6, "SIZE -1"), (10, "DRAINED 2"), (6, ""), (2, "OFFERED 1"),
         ]:
             with self.subTest(reply=reply):
-                record = lines()
-                record[number]["reply"] = [reply]
-                counts, faults = self.judged(text_of(*EVENTS), record_of(record))
+                counts, faults = self.judged(EVENTS, lines(number, reply=[reply]))
                 wanted = 1 + {7: 1, 10: 2}.get(number, 0)  # with the ends of jobs that were then not fetched
                 self.assertEqual(counts["strange"], wanted, faults)
 
@@ -171,18 +155,16 @@ class HandMadeTest(RunTest):
             line("a", 5, 12, "OFFER 0 x", "OFFERED 0 10"), line("b", 15, 22, "OFFER 0 y", "OFFERED 1 20"),
             line("a", 25, 32, "OFFER 0 z", "OFFERED 2 30"),
         ]
-        counts, faults = self.judged(text_of(*events), record_of(record))
-        self.assertEqual(counts, {"gap": 1})
-        self.assertIn("of ", faults[0])
+        self.expect("gap", "event 1 (offer 1 20 1 20 1 y, seat 1), of record.jsonl:2: session b, stands between two",
+                    events, record)
 
     def test_calls_before_the_first_that_names_an_element(self) -> None:
         events = ["1 5 5 size 0", "1 6 6 size 0", "1 10 10 offer 0 10 0 10 1 x", "1 20 20 size 1"]
         record = [line("a", 5, 5, "SIZE", "SIZE 0"), line("a", 6, 6, "SIZE", "SIZE 0"),
                   line("a", 8, 12, "OFFER 0 x", "OFFERED 0 10"), line("a", 15, 22, "SIZE", "SIZE 1")]
-        self.assertEqual(self.judged(text_of(*events), record_of(record)), ({}, []))
+        self.expect_none(events, record)
         record[0]["reply"] = ["SIZE 1"]
-        counts, _ = self.judged(text_of(*events), record_of(record))
-        self.assertEqual(counts, {"changed": 1})
+        self.expect("changed", "", events, record)
 
     def test_sessions_that_name_no_element(self) -> None:
         """They are found by what was answered, and by when."""
@@ -197,17 +179,16 @@ class HandMadeTest(RunTest):
             line("c", 2_999_990, 3_000_010, "OFFER 0 x", "OFFERED 0 3000000"),
             line("e", 5_999_000, 6_000_100, "SIZE", "SIZE 1"),
         ]
-        self.assertEqual(self.judged(text_of(*events), record_of(record)), ({}, []))
+        self.expect_none(events, record)
         record[0]["reply"] = ["SIZE 4"]
-        counts, _ = self.judged(text_of(*events), record_of(record))
-        self.assertEqual(counts, {"missing": 1, "unrecorded": 1})
+        self.expect("missing", "", events, record, {"missing": 1, "unrecorded": 1})
 
     def test_a_session_that_fits_before_and_behind_another(self) -> None:
         """The one that was sent first was carried out last."""
         events = ["1 10 10 poll none", "2 20 20 offer 0 20 0 20 1 x", "1 30 30 poll none"]
         record = [line("late", 5, 35, "POLL", "NONE"), line("early", 8, 12, "POLL", "NONE"),
                   line("giver", 15, 25, "OFFER 0 x", "OFFERED 0 20")]
-        self.assertEqual(self.judged(text_of(*events), record_of(record)), ({}, []))
+        self.expect_none(events, record)
         record[0]["received"] = 1000 + 13
         self.expect("time", "event 1 (offer 0 20 0 20 1 x, seat 2) was asked for 2 ns after the reply of event 2 "
                     "(poll none, seat 1) had come", events, record)
@@ -217,7 +198,7 @@ class HandMadeTest(RunTest):
         events = ["1 10 10 size 0", "2 20 20 size 0", "1 30 30 poll none"]
         record = [line("one", 5, 25, "SIZE", "SIZE 0"), line("two", 5, 12, "SIZE", "SIZE 0"),
                   line("two", 26, 35, "POLL", "NONE")]
-        self.assertEqual(self.judged(text_of(*events), record_of(record)), ({}, []))
+        self.expect_none(events, record)
         self.expect("missing", "size 0 stands nowhere at its place", [*events[:1], events[2]], record,
                     counts={"missing": 2, "unrecorded": 1})
 
@@ -226,7 +207,7 @@ class HandMadeTest(RunTest):
         text = "\n".join(["history 1", *events, "end 3", ""])
         record = [line("a", 5, 12, "OFFER 0 x", "OFFERED 0 10"), line("a", 15, 22, "TAKE", "ITEM 0 10 1 x"),
                   line("a", 25, 32, "FAIL 0", "AGAIN 1 35")]
-        self.assertEqual(self.judged(text, record_of(record)), ({}, []))
+        self.expect_none(text, record)
 
     def test_a_run_that_continues_another(self) -> None:
         events = ["1 110 110 take 3", "1 120 120 offer 5 125 3 90 2 y", "1 130 130 take 4"]
@@ -234,6 +215,6 @@ class HandMadeTest(RunTest):
         text = "\n".join([*opening, *events, "end 3", ""])
         record = [line("a", 108, 112, "TAKE", "ITEM 3 90 1 y"), line("a", 115, 122, "FAIL 3", "AGAIN 5 125"),
                   line("a", 125, 132, "TAKE", "ITEM 4 95 1 z")]
-        self.assertEqual(self.judged(text, record_of(record)), ({}, []))
+        self.expect_none(text, record)
         record[2]["reply"] = ["ITEM 4 96 1 z"]
-        self.assertEqual(self.judged(text, record_of(record))[0], {"changed": 1})
+        self.expect("changed", "", text, record)

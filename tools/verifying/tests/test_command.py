@@ -5,7 +5,8 @@ import json
 import os
 import subprocess
 
-from checking.testing import tool
+from checking.testing import call_tool, tool
+from common.tests.support import long_work_at_terminal
 from histories.tests.support import text_of
 from verifying.tests.support import EVENTS, Line, RunTest, line, lines, record_of
 
@@ -108,6 +109,15 @@ class CommandTest(RunTest):
             ran = self.verify(*words)
             self.assertEqual((ran.returncode, ran.stdout), (2, ""), words)
             self.assertNotIn("Traceback", ran.stderr)
+
+    def test_long_work_says_at_a_terminal_how_far_it_is(self) -> None:
+        with long_work_at_terminal():
+            status, told, errors = call_tool("verify", self.history, self.record, "--all")
+        self.assertEqual((status, told.decode()), (0, self.verify(self.history, self.record, "--all").stdout))
+        lines = [line.strip() for line in errors.split("\r")]
+        for line in (f"reading {self.history}: 0 %", f"reading {self.record}: 0 %", "comparing"):
+            self.assertIn(line, lines)
+        self.assertEqual(lines[-2:], ["", ""])
 
     def test_no_more_faults_than_asked_for(self) -> None:
         changed = record_of(lines()).replace("OFFERED 0 10", "OFFERED 0 11").replace("SIZE 1", "SIZE 7")

@@ -56,7 +56,7 @@ class KilledTest(RunTest):
     def found(self, events: List[str], *more: Line, is_whole: bool = False, record: List[Line] | None = None
               ) -> Dict[str, int]:
         record = lines() if record is None else record
-        return self.judged(text_of(*events), record_of([*record, *more]), is_whole)[0]
+        return self.judged(events, [*record, *more], is_whole)[0]
 
     def without(self, event: str) -> List[str]:
         return [it for it in EVENTS if it != event]

@@ -23,7 +23,7 @@ class LeaseTest(RunTest):
     def found(self, *more: Line, events: List[str] = LEASE_EVENTS) -> Dict[str, int]:
         record = [line("a", 5, 12, "OFFER 0 x", "OFFERED 0 10"), line("a", 48, 52, "TAKE", "ITEM 1 45 2 x"),
                   line("b", 15, 22, "TAKE", "ITEM 0 10 1 x")]
-        return self.judged(text_of(*events), record_of([*record, *more]), is_whole=False)[0]
+        return self.judged(events, [*record, *more], is_whole=False)[0]
 
     def test_a_done_that_is_refused_since_the_session_had_ended(self) -> None:
         for request in ("DONE 0", "FAIL 0"):

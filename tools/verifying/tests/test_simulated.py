@@ -3,11 +3,12 @@ from __future__ import annotations
 
 import random
 import subprocess
-from typing import Dict, List, Set, Tuple
+from typing import Dict, List, Sequence, Set, Tuple
 
 from common.program import tested_program
-from verifying.tests.simulated import ATTEMPTS, DELAY, Line, Simulation
-from verifying.tests.support import RunTest
+from histories.tests.support import text_of
+from verifying.tests.simulated import ATTEMPTS, DELAY, Simulation
+from verifying.tests.support import Line, RunTest
 
 SEEDS = [*range(20), *range(5000, 5040)]
 NAMED = ("OFFERED", "ITEM", "AGAIN")  # replies that name an element of their own
@@ -26,22 +27,23 @@ class SimulatedTest(RunTest):
     def simulated(self, seed: int, longest: int = 40, kills: bool = False) -> Simulation:
         return Simulation(seed, events=300, seats=4, longest=longest, kills=kills)
 
-    def named_lines(self, run: Simulation) -> List[int]:
-        return [number for number, it in enumerate(run.lines) if keyword(it) in NAMED]
+    def named_lines(self, run: Simulation, keywords: Sequence[str] = NAMED) -> List[int]:
+        """The numbers of the lines whose replies begin with such a word."""
+        return [number for number, it in enumerate(run.lines) if keyword(it) in keywords]
 
     def found(self, run: Simulation) -> Tuple[Dict[str, int], List[str]]:
         """The faults of a run that was changed, by kind and in words."""
-        return self.judged(run.history, run.record)
+        return self.judged(run.events, run.lines)
 
     def test_runs_as_they_are(self) -> None:
         for seed in SEEDS:
             run = self.simulated(seed)
-            self.assertEqual(self.judged(run.history, run.record), ({}, []), seed)
+            self.expect_none(run.events, run.lines, about=seed)
 
     def test_clients_that_are_killed(self) -> None:
         for seed in SEEDS:
             run = self.simulated(seed, kills=True)
-            self.assertEqual(self.judged(run.history, run.record, is_whole=False), ({}, []), seed)
+            self.expect_none(run.events, run.lines, False, seed)
 
     def test_records_of_some_of_the_clients(self) -> None:
         for seed in SEEDS:
@@ -53,7 +55,7 @@ class SimulatedTest(RunTest):
         sessions = sorted({it["session"] for it in run.lines})
         some = set(random.sample(sessions, len(sessions) // 2))
         run.lines = [it for it in run.lines if it["session"] in some]
-        self.assertEqual(self.judged(run.history, run.record, is_whole=False), ({}, []))
+        self.expect_none(run.events, run.lines, is_whole=False)
 
     def test_sessions_of_few_requests(self) -> None:
         """Most of them name no element and fit at several places, at some of them out of order."""
@@ -61,7 +63,7 @@ class SimulatedTest(RunTest):
             for longest in (1, 2, 3, 6):
                 with self.subTest(seed=seed, longest=longest):
                     run = self.simulated(seed, longest)
-                    self.assertEqual(self.judged(run.history, run.record), ({}, []))
+                    self.expect_none(run.events, run.lines)
                     self.expect_none_of_some_clients(run)
 
     def test_a_call_left_out_among_sessions_of_one_request(self) -> None:
@@ -75,7 +77,7 @@ class SimulatedTest(RunTest):
 
     def test_the_program_finds_them_legal(self) -> None:
         for seed in SEEDS[:3]:
-            words = ["replay", self.file("run.txt", self.simulated(seed).history), "--chains"]
+            words = ["replay", self.file("run.txt", text_of(*self.simulated(seed).events)), "--chains"]
             command = [tested_program(), *words, "--delay", str(DELAY), "--attempts", str(ATTEMPTS)]
             ran = subprocess.run(command, capture_output=True, encoding="utf-8", check=False)
             self.assertEqual(ran.returncode, 0, ran.stdout)
@@ -94,7 +96,7 @@ class SimulatedTest(RunTest):
     def test_a_reply_that_is_there_twice(self) -> None:
         for seed in SEEDS:
             run = self.simulated(seed)
-            number = random.choice([it for it in self.named_lines(run) if keyword(run.lines[it]) != "AGAIN"])
+            number = random.choice(self.named_lines(run, ("OFFERED", "ITEM")))
             run.lines.insert(number, run.lines[number])
             counts, faults = self.found(run)
             self.assertEqual(counts["twice"], 1, faults)
@@ -104,7 +106,7 @@ class SimulatedTest(RunTest):
         """The one left out is told. Around it a call that names no element may have lost its place."""
         for seed in SEEDS:
             run = self.simulated(seed)
-            number = random.choice([it for it in self.named_lines(run) if keyword(run.lines[it]) == "ITEM"])
+            number = random.choice(self.named_lines(run, ("ITEM",)))
             id = run.lines[number]["reply"][0].split(" ")[1]
             polls = [it for it in run.events if it.split(" ")[3] in ("poll", "pollfor") and it.split(" ")[-1] == id]
             run.events.remove(polls[0])
@@ -120,8 +122,8 @@ class SimulatedTest(RunTest):
         for seed in SEEDS:
             run = self.simulated(seed)
             tell = [it["session"] for it in run.lines if tells_its_place(it)]
-            number = random.choice([it for it in self.named_lines(run) if keyword(run.lines[it]) == "OFFERED"
-                                    and tell.count(run.lines[it]["session"]) > 1])
+            offers = self.named_lines(run, ("OFFERED",))
+            number = random.choice([it for it in offers if tell.count(run.lines[it]["session"]) > 1])
             words = run.lines.pop(number)["reply"][0].split(" ")
             counts, faults = self.found(run)
             self.assertEqual((counts.pop("unrecorded"), counts.pop("gap", 1), counts), (1, 1, {}), faults)
