@@ -39,8 +39,8 @@ class Input:
 
 
 def in_pieces(content: bytes, size: int) -> Input:
-    """An input in pieces of `size` bytes. Where the system has pipes that keep pieces apart, as Linux does, a read gives
-    one piece; elsewhere it may give several."""
+    """An input in pieces of `size` bytes. Where the system has pipes that keep pieces apart, as Linux does, a read
+    gives one piece; elsewhere it may give several."""
     pieces = (content[at : at + size] for at in range(0, len(content), size))
     try:
         return Input(pieces, os.pipe2(os.O_CLOEXEC | os.O_DIRECT))

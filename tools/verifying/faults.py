@@ -52,11 +52,13 @@ class Faults:
             more = self._counts[kind] - len(told)
             lines += told
             if more:
-                lines.append(f"and {counted(more, f'fault more of the kind {kind}', f'faults more of the kind {kind}')}")
+                of = f"more of the kind {kind}"
+                lines.append(f"and {counted(more, f'fault {of}', f'faults {of}')}")
         return lines
 
     def sentences(self, is_whole: bool) -> List[str]:
-        """Each sentence with the number of its faults, and their sum. With some records only, other events are right."""
+        """Each sentence with the number of its faults, and their sum. Unless all clients have a record, other events are
+        right."""
         kinds = [it for it in KINDS if is_whole or it != "unrecorded"]
         told = [f"{kind + ':':<11} {counted(self._counts[kind], 'fault')}: {KINDS[kind]}" for kind in kinds]
         return [*told, counted(self.total, "fault")]
