@@ -1,6 +1,4 @@
 """The completions for bash, made from the table."""
-from __future__ import annotations
-
 from packaging.table import HELP_COMMAND, HELP_OPTIONS, Table, filled
 
 TEXT = r"""# Completions of @program@ for bash, made by tools/package from packaging/options.json.

@@ -1,6 +1,4 @@
 """The package's changelog: the changes of CHANGELOG.md, as Debian writes them."""
-from __future__ import annotations
-
 import email.utils
 import re
 import textwrap

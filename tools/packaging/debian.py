@@ -1,6 +1,4 @@
 """The Debian package, made of the tree by the commands of dpkg-dev and dpkg."""
-from __future__ import annotations
-
 import gzip
 import hashlib
 import os
@@ -19,11 +17,10 @@ OF_DPKG = ("conffiles", "postinst", "prerm", "postrm")  # files of packaging/deb
 
 def make_package(program: Path, version: Version, folder: Path) -> Path:
     """Makes the package of a program in a folder, and returns its path."""
-    for path, is_right, what in [
-        (program, program.is_file(), "file"), (program, is_elf(program), "ELF program"), (folder, folder.is_dir(), "folder"),
-    ]:
-        if not is_right:
-            raise Fault(f"{path} is no {what}")
+    if not program.is_file() or not is_elf(program):
+        raise Fault(f"{program} is no {'ELF program' if program.is_file() else 'file'}")
+    if not folder.is_dir():
+        raise Fault(f"{folder} is no folder")
     with tempfile.TemporaryDirectory(prefix="rb-package-") as room:
         root = Path(room, "root")
         lay_out(root, program)
@@ -33,7 +30,7 @@ def make_package(program: Path, version: Version, folder: Path) -> Path:
 
 
 def is_elf(program: Path) -> bool:
-    return program.is_file() and program.read_bytes()[:4] == b"\x7fELF"
+    return program.read_bytes()[:4] == b"\x7fELF"
 
 
 def run(*words: object, folder: Path | None = None, moment: int = 0) -> str:

@@ -1,6 +1,4 @@
 """The table of commands and options, packaging/options.json, as values, and texts that are filled from it."""
-from __future__ import annotations
-
 import json
 import re
 from dataclasses import dataclass
@@ -76,8 +74,9 @@ def read_table() -> Table:
         told = json.load(it)
     options = {name: Option(name, **{**row, "choices": tuple(row.get("choices", ()))})
                for name, row in told["options"].items()}
-    commands = [Command(name, row["help"], tuple(options[it] for it in row["options"]), row.get("argument", {}).get("value"))
-                for name, row in told["commands"].items()]
+    commands = (
+        Command(name, row["help"], tuple(options[it] for it in row["options"]), row.get("argument", {}).get("value"))
+        for name, row in told["commands"].items())
     return Table(told["program"], tuple(commands))
 
 

@@ -1,6 +1,4 @@
 """The files of the package, laid out as they are to be installed."""
-from __future__ import annotations
-
 import gzip
 import os
 import posixpath

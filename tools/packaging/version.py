@@ -1,6 +1,4 @@
 """The version of a package and its moment, which are those of the repository's last commit."""
-from __future__ import annotations
-
 import re
 import subprocess
 import time

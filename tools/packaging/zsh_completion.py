@@ -1,6 +1,4 @@
 """The completions for zsh, made from the table."""
-from __future__ import annotations
-
 from packaging.table import HELP_COMMAND, Command, Option, Table, filled
 
 TEXT = r"""#compdef @program@

@@ -1,6 +1,4 @@
 """What several tests need: the tool as a command, and what it says."""
-from __future__ import annotations
-
 import sys
 
 from checking.testing import run_tool

@@ -1,6 +1,4 @@
 """The reading of a case file, by the table of crates/rb_cases/src/case.rt."""
-from __future__ import annotations
-
 import tempfile
 import unittest
 

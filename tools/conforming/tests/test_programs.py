@@ -1,6 +1,4 @@
 """Programs that are right, or wrong in one way. Each flaw is tried with one case or a few."""
-from __future__ import annotations
-
 import glob
 import unittest
 

@@ -1,6 +1,4 @@
 """Words and files with which nothing can be run."""
-from __future__ import annotations
-
 import os
 import sys
 import tempfile

@@ -3,8 +3,6 @@
 It runs `PROGRAM WORD ..` on its own standard input and passes on its output and its exit status, changed as the
 flaw says. tools/conform must find each flaw except `no flaw`. Exit status: the program's, or 2 if a word is wrong.
 """
-from __future__ import annotations
-
 import os
 import re
 import signal

@@ -1,6 +1,4 @@
 """How moments are evaluated."""
-from __future__ import annotations
-
 import unittest
 
 from loading.counts import Counts, Lateness, ServerClock

@@ -1,6 +1,4 @@
 """Ports with no broker, and words with which nothing is begun."""
-from __future__ import annotations
-
 import json
 import socket
 import threading

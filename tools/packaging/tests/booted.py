@@ -1,6 +1,4 @@
 """The units under systemd itself: a service is started, stopped and removed while clients stay, or leave first."""
-from __future__ import annotations
-
 import re
 import shutil
 import time

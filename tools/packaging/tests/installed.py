@@ -1,6 +1,4 @@
 """What the package installs beside the program: the tools, examples and pages that its pages tell users to use."""
-from __future__ import annotations
-
 import gzip
 import json
 import re

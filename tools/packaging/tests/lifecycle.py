@@ -1,6 +1,4 @@
 """The package is made, installed into an empty root, used from there, and removed."""
-from __future__ import annotations
-
 import filecmp
 import os
 import shutil

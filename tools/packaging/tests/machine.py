@@ -1,11 +1,10 @@
 """A systemd of its own, in namespaces over this machine's files, to run the units of a package."""
-from __future__ import annotations
-
 import glob
 import os
 import shutil
 import subprocess
 import time
+from typing import Self
 
 from common.program import TOP
 from packaging.tests.running import Told, run
@@ -67,7 +66,7 @@ class Machine:
                 ["bash", "-c", enter, "bash", *words], stdin=subprocess.DEVNULL, stdout=console, stderr=console
             )
 
-    def __enter__(self) -> Machine:
+    def __enter__(self) -> Self:
         return self
 
     def __exit__(self, *_: object) -> None:

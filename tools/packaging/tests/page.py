@@ -1,6 +1,4 @@
 """The manual page: its options, ranges and defaults are those of the table, and roff does not complain."""
-from __future__ import annotations
-
 import re
 from pathlib import Path
 

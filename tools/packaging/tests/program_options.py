@@ -1,6 +1,4 @@
 """What a program says about its own options: in its --help, and by what it accepts and refuses."""
-from __future__ import annotations
-
 import re
 from dataclasses import replace
 from typing import Optional

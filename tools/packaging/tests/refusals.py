@@ -1,6 +1,4 @@
 """Bad input of the tools: each gets one clear line and a status other than 0."""
-from __future__ import annotations
-
 import os
 
 from checking.tally import Tally

@@ -1,6 +1,4 @@
 """Runs commands to their end, and counts what is as it has to be."""
-from __future__ import annotations
-
 import os
 import shutil
 import subprocess

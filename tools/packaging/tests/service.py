@@ -1,11 +1,10 @@
 """Runs of an installed service, each served, stopped in good order, or killed."""
-from __future__ import annotations
-
 import os
 import re
 import signal
 import subprocess
 import time
+from typing import Self
 
 from checking.tally import Tally
 from packaging.tests.running import PATIENCE, Told, expect
@@ -26,7 +25,7 @@ class Serving:
         while " event=serving " not in self.said and (line := self.process.stderr.readline()):
             self.said += line
 
-    def __enter__(self) -> Serving:
+    def __enter__(self) -> Self:
         return self
 
     def __exit__(self, *_: object) -> None:

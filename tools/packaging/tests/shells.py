@@ -1,6 +1,4 @@
 """The completions as the shells see them: bash is asked to complete, and zsh for what it passes to _arguments."""
-from __future__ import annotations
-
 import re
 import shlex
 

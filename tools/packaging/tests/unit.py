@@ -1,6 +1,4 @@
 """The unit and its file of options: what they name is as the service says, and systemd can read the unit."""
-from __future__ import annotations
-
 import re
 from pathlib import Path
 

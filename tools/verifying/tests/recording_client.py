@@ -1,10 +1,8 @@
 """A client that does anything a client may do, and records it as tools/verify reads it."""
-from __future__ import annotations
-
 import json
 import random
 import time
-from typing import List, TextIO
+from typing import TextIO
 
 from serving.session import Session
 
@@ -15,7 +13,7 @@ class RecordingClient:
     def __init__(self, name: str, port: int, record: TextIO, seed: str) -> None:
         self.name, self._record, self._random = name, record, random.Random(f"{seed} {name}")
         self._session = Session(port)
-        self._held: List[str] = []
+        self._held: list[str] = []
         self._last = "0"  # the id of its last offer
 
     def run(self, rounds: int) -> None:
@@ -36,7 +34,7 @@ class RecordingClient:
         self._session.send(request)
         self._session.hang_up()
 
-    def ask(self, *requests: str) -> List[str]:
+    def ask(self, *requests: str) -> list[str]:
         """Sends requests in one piece, and reads their replies. Returns the lines of the last one."""
         sent = time.monotonic_ns()
         self._session.send(*(it.encode("latin-1") for it in requests))
@@ -57,7 +55,7 @@ class RecordingClient:
             "OFFER 05 x", "nonsense \xe9", "CLEAR" if self._random.random() < 0.02 else "SIZE",
         ]))
 
-    def _learn(self, request: str, reply: List[str]) -> None:
+    def _learn(self, request: str, reply: list[str]) -> None:
         for line in reply:
             words = line.split(" ")
             if words[0] == "ITEM":
@@ -67,6 +65,6 @@ class RecordingClient:
             elif words[0] in ("DONE", "AGAIN", "DEAD"):
                 self._held.remove(request.split(" ")[1])
 
-    def _note(self, sent: int, received: object, request: str, reply: List[str]) -> None:
+    def _note(self, sent: int, received: object, request: str, reply: list[str]) -> None:
         told = {"session": self.name, "sent": sent, "received": received, "request": request, "reply": reply}
         self._record.write(json.dumps(told) + "\n")

@@ -3,11 +3,9 @@
 Each call takes effect at one moment, between the moments at which its request was sent and its reply had come. So the
 history keeps the order of real time by the way in which it is made.
 """
-from __future__ import annotations
-
 import heapq
 import random
-from typing import Dict, List, Optional, Tuple
+from typing import Optional
 
 from histories.history import Element
 from verifying.tests.support import Line
@@ -26,8 +24,8 @@ class Client:
 
     def __init__(self, name: str, seat: int) -> None:
         self.name, self.seat = name, seat
-        self.held: List[Element] = []
-        self.lines: List[Line] = []
+        self.held: list[Element] = []
+        self.lines: list[Line] = []
         self.last = 0  # the moment of its last request
 
     def note(self, at: int, request: str, *reply: str) -> None:
@@ -48,10 +46,10 @@ class Simulation:
         """A session makes at most `longest` requests. With `kills` clients that hold a job are killed."""
         random.seed(seed)
         self._kills = kills
-        self.events: List[str] = []
-        self.lines: List[Line] = []
-        self._queue: List[Tuple[int, int]] = []
-        self._elements: Dict[int, Element] = {}
+        self.events: list[str] = []
+        self.lines: list[Line] = []
+        self._queue: list[tuple[int, int]] = []
+        self._elements: dict[int, Element] = {}
         self._next_id = self._at = self._sessions = 0
         self._longest = longest
         self._clients = [self._client(seat + 1) for seat in range(seats)]

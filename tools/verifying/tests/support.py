@@ -1,11 +1,9 @@
 """What several tests need: runs as files, and the tool as a command."""
-from __future__ import annotations
-
 import io
 import json
 import re
 import subprocess
-from typing import Any, Dict, List, Tuple, Union
+from typing import Any, Union
 
 from checking.testing import RoomTest, run_tool
 from histories.tests.support import text_of
@@ -13,7 +11,7 @@ from verifying.history import History
 from verifying.judge import judge
 from verifying.record import read_record
 
-Line = Dict[str, Any]
+Line = dict[str, Any]
 
 # Two seats, three sessions: `a` and then `c` at seat 1, `b` at seat 2. The moments of the server are those of the
 # clients' clock, less 1,000. `a` leaves with a job that comes back, `b` dies with a TAKE that is carried out.
@@ -39,7 +37,7 @@ def line(session: str, sent: int, received: int, request: str, *reply: str) -> L
     return {"session": session, **times, "request": request, "reply": list(reply)}
 
 
-def lines(number: int = 0, **changes: object) -> List[Line]:
+def lines(number: int = 0, **changes: object) -> list[Line]:
     """The record of the three sessions, of which one line is changed."""
     record = [
         line("a", 5, 12, "OFFER 0 x", "OFFERED 0 10"),
@@ -61,7 +59,7 @@ def lines(number: int = 0, **changes: object) -> List[Line]:
     return record
 
 
-def record_of(record: List[Line]) -> str:
+def record_of(record: list[Line]) -> str:
     return "".join(f"{json.dumps(it)}\n" for it in record)
 
 
@@ -74,8 +72,8 @@ class RunTest(RoomTest):
         return run_tool("verify", *words)
 
     def judged(
-        self, events: Union[str, List[str]], record: List[Line], is_whole: bool = True
-    ) -> Tuple[Dict[str, int], List[str]]:
+        self, events: Union[str, list[str]], record: list[Line], is_whole: bool = True
+    ) -> tuple[dict[str, int], list[str]]:
         """The number of faults of each kind that has any, and the lines of the faults. The history is that of these
         events, or a whole text."""
         text, history = events if isinstance(events, str) else text_of(*events), History()
@@ -91,7 +89,7 @@ class RunTest(RoomTest):
         return {kind: count for kind, count in counts.items() if count}, faults
 
     def expect_none(
-        self, events: Union[str, List[str]], record: List[Line], is_whole: bool = True, about: object = None
+        self, events: Union[str, list[str]], record: list[Line], is_whole: bool = True, about: object = None
     ) -> None:
         """Expects no fault."""
         self.assertEqual(self.judged(events, record, is_whole), ({}, []), about)

@@ -1,7 +1,5 @@
 """A run that was written by hand, as it must be and changed: what the changes are called, and where."""
-from __future__ import annotations
-
-from typing import Dict, List, Optional, Union
+from typing import Optional, Union
 
 from histories.tests.support import text_of
 from verifying.tests.support import EVENTS, Line, RunTest, line, lines, record_of
@@ -9,8 +7,8 @@ from verifying.tests.support import EVENTS, Line, RunTest, line, lines, record_o
 
 class HandMadeTest(RunTest):
     def expect(
-        self, kind: str, says: str, events: Union[str, List[str]] = EVENTS, record: Optional[List[Line]] = None,
-        counts: Optional[Dict[str, int]] = None,
+        self, kind: str, says: str, events: Union[str, list[str]] = EVENTS, record: Optional[list[Line]] = None,
+        counts: Optional[dict[str, int]] = None,
     ) -> None:
         """Expects one fault of this kind and no other, whose line ends with these words."""
         found = self.judged(events, record or lines())
@@ -103,7 +101,7 @@ class HandMadeTest(RunTest):
                     counts={"strange": 2, "unrecorded": 1})
 
     def test_two_calls_of_a_session_exchanged(self) -> None:
-        def exchanged(one: int, other: int) -> List[Line]:
+        def exchanged(one: int, other: int) -> list[Line]:
             record = lines()
             for key in ("request", "reply"):
                 record[one][key], record[other][key] = record[other][key], record[one][key]

@@ -1,6 +1,4 @@
 """tools/verify as a command: its exit statuses, and what it says about bad input."""
-from __future__ import annotations
-
 import json
 import os
 import subprocess

@@ -3,9 +3,6 @@
 The run is one of the program, with its moments made short: what a server did to such a client and another one. The
 wrong runs beside it are what no server may do to them.
 """
-from __future__ import annotations
-
-from typing import Dict, List
 
 from histories.tests.support import text_of
 from verifying.tests.support import Line, RunTest, line, record_of
@@ -33,7 +30,7 @@ TWO_HELD = [
 ]
 
 
-def lines() -> List[Line]:
+def lines() -> list[Line]:
     """The records of both."""
     return [
         line("other", 5, 12, "OFFER 0 x", "OFFERED 0 10"),
@@ -44,7 +41,7 @@ def lines() -> List[Line]:
     ]
 
 
-def held_two() -> List[Line]:
+def held_two() -> list[Line]:
     """The record of the client of TWO_HELD."""
     return [
         line("a", 0, 1, "OFFER 0 x", "OFFERED 0 1"), line("a", 1, 2, "OFFER 0 y", "OFFERED 1 2"),
@@ -53,12 +50,12 @@ def held_two() -> List[Line]:
 
 
 class KilledTest(RunTest):
-    def found(self, events: List[str], *more: Line, is_whole: bool = False, record: List[Line] | None = None
-              ) -> Dict[str, int]:
+    def found(self, events: list[str], *more: Line, is_whole: bool = False, record: list[Line] | None = None
+              ) -> dict[str, int]:
         record = lines() if record is None else record
         return self.judged(events, [*record, *more], is_whole)[0]
 
-    def without(self, event: str) -> List[str]:
+    def without(self, event: str) -> list[str]:
         return [it for it in EVENTS if it != event]
 
     def test_the_run_as_it_was(self) -> None:

@@ -1,6 +1,4 @@
 """The time and the memory that a large run takes."""
-from __future__ import annotations
-
 import os
 import subprocess
 

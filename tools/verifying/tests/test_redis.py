@@ -1,9 +1,6 @@
 """Runs of a queue on Redis: sessions that a lease ends, and one name over several queues."""
-from __future__ import annotations
-
 import os
 import re
-from typing import Dict, List
 
 from histories.tests.support import text_of
 from verifying.tests.support import Line, RunTest, line, record_of
@@ -20,7 +17,7 @@ LEASE_EVENTS = [
 class LeaseTest(RunTest):
     has_leases = True
 
-    def found(self, *more: Line, events: List[str] = LEASE_EVENTS) -> Dict[str, int]:
+    def found(self, *more: Line, events: list[str] = LEASE_EVENTS) -> dict[str, int]:
         record = [line("a", 5, 12, "OFFER 0 x", "OFFERED 0 10"), line("a", 48, 52, "TAKE", "ITEM 1 45 2 x"),
                   line("b", 15, 22, "TAKE", "ITEM 0 10 1 x")]
         return self.judged(events, [*record, *more], is_whole=False)[0]
@@ -72,7 +69,7 @@ SECOND = [
 ]
 
 
-def lines() -> List[Line]:
+def lines() -> list[Line]:
     return [
         line("a", 1, 15, "OFFER 0 x", "OFFERED 0 10"), line("a", 2, 15, "OFFER 0 y", "OFFERED 64 11"),
         line("a", 3, 15, "OFFER 0 z", "OFFERED 1 12"), line("a", 4, 16, "OFFERAT 13 v", "OFFERED 65 13"),
@@ -87,8 +84,8 @@ def lines() -> List[Line]:
 
 
 class ShardsTest(RunTest):
-    def found(self, record: List[Line], first: List[str] = FIRST, second: List[str] = SECOND, *more: str
-              ) -> Dict[str, int]:
+    def found(self, record: list[Line], first: list[str] = FIRST, second: list[str] = SECOND, *more: str
+              ) -> dict[str, int]:
         histories = [self.file(f"jobs.{queue}-000000000000.txt", text_of(*events))
                      for queue, events in enumerate((first, second))]
         ran = self.verify(*histories, self.file("record.jsonl", record_of(record)), "--shards", "2", *more)
@@ -97,7 +94,7 @@ class ShardsTest(RunTest):
         self.assertEqual(ran.returncode, int(any(counts.values())), ran.stdout)
         return {kind: count for kind, count in counts.items() if count}
 
-    def with_reply(self, request: str, *reply: str) -> List[Line]:
+    def with_reply(self, request: str, *reply: str) -> list[Line]:
         """The record with another reply to this request."""
         return [{**it, "reply": list(reply)} if it["request"] == request else it for it in lines()]
 

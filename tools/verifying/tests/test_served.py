@@ -1,12 +1,9 @@
 """Runs of the program: clients that do anything, and clients of tools/load, over each timer."""
-from __future__ import annotations
-
 import io
 import os
 import subprocess
 import threading
 import time
-from typing import List
 
 import verifying.tests  # noqa: F401  # which says where the client package is
 from checking.testing import run_tool, tool
@@ -25,7 +22,7 @@ class ServedTest(RunTest, ServingTest):
         """A server with this timer, which writes run.txt."""
         return self.serve("--timer", timer, "--history", self.path("run.txt"), *options)
 
-    def expect_no_fault(self, server: Server, *records: str) -> List[str]:
+    def expect_no_fault(self, server: Server, *records: str) -> list[str]:
         """Expects that the run has ended well and has no fault. Returns what was printed."""
         self.assertEqual(server.end()[0], 0)
         ran = self.verify(f"{self.room}/run.txt", *records, "--all")

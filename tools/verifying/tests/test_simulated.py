@@ -1,9 +1,7 @@
 """Simulated runs, as they are and changed at random places. Each change must be found, by its name."""
-from __future__ import annotations
-
 import random
 import subprocess
-from typing import Dict, List, Sequence, Set, Tuple
+from typing import Sequence
 
 from common.program import tested_program
 from histories.tests.support import text_of
@@ -27,11 +25,11 @@ class SimulatedTest(RunTest):
     def simulated(self, seed: int, longest: int = 40, kills: bool = False) -> Simulation:
         return Simulation(seed, events=300, seats=4, longest=longest, kills=kills)
 
-    def named_lines(self, run: Simulation, keywords: Sequence[str] = NAMED) -> List[int]:
+    def named_lines(self, run: Simulation, keywords: Sequence[str] = NAMED) -> list[int]:
         """The numbers of the lines whose replies begin with such a word."""
         return [number for number, it in enumerate(run.lines) if keyword(it) in keywords]
 
-    def found(self, run: Simulation) -> Tuple[Dict[str, int], List[str]]:
+    def found(self, run: Simulation) -> tuple[dict[str, int], list[str]]:
         """The faults of a run that was changed, by kind and in words."""
         return self.judged(run.events, run.lines)
 
@@ -174,7 +172,7 @@ class SimulatedTest(RunTest):
 
     def test_all_kinds_of_replies_are_there(self) -> None:
         """The simulated runs have every reply but those that only a full run or want of memory brings."""
-        seen: Set[str] = set()
+        seen: set[str] = set()
         for seed in SEEDS:
             seen |= {keyword(it) for it in self.simulated(seed).lines}
         self.assertEqual(seen, {
