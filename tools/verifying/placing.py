@@ -38,49 +38,31 @@ def _claim(calls: Calls, session: Session) -> None:
 
 
 def _place(calls: Calls, session: Session) -> bool:
-    """Places a session's calls by those whose events are known, if there are any."""
-    seats, events = calls.history.seats, calls.events
-    count = Counter(seats[events[it]] for it in session.calls if events[it] >= 0)
-    if not count:
+    """Places a session's calls by those whose events are known, if there are any. Of these, one at another seat than
+    most, or out of order, is told and left out."""
+    history, events = calls.history, calls.events
+    known = [it for it in session.calls if events[it] >= 0]
+    if not known:
         return False
-    session.seat = count.most_common(1)[0][0]
-    Alignment(calls, session).align(_in_order(calls, _at_one_seat(calls, session, len(count))))
+    seat = session.seat = Counter(history.seats[events[it]] for it in known).most_common(1)[0][0]
+    rising = set(longest_rise([events[it] for it in known if history.seats[events[it]] == seat]))
+    astray, last = set(), NONE
+    for call in known if len(rising) < len(known) else ():
+        event = events[call]
+        if event in rising:
+            last = event
+            continue
+        astray.add(call)
+        calls.astray.add(event)
+        told = history.told(event)
+        if history.seats[event] != seat:
+            name = history.seat_names[seat]
+            calls.tell("seat", call, f"{told}, and the session's other calls stand at seat {name}")
+        else:
+            before = "" if last == NONE else f", event {last}"
+            calls.tell("order", call, f"{told} does not follow that of the request before{before}")
+    Alignment(calls, session).align([it for it in session.calls if it not in astray] if astray else session.calls)
     return True
-
-
-def _at_one_seat(calls: Calls, session: Session, seats: int) -> Sequence[int]:
-    """A session's calls, without those that stand at another one of so many seats than most."""
-    if seats == 1:
-        return session.calls
-    history, stays = calls.history, []
-    for call in session.calls:
-        event = calls.events[call]
-        if event < 0 or history.seats[event] == session.seat:
-            stays.append(call)
-            continue
-        name = history.seat_names[session.seat or 0]
-        calls.tell("seat", call, f"{history.told(event)}, and the session's other calls stand at seat {name}")
-        calls.astray.add(event)
-    return stays
-
-
-def _in_order(calls: Calls, some: Sequence[int]) -> Sequence[int]:
-    """The calls without those that are out of order."""
-    known = [event for event in (calls.events[it] for it in some) if event >= 0]
-    rising = set(longest_rise(known))
-    if len(rising) == len(known):
-        return some
-    stays, last = [], NONE
-    for call in some:
-        event = calls.events[call]
-        if event < 0 or event in rising:
-            stays.append(call)
-            last = max(last, event)
-            continue
-        before = "" if last == NONE else f", event {last}"
-        calls.tell("order", call, f"{calls.history.told(event)} does not follow that of the request before{before}")
-        calls.astray.add(event)
-    return stays
 
 
 class Alignment:

@@ -1,18 +1,15 @@
 """The reading of a case file, by the table of crates/rb_cases/src/case.rt."""
-import tempfile
-import unittest
+from pathlib import Path
 
+from checking.testing import RoomTest
 from conforming.cases import Malformed, read_cases
 
 
-class CaseReaderTest(unittest.TestCase):
+class CaseReaderTest(RoomTest):
     def read(self, text: str | bytes):
         """The cases of a file with this text."""
-        with tempfile.TemporaryDirectory() as room:
-            path = f"{room}/a.case"
-            with open(path, "wb") as it:
-                it.write(text if isinstance(text, bytes) else text.encode())
-            return read_cases(path)
+        Path(self.path("a.case")).write_bytes(text if isinstance(text, bytes) else text.encode())
+        return read_cases(self.path("a.case"))
 
     def test_the_texts_of_a_case(self):
         (case,) = self.read(
