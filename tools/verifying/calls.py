@@ -2,7 +2,7 @@
 from __future__ import annotations
 
 from array import array
-from typing import Dict, List, NamedTuple, Optional, Set, Tuple
+from typing import Dict, List, Optional, Set, Tuple
 
 from verifying.account import Account, Expected, Rules, Strange
 from verifying.faults import Faults
@@ -13,21 +13,13 @@ from verifying.record import GREATEST_TIME, Exchange
 NEVER = GREATEST_TIME
 
 
-class Unanswered(NamedTuple):
-    """A request without a reply. It may have been carried out."""
-
-    line: int
-    sent: int
-    request: str
-
-
 class Session:
     """One connection: its calls, in the order of its requests."""
 
     def __init__(self, index: int, name: str, path: str, account: Account) -> None:
         self.index, self.name, self.path, self.account = index, name, path, account
         self.calls = array("I")
-        self.unanswered: List[Unanswered] = []
+        self.unanswered: List[Exchange] = []  # which may have been carried out
         self.seat: Optional[int] = None  # the index of the seat at which its calls stand, once that is known
         self.end = 0  # the place in the seat's row behind its last call
 
@@ -67,7 +59,7 @@ class Calls:
             self._by_name[path, exchange.session] = session
             self.sessions.append(session)
         if exchange.received is None:
-            session.unanswered.append(Unanswered(exchange.line, exchange.sent, exchange.request))
+            session.unanswered.append(exchange)
             return
         try:
             expected = session.account.expected(exchange.request, exchange.reply)

@@ -81,10 +81,17 @@ class Ending:
         return False
 
     def _may_answer(self, asked: List[str], event: int, act: List[str]) -> bool:
-        """Whether an event may be that of a request."""
-        if asked[0] == "FAIL":
+        """Whether an event, which is this act, may be that of a request."""
+        keyword = asked[0]
+        if keyword == "FAIL":
             return len(asked) == 2 and asked[1].isdecimal() and self._history.returns[int(asked[1])] == event
-        return may_answer(asked, act)
+        if keyword in ("OFFER", "OFFERAT"):
+            return act[0] == "offer" and len(asked) == 3 and act[-2:] == ["1", asked[2]]
+        if keyword == "REMOVE":
+            return act[:2] == ["remove", *asked[1:2]]
+        if keyword == "POLLFOR":
+            return act[0] == "pollfor" and act[2:3] == asked[1:2]
+        return act[0] == keyword.lower() and keyword in ("TAKE", "POLL", "PEEK", "DRAIN", "CLEAR", "SIZE")
 
     def _comes_back(self, id: int) -> bool:
         """Whether a job that was given came back, which then has to be at the end."""
@@ -125,15 +132,3 @@ class Ending:
         if element is not None and any(it.last_attempt == element.attempt for it in accounts):
             return True
         return any(it.was_full for it in accounts) and self._history.last_beside(event) in (event, *self._returns)
-
-
-def may_answer(asked: List[str], act: List[str]) -> bool:
-    """Whether the event of this act may be that of a request other than a FAIL."""
-    keyword = asked[0]
-    if keyword in ("OFFER", "OFFERAT"):
-        return act[0] == "offer" and len(asked) == 3 and act[-2:] == ["1", asked[2]]
-    if keyword == "REMOVE":
-        return act[:2] == ["remove", *asked[1:2]]
-    if keyword == "POLLFOR":
-        return act[0] == "pollfor" and act[2:3] == asked[1:2]
-    return act[0] == keyword.lower() and keyword in ("TAKE", "POLL", "PEEK", "DRAIN", "CLEAR", "SIZE")

@@ -1,9 +1,11 @@
 """A systemd of its own, in namespaces over this machine's files, to run the units of a package."""
 import glob
 import os
+import re
 import shutil
 import subprocess
 import time
+from pathlib import Path
 from typing import Self
 
 from common.program import TOP
@@ -21,9 +23,8 @@ SET_DATE, OFFSET = "/set_date.so", "/run/date_offset"  # files of it
 
 def own_cgroup() -> str:
     """The folder of this process's cgroup, of the second version, or nothing."""
-    with open("/proc/mounts", encoding="utf-8") as mounts, open("/proc/self/cgroup", encoding="utf-8") as own:
-        folders = [it.split()[1] for it in mounts if it.split()[2] == "cgroup2"]
-        places = [it.strip()[3:] for it in own if it.startswith("0::")]
+    folders = re.findall(r"^\S+ (\S+) cgroup2 ", Path("/proc/mounts").read_text(), re.M)
+    places = re.findall(r"^0::(.*)$", Path("/proc/self/cgroup").read_text(), re.M)
     return f"{folders[0]}{places[0]}".rstrip("/") if folders and places else ""
 
 
@@ -87,13 +88,11 @@ class Machine:
 
     def console(self) -> str:
         """What was said before systemd had its journal."""
-        with open(f"{self.folder}/console", encoding="utf-8", errors="replace") as it:
-            return it.read().strip()
+        return Path(self.folder, "console").read_text(encoding="utf-8", errors="replace").strip()
 
     def run(self, *words: str) -> Told:
         """Runs a command in it."""
-        with open(f"/proc/{self.process.pid}/task/{self.process.pid}/children", encoding="ascii") as it:
-            children = it.read().split()
+        children = Path(f"/proc/{self.process.pid}/task/{self.process.pid}/children").read_text().split()
         if not children:
             return Told(-1, "", "nothing runs in it\n")
         enter = ["nsenter", "--target", children[0], "--mount", "--pid", "--uts", "--ipc", "--cgroup", "--root", "--wd"]

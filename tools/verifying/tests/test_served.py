@@ -4,6 +4,7 @@ import os
 import subprocess
 import threading
 import time
+from concurrent.futures import ThreadPoolExecutor
 
 import verifying.tests  # noqa: F401  # which says where the client package is
 from checking.testing import run_tool, tool
@@ -34,21 +35,18 @@ class ServedTest(RunTest, ServingTest):
             with self.subTest(timer=timer):
                 server = self.serve_over(timer, "--workers", WORKERS, "--sessions", SESSIONS, "--calls", 100_000,
                                          "--turns", 2, "--delay", 100_000, "--attempts", 4)
-                records = [io.StringIO() for _ in range(WORKERS)]
-                threads = [threading.Thread(target=self._visit, args=(server.port, number, it, timer))
-                           for number, it in enumerate(records)]
-                for thread in threads:
-                    thread.start()
-                for thread in threads:
-                    thread.join()
-                paths = [self.file(f"{number}.jsonl", it.getvalue()) for number, it in enumerate(records)]
-                lines = self.expect_no_fault(server, *paths)
+                with ThreadPoolExecutor(WORKERS) as pool:
+                    records = pool.map(lambda number: self.record_of_visits(server.port, number, timer), range(WORKERS))
+                lines = self.expect_no_fault(server, *records)
                 says = rf"^[\d,]+ events at {WORKERS} seats; [\d,]+ requests of {SESSIONS} sessions$"
                 self.assertRegex(lines[0], says)
 
-    def _visit(self, port: int, number: int, record: io.StringIO, timer: str) -> None:
+    def record_of_visits(self, port: int, number: int, timer: str) -> str:
+        """The path of the record of clients that visit a server one after the other."""
+        record = io.StringIO()
         for visit in range(SESSIONS // WORKERS):
             RecordingClient(f"{number}-{visit}", port, record, timer).run(ROUNDS)
+        return self.file(f"{number}.jsonl", record.getvalue())
 
     def test_clients_of_the_load(self) -> None:
         for timer in TIMERS:
