@@ -79,7 +79,9 @@ OF_SCRIPTS: dict[str, Callable[[str], object]] = {
     "writer takes": number_of,
     "recorder fails": number_of,
 }
-ONCE = {"args": str, "ends": ending, "verdict": str, "status": lambda told: number_of(told, 255), **OF_SCRIPTS}
+ONCE: dict[str, Callable[[str], object]] = {
+    "args": str, "ends": ending, "verdict": str, "status": lambda told: number_of(told, 255), **OF_SCRIPTS,
+}
 
 
 @dataclass
