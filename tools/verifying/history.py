@@ -170,9 +170,12 @@ class History:
     def _add(self, line: Match[bytes], number: int) -> None:
         """Adds the event of the line of this number."""
         event = len(self)
-        seat = self._seat_indexes.get(line[1])
-        if seat is None:
-            seat = self._new_seat(line[1], number)
+        seat = self._seat_indexes.setdefault(line[1], len(self.rows))
+        if seat == MOST_SEATS:
+            raise Damaged(number, f"a seat more than {MOST_SEATS:,}")
+        if seat == len(self.rows):
+            self.seat_names.append(int(line[1]))
+            self.rows.append(array("I"))
         self.seats.append(seat)
         if self._shard is not None and IN_VAIN.fullmatch(line.string):
             self.places.append(NOWHERE)
@@ -193,14 +196,6 @@ class History:
                 self.exits[self._id(id, number)] = event
         elif act == "remove" and line["remove"] == b"yes":
             self.exits[self._id(line["removed"], number)] = event
-
-    def _new_seat(self, name: bytes, number: int) -> int:
-        index = self._seat_indexes[name] = len(self.rows)
-        if index == MOST_SEATS:
-            raise Damaged(number, f"a seat more than {MOST_SEATS:,}")
-        self.seat_names.append(int(name))
-        self.rows.append(array("I"))
-        return index
 
     def _offer(self, event: int, line: Match[bytes], number: int) -> None:
         id, origin = self._id(line[4], number, self._first), int(line[6])

@@ -3,7 +3,7 @@ import io
 import json
 import re
 import subprocess
-from typing import Any, Union
+from typing import Any, Optional, Union
 
 from checking.testing import RoomTest, run_tool
 from histories.tests.support import text_of
@@ -63,6 +63,13 @@ def record_of(record: list[Line]) -> str:
     return "".join(f"{json.dumps(it)}\n" for it in record)
 
 
+def history_of(events: Union[str, list[str]], shard: Optional[int] = None) -> History:
+    """The history of these events, or of a whole text."""
+    history = History(shard)
+    history.read(io.BytesIO((events if isinstance(events, str) else text_of(*events)).encode()))
+    return history
+
+
 class RunTest(RoomTest):
     """A test of runs that are files in its folder, or events and lines of records."""
 
@@ -74,12 +81,15 @@ class RunTest(RoomTest):
     def judged(
         self, events: Union[str, list[str]], record: list[Line], is_whole: bool = True
     ) -> tuple[dict[str, int], list[str]]:
-        """The number of faults of each kind that has any, and the lines of the faults. The history is that of these
-        events, or a whole text."""
-        text, history = events if isinstance(events, str) else text_of(*events), History()
-        history.read(io.BytesIO(text.encode()))
+        """The number of faults of each kind that has any, and the lines of the faults."""
+        return self.judged_by([history_of(events)], record, is_whole)
+
+    def judged_by(
+        self, histories: list[History], record: list[Line], is_whole: bool
+    ) -> tuple[dict[str, int], list[str]]:
+        """The same, of one history or of those of several queues."""
         exchanges = (("record.jsonl", it) for it in read_record(io.BytesIO(record_of(record).encode())))
-        lines = judge([history], exchanges, 10, is_whole, self.has_leases).lines(is_whole)
+        lines = judge(histories, exchanges, 10, is_whole, self.has_leases).lines(is_whole)
         told = re.findall(r"^(\w+): +([\d,]+) faults?:", "\n".join(lines), re.M)
         counts = {kind: int(count.replace(",", "")) for kind, count in told}
         self.assertEqual(counts.keys() - {"unrecorded"}, {

@@ -1,9 +1,8 @@
 """Runs of a queue on Redis: sessions that a lease ends, and one name over several queues."""
 import os
-import re
 
 from histories.tests.support import text_of
-from verifying.tests.support import Line, RunTest, line, record_of
+from verifying.tests.support import Line, RunTest, history_of, line, record_of
 
 # The session `a` offers x, `b` takes it at seat 2 and is ended; `a` has it next.
 LEASE_EVENTS = [
@@ -84,23 +83,22 @@ def lines() -> list[Line]:
 
 
 class ShardsTest(RunTest):
-    def found(self, record: list[Line], first: list[str] = FIRST, second: list[str] = SECOND, *more: str
-              ) -> dict[str, int]:
-        histories = [self.file(f"jobs.{queue}-000000000000.txt", text_of(*events))
-                     for queue, events in enumerate((first, second))]
-        ran = self.verify(*histories, self.file("record.jsonl", record_of(record)), "--shards", "2", *more)
-        self.assertIn(ran.returncode, (0, 1), ran.stderr)
-        counts = {kind: int(count) for kind, count in re.findall(r"^(\w+): +(\d+) faults?: ", ran.stdout, re.M)}
-        self.assertEqual(ran.returncode, int(any(counts.values())), ran.stdout)
-        return {kind: count for kind, count in counts.items() if count}
+    def found(
+        self, record: list[Line], first: list[str] = FIRST, second: list[str] = SECOND, is_whole: bool = False
+    ) -> dict[str, int]:
+        return self.judged_by([history_of(first, 0), history_of(second, 1)], record, is_whole)[0]
 
     def with_reply(self, request: str, *reply: str) -> list[Line]:
         """The record with another reply to this request."""
         return [{**it, "reply": list(reply)} if it["request"] == request else it for it in lines()]
 
     def test_the_run_as_it_was(self) -> None:
-        self.assertEqual(self.found(lines()), {})
-        self.assertEqual(self.found(lines(), FIRST, SECOND, "--all"), {})
+        histories = [self.file(f"jobs.{queue}-000000000000.txt", text_of(*events))
+                     for queue, events in enumerate((FIRST, SECOND))]
+        record = self.file("record.jsonl", record_of(lines()))
+        for more in ((), ("--all",)):
+            ran = self.verify(*histories, record, "--shards", "2", *more)
+            self.assertEqual((ran.returncode, ran.stdout.splitlines()[-1]), (0, "0 faults"), ran.stderr)
 
     def test_offers_without_a_reply(self) -> None:
         """Nobody knows at which queue it was carried out."""
@@ -138,7 +136,7 @@ class ShardsTest(RunTest):
     def test_events_that_no_reply_tells(self) -> None:
         self.assertEqual(self.found(lines(), FIRST, [*SECOND[:4], "9 35 35 remove 1 no", *SECOND[4:]]), {})
         self.assertEqual(self.found(lines(), FIRST, [*SECOND[:3], "9 30 30 remove 1 no", *SECOND[3:]]), {"gap": 1})
-        self.assertEqual(self.found(lines(), [*FIRST[:5], "3 50 50 take 2", *FIRST[5:]], SECOND, "--all"),
+        self.assertEqual(self.found(lines(), [*FIRST[:5], "3 50 50 take 2", *FIRST[5:]], SECOND, True),
                          {"unrecorded": 1})
         swapped = [*SECOND[:-2], SECOND[-1].replace("3 87", "2 86"), SECOND[-2].replace("2 86", "3 87")]
         left = [*lines(), line("b", 78, 79, "QUIT", "BYE")]
