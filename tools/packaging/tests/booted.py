@@ -194,12 +194,14 @@ def try_dates(service: Service) -> None:
         machine.set_date(hours * 3600)
         time.sleep(2)  # in which it would be seen that the run is old
         told = machine.run("systemctl", "restart", service.name)
+        served = time.monotonic() - offered  # which a busy machine may not be in time
         early, reply, passed = taken_reminder(service, offered)
         journal = service.journal()
         date = datetime.fromisoformat(re.findall(r"^time=(\S+)Z ", journal, re.M)[-1]).replace(tzinfo=timezone.utc)
         is_set = abs(date.timestamp() - time.time() - hours * 3600) < 60
-        is_right = (told.status == 0 and is_set and not early.endswith(" reminder") and reply.endswith(" reminder")
-                    and DUE <= passed < DUE + 5 and " why=time" not in journal and " event=lost-run " not in journal)
+        is_due = DUE <= passed < max(DUE, served) + 5 and not early.endswith(" reminder")
+        is_right = (told.status == 0 and is_set and is_due and reply.endswith(" reminder")
+                    and " why=time" not in journal and " event=lost-run " not in journal)
         service.expect(f"a date that is set by {hours} h under systemd", is_right,
                        told, date, early, reply, passed, journal)
     service.stop()
