@@ -16,8 +16,8 @@ class Noted(NamedTuple):
 
 
 def notes_in(path: Path) -> Iterator[Noted]:
-    """The lines of Java's HostileWorker: `took`, and then `done`, `failed`, `late` since the session had ended, `doubt`
-    where the connection broke before the reply, or `lost`. One that was cut off by a kill is none."""
+    """The lines of Java's HostileWorker: `took`, and then `done`, `failed`, `back`, `doubt` or `gone`. One that was cut
+    off by a kill is none."""
     for line in path.read_text().splitlines():
         words = line.split(" ")
         if len(words) == 3:
@@ -25,7 +25,7 @@ def notes_in(path: Path) -> Iterator[Noted]:
 
 
 def notes_in_record(path: Path) -> Iterator[Noted]:
-    """What the record of another worker says, in the same words."""
+    """What the record of another worker says, in such words, and `late` where the session had ended."""
     jobs: dict[tuple[str, str], tuple[str, int]] = {}
     for line in path.read_text().splitlines():
         told = json.loads(line)

@@ -8,10 +8,9 @@ from typing import List, Optional, Sequence
 from unittest import mock
 
 from rb_broker_redis import cuts
-from rb_broker_redis.archive import Archive
+from rb_broker_redis.archive import Archive, Conflict, Position
 from rb_broker_redis.archive_folder import UNFINISHED, ArchiveFolder, FolderInUse
 from rb_broker_redis.history import Damaged, FollowedQueue, read_text
-from rb_broker_redis.queue_events import Conflict, Position
 from redis_test import RoomTest
 
 # A job that fails once, and one that stays.

@@ -162,7 +162,7 @@ class QueueTest(LoadTest):
     def test_nobody_is_served_before_all_is_there(self) -> None:
         queue = self.queue()
         left = Left.of([read_text(self.history)], [0])
-        with mock.patch("rb_broker_redis.load.CHUNK", 2), self.broken_off(queue, calls=2), self.assertRaises(OSError):
+        with mock.patch("rb_broker_redis.queue.CHUNK", 2), self.broken_off(queue, calls=2), self.assertRaises(OSError):
             load(queue, left)
         with self.assertRaisesRegex(Exception, "^LOADING_QUEUE "):
             self.joined()

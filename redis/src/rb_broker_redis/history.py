@@ -37,7 +37,6 @@ _EARLIER_ELEMENT = re.compile(rb"((?:%b %b %b offer|keep) %b (%b) (%b)) ([1-9][0
     (_NUMBER,) * 6))
 _KEEP = re.compile(rb"keep (%b)\n" % _ELEMENT)
 _OPEN = re.compile(rb"open (%b) (%b) (%b)\n" % (_NUMBER, _NUMBER, _NUMBER))
-_END = re.compile(rb"end (%b)\n" % _NUMBER)
 
 
 class Damaged(Failed):
@@ -186,18 +185,14 @@ class _Reader:
         for count in range(MOST_EVENTS + 1):
             line = self._line()
             if line.startswith(b"end "):
-                self._end(line, count)
+                if line != b"end %d\n" % count:
+                    raise Damaged(f"the number of events is {count}")
+                if self._file.readline(LONGEST_LINE):
+                    self.number += 1
+                    raise Damaged("it stands behind the last line")
                 return Run(opened_at, queue)
             queue.follow(line[:-1])
         raise Damaged(f"an event behind {MOST_EVENTS:,} others")
-
-    def _end(self, line: bytes, count: int) -> None:
-        match = _END.fullmatch(line)
-        if match is None or int(match[1]) != count:
-            raise Damaged(f"the number of events is {count}")
-        if self._file.readline(LONGEST_LINE):
-            self.number += 1
-            raise Damaged("it stands behind the last line")
 
     def _line(self) -> bytes:
         self.number += 1

@@ -1,7 +1,7 @@
 """One queue of a Redis, for the commands: each call waits for its reply. The gateway has a way of its own (`link`)."""
 from __future__ import annotations
 
-from typing import Any, Union
+from typing import Any, Sequence, Union
 
 import redis
 from redis.cluster import ClusterNode, RedisCluster
@@ -14,6 +14,7 @@ from .keys import channel_of, keys_of
 COMMANDS_SEAT = 0
 """The seat of the commands: no session of a gateway has it."""
 
+CHUNK = 1_000  # elements that are loaded in one step
 
 Client = Union["redis.Redis[bytes]", RedisCluster]
 
@@ -63,6 +64,14 @@ class Queue:
     def call(self, function: str, *args: bytes | str | int) -> Any:
         """Calls one function with the queue's keys and these arguments."""
         return self.command("FCALL", function, len(self.keys), *self.keys, *args)
+
+    def load(self, token: str, lines: Sequence[str], next_id: int, last: int) -> None:
+        """Gives the queue, which nobody has used, the elements of these `keep` lines, the next id, and the moment of its
+        last event. Goes on where another load of this token was broken off."""
+        there = int(self.call("rb_load", token, 0))
+        while there < len(lines):
+            there = int(self.call("rb_load", token, there, *lines[there:there + CHUNK]))
+        self.call("rb_loaded", token, next_id, last)
 
     def request(self, line: str, seat: int = COMMANDS_SEAT) -> str:
         """Makes one call of `rb_calls` by the node's time. The reply is without its last line feed."""

@@ -76,9 +76,7 @@ def begin(queue: Queue, opening: FollowedQueue, asked: argparse.Namespace) -> No
     queue.load_functions()
     if opening.next_id or opening.last:
         _, *kept = opening.opening()
-        for start in range(0, len(kept) + 1, CHUNK):
-            queue.call("rb_load", queue.name, start, *(line.decode()[:-1] for line in kept[start:start + CHUNK]))
-        queue.call("rb_loaded", queue.name, opening.next_id, opening.last)
+        queue.load(queue.name, [line.decode()[:-1] for line in kept], opening.next_id, opening.last)
     queue.call("rb_join", LEASE, *policy_in(asked), f"limit {asked.calls}")
 
 

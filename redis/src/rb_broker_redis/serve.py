@@ -50,9 +50,7 @@ def add_to(commands: "argparse._SubParsersAction[Parser]") -> None:
 
 def run(asked: argparse.Namespace) -> int:
     """Serves until SIGTERM or SIGINT. Returns the exit status."""
-    fault = fault_of(asked)
-    if fault:
-        asked.parser.error(fault)
+    check(asked)
     logging.basicConfig(level=logging.WARNING, format="%(asctime)s %(levelname)s %(message)s")
     raise_limit_of_files()
     use_uvloop()
@@ -62,19 +60,19 @@ def run(asked: argparse.Namespace) -> int:
         raise Failed(sentence_about(caught, asked), 3) from None
 
 
-def fault_of(asked: argparse.Namespace) -> str:
-    """What is wrong with the words, together."""
+def check(asked: argparse.Namespace) -> None:
+    """Ends with what is wrong with the words together."""
+    refuse = asked.parser.error
     if asked.lease < SECOND:
-        return "--lease is at least 1s"
+        refuse("--lease is at least 1s")
     if asked.key and not asked.cert or asked.client_ca and not asked.cert:
-        return "--key and --client-ca need --cert"
+        refuse("--key and --client-ca need --cert")
     if asked.plain and asked.cert:
-        return "--plain is without TLS, and --cert with it"
+        refuse("--plain is without TLS, and --cert with it")
     if not ipaddress.ip_address(asked.bind).is_loopback and not asked.cert and not asked.plain:
-        return f"other machines reach {asked.bind}: serve them over TLS with --cert, or say --plain"
+        refuse(f"other machines reach {asked.bind}: serve them over TLS with --cert, or say --plain")
     if asked.change_policy and not names_policy(asked):
-        return "--change-policy needs --delay, --rate or --attempts"
-    return ""
+        refuse("--change-policy needs --delay, --rate or --attempts")
 
 
 def tls_of(asked: argparse.Namespace) -> "ssl.SSLContext | None":
