@@ -42,6 +42,10 @@ class Worker(Process):
     def has_worked(self) -> bool:
         return self._notes.stat().st_size > 0
 
+    def count_of_done(self) -> int:
+        """How many jobs are done, by a record."""
+        return self._notes.read_text().count('"reply": ["DONE ')
+
     def stop(self) -> None:
         """Ends it in good order."""
         self.give("")
@@ -52,14 +56,14 @@ class Crew:
     """Starts workers of all kinds, in turn, each with a file of its own in a folder."""
 
     def __init__(self, room: Path, ports: list[int], java: Optional[Path]) -> None:
-        self._room, self._ports, self._java = room, ports, java
+        self.room, self._ports, self._java = room, ports, java
         self.started: list[Worker] = []
         self.records: list[Path] = []
 
     def start_worker(self, kind: str) -> Worker:
         """A worker of this kind: `plain`, `package` or `java`."""
         number = len(self.started)
-        notes, port = self._room / f"{kind}-{number}{RECORD}", str(self._ports[number % len(self._ports)])
+        notes, port = self.room / f"{kind}-{number}{RECORD}", str(self._ports[number % len(self._ports)])
         if kind == "java":
             notes = notes.with_suffix(".notes")
             words = ["java", "-cp", str(self._java), "rbbroker.client.HostileWorker", port, str(notes)]
@@ -84,12 +88,12 @@ class Crew:
 class Producer(Process):
     """Offers payloads, each once, by a process that is started again after a kill."""
 
-    def __init__(self, crew: Crew, room: Path, name: str, payloads: list[str]) -> None:
-        self._notes, self._payloads = room / f"{name}.notes", payloads
+    def __init__(self, crew: Crew, name: str, payloads: list[str]) -> None:
+        self._notes, self._payloads = crew.room / f"{name}.notes", payloads
         self._notes.touch()
-        record = room / f"{name}{RECORD}"
+        record = crew.room / f"{name}{RECORD}"
         crew.records.append(record)
-        super().__init__(crew.plain("producer", record, self._notes), room / f"{name}.log")
+        super().__init__(crew.plain("producer", record, self._notes), crew.room / f"{name}.log")
         self.start()
 
     def start(self) -> None:

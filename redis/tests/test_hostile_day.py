@@ -60,8 +60,7 @@ class Day(RoomTest):
         self.workers = [self.crew.start_worker(kind) for kind in self.crew.kinds for _ in range(EACH)]
         self.addCleanup(lambda: [it.kill() for it in self.crew.started])
         payloads = [str(it) for it in range(JOBS)]
-        self.producers = [Producer(self.crew, self.room, f"producer-{it}", payloads[it::PRODUCERS])
-                          for it in range(PRODUCERS)]
+        self.producers = [Producer(self.crew, f"producer-{it}", payloads[it::PRODUCERS]) for it in range(PRODUCERS)]
         self.addCleanup(lambda: [it.kill() for it in self.producers])
         self.take_events = [*COMMAND, "archive", str(self.archive), "--redis", redis, "--queue", QUEUE,
                             "--shards", str(self.shards)]

@@ -1,6 +1,7 @@
 """The functions of broker.lua, by the tables of the queue."""
 from __future__ import annotations
 
+import re
 from typing import NamedTuple, Optional
 
 from case_tables import Table, bytes_of, tables_of
@@ -9,10 +10,21 @@ from redis_test import RedisTest
 
 FILES = ("queues.rows", "waits.rows", "runs.rows")
 
-ALONE = ("poll", "take", "peek", "clear", "size")
-WITH_NUMBER = ("remove", "drain")
-ANSWERS = {"nothing": "NONE", "removed yes": "REMOVED yes", "removed no": "REMOVED no", "cleared": "CLEARED"}
+CALLS = {
+    **{word: word.upper() for word in ("poll", "take", "peek", "clear", "size")},
+    **{rf"{word} (\S+)": rf"{word.upper()} \1" for word in ("remove", "drain")},
+    r"offer (\S+ \S+)": r"OFFERAT \1", r"pollfor (\S+) (\S+)": r"POLLFOR \2 \1",
+}
+"""What rows ask for, as patterns, and the calls that do."""
 
+REPLIES = {
+    "nothing": "NONE", "cleared": "CLEARED", r"removed (yes|no)": r"REMOVED \1",
+    r"offered (\S+ \S+)(?: .*)?": r"OFFERED \1",
+    **{rf"{word} (\S+ \S+) \S+ \S+ (\S+ \S+)": rf"{word.upper()} \1 \2" for word in ("item", "head")},
+    **{rf"{word} (\S+)(?: .*)?": rf"{word.upper()} \1" for word in ("size", "drained")},
+    "later none": "LATER -", r"later (\S+)(?: .*)?": r"LATER \1",
+}
+"""Their answers, and the reply lines; that of a wait is without the moments that follow it."""
 
 NO_DRAIN, DRAIN = "drain 18446744073709551615", "drain 64"
 """A session that holds nothing drains at most 64, and its event says so."""
@@ -34,33 +46,12 @@ class NotAsked(Exception):
     """A row asks for what no request does."""
 
 
-def call_of(words: "list[str]") -> str:
-    """The call of a row: `SEAT MOMENT ASK`."""
-    _, _, ask, *rest = words
-    if ask in ALONE and not rest or ask in WITH_NUMBER and len(rest) == 1:
-        return " ".join([ask.upper(), *rest])
-    if ask == "offer" and len(rest) == 2:
-        return f"OFFERAT {rest[0]} {rest[1]}"
-    if ask == "pollfor" and len(rest) == 2:
-        return f"POLLFOR {rest[1]} {rest[0]}"
-    raise NotAsked
-
-
-def reply_of(answer: str) -> str:
-    """The reply line of a row's answer. `later` is without the moments that follow it."""
-    word, *rest = answer.split(" ")
-    if answer in ANSWERS:
-        return ANSWERS[answer]
-    if word == "offered":
-        return f"OFFERED {rest[0]} {rest[1]}"
-    if word in ("item", "head"):
-        id, expiry, _, _, attempt, payload = rest
-        return f"{word.upper()} {id} {expiry} {attempt} {payload}"
-    if word in ("size", "drained"):
-        return f"{word.upper()} {rest[0]}"
-    if word == "later":
-        return f"LATER {'-' if rest == ['none'] else rest[0]}"
-    raise NotAsked
+def translated(text: str, forms: "dict[str, str]") -> str:
+    """What a row says, in the words of the protocol."""
+    for form, words in forms.items():
+        if match := re.fullmatch(form, text):
+            return match.expand(words)
+    raise NotAsked(text)
 
 
 def steps_of(table: Table) -> "Optional[list[Step]]":
@@ -76,11 +67,11 @@ def steps_of(table: Table) -> "Optional[list[Step]]":
                 steps.append(Step(row.line, words[0], 0, [it.replace(NO_DRAIN, DRAIN) for it in answers]))
             elif words[0] == "begin" and len(words) == 2 and answers == ["begun"]:
                 steps.append(Step(row.line, f"limit {int(words[1])}", 0, []))
-            elif words[0].isdigit() and words[1].isdigit():
-                replies = [reply_of(it) for it in answers]
-                steps.append(Step(row.line, f"{words[0]} {call_of(words)}", int(words[1]), replies))
             else:
-                return None
+                seat, moment, *asked = words
+                call = translated(" ".join(asked), CALLS)
+                replies = [translated(it, REPLIES) for it in answers]
+                steps.append(Step(row.line, f"{int(seat)} {call}", int(moment), replies))
         except (NotAsked, ValueError):
             return None
     return steps
