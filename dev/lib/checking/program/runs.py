@@ -3,7 +3,7 @@ import os
 import signal
 import subprocess
 import threading
-from dataclasses import dataclass, field
+from dataclasses import dataclass, field, replace
 from pathlib import Path
 from typing import IO, Iterator, Optional
 
@@ -90,27 +90,29 @@ class Run:
 def read_runs(room: Path) -> list[Run]:
     """The runs of runs.txt, whose files are written into a folder."""
     runs: list[Run] = []
-    part = file = ""
+    part = it = Run("", "")
     for content in RUNS.read_text("utf-8").splitlines():
         word, _, told = content.partition(" ")
-        if word == "part":
-            part = told
-        elif word == "file":
-            file = told
-        elif word == "=":
-            with open(room / file, "a", encoding="utf-8") as it:
-                it.write(f"{told}\n")
-        elif word == "case":
-            runs.append(Run(part, told))
-        elif word == "run":
-            runs[-1].line = told
-        elif word == "status":
-            runs[-1].status = int(told)
-        elif word == "audit":
-            runs[-1].add("<", audit(told))
-        elif content and word != "#":
-            mark, count = split_form(word)
-            runs[-1].add(mark, appended(told, count).decode())
+        match word:
+            case "file":
+                file = room / told
+            case "=":
+                with file.open("a", encoding="utf-8") as written:
+                    written.write(f"{told}\n")
+            case "part":
+                part = it = Run(told, "")
+            case "case":
+                it = replace(part, name=told, texts={**part.texts})
+                runs.append(it)
+            case "run":
+                it.line = told
+            case "status":
+                it.status = int(told)
+            case "audit":
+                it.add("<", audit(told))
+            case mark if mark not in ("", "#"):
+                mark, count = split_form(mark)
+                it.add(mark, appended(told, count).decode())
     return runs
 
 
