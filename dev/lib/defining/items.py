@@ -1,4 +1,4 @@
-"""The definitions and calls of a file of src/ or specs/, each with its text."""
+"""The definitions and calls of a file of src/, specs/ or proofs/, each with its text."""
 import re
 from itertools import takewhile
 from typing import Iterator, NamedTuple
@@ -11,11 +11,11 @@ IMPORT = re.compile(r"(pub )?(use|mod) ")
 
 
 class Item(NamedTuple):
-    """A definition of specs/, or a type, a trait, a constant or a function of src/ with its clauses."""
+    """A definition of specs/ or proofs/, or a type, a trait, a constant or a function of src/ with its clauses."""
 
     path: str  # from the top folder
     name: str  # of a function of a type as `Shared::call`
-    kind: str
+    kind: str  # `more` for a paragraph that goes on with a definition
     line: int
     section: list[str]  # the heads of the `module _` blocks around it
     comment: list[str]
@@ -23,23 +23,27 @@ class Item(NamedTuple):
 
 
 def spec_items(path: str, text: str) -> Iterator[Item]:
-    """The items of a file of specs/: each paragraph that is no import, perhaps behind the head of a block."""
+    """The items of a file of specs/ or proofs/: each paragraph that is no import, perhaps behind the heads of blocks."""
     sections: list[list[str]] = []
+    owner = ""
     for paragraph in re.finditer(r"(?:.+\n)+", f"{text}\n"):
         lines, line = paragraph[0].splitlines(), text.count("\n", 0, paragraph.start()) + 1
         while sections and indent_of(lines[0]) <= indent_of(sections[-1][0]):
             sections.pop()
-        block = next((at for at, it in enumerate(lines) if it.lstrip().startswith("module _")), None)
-        if block is not None:
-            end = next(at for at, it in enumerate(lines) if at >= block and it.endswith("where")) + 1
-            sections.append(lines[block:end])
+        while blocks := [at for at, it in enumerate(lines) if it.lstrip().startswith("module _")]:
+            end = next(at for at, it in enumerate(lines) if at >= blocks[0] and it.endswith("where")) + 1
+            sections.append(lines[blocks[0]:end])
             lines, line = lines[end:], line + end
         head = len(list(takewhile(is_comment, lines)))
         found = SPEC_HEAD.match(lines[head]) if head < len(lines) and not IMPORT.match(lines[head]) else None
         if found:
-            kind = next((it for it in ("record", "data") if it in found[1].split()), "value")
+            kind = next((it for it in ("record", "data", "ruleset") if it in found[1].split()), "value")
+            is_whole = kind != "value" or lines[head].startswith(" :", found.end())
+            if not is_whole or indent_of(lines[head]) != 2 * len(sections):
+                kind = "more"
+            owner = owner if kind == "more" else found[2]
             section, lines = [it for block in sections for it in block], dedented(lines)
-            yield Item(path, found[2], kind, line + head, section, lines[:head], lines[head:])
+            yield Item(path, owner, kind, line + head, section, lines[:head], lines[head:])
 
 
 def rust_items(path: str, text: str) -> Iterator[Item]:

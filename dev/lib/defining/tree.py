@@ -3,12 +3,13 @@ import re
 from pathlib import Path
 from typing import Optional
 
-from defining.cited_file import CitedFile
 from defining.items import Item, rust_items, spec_items
 from defining.words import words_of
 
 USE = re.compile(r"^ *(?:pub )?use (\w+)::([^;]+);", re.M)
 USED = re.compile(r"(\w+)(?: as (\w+))?(?=\s*(?:[,}]|$))")
+COMMENT = {".rt": re.compile("//.*"), ".antt": re.compile("--.*")}
+GHOST_USE = re.compile(r"^\s*(?:pub )?(?:ghost )?use ([^\s;{]+?)(?:\.\{([^}]*)\}| as (\S+?))?;?[ \t]*$", re.M)
 SMALL_CONSTRUCTORS = {"true", "false", "zero", "suc", "pos"}
 TYPES = ("struct", "enum", "trait", "const", "type")
 
@@ -18,19 +19,33 @@ class Unknown(Exception):
 
 
 class SourceFile:
-    """A file of src/ or specs/: its items, and what it imports."""
+    """A file of src/, specs/ or proofs/: its items, and what it imports."""
 
     def __init__(self, top: Path, path: str) -> None:
-        place, folder = top / path, top.joinpath(*Path(path).parts[:2])
-        text, imports = place.read_text(encoding="utf-8"), CitedFile(folder, place)
-        self.crate, self.modules, self.imported = folder.name, imports.renamed_modules, imports.imported
+        text, place = (top / path).read_text("utf-8"), Path(path)
+        self.path, self.crate = path, place.parts[1]
+        self.modules: dict[str, str] = {}  # those that it imports whole, by the names that they have here
+        self.imported: dict[str, tuple[str, str]] = {}  # the module of a name that it imports, and its name there
+        self.bare = GHOST_USE.sub(self._without_import, COMMENT[place.suffix].sub("", text))
         self.operators = {part: it for it in self.imported for part in it.split("◌") if part and "◌" in it}
         # What the code sees: each name with the crate that it is from, and its name there.
         self.uses = {alias or name: (root, name) for root, it in USE.findall(text) for name, alias in USED.findall(it)}
-        self.items = [*(rust_items if path.endswith(".rt") else spec_items)(path, text)]
+        self.paragraphs = [*(rust_items if place.suffix == ".rt" else spec_items)(path, text)]
+        self.items = [it for it in self.paragraphs if it.kind != "more"]
         self.named = {it.name: it for it in self.items}
         kinds = [it for it in self.items if it.kind == "data"]
         self.variants = {line.split()[0]: it for it in kinds for line in it.code[1:] if " : " in line}
+
+    def _without_import(self, found: re.Match[str]) -> str:
+        """Takes the names of an import, and leaves nothing in its lines."""
+        path, names, alias = found.groups()
+        if names is None:
+            self.modules[alias or path.rsplit(".", 1)[-1]] = path
+        for it in (names or "").split(","):
+            name, _, local = it.strip().partition(" as ")
+            if name:
+                self.imported[local or name] = (path, name)
+        return "\n" * found[0].count("\n")
 
 
 class Tree:

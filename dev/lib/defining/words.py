@@ -29,7 +29,7 @@ def words_of(item: Item, code: list[str], is_constructor: Callable[[str], bool])
         return
     binders = BINDER.findall("\n".join([*item.section, text]))
     bound |= {name for it in binders for name in it.split()} | {item.name}
-    if item.kind != "value":
+    if item.kind in ("record", "data"):
         head, *fields = FIELD.split(text)
         yield from free(head, bound)
         for name, term in zip(fields[::2], fields[1::2]):
