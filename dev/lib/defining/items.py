@@ -23,7 +23,7 @@ class Item(NamedTuple):
 
 
 def spec_items(path: str, text: str) -> Iterator[Item]:
-    """The items of a file of specs/ or proofs/: each paragraph that is no import, perhaps behind the heads of blocks."""
+    """The items of a file of specs/ or proofs/: each paragraph that is no import, perhaps behind heads of blocks."""
     sections: list[list[str]] = []
     owner = ""
     for paragraph in re.finditer(r"(?:.+\n)+", f"{text}\n"):

@@ -10,12 +10,8 @@ from collections import defaultdict
 from pathlib import Path
 from typing import Iterator, Optional
 
-from defining.tree import Unknown
+from defining.tree import SourceFile, Tree, Unknown
 
-DEFINITION = re.compile(r"^ *(?:abbrev |pub |record |data )*(\w+)(?= |$)", re.M)
-ITEM = re.compile(
-    r"^ *(?:pub(?:\([a-z]+\))? )?(fn|struct|enum|trait|type|impl\b.*? for|impl) *(?:<[^(]*?> )?([A-Z_a-z]\w*)", re.M
-)
 ENSURES = re.compile(r"^ *ensures (\w+) ", re.M)
 GHOST = re.compile(r"^ *ghost (?!use )(\w+)", re.M)
 NAME = re.compile(r"`([^`]+)`")
@@ -25,42 +21,33 @@ HEADS = {"Public call", "Public type", "Private function"}
 NO_CLAUSES = {"impl", "requires"}
 
 
-class Declared:
-    """What the sources of crates declare, without tests: the functions, types and traits, each with its clauses, and
-    the ghost items. A type or trait has its functions and their clauses too."""
-
-    def __init__(self, top: Path, crates: list[str]) -> None:
-        self.clauses: defaultdict[str, set[str]] = defaultdict(set)
-        self.ghosts: set[str] = set()
-        for path in sorted(it for crate in crates for it in top.glob(f"crates/{crate}/src/**/*.rt")):
-            if "tests" not in path.parts:
-                self._read(path.read_text("utf-8"))
-
-    def _read(self, text: str) -> None:
-        self.ghosts |= {*GHOST.findall(text)}
-        owner, pieces = "", ITEM.split(text)
-        for kind, name, body in zip(pieces[1::3], pieces[2::3], pieces[3::3]):
-            clauses = ENSURES.findall(body)
-            self.clauses[name].update(clauses)
-            if kind != "fn":
-                owner = name
-            elif owner:
-                self.clauses[owner].update([name, *clauses])
-
-
 def find(top: Path) -> Iterator[Optional[str]]:
     """Finds the names of docs/PROVED.md below a folder. The fault of one is `CRATE: CALL: NAME is not there`."""
     page = top / "docs" / "PROVED.md"
     if not page.is_file():
         raise Unknown(f"{top} has no docs/PROVED.md")
-    specs = top.glob("crates/*/specs/*.antt")
-    definitions = {name for path in specs for name in DEFINITION.findall(path.read_text("utf-8"))}
+    files = Tree(top).files.values()
+    definitions = {it.name for file in files if file.path.endswith(".antt") for it in file.items}
     for section in page.read_text("utf-8").split("\n## ")[1:]:
         crates = re.findall(r"rb_\w+", section.partition("\n")[0])
-        declared = Declared(top, crates)
+        sources = [file for file in files if file.crate in crates and file.path.endswith(".rt")]
+        ghosts, declared = {it for file in sources for it in GHOST.findall(file.bare)}, declared_in(sources)
         for call, clauses in rows_of(section) if crates else ():
-            for word, is_there in names_in(declared, call, clauses, definitions):
+            for word, is_there in names_in(declared, ghosts, call, clauses, definitions):
                 yield None if is_there else f"{', '.join(crates)}: {call}: {word} is not there"
+
+
+def declared_in(sources: list[SourceFile]) -> dict[str, set[str]]:
+    """The functions, types and traits of sources, each with its clauses. A type or trait has its functions and their
+    clauses too."""
+    declared: defaultdict[str, set[str]] = defaultdict(set)
+    for item in (it for file in sources for it in file.items):
+        owner, _, name = item.name.rpartition("::")
+        clauses = ENSURES.findall("\n".join(item.code))
+        declared[name].update(clauses)
+        if owner:
+            declared[owner].update([name, *clauses])
+    return declared
 
 
 def rows_of(section: str) -> Iterator[tuple[str, str]]:
@@ -73,14 +60,16 @@ def rows_of(section: str) -> Iterator[tuple[str, str]]:
             yield call, cells[2]
 
 
-def names_in(declared: Declared, call: str, clauses: str, definitions: set[str]) -> Iterator[tuple[str, bool]]:
+def names_in(
+    declared: dict[str, set[str]], ghosts: set[str], call: str, clauses: str, definitions: set[str]
+) -> Iterator[tuple[str, bool]]:
     """Each name of a row, and whether it is there."""
-    own = NO_CLAUSES | declared.ghosts
+    own = NO_CLAUSES | ghosts
     for word in NAME.findall(call):
         name = word.partition("<")[0].rpartition("::")[2]
-        own |= declared.clauses.get(name, set())
-        yield word, name in declared.clauses or name in declared.ghosts
-    for word in filter(declared.clauses.__contains__, OTHER_CALL.findall(clauses)):
-        own |= {word, *declared.clauses[word]}
+        own |= declared.get(name, set())
+        yield word, name in declared or name in ghosts
+    for word in filter(declared.__contains__, OTHER_CALL.findall(clauses)):
+        own |= {word, *declared[word]}
     yield from ((word, word in own) for word in NAME.findall(IN_BRACKETS.sub("", clauses)))
     yield from ((word, word in definitions) for word in NAME.findall(" ".join(IN_BRACKETS.findall(clauses))))
