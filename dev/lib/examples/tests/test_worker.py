@@ -15,10 +15,10 @@ FAILS_BAD = ("sh", "-c", 'case $1 in bad*) exit 1; esac', "sh")
 TELLS = ("sh", "-c", "echo begun; sleep 1")
 
 
-def ended(status: int, *lines: str, done: int = 0, again: int = 0, dead: int = 0, lost: int = 0, unheard: int = 0) -> Ended:
-    """The end of a worker with these lines before its counts, and no error."""
-    counts = f"done {done}, again {again}, dead {dead}, lost {lost}, unheard {unheard}"
-    return Ended(status, [*lines, counts], "")
+def ended(status: int, *lines: str, **counts: int) -> Ended:
+    """The end of a worker with these lines before its counts, of which the others are 0, and no error."""
+    told = ", ".join(f"{it} {counts.get(it, 0)}" for it in ("done", "again", "dead", "lost", "unheard"))
+    return Ended(status, [*lines, told], "")
 
 
 def say(server: Server, *requests: str) -> None:

@@ -8,6 +8,35 @@ from checking.tally import Tally
 from checking.testing import RoomTest
 from defining.tree import Unknown
 
+# A crate that several tests look at.
+SPECS = """-- What a failure leaves.
+use Rattle.std.specs.Prelude.{ℕ}
+
+-- one more
+abbrev pub one_more : ℕ → ℕ
+one_more n = suc n
+
+pub record FailsTo (n : ℕ) : Type 0 where
+  pub known : n ≡ one_more n
+"""
+SOURCE = """ghost use Rattle.rb_desk.specs.Fails.{FailsTo};
+
+pub trait Desk {
+    fn call(&self) -> u64
+        ensures step { result ≡ 1 };
+
+    ghost makes: { result ≡ 1 };
+}
+
+#[tactic(auto, using(crate::proofs::Failures::fails_again))]
+pub fn fail<D: Desk>(desk: &D) -> u64
+    ensures fails { FailsTo result }
+{
+    desk.call()
+}
+"""
+FAILS, LIB = "crates/rb_desk/specs/Fails.antt", "crates/rb_desk/src/lib.rt"
+
 
 class DocumentsTest(RoomTest):
     """A test with a folder of its own, whose pages and crates a part of dev/check docs looks at."""

@@ -1,19 +1,5 @@
 """Calls, clauses and definitions that are not there."""
-from checking.docs.tests.support import DocumentsTest
-
-SOURCE = """pub trait Desk {
-    fn call(&self) -> u64
-        ensures step { result ≡ 1 };
-
-    ghost makes: { result ≡ 1 };
-}
-
-pub fn fail<D: Desk>(desk: &D) -> u64
-    ensures fails { FailsTo result }
-{
-    desk.call()
-}
-"""
+from checking.docs.tests.support import FAILS, LIB, SOURCE, SPECS, DocumentsTest
 
 PAGE = """# What is proved
 
@@ -30,10 +16,8 @@ PAGE = """# What is proved
 class Clauses(DocumentsTest):
     part = "clauses"
     files = {
-        "crates/rb_desk/src/lib.rt": SOURCE,
+        FAILS: SPECS, LIB: SOURCE, "docs/PROVED.md": PAGE,
         "crates/rb_desk/src/tests/calls.rt": "fn calls()\n    ensures other { }\n{}\n",
-        "crates/rb_desk/specs/Fails.antt": "abbrev pub FailsTo : ℕ → Type 0\n",
-        "docs/PROVED.md": PAGE,
     }
 
     def test_names(self) -> None:

@@ -1,16 +1,5 @@
 """Lemmas and definitions that nothing names."""
-from checking.docs.tests.support import DocumentsTest
-
-SPECS = """-- What a failure leaves.
-use Rattle.std.specs.Prelude.{ℕ}
-
--- one more
-abbrev pub one_more : ℕ → ℕ
-one_more n = suc n
-
-pub record FailsTo (n : ℕ) : Type 0 where
-  pub known : n ≡ one_more n
-"""
+from checking.docs.tests.support import FAILS, LIB, SOURCE, SPECS, DocumentsTest
 
 PROOFS = """-- Failures, one after the other.
 use Rattle.rb_desk.specs.Fails.{
@@ -22,22 +11,9 @@ module _ (n : ℕ) where
   fails_again it = it
 """
 
-SOURCE = """ghost use Rattle.rb_desk.specs.Fails.{FailsTo};
-
-#[tactic(auto, using(crate::proofs::Failures::fails_again))]
-pub fn fail(desk: &u64) -> u64
-    ensures fails { FailsTo result }
-{
-    desk.call()
-}
-"""
-
-
 STAYS = "\nabbrev pub Stays : ℕ → Type 0\nStays n = n ≡ n\n"
 RULESET = "\npub ruleset failures = (fails_again)\n"
 FAILURES = "crates/rb_desk/proofs/Failures.antt"
-FAILS = "crates/rb_desk/specs/Fails.antt"
-LIB = "crates/rb_desk/src/lib.rt"
 
 
 class Uncited(DocumentsTest):
@@ -52,6 +28,7 @@ class Uncited(DocumentsTest):
             ("", "\n  stays : n ≡ n\n  stays = refl\n", 3, f"{FAILURES}:10: stays is cited nowhere"),
             ("", RULESET, 3, f"{FAILURES}:10: failures is cited nowhere"),
             ("", falls, 3, f"{FAILURES}:10: falls is cited nowhere"),  # it names itself
+            ("", "\n    here : n ≡ n\n    here = refl\n", 3),  # local to the lemma before
         )
 
     def test_definitions(self) -> None:
