@@ -1,10 +1,12 @@
 """The crates that a program is made of, and which of them the others wait for longest."""
 from __future__ import annotations
 
+import os
 import re
+import shutil
 from graphlib import CycleError, TopologicalSorter
 from pathlib import Path
-from typing import Iterable
+from typing import Callable, Collection, Iterable
 
 PARTS = ("src", "specs", "proofs")  # the folders of a crate that rt reads
 LINE = re.compile(r"^[ \t]*([^\s#:]+)[^#:\n]*:?([^#\n]*)", re.M)
@@ -69,3 +71,16 @@ def with_those_below(names: Iterable[str], uses: dict[str, list[str]]) -> set[st
 def lines_of(crate: Path) -> int:
     files = (it for part in PARTS for it in (crate / part).rglob("*") if it.is_file())
     return sum(it.read_bytes().count(b"\n") for it in files)
+
+
+def copy_crates(top: str, room: Path, left_out: Callable[[str], Collection[str]]) -> None:
+    """Copies what rt reads of a checkout into a folder, without these parts of a crate."""
+
+    def ignored(folder: str, _names: list[str]) -> Collection[str]:
+        crates, crate = os.path.split(folder)
+        return left_out(crate) if crates == f"{top}/crates" else ()
+
+    shutil.copytree(f"{top}/crates", room / "crates", ignore=ignored)
+    for name in ("crates.txt", "HANDLES"):
+        if os.path.isfile(f"{top}/{name}"):
+            shutil.copy2(f"{top}/{name}", room)

@@ -15,6 +15,7 @@ from dataclasses import dataclass
 from functools import cached_property
 from pathlib import Path
 
+from building.crates import copy_crates
 from checking.trying import built
 from common.program import TOP
 
@@ -156,9 +157,7 @@ def source_of(crate: str, module: str) -> str:
 
 def copied(crate: str, room: str) -> str:
     """Copies the checkout, without the crate's other tests. Returns the folder of the crate in the copy."""
-    for name in ("crates.txt", "HANDLES"):
-        shutil.copy2(f"{TOP}/{name}", room)
-    shutil.copytree(f"{TOP}/crates", f"{room}/crates", ignore=shutil.ignore_patterns("out", "must-fail", "attacks"))
+    copy_crates(TOP, Path(room), lambda _: ("out", "must-fail", "attacks"))
     tests = Path(room, "crates", crate, "src/tests")
     replace(tests.with_suffix(".rt"), rf"^mod (?!(?:{'|'.join(KEPT)});)\w+;\n", "")
     for found in tests.iterdir():
