@@ -58,6 +58,7 @@ class Server:
             self.port = port or random.choice(PORTS)
             self.process = started([program or tested_program(), "serve", "--port", str(self.port), *map(str, options)])
             limit = threading.Timer(2 * PATIENCE, self.process.kill)
+            limit.daemon = True  # a signal may end this process meanwhile
             limit.start()
             said = self.process.stdout.readline()
             limit.cancel()
