@@ -9,7 +9,7 @@ import signal
 import tempfile
 import time
 from types import FrameType
-from typing import Collection, Dict, Iterator, List, Optional, Set
+from typing import Any, Collection, Dict, Iterator, List, Optional, Set
 
 SIGNALS = (signal.SIGHUP, signal.SIGINT, signal.SIGTERM)
 PATIENCE = 10  # seconds that killed processes have to end
@@ -40,7 +40,7 @@ def leaving_no_process(adopts: bool = False) -> Iterator[contextlib.ExitStack]:
         end_descendants(others)  # before a process is killed that has others, which would then stem from no one here
         raise Interrupted(number)
 
-    def handle_all(action: object) -> None:
+    def handle_all(action: Any) -> None:
         for number in SIGNALS:
             if before[number] is not signal.SIG_IGN:
                 signal.signal(number, action)
@@ -98,7 +98,8 @@ def descendants(others: Collection[int] = ()) -> Set[int]:
 
 def end_descendants(others: Collection[int] = ()) -> None:
     """Kills what stems from this process, but for these others, and waits until all of it is gone."""
-    until, killed = time.monotonic() + PATIENCE, set()
+    until = time.monotonic() + PATIENCE
+    killed: Set[int] = set()
     while (left := descendants(others) | {*filter(is_there, killed)}) and time.monotonic() < until:
         killed |= left  # one whose parent ends sooner stems from this process no longer
         for process in left:

@@ -49,6 +49,7 @@ def try_tests(tally: Tally, suite: unittest.TestSuite) -> None:
     if not suite.countTestCases():
         return
     result = unittest.TextTestRunner(sys.stdout, verbosity=0, resultclass=Result).run(suite)
+    assert isinstance(result, Result)
     for test, reason in result.skipped:
         tally.skip(test.id(), reason)
     tally.add(result.passed, len(result.failed))

@@ -2,6 +2,7 @@
 import contextlib
 import io
 from pathlib import Path
+from typing import Any
 
 from checking.docs import PARTS, check
 from checking.tally import Tally
@@ -74,7 +75,7 @@ class DocumentsTest(RoomTest):
             list(PARTS[self.part].find(self.top))
         self.assertEqual(reason, str(fault.exception))
 
-    def expect_each(self, place: str, *rows: tuple[str, str, int, str] | tuple[str, str, int]) -> None:
+    def expect_each(self, place: str, *rows: tuple[Any, ...]) -> None:
         """Expects for each row, in which a text of a file has another one in its place, or this one behind it, how much
         the part then finds right, and the faults."""
         for old, new, right, *faults in rows:
