@@ -58,6 +58,16 @@ class PageTest(unittest.TestCase):
         cls.browser = Browser(tests.BROWSER, cls.room)
         cls.addClassCleanup(cls.browser.end)
 
+
+class ReportPageTest(PageTest):
+    """Tests of pages of tools/report, none of which complains."""
+
+    def setUp(self) -> None:
+        self.browser.complaints.clear()
+
+    def tearDown(self) -> None:
+        self.assertEqual(self.browser.complaints, [])
+
     @classmethod
     def page(cls, name: str, texts: Sequence[str], *options: str) -> str:
         """The path of the page of these runs, of which one is in the file run.txt."""
@@ -67,6 +77,21 @@ class PageTest(unittest.TestCase):
         status, _, errors = call(*paths, "--html", f"{cls.room}/{name}.html", *options)
         assert status == 0, errors
         return f"{cls.room}/{name}.html"
+
+    def place(self, selector: str) -> List[float]:
+        """Left, top, width and height of what a selector names, once it is in sight."""
+        place: List[float] = self.browser.value(f"""(() => {{
+            const it = document.querySelector('{selector}');
+            it.scrollIntoView({{ block: "center" }});
+            const {{ left, top, width, height }} = it.getBoundingClientRect();
+            return [left, top, width, height];
+        }})()""")
+        return place
+
+    def go_to_first_plot(self) -> None:
+        """Leads to it by the key that leads from one thing on the page to the next."""
+        self.browser.value("document.querySelector('h1').tabIndex = -1; document.querySelector('h1').focus()")
+        self.browser.press("Tab")
 
 
 def call(*words: str) -> Tuple[int, str, str]:

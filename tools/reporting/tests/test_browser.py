@@ -3,10 +3,10 @@ payloads are text."""
 from __future__ import annotations
 
 import time
-from typing import Any, List, Tuple
+from typing import Any, Tuple
 
 from histories.tests.support import RUN, offer, text_of
-from reporting.tests.support import PageTest, made
+from reporting.tests.support import ReportPageTest, made
 from reporting.tests.test_page import HOSTILE, hostile_text
 from reporting.tests.test_series import RUNS
 
@@ -19,13 +19,7 @@ READING = "[...document.querySelectorAll('#plot-depth .reading')].map((it) => it
 PATIENCE = 10.0  # seconds
 
 
-class BrowserTest(PageTest):
-    def setUp(self) -> None:
-        self.browser.complaints.clear()
-
-    def tearDown(self) -> None:
-        self.assertEqual(self.browser.complaints, [])
-
+class BrowserTest(ReportPageTest):
     def show(self, *texts: str, options: Tuple[str, ...] = (), job: str = "") -> None:
         """Opens the page of a history, at a job if one is named."""
         # A page of its own: to go to another job of the page that is shown loads nothing.
@@ -41,16 +35,6 @@ class BrowserTest(PageTest):
         self.browser.value(f"document.getElementById('{field}').value = ''; document.getElementById('{field}').focus()")
         self.browser.type(words)
         return str(self.told("#answer"))
-
-    def place(self, element: str) -> List[float]:
-        """Left, top, width and height of what a selector names, once it is in sight."""
-        place: List[float] = self.browser.value(f"""(() => {{
-            const it = document.querySelector('{element}');
-            it.scrollIntoView({{ block: "center" }});
-            const {{ left, top, width, height }} = it.getBoundingClientRect();
-            return [left, top, width, height];
-        }})()""")
-        return place
 
     def click(self, element: str) -> None:
         left, top, width, height = self.place(element)
@@ -140,8 +124,7 @@ class BrowserTest(PageTest):
     def test_the_value_at_the_keyboard(self) -> None:
         self.show(RUN)
         told = [says for _, says in self.browser.value("told.readings.depth")]
-        self.browser.value("document.querySelector('h1').tabIndex = -1; document.querySelector('h1').focus()")
-        self.browser.press("Tab")
+        self.go_to_first_plot()
         self.shows("document.activeElement.id", "plot-depth")
         place = 0
         for key, leap in (("", 0), ("ArrowRight", 1), ("ArrowRight", 1), ("ArrowLeft", -1), ("PageUp", 20),

@@ -4,7 +4,7 @@ from __future__ import annotations
 import math
 from typing import Dict
 
-from reporting.tests.support import PageTest, made
+from reporting.tests.support import ReportPageTest, made
 from reporting.tests.test_plots import backlog
 from reporting.tests.test_series import RUNS
 
@@ -55,7 +55,7 @@ def contrast(one: str, other: str) -> float:
     return (high + 0.05) / (low + 0.05)
 
 
-class SightTest(PageTest):
+class SightTest(ReportPageTest):
     pages: Dict[str, str]
 
     @classmethod
@@ -65,12 +65,6 @@ class SightTest(PageTest):
         cls.pages = {"made": cls.page("made", [made(30_000)]),
                      "backlog": cls.page("backlog", [backlog()], "--began", "2026-11-26T08:00:00Z"),
                      "series": cls.page("series", RUNS, *dates, "--attempts", "3")}
-
-    def setUp(self) -> None:
-        self.browser.complaints.clear()
-
-    def tearDown(self) -> None:
-        self.assertEqual(self.browser.complaints, [])
 
     def test_labels_at_every_width(self) -> None:
         for name, page in self.pages.items():
@@ -101,13 +95,9 @@ class SightTest(PageTest):
         self.browser.open(self.pages["made"])
         for width in WIDTHS:
             self.browser.resize(width, 800)
-            self.browser.value("document.querySelector('h1').tabIndex = -1; document.querySelector('h1').focus()")
-            self.browser.press("Tab")
+            self.go_to_first_plot()
             for key in ("Home", "End"):
                 self.browser.press(key)
-                left, right = self.browser.value("""(() => {
-                    const { left, right } = document.querySelector("#plot-depth .reading").getBoundingClientRect();
-                    return [left, right];
-                })()""")
+                left, _, across, _ = self.place("#plot-depth .reading")
                 self.assertGreaterEqual(left, 0)
-                self.assertLessEqual(right, width)
+                self.assertLessEqual(left + across, width)
