@@ -6,7 +6,6 @@ import os
 import shutil
 import subprocess
 import sys
-from typing import Optional
 
 TOP = os.path.dirname(os.path.dirname(os.path.dirname(os.path.realpath(__file__))))
 PROGRAM = os.path.join(TOP, "crates", "rb_broker", "out", "rb_broker")
@@ -18,7 +17,7 @@ INSTALLED = os.path.join(TOP, "..", "..", "bin", "rb_broker")
 TESTED = "RB_BROKER_PROGRAM"
 
 
-def built_program(given: Optional[str] = None) -> str:
+def built_program(given: str | None = None) -> str:
     """The path of the program to run: the given one, or this checkout's, which ./broker first builds if it has to, or
     that of the package.
 
@@ -46,7 +45,7 @@ def add_program_option(parser: argparse.ArgumentParser, use: str = "the program 
     parser.add_argument("--program", metavar="PATH", type=program_named, help=f"{use} (default: that of ./broker)")
 
 
-def test_with(given: Optional[str]) -> str:
+def test_with(given: str | None) -> str:
     """Lets tests run the given program, or this checkout's, which is built if it has to be. Returns its path."""
     os.environ[TESTED] = built_program(given)
     return os.environ[TESTED]

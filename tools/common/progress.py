@@ -7,7 +7,7 @@ import os
 import shutil
 import sys
 import time
-from typing import Any, BinaryIO, Optional
+from typing import Any, BinaryIO
 
 PATIENCE = 2.0  # seconds before anything is said
 
@@ -48,7 +48,7 @@ class _ToldFile(io.FileIO):
         self._path, self._progress = path, progress
         self._size, self._told = os.fstat(self.fileno()).st_size, -1
 
-    def readinto(self, buffer: Any) -> Optional[int]:
+    def readinto(self, buffer: Any) -> int | None:
         percent = min(100, 100 * self.tell() // self._size) if self._size else -1
         if percent != self._told:
             self._progress.say(f"reading {self._path}: {percent} %")

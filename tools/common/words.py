@@ -4,12 +4,12 @@ from __future__ import annotations
 import argparse
 import os
 import sys
-from typing import Callable, Optional, Union
+from typing import Callable, Union
 
 Number = Union[int, float]
 
 
-def parser_of(name: str, doc: Optional[str], usage: Optional[str] = None) -> argparse.ArgumentParser:
+def parser_of(name: str, doc: str | None, usage: str | None = None) -> argparse.ArgumentParser:
     """The parser of a tool of this name, whose --help is the text of its file as it stands."""
     about, _, rest = (doc or "").partition("\n\n")
     form = argparse.RawDescriptionHelpFormatter

@@ -4,7 +4,7 @@ from __future__ import annotations
 import gzip
 import zlib
 from contextlib import contextmanager
-from typing import BinaryIO, Iterator, Optional
+from typing import BinaryIO, Iterator
 
 from common.progress import Progress
 
@@ -12,7 +12,7 @@ COMPRESSED = ".gz"  # the end of the name of a file that gzip wrote
 
 
 @contextmanager
-def open_history(path: str, progress: Optional[Progress] = None) -> Iterator[BinaryIO]:
+def open_history(path: str, progress: Progress | None = None) -> Iterator[BinaryIO]:
     """The text in this file. A compressed one that is damaged ends with an `OSError` that names it."""
     with progress.reading(path) if progress else open(path, "rb") as file:
         if not path.endswith(COMPRESSED):

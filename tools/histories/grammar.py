@@ -6,7 +6,7 @@ A pattern fixes each byte of a line, its line feed too. One thing it leaves open
 from __future__ import annotations
 
 import re
-from typing import Dict, NamedTuple, Pattern
+from typing import NamedTuple, Pattern
 
 GREATEST = 2**64 - 1
 GREATEST_OPENING_ID = 2**40
@@ -16,7 +16,7 @@ MOST_EVENTS = 1_000_000
 # No line is longer: a drain of all elements that a text can tell has 42,000,000 bytes of ids.
 LONGEST_LINE = 48_000_000
 
-HEADERS: Dict[bytes, int] = {b"history 1\n": 1, b"history 2\n": 2, b"history 3\n": 3}
+HEADERS: dict[bytes, int] = {b"history 1\n": 1, b"history 2\n": 2, b"history 3\n": 3}
 
 # An element's words end with a group of its act's name, or of `keep`. If a version leaves the first expiry out, its
 # group is empty. Each alternative of an event ends with a group of the act's name, or is one.
@@ -55,6 +55,6 @@ class Head(NamedTuple):
 
 OPEN, END = _pattern("open ({n}) ({n}) ({n})"), _pattern("end ({n})")
 
-GRAMMARS: Dict[int, Grammar] = {version: Grammar(
+GRAMMARS: dict[int, Grammar] = {version: Grammar(
     _pattern("keep " + _ELEMENT % "keep", version == 3),
     _pattern(f"({{n}}) ({{n}}) ({{n}}) (?:{'|'.join(_ACTS)})", version == 3)) for version in HEADERS.values()}

@@ -10,7 +10,7 @@ from array import array
 from bisect import bisect_left, bisect_right
 from dataclasses import dataclass, field
 from itertools import compress, count
-from typing import Any, Dict, Iterable, Iterator, List, NamedTuple, Optional, Tuple, TypeVar
+from typing import Any, Iterable, Iterator, NamedTuple, TypeVar
 
 from histories.acts import DRAIN, GIVES, GIVES_ONE
 
@@ -115,8 +115,8 @@ class History:
     kept: int = 0  # how many elements the opening has
     elements: Elements = field(default_factory=Elements)
     events: Events = field(default_factory=Events)
-    strays: Dict[int, int] = field(default_factory=dict)  # first rows by origin, where `row_of` the origin is not it
-    runs: List[Run] = field(default_factory=list)
+    strays: dict[int, int] = field(default_factory=dict)  # first rows by origin, where `row_of` the origin is not it
+    runs: list[Run] = field(default_factory=list)
 
     @property
     def start(self) -> int:
@@ -128,7 +128,7 @@ class History:
         """The moment of the last event, or the last opening's if there is none behind it."""
         return self.runs[-1].end
 
-    def row_of(self, id: int) -> Optional[int]:
+    def row_of(self, id: int) -> int | None:
         """The row of the element of this id, whether it is in the queue or has left."""
         if id >= self.next_id:
             row = self.kept + id - self.next_id
@@ -136,7 +136,7 @@ class History:
         row = bisect_left(self.elements.ids, id, 0, self.kept)
         return row if row < self.kept and self.elements.ids[row] == id else None
 
-    def root_of(self, origin: int) -> Optional[int]:
+    def root_of(self, origin: int) -> int | None:
         """The first row of the job of this origin."""
         stray = self.strays.get(origin)
         if stray is not None:
@@ -148,14 +148,14 @@ class History:
         """Which of the runs an event belongs to, from 1."""
         return bisect_right([run.events.start for run in self.runs], event)
 
-    def gifts(self) -> Iterator[Tuple[int, int, int]]:
+    def gifts(self) -> Iterator[tuple[int, int, int]]:
         """The rows of the elements that were given, in their order, each with the event and how late that was."""
         moments, acts = self.events.moments, self.events.acts
         for row, expiry, event in zip(count(), self.elements.expiries, self.elements.left_in):
             if event != NONE and acts[event] in GIVES:
                 yield row, event, moments[event] - expiry
 
-    def returns(self) -> Iterator[Tuple[int, int]]:
+    def returns(self) -> Iterator[tuple[int, int]]:
         """The rows of the later attempts that were offered, in their order, each with the event."""
         for row, attempt, event in zip(count(), self.elements.attempts, self.elements.offered_in):
             if attempt > 1 and event != NONE:

@@ -8,7 +8,7 @@ same elements, and the last moment or, where the time between the two counts, a 
 """
 from __future__ import annotations
 
-from typing import BinaryIO, Callable, Iterable, Match, Tuple, TypeVar
+from typing import BinaryIO, Callable, Iterable, Match, TypeVar
 
 from histories.acts import BY_KEYWORD, CLEAR, DRAIN, GIVES_ONE, OFFER, PEEK, PEEK_NONE, REMOVE, SIZE
 from histories.faults import Damaged, Wrong
@@ -102,7 +102,7 @@ class Reader:
         events.subjects.append(subject)
         self._last = moment
 
-    def _told(self, line: Match[bytes], moment: int, event: int) -> Tuple[int, int]:
+    def _told(self, line: Match[bytes], moment: int, event: int) -> tuple[int, int]:
         """What an event does to the queue: its act and its subject. The last group that matched has the act's name."""
         queue, keyword = self._queue, line.lastgroup or ""
         if keyword == "offer":
@@ -137,7 +137,7 @@ def in_range(word: bytes) -> int:
     return number
 
 
-def _take(lines: Iterable[Tuple[int, Line]], take: Callable[[Line], None]) -> None:
+def _take(lines: Iterable[tuple[int, Line]], take: Callable[[Line], None]) -> None:
     """Takes one line after the other, each with its number. Refuses the text for one that says what can't be."""
     for number, line in lines:
         try:

@@ -1,13 +1,13 @@
 """The queue of a history while it is read: which elements are in it, and what may happen to them."""
 from __future__ import annotations
 
-from typing import Iterator, Match, Sequence, Tuple
+from typing import Iterator, Match, Sequence
 
 from histories.faults import Wrong
 from histories.history import NONE, History
 
 # Id, expiry, origin, first expiry or nothing, attempt and payload, as a line has them.
-ElementWords = Tuple[bytes, ...]
+ElementWords = tuple[bytes, ...]
 
 
 class ReportedQueue:

@@ -2,7 +2,7 @@
 from __future__ import annotations
 
 from contextlib import ExitStack
-from typing import Optional, Sequence
+from typing import Sequence
 
 from common.progress import Progress
 from histories.faults import Damaged
@@ -12,7 +12,7 @@ from histories.reader import Reader
 from histories.text import Text
 
 
-def read_series(paths: Sequence[str], progress: Optional[Progress] = None) -> History:
+def read_series(paths: Sequence[str], progress: Progress | None = None) -> History:
     """The history of all runs. Files that are named in another order than that of the runs are put into it."""
     reader, texts, path = Reader(), [], ""
     try:

@@ -6,7 +6,7 @@ tells another number of lines than there is. What the lines say is for their rea
 from __future__ import annotations
 
 from functools import partial
-from typing import BinaryIO, Iterator, Match, Tuple
+from typing import BinaryIO, Iterator, Match
 
 from histories.faults import Damaged
 from histories.grammar import (
@@ -16,7 +16,7 @@ from histories.grammar import (
 TOO_SHORT = "the text ends before the history does"
 
 # A line with its number, from 1, by the pattern of its version.
-Numbered = Tuple[int, Match[bytes]]
+Numbered = tuple[int, Match[bytes]]
 
 
 class Text:

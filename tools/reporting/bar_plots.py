@@ -2,7 +2,7 @@
 from __future__ import annotations
 
 from bisect import bisect_left
-from typing import List, NamedTuple, Sequence, Tuple
+from typing import NamedTuple, Sequence
 
 from reporting import svg
 from reporting.figures import Figures
@@ -23,7 +23,7 @@ class Bin(NamedTuple):
     elements: int
 
 
-def bins_of(rising: Sequence[int]) -> List[Bin]:
+def bins_of(rising: Sequence[int]) -> list[Bin]:
     """Ranges of about equal ratio, four to a power of ten, from that of the least lateness to that of the greatest."""
     edges = sorted({0, 1, *(round(10 ** (step / 4)) for step in range(1, 81))})
     bins = [Bin(low, high, bisect_left(rising, high) - bisect_left(rising, low)) for low, high in zip(edges, edges[1:])]
@@ -52,7 +52,7 @@ def spread_plot(figures: Figures) -> Plot:
         readings=[Reading(round(place * width, 1), says) for place, says in enumerate(told)])
 
 
-def grouped(attempts: Sequence[Attempts], most: int) -> List[Tuple[str, int, int]]:
+def grouped(attempts: Sequence[Attempts], most: int) -> list[tuple[str, int, int]]:
     """Attempts, or equal ranges of them if there are many, from 1 on: a label, how many were offered, and given."""
     last = attempts[-1].attempt if attempts else 0
     width = -(-last // most) or 1

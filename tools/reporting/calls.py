@@ -2,7 +2,7 @@
 from __future__ import annotations
 
 from collections import Counter
-from typing import Dict, List, NamedTuple, Tuple
+from typing import NamedTuple
 
 from histories import acts
 from histories.history import History
@@ -19,7 +19,7 @@ class Calls(NamedTuple):
     nothing: int
 
 
-def calls_of(history: History) -> Dict[str, Calls]:
+def calls_of(history: History) -> dict[str, Calls]:
     """Counts the calls."""
     events = history.events
     counts = [events.acts.count(it) for it in range(len(acts.KEYWORDS))]
@@ -47,7 +47,7 @@ class Seat(NamedTuple):
 class Seats(NamedTuple):
     """The busiest seats, in rising order, and how many there are in all."""
 
-    busiest: List[Seat]
+    busiest: list[Seat]
     total: int
 
     @property
@@ -76,7 +76,7 @@ def seats_of(history: History) -> Seats:
     return Seats([told(seat) for seat in busiest], len(calls))
 
 
-def calls_over_time(history: History, buckets: Buckets, seats: Seats) -> Tuple[Dict[int, List[int]], List[int]]:
+def calls_over_time(history: History, buckets: Buckets, seats: Seats) -> tuple[dict[int, list[int]], list[int]]:
     """How many calls each of the busiest seats made in each bucket, and how many all others did."""
     counts = [Counter(history.events.seats[part]) for part in buckets.slices(history.events.moments)]
     told = {seat.number: [count[seat.number] for count in counts] for seat in seats.busiest}

@@ -3,11 +3,11 @@ from __future__ import annotations
 
 from array import array
 from bisect import bisect_left, bisect_right
-from typing import List, NamedTuple, Tuple
+from typing import NamedTuple
 
 PARTS, SAMPLE = 8, 1000
 
-Point = Tuple[int, float]
+Point = tuple[int, float]
 
 
 def in_rising_order(values: array[int]) -> array[int]:
@@ -27,7 +27,7 @@ def in_rising_order(values: array[int]) -> array[int]:
 class Buckets(NamedTuple):
     """The edges of buckets, one more than there are buckets. A bucket has its first edge and lacks its second."""
 
-    edges: List[int]
+    edges: list[int]
 
     @classmethod
     def over(cls, start: int, end: int, most: int) -> Buckets:
@@ -43,18 +43,18 @@ class Buckets(NamedTuple):
     def width(self) -> float:
         return (self.edges[-1] - self.edges[0]) / len(self)
 
-    def slices(self, moments: array[int]) -> List[slice]:
+    def slices(self, moments: array[int]) -> list[slice]:
         """The places of each bucket's entries in a column of rising moments."""
         places = [bisect_left(moments, edge) for edge in self.edges]
         return [slice(low, high) for low, high in zip(places, places[1:])]
 
 
-def thinned(moments: array[int], values: array[int], buckets: Buckets) -> List[Point]:
+def thinned(moments: array[int], values: array[int], buckets: Buckets) -> list[Point]:
     """The points of a series that are drawn: all of them if they are few, otherwise of each bucket the first and the
     last value, the least and the greatest, in their order. So no peak is cut off and no valley filled."""
     if len(moments) <= 4 * len(buckets):
         return list(zip(moments, values))
-    points: List[Point] = []
+    points: list[Point] = []
     for part in buckets.slices(moments):
         some = values[part]
         if some:

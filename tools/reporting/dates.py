@@ -10,7 +10,7 @@ from __future__ import annotations
 import re
 from bisect import bisect_left
 from datetime import datetime, timedelta, timezone
-from typing import NamedTuple, Optional, Sequence
+from typing import NamedTuple, Sequence
 
 from histories.history import History
 from reporting.units import SECOND
@@ -62,7 +62,7 @@ class Dates(NamedTuple):
     leaves_out: bool  # whether the time between two runs is missing from later dates
 
     @classmethod
-    def of(cls, history: History, began: Sequence[Optional[int]]) -> Dates:
+    def of(cls, history: History, began: Sequence[int | None]) -> Dates:
         """The dates of a history whose runs began then: the first one, or each of them. None stands for a run whose
         moments are dates."""
         leaves_out = any(after.opened_at == run.end for run, after in zip(history.runs, history.runs[1:]))

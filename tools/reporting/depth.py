@@ -3,7 +3,6 @@ from __future__ import annotations
 
 from array import array
 from dataclasses import dataclass
-from typing import Tuple
 
 from histories import acts
 from histories.history import NONE, History, column
@@ -24,16 +23,16 @@ class Depth:
         self.expired.append(expired)
 
     @property
-    def deepest(self) -> Tuple[int, int]:
+    def deepest(self) -> tuple[int, int]:
         """The greatest number of elements, and the moment at which it was first reached."""
         return self._greatest(self.standing)
 
     @property
-    def most_expired(self) -> Tuple[int, int]:
+    def most_expired(self) -> tuple[int, int]:
         """The greatest number of expired elements, and the moment at which it was first reached."""
         return self._greatest(self.expired)
 
-    def _greatest(self, values: array[int]) -> Tuple[int, int]:
+    def _greatest(self, values: array[int]) -> tuple[int, int]:
         greatest = max(values)
         return greatest, self.moments[values.index(greatest)]
 

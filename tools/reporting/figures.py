@@ -2,7 +2,7 @@
 from __future__ import annotations
 
 from dataclasses import dataclass
-from typing import Callable, Dict, List, Optional
+from typing import Callable
 
 from histories.history import History
 from reporting.calls import Calls, Seats, calls_of, seats_of
@@ -21,14 +21,14 @@ class Figures:
     name: str
     history: History
     policy: Policy
-    dates: Optional[Dates]
-    calls: Dict[str, Calls]  # by keyword
+    dates: Dates | None
+    calls: dict[str, Calls]  # by keyword
     depth: Depth
     lateness: Lateness
     jobs: Jobs
     retries: Retries
     seats: Seats
-    findings: List[Finding]
+    findings: list[Finding]
 
     @property
     def offered(self) -> int:
@@ -41,7 +41,7 @@ class Figures:
 
 def figures_of(
     name: str, history: History, look: Callable[[], None] = lambda: None, policy: Policy = Policy(),
-    dates: Optional[Dates] = None,
+    dates: Dates | None = None,
 ) -> Figures:
     """Counts everything. `look` is called now and then, so that progress can be shown."""
     depth = depth_of(history)

@@ -6,7 +6,7 @@ from __future__ import annotations
 
 from array import array
 from heapq import nsmallest
-from typing import Dict, Iterator, NamedTuple, Sequence
+from typing import Iterator, NamedTuple, Sequence
 
 from histories.history import NONE, History
 from reporting.calls import Calls
@@ -30,7 +30,7 @@ class Finding(NamedTuple):
 
 
 def findings_of(
-    history: History, calls: Dict[str, Calls], depth: Depth, jobs: Jobs, policy: Policy, retries: Retries
+    history: History, calls: dict[str, Calls], depth: Depth, jobs: Jobs, policy: Policy, retries: Retries
 ) -> Iterator[Finding]:
     """All that looks wrong."""
     yield from _bursts(history, jobs)

@@ -6,7 +6,7 @@ from __future__ import annotations
 
 from array import array
 from collections import Counter
-from typing import Dict, Iterable, Iterator, List, NamedTuple, Tuple
+from typing import Iterable, Iterator, NamedTuple
 
 from histories.acts import GIVES
 from histories.history import NONE, History
@@ -29,7 +29,7 @@ class Jobs(NamedTuple):
 
     elements: array[int]
     given: array[int]
-    attempts: List[Attempts]
+    attempts: list[Attempts]
     roots: array[int]
     again: array[int]  # the roots of the jobs that were offered again, those with the most elements first
 
@@ -50,16 +50,16 @@ def jobs_of(history: History) -> Jobs:
     return Jobs(counts, given, attempts, roots, array("i", again))
 
 
-def lives(history: History, roots: Iterable[int]) -> Dict[int, List[int]]:
+def lives(history: History, roots: Iterable[int]) -> dict[int, list[int]]:
     """The rows of each of these jobs, in the order in which they were offered."""
-    found: Dict[int, List[int]] = {root: [] for root in roots}
+    found: dict[int, list[int]] = {root: [] for root in roots}
     for row, root in enumerate(history.elements.roots):
         if root in found:
             found[root].append(row)
     return found
 
 
-def life(history: History, origin: int) -> List[int]:
+def life(history: History, origin: int) -> list[int]:
     """The rows of the job of this origin."""
     root = history.root_of(origin)
     if root is None:
@@ -67,12 +67,12 @@ def life(history: History, origin: int) -> List[int]:
     return lives(history, [root])[root]
 
 
-def with_payload(history: History, text: str) -> List[int]:
+def with_payload(history: History, text: str) -> list[int]:
     """The roots of the jobs with this payload or, if it ends with a `*`, with one that begins with what is before."""
     wanted, begins = text.encode(), text.endswith("*")
     wanted = wanted[:-1] if begins else wanted
     elements, payloads, start = history.elements, history.elements.payloads, 0
-    found: Dict[int, None] = {}
+    found: dict[int, None] = {}
     for end, root in zip(elements.payload_ends, elements.roots):
         if payloads.startswith(wanted, start, end) and (begins or end - start == len(wanted)):
             found[root] = None
@@ -82,7 +82,7 @@ def with_payload(history: History, text: str) -> List[int]:
     return list(found)
 
 
-def given_events(history: History, rows: Iterable[int]) -> List[Tuple[int, int]]:
+def given_events(history: History, rows: Iterable[int]) -> list[tuple[int, int]]:
     """The events that gave these rows, each with the row, in their order."""
     found = ((history.elements.left_in[row], row) for row in rows)
     return sorted((event, row) for event, row in found if event != NONE and history.events.acts[event] in GIVES)

@@ -2,7 +2,7 @@
 from __future__ import annotations
 
 from array import array
-from typing import Iterator, List, NamedTuple, Sequence
+from typing import Iterator, NamedTuple, Sequence
 
 from histories.history import History
 from reporting.columns import Buckets, in_rising_order
@@ -29,7 +29,7 @@ def rank(values: Sequence[int], share: float) -> int:
     return values[max(0, place - 1)]
 
 
-def lateness_in(buckets: Buckets, history: History) -> Iterator[List[int]]:
+def lateness_in(buckets: Buckets, history: History) -> Iterator[list[int]]:
     """How late those given in each bucket were, in rising order."""
     found = [array("Q") for _ in range(len(buckets))]
     start, moments = buckets.edges[0], history.events.moments

@@ -4,7 +4,7 @@ from __future__ import annotations
 
 import json
 from itertools import chain, islice
-from typing import Dict, Iterator, List, Sequence, Union
+from typing import Iterator, Sequence, Union
 
 from histories.acts import KEYWORDS
 from histories.history import NONE, History
@@ -22,13 +22,13 @@ MOST_EXACT = 2**53 - 1
 Number = Union[int, str]
 
 
-def chosen_jobs(figures: Figures) -> List[int]:
+def chosen_jobs(figures: Figures) -> list[int]:
     """The roots of the jobs whose lives a page has: all jobs if they are few. Otherwise those that look wrong first,
     then those that were given latest, those that were given their last attempt, those with the most elements, and the
     earliest ones."""
     history, jobs = figures.history, figures.jobs
     named = (history.root_of(origin) for finding in figures.findings for origin in finding.origins)
-    roots: Dict[int, None] = {}
+    roots: dict[int, None] = {}
     room = MOST_ELEMENTS
     for root in chain(named, _latest(figures), figures.retries.last_given, jobs.again, jobs.roots):
         if root is not None and root not in roots and jobs.elements[root] <= room:
@@ -50,13 +50,13 @@ def _exact(number: int) -> Number:
     return number if number <= MOST_EXACT else str(number)
 
 
-def _attempt(history: History, row: int) -> List[Union[Number, None]]:
+def _attempt(history: History, row: int) -> list[Number | None]:
     """Id, attempt, expiry, when and by which seat it was offered, when and to which it left, and by which act. If there
     are several runs, also in which it was offered and left."""
     elements, events = history.elements, history.events
     ends = (elements.offered_in[row], elements.left_in[row])
-    told: List[Union[Number, None]] = [_exact(elements.ids[row]), elements.attempts[row]]
-    told.append(_exact(elements.expiries[row]))
+    told: list[Number | None] = [
+        _exact(elements.ids[row]), elements.attempts[row], _exact(elements.expiries[row])]
     for event in ends:
         told += [None, None] if event == NONE else [_exact(events.moments[event]), _exact(events.seats[event])]
     told.append(None if ends[1] == NONE else events.acts[ends[1]])

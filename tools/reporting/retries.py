@@ -6,7 +6,7 @@ was done and one that is dead both end with a gift, and have the same bytes.
 from __future__ import annotations
 
 from array import array
-from typing import List, NamedTuple, Optional
+from typing import NamedTuple
 
 from histories.grammar import GREATEST
 from histories.history import NONE, History
@@ -18,9 +18,9 @@ class Policy(NamedTuple):
     """The server's own options, as far as the report was told. None stands for one that was not told. Of delay and rate
     one is told at most, in nanoseconds."""
 
-    attempts: Optional[int] = None
-    delay: Optional[int] = None
-    rate: Optional[int] = None
+    attempts: int | None = None
+    delay: int | None = None
+    rate: int | None = None
 
     def fits(self, expiry: int, asked: int, first: int, attempt: int) -> bool:
         """Whether a later attempt may have this expiry, by the moment asked of its offer and the job's first expiry."""
@@ -35,13 +35,13 @@ class Retries(NamedTuple):
     returns: int
     misfits: int  # returns with another expiry than the policy's
     at_once: int  # returns
-    jobs_at_once: List[int]  # that came back at once
+    jobs_at_once: list[int]  # that came back at once
     greatest_wait: int  # of the returns at once
     reached: int  # the greatest attempt among them
     reached_by: int  # how many jobs came back at once as that attempt
     soonest: int  # the least time from a first gift until that attempt was offered
-    last_given: List[int]  # jobs that were given their last attempt
-    beyond: List[int]  # jobs with an attempt beyond the last one
+    last_given: list[int]  # jobs that were given their last attempt
+    beyond: list[int]  # jobs with an attempt beyond the last one
 
 
 def retries_of(history: History, policy: Policy) -> Retries:

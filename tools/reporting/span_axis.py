@@ -3,7 +3,6 @@ from __future__ import annotations
 
 import math
 from bisect import bisect_left, bisect_right
-from typing import List
 
 from reporting.svg import BOTTOM, TOP, Scale, Tick
 from reporting.units import UNITS, mark
@@ -17,7 +16,7 @@ DECADES = (1, 10, 100)
 FINER = (2, 5, 20, 50, 200, 500)
 
 
-def _round_spans() -> List[int]:
+def _round_spans() -> list[int]:
     coarse = [size * factor for size, name, _ in UNITS for factor in (DECADES if size < 10**9 else (1,))]
     coarse += [size * factor for size, name, _ in UNITS if size >= 10**9 for factor in FINE[name] if factor % 10 == 0]
     fine = [size * factor for size, name, _ in UNITS for factor in FINE.get(name, FINER)]
@@ -45,9 +44,9 @@ class SpanAxis:
     def at(self, nanoseconds: int) -> float:
         return self._scale.at(level(nanoseconds))
 
-    def ticks(self) -> List[Tick]:
+    def ticks(self) -> list[Tick]:
         """Both ends, and the roundest spans between them for whose labels there is room."""
-        chosen: List[Tick] = []
+        chosen: list[Tick] = []
         for value in (self.low, self.high, *ROUND_SPANS):
             place = self.at(value)
             if self.low <= value <= self.high and all(abs(place - it.place) >= LABEL_HEIGHT for it in chosen):

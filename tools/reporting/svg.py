@@ -10,7 +10,7 @@ from __future__ import annotations
 import itertools
 from dataclasses import dataclass
 from html import escape
-from typing import Iterable, List, NamedTuple, Sequence, Tuple
+from typing import Iterable, NamedTuple, Sequence
 
 from reporting.columns import Point
 from reporting.units import compact
@@ -20,7 +20,7 @@ LEFT = 72  # the room for labels at the left, as in page.css
 SHARES = 1000
 
 # From which width of the page on a label is shown, by its class, and how wide a drawing is there at least.
-ROOMS: Tuple[Tuple[str, int], ...] = (("", 270), ("from-720", 520), ("from-1040", 840))
+ROOMS: tuple[tuple[str, int], ...] = (("", 270), ("from-720", 520), ("from-1040", 840))
 DIGIT_WIDTH, GAP = 7.7, 12  # of a label's words, in pixels
 
 
@@ -45,7 +45,7 @@ class Tick(NamedTuple):
     kind: str = ""
 
 
-def steps_of(high: int, most: int) -> List[int]:
+def steps_of(high: int, most: int) -> list[int]:
     """Round values from 0 to `high`, some `most` of them: 1, 2 or 5 and zeros apart."""
     steps = (factor * 10**power for power in itertools.count() for factor in (1, 2, 5))
     step = next(it for it in steps if it * most >= high)
@@ -57,7 +57,7 @@ def count_scale(values: Iterable[int]) -> Scale:
     return Scale(0, max(1, max(values, default=1)), BOTTOM, TOP)
 
 
-def count_ticks(scale: Scale) -> List[Tick]:
+def count_ticks(scale: Scale) -> list[Tick]:
     return [Tick(scale.at(value), compact(value)) for value in steps_of(int(scale.high), 5)]
 
 
@@ -65,10 +65,10 @@ def _width(words: str) -> float:
     return DIGIT_WIDTH * len(words) + GAP
 
 
-def fitting(ticks: Sequence[Tick]) -> List[Tick]:
+def fitting(ticks: Sequence[Tick]) -> list[Tick]:
     """The ticks whose labels do not touch, each with the class of the pages that have room for it: of all ticks every
     second, fourth and so on, and more of them where there is more room."""
-    chosen: List[Tick] = []
+    chosen: list[Tick] = []
     distances = sorted(after.place - before.place for before, after in zip(ticks, ticks[1:]))
     widest = max((_width(tick.label) for tick in ticks), default=0.0)
     for kind, room in ROOMS:
@@ -95,7 +95,7 @@ def text(x: float | str, y: float, words: str, kind: str) -> str:
     return f'<text x="{x}" y="{y}" class="{kind.strip()}">{escape(words)}</text>'
 
 
-def line(kind: str, start: Tuple[float | str, float], end: Tuple[float | str, float]) -> str:
+def line(kind: str, start: tuple[float | str, float], end: tuple[float | str, float]) -> str:
     return f'<line class="{kind.strip()}" x1="{start[0]}" y1="{start[1]}" x2="{end[0]}" y2="{end[1]}"/>'
 
 
@@ -161,7 +161,7 @@ class Plot:
     name: str
     title: str
     about: str
-    legend: Sequence[Tuple[str, str]]
+    legend: Sequence[tuple[str, str]]
     parts: Sequence[str]
     caption: str
     readings: Sequence[Reading]

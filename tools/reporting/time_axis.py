@@ -2,7 +2,7 @@
 from __future__ import annotations
 
 import math
-from typing import Iterable, Iterator, List, Optional
+from typing import Iterable, Iterator
 
 from histories.history import History
 from reporting import svg
@@ -26,7 +26,7 @@ DATE_STEPS = (
 class TimeAxis:
     """Places moments, and tells them: as dates if they are known, otherwise as time since the first event."""
 
-    def __init__(self, history: History, dates: Optional[Dates], most_buckets: int = 1) -> None:
+    def __init__(self, history: History, dates: Dates | None, most_buckets: int = 1) -> None:
         self.scale = Scale(history.start, history.end, 0, SHARES)
         self.buckets = Buckets.over(history.start, history.end, most_buckets)
         self._history, self._dates = history, dates
@@ -48,18 +48,18 @@ class TimeAxis:
             return f"{(moment - self._history.start) / self._size:,.{digits}f} {self._unit}"
         return self._dates.text(moment, 0 if width >= SECOND else 3 if width >= 1_000_000 else 9) + " UTC"
 
-    def readings(self, lines: Iterable[Iterable[str]]) -> List[Reading]:
+    def readings(self, lines: Iterable[Iterable[str]]) -> list[Reading]:
         """What is said of each bucket: its moment, and these lines."""
         return [Reading(self.scale.at(edge), "\n".join([self.told(edge, self.buckets.width), *some]))
                 for edge, some in zip(self.buckets.edges, lines)]
 
-    def _ticks(self) -> List[Tick]:
+    def _ticks(self) -> list[Tick]:
         # Tenths of a unit are asked for, so that a length of three seconds has more than four ticks.
         start, tenth = self._history.start, max(1, self._size // 10)
         steps = svg.steps_of((self._history.end - start) // tenth, 10)
         return [Tick(self.scale.at(start + it * tenth), f"{it * tenth / self._size:g}") for it in steps]
 
-    def _date_ticks(self, dates: Dates) -> List[Tick]:
+    def _date_ticks(self, dates: Dates) -> list[Tick]:
         step = next(it for it in DATE_STEPS if it * MOST_TICKS >= self._history.end - self._history.start)
         return [Tick(self.scale.at(moment), _label(dates.date(moment), step)) for moment in self._round(dates, step)]
 

@@ -4,7 +4,7 @@ from __future__ import annotations
 import math
 from array import array
 from bisect import bisect_left
-from typing import Iterator, List, NamedTuple, Optional, Sequence, Tuple
+from typing import Iterator, NamedTuple, Sequence
 
 from histories.acts import OFFER
 from histories.history import History
@@ -59,9 +59,9 @@ def _ranges(moments: array[int], values: array[int], buckets: Buckets) -> Iterat
 class Rates(NamedTuple):
     """For each bucket, how many jobs were offered first, how many elements were given, and how many jobs came back."""
 
-    offers: List[int]
-    gifts: List[int]
-    returns: List[int]
+    offers: list[int]
+    gifts: list[int]
+    returns: list[int]
 
 
 def rates_of(history: History, buckets: Buckets) -> Rates:
@@ -82,11 +82,11 @@ def rates_plot(figures: Figures) -> Plot:
     buckets, edges = axis.buckets, axis.buckets.edges
     unit, name = next(it for it in PACES if it[0] <= max(1, history.end - history.start))
     counts = rates_of(history, buckets)
-    rates = Rates(*([count * unit / (after - before) for count, before, after in zip(some, edges, edges[1:])]
-                    for some in counts))
-    y = svg.count_scale(math.ceil(it) for values in rates for it in values)
+    rates = {kind: [count * unit / (after - before) for count, before, after in zip(some, edges, edges[1:])]
+             for kind, some in counts._asdict().items()}
+    y = svg.count_scale(math.ceil(it) for values in rates.values() for it in values)
     lines = [svg.line_path(kind, svg.stairs(list(zip(edges, values)), axis.scale, y))
-             for kind, values in rates._asdict().items()]
+             for kind, values in rates.items()]
     total = [counted(sum(some), noun) for some, noun in zip(counts, ("offer", "gift", "return"))]
     return Plot(
         name="rates", title=f"Offers, gifts and returns a {name}",
@@ -97,7 +97,7 @@ def rates_plot(figures: Figures) -> Plot:
                 f" {span(round(buckets.width))}. In all {total[0]}, {total[1]} and {total[2]}.",
         readings=axis.readings(
             (f"{_rate(offers)} offers", f"{_rate(gifts)} gifts", f"{_rate(returns)} returns a {name}")
-            for offers, gifts, returns in zip(*rates)))
+            for offers, gifts, returns in zip(*rates.values())))
 
 
 def _rate(rate: float) -> str:
@@ -121,9 +121,11 @@ def lateness_plot(figures: Figures) -> Plot:
     some = [it for it in found if it]
     y = SpanAxis(min((it.median for it in some), default=0), lateness.greatest)
     places = [axis.scale.at(edge) for edge in buckets.edges]
-    dashes = ["".join(f"M{low} {y.at(getattr(it, kind))}h{max(LEAST_DASH, round(high - low, 1))}"
-                      for low, high, it in zip(places, places[1:], found) if it) for kind in ("greatest", "median")]
-    paths = [f'<path class="dash {kind}" d="{path}"/>' for kind, path in zip(("greatest", "median"), dashes)]
+    paths = []
+    for kind in ("greatest", "median"):
+        dashes = [f"M{low} {y.at(getattr(it, kind))}h{max(LEAST_DASH, round(high - low, 1))}"
+                  for low, high, it in zip(places, places[1:], found) if it]
+        paths.append(f'<path class="dash {kind}" d="{"".join(dashes)}"/>')
     return Plot(
         name="lateness", title="Lateness over time", about="lateness over time",
         legend=(("median", "median"), ("greatest", "greatest")),
@@ -133,7 +135,7 @@ def lateness_plot(figures: Figures) -> Plot:
         readings=axis.readings(map(_late, found)))
 
 
-def _late(late: Optional[Late]) -> Sequence[str]:
+def _late(late: Late | None) -> Sequence[str]:
     if late is None:
         return ("nothing was given",)
     return f"median {span(late.median)}", f"greatest {span(late.greatest)}", f"of {counted(late.gifts, 'gift')}"
@@ -161,7 +163,7 @@ def seats_plot(figures: Figures) -> Plot:
         readings=axis.readings(told), height=height)
 
 
-def _seat_rows(figures: Figures, buckets: Buckets) -> List[Tuple[str, List[int]]]:
+def _seat_rows(figures: Figures, buckets: Buckets) -> list[tuple[str, list[int]]]:
     """The busiest seats, in rising order, and all others together."""
     told, others = calls_over_time(figures.history, buckets, figures.seats)
     rows = [(f"seat {_short(seat)}", counts) for seat, counts in told.items()]

@@ -1,18 +1,16 @@
 """Numbers as people read them. Moments and spans of time are nanoseconds."""
 from __future__ import annotations
 
-from typing import Tuple
-
 SECOND = 1_000_000_000
 
 # From the smallest. A span is told in the largest of which it has at least one, or of minutes and more two.
-UNITS: Tuple[Tuple[int, str, int], ...] = (
+UNITS: tuple[tuple[int, str, int], ...] = (
     (1, "ns", 0), (1_000, "µs", 1), (1_000_000, "ms", 1), (SECOND, "s", 1),
     (60 * SECOND, "min", 2), (3600 * SECOND, "h", 2), (86_400 * SECOND, "d", 2),
 )
 
 
-def unit_of(nanoseconds: int) -> Tuple[int, str]:
+def unit_of(nanoseconds: int) -> tuple[int, str]:
     """The unit in which a span is shown: its nanoseconds and its name."""
     return [(size, name) for size, name, least in UNITS if nanoseconds >= size * least][-1]
 

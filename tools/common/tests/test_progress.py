@@ -4,7 +4,6 @@ from __future__ import annotations
 import os
 import threading
 from pathlib import Path
-from typing import List
 from unittest import mock
 
 from checking.testing import RoomTest
@@ -23,7 +22,7 @@ class ProgressTest(RoomTest):
                     progress.say(what)
         return stderr.told
 
-    def reading(self, path: str) -> List[str]:
+    def reading(self, path: str) -> list[str]:
         """What is said at a terminal while a file is read that has the text `a` in each of its lines."""
         with long_work_at_terminal(), mock.patch("sys.stderr", Terminal()) as stderr:
             with Progress() as progress, progress.reading(path) as file:

@@ -3,7 +3,6 @@ from __future__ import annotations
 
 import io
 import unittest
-from typing import List, Tuple
 
 from histories.faults import Damaged
 from histories.given import given_ids
@@ -17,7 +16,7 @@ def text(content: str) -> Text:
     return Text(io.BytesIO(content.encode()))
 
 
-def lines(content: str) -> List[Tuple[int, str]]:
+def lines(content: str) -> list[tuple[int, str]]:
     """All lines between head and end, with their numbers."""
     it = text(content)
     return [(number, line.string.decode()) for part in (it.kept(), it.events()) for number, line in part]

@@ -9,7 +9,7 @@ import os
 import signal
 import socket
 import subprocess
-from typing import Any, Dict, List
+from typing import Any
 
 PATIENCE = 60.0  # seconds for each answer
 
@@ -36,7 +36,7 @@ class Browser:
                 env={**os.environ, "HOME": room},
                 stdin=subprocess.DEVNULL, stdout=subprocess.DEVNULL, stderr=subprocess.DEVNULL)
         self._numbers, self._rest, self._session = itertools.count(1), b"", ""
-        self.complaints: List[Dict[str, Any]] = []
+        self.complaints: list[dict[str, Any]] = []
         self._is_loaded = False
         try:
             self._attach()
@@ -76,7 +76,7 @@ class Browser:
 
     def press(self, key: str) -> None:
         """Presses a key that KEYS names."""
-        told: Dict[str, Any] = {"key": key, "code": key, "windowsVirtualKeyCode": KEYS[key]}
+        told: dict[str, Any] = {"key": key, "code": key, "windowsVirtualKeyCode": KEYS[key]}
         if key == "Enter":
             told["text"] = "\r"
         for kind in ("keyDown", "keyUp"):
@@ -112,9 +112,9 @@ class Browser:
             os.killpg(self._process.pid, signal.SIGKILL)
         self._process.wait()
 
-    def _ask(self, method: str, **parameters: Any) -> Dict[str, Any]:
+    def _ask(self, method: str, **parameters: Any) -> dict[str, Any]:
         number = next(self._numbers)
-        request: Dict[str, Any] = {"id": number, "method": method, "params": parameters}
+        request: dict[str, Any] = {"id": number, "method": method, "params": parameters}
         if self._session:
             request["sessionId"] = self._session
         self._socket.sendall(json.dumps(request).encode() + b"\0")
@@ -123,11 +123,11 @@ class Browser:
             if message.get("id") == number:
                 if "error" in message:
                     raise AssertionError(f"{method}: {message['error']}")
-                result: Dict[str, Any] = message["result"]
+                result: dict[str, Any] = message["result"]
                 return result
             self._take(message)
 
-    def _take(self, message: Dict[str, Any]) -> None:
+    def _take(self, message: dict[str, Any]) -> None:
         """Notes what the page reports by itself."""
         method = message.get("method")
         if method == "Page.loadEventFired":
@@ -135,12 +135,12 @@ class Browser:
         elif method in COMPLAINTS:
             self.complaints.append(message)
 
-    def _message(self) -> Dict[str, Any]:
+    def _message(self) -> dict[str, Any]:
         while b"\0" not in self._rest:
             some = self._socket.recv(1 << 16)
             if not some:
                 raise AssertionError("the browser has gone")
             self._rest += some
         text, _, self._rest = self._rest.partition(b"\0")
-        message: Dict[str, Any] = json.loads(text)
+        message: dict[str, Any] = json.loads(text)
         return message

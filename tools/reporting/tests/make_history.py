@@ -17,7 +17,7 @@ import heapq
 import os
 import random
 import sys
-from typing import Dict, Iterator, List, TextIO, Tuple
+from typing import Iterator, TextIO
 
 sys.path.insert(0, os.path.dirname(os.path.dirname(os.path.dirname(os.path.realpath(__file__)))))
 
@@ -35,10 +35,10 @@ class Maker:
         self.out, self.version, self.seats = out, version, seats
         self.random = random.Random(seed)
         self.moment = self.asked = self.next_id = 0
-        self.heap: List[Tuple[int, int]] = []
-        self.standing: Dict[int, Element] = {}
+        self.heap: list[tuple[int, int]] = []
+        self.standing: dict[int, Element] = {}
         self.is_rush = False
-        self.held: Dict[int, List[Element]] = {seat: [] for seat in range(1, seats + 1)}
+        self.held: dict[int, list[Element]] = {seat: [] for seat in range(1, seats + 1)}
 
     def text(self, events: int) -> None:
         self.out.write(f"history {self.version}\n" + ("open 0 0 0\n" if self.version == 3 else ""))

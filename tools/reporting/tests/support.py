@@ -6,7 +6,7 @@ import sys
 import tempfile
 import unittest
 from pathlib import Path
-from typing import List, Sequence, Tuple
+from typing import Sequence
 
 from checking.testing import RoomTest, call_tool, run_tool
 from histories.tests.support import read
@@ -29,7 +29,7 @@ def made(events: int, *options: str) -> str:
 class ReportTest(RoomTest):
     """A test that runs tools/report within this process, with files in a folder of its own."""
 
-    def lines(self, *words: str) -> List[str]:
+    def lines(self, *words: str) -> list[str]:
         """What tools/report prints if all is well."""
         status, out, errors = call(*words)
         self.assertEqual((status, errors), (0, ""))
@@ -78,9 +78,9 @@ class ReportPageTest(PageTest):
         assert status == 0, errors
         return f"{cls.room}/{name}.html"
 
-    def place(self, selector: str) -> List[float]:
+    def place(self, selector: str) -> list[float]:
         """Left, top, width and height of what a selector names, once it is in sight."""
-        place: List[float] = self.browser.value(f"""(() => {{
+        place: list[float] = self.browser.value(f"""(() => {{
             const it = document.querySelector('{selector}');
             it.scrollIntoView({{ block: "center" }});
             const {{ left, top, width, height }} = it.getBoundingClientRect();
@@ -94,7 +94,7 @@ class ReportPageTest(PageTest):
         self.browser.press("Tab")
 
 
-def call(*words: str) -> Tuple[int, str, str]:
+def call(*words: str) -> tuple[int, str, str]:
     """Runs tools/report in this process: its status, and what it prints on standard output and standard error."""
     status, out, errors = call_tool("report", *words)
     return status, out.decode(), errors

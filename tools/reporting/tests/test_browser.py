@@ -3,7 +3,7 @@ payloads are text."""
 from __future__ import annotations
 
 import time
-from typing import Any, Tuple
+from typing import Any
 
 from histories.tests.support import RUN, offer, text_of
 from reporting.tests.support import ReportPageTest, made
@@ -20,7 +20,7 @@ PATIENCE = 10.0  # seconds
 
 
 class BrowserTest(ReportPageTest):
-    def show(self, *texts: str, options: Tuple[str, ...] = (), job: str = "") -> None:
+    def show(self, *texts: str, options: tuple[str, ...] = (), job: str = "") -> None:
         """Opens the page of a history, at a job if one is named."""
         # A page of its own: to go to another job of the page that is shown loads nothing.
         page = self.page(self._testMethodName, texts, *options)

@@ -3,7 +3,6 @@ from __future__ import annotations
 
 import unittest
 from array import array
-from typing import List, Tuple
 
 from histories.tests.support import RUN, offer, read, text_of
 from reporting.bar_plots import bins_of, grouped
@@ -16,7 +15,7 @@ from reporting.tests.support import figures
 from reporting.units import SECOND, compact, mark, percent, span
 
 
-def attempts_of_one_job(*moments: int) -> List[str]:
+def attempts_of_one_job(*moments: int) -> list[str]:
     """A job that is given at these moments, and is offered again each time."""
     lines = []
     for place, moment in enumerate(moments):
@@ -85,7 +84,7 @@ class FiguresTest(unittest.TestCase):
 BURST = "1 job was given 3 times or more within 1.00 ms"
 
 # Events, and what looks wrong in them.
-FINDINGS: List[Tuple[List[str], List[str]]] = [
+FINDINGS: list[tuple[list[str], list[str]]] = [
     (attempts_of_one_job(0, 5, 1_000_000), [BURST]),
     (attempts_of_one_job(0, 2_000_000, 2_000_001, 2_000_002), [BURST]),
     (attempts_of_one_job(0, 5, 1_000_001), []),

@@ -8,7 +8,7 @@ import tempfile
 import time
 import unittest
 from concurrent.futures import Future, ThreadPoolExecutor
-from typing import Dict, List, NamedTuple, Tuple
+from typing import NamedTuple
 
 from checking.testing import tool
 from reporting import tests
@@ -17,7 +17,7 @@ MOST_BYTES = 200 * 10**6
 
 # Histories by name, of a busy server, and of which 97 events in 100 are offers: the words with which make_history.py
 # makes each, and the most seconds of a processor for its report.
-LARGE: Dict[str, Tuple[List[str], float]] = {"busy": ([], 20.0), "offers": (["--offers"], 30.0)}
+LARGE: dict[str, tuple[list[str], float]] = {"busy": ([], 20.0), "offers": (["--offers"], 30.0)}
 
 
 class Measured(NamedTuple):
@@ -44,7 +44,7 @@ def measured(room: str, name: str) -> Measured:
     return Measured(status, time.monotonic() - start, used.ru_utime + used.ru_stime, memory, os.path.getsize(page))
 
 
-_reports: Dict[str, Future[Measured]] = {}
+_reports: dict[str, Future[Measured]] = {}
 
 
 def setUpModule() -> None:

@@ -5,7 +5,7 @@ import json
 import re
 import unittest
 from html.parser import HTMLParser
-from typing import Any, Dict, List, Optional, Tuple
+from typing import Any
 from unittest import mock
 
 from histories.tests.support import RUN, offer, read, text_of
@@ -25,13 +25,13 @@ class Outline(HTMLParser):
 
     def __init__(self, text: str) -> None:
         super().__init__(convert_charrefs=True)
-        self.tags: List[Tuple[str, Dict[str, Optional[str]]]] = []
-        self.texts: Dict[str, List[str]] = {}
+        self.tags: list[tuple[str, dict[str, str | None]]] = []
+        self.texts: dict[str, list[str]] = {}
         self._open = ""
         self.feed(text)
         self.close()
 
-    def handle_starttag(self, tag: str, attrs: List[Tuple[str, Optional[str]]]) -> None:
+    def handle_starttag(self, tag: str, attrs: list[tuple[str, str | None]]) -> None:
         self.tags.append((tag, dict(attrs)))
         self._open = tag
         self.texts.setdefault(tag, []).append("")
@@ -47,9 +47,9 @@ class Outline(HTMLParser):
         return sum(name == tag for name, _ in self.tags)
 
 
-def lives_in(text: str) -> Dict[str, List[Any]]:
+def lives_in(text: str) -> dict[str, list[Any]]:
     found = re.search(r'<script type="application/json" id="lives">(.*?)</script>', text, re.S)
-    lives: Dict[str, List[Any]] = json.loads(found[1])["jobs"] if found else {}
+    lives: dict[str, list[Any]] = json.loads(found[1])["jobs"] if found else {}
     return lives
 
 

@@ -3,7 +3,6 @@ from __future__ import annotations
 
 import re
 import unittest
-from typing import List
 
 from histories.tests.support import RUN, offer, read, text_of
 from reporting import svg
@@ -19,7 +18,7 @@ from reporting.units import mark
 SECOND = 10**9
 
 
-def labels(ticks: List[Tick]) -> List[str]:
+def labels(ticks: list[Tick]) -> list[str]:
     return [tick.label for tick in ticks]
 
 
@@ -64,7 +63,7 @@ class SpanAxisTest(unittest.TestCase):
 
 
 class FittingTest(unittest.TestCase):
-    def pairs(self, ticks: List[Tick]) -> None:
+    def pairs(self, ticks: list[Tick]) -> None:
         """No two labels that a page shows touch."""
         for place, (_, room) in enumerate(ROOMS):
             kinds = [kind for kind, _ in ROOMS[:place + 1]]
@@ -96,7 +95,7 @@ class TimeAxisTest(unittest.TestCase):
         history = read(text_of("1 0 0 size 0", f"1 {end} {end} size 0"))
         return TimeAxis(history, Dates.of(history, [nanoseconds_of(began)]))
 
-    def shown(self, axis: TimeAxis) -> List[str]:
+    def shown(self, axis: TimeAxis) -> list[str]:
         return re.findall(r'class="x(?: from-\d+)?">([^<]*)<', axis.drawn())
 
     def test_dates_at_the_axis(self) -> None:

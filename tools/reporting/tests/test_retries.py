@@ -2,7 +2,6 @@
 from __future__ import annotations
 
 import unittest
-from typing import List
 
 from histories.grammar import GREATEST
 from histories.tests.support import offer, text_of
@@ -119,10 +118,10 @@ class PayloadTest(ReportTest):
     def setUp(self) -> None:
         super().setUp()
         payloads = ["mail-1", "mail-12", "mail-1", "bill", "mail-*", "ail-1"]
-        lines: List[str] = [offer(id, 0, payload) for id, payload in enumerate(payloads)]
+        lines: list[str] = [offer(id, 0, payload) for id, payload in enumerate(payloads)]
         self.path = self.file("run.txt", text_of(*lines, "1 9 9 take 3", "1 9 9 remove 4 yes"))
 
-    def found(self, payload: str) -> List[str]:
+    def found(self, payload: str) -> list[str]:
         """The origins that are listed for a payload."""
         lines = self.lines(self.path, "--payload", payload)
         self.assertEqual(lines[0], f"{len(lines) - 2} jobs of payload {payload}")

@@ -2,7 +2,6 @@
 from __future__ import annotations
 
 import math
-from typing import Dict
 
 from reporting.tests.support import ReportPageTest, made
 from reporting.tests.test_plots import backlog
@@ -56,7 +55,7 @@ def contrast(one: str, other: str) -> float:
 
 
 class SightTest(ReportPageTest):
-    pages: Dict[str, str]
+    pages: dict[str, str]
 
     @classmethod
     def setUpClass(cls) -> None:
