@@ -152,7 +152,7 @@ class FilesTest(ArchiveTest):
 
     def test_the_last_file_opens_the_next_run(self) -> None:
         self.take()
-        opening = read_text(self.file(3)).queue.opening()
+        opening = read_text(self.file(3)).opening()
         self.assertEqual(b"".join(opening), b"open 3 16 1\nkeep 2 99 2 99 1 b\n")
 
 

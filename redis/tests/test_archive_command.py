@@ -40,7 +40,7 @@ class ArchiveCommandTest(RedisTest):
             self.assertEqual(text[1:1 + len(opening)], opening, path)
             self.assertEqual(path.name, f"{self.name}-{len(lines):012}.txt")
             lines += text[1 + len(opening):-1]
-            opening = [it[:-1] for it in read_text(path).queue.opening()]
+            opening = [it[:-1] for it in read_text(path).opening()]
         self.assertEqual(lines, events)
 
 

@@ -45,7 +45,7 @@ class HistoryTest(RoomTest):
     def left_in(self, text: bytes) -> FollowedQueue:
         file = self.room / "text"
         file.write_bytes(text)
-        return read_text(file).queue
+        return read_text(file)
 
     def assert_damaged(self, said: str, text: bytes) -> None:
         with self.assertRaises(Damaged) as raised:

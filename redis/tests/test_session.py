@@ -101,10 +101,8 @@ class SessionTest(unittest.IsolatedAsyncioTestCase):
     def assert_idle(self) -> None:
         self.assertEqual(self.gateway.calls.submitted, [])
 
-    def assert_exchange(self, lines: bytes, calls: "dict[bytes, bytes]", sends: Optional[bytes] = None) -> None:
-        """Lines arrive, these calls are made, and once they are answered the client is sent their replies, or this."""
-        if lines:
-            self.session.data_received(lines)
+    def assert_exchange(self, calls: "dict[bytes, bytes]", sends: Optional[bytes] = None) -> None:
+        """These calls are made, and once they are answered the client is sent their replies, or this."""
         self.assert_calls(*calls)
         self.answer(*calls.values(), sends=b"".join(calls.values()) if sends is None else sends)
 
@@ -118,16 +116,18 @@ class SessionTest(unittest.IsolatedAsyncioTestCase):
 
     def let_wait(self, *lines: bytes) -> None:
         """Its client sends a TAKE, which waits, and further lines."""
-        self.assert_exchange(b"".join(it + b"\n" for it in (b"TAKE", *lines)), {b"7 TAKE": LATER}, b"")
+        self.session.data_received(b"".join(it + b"\n" for it in (b"TAKE", *lines)))
+        self.assert_exchange({b"7 TAKE": LATER}, b"")
 
     async def test_a_line_is_called_and_its_reply_is_sent(self) -> None:
-        self.assert_exchange(b"OFFER 5 a\nSI", {b"7 OFFER 5 a": b"OFFERED 0 5\n"})
+        self.session.data_received(b"OFFER 5 a\nSI")
+        self.assert_exchange({b"7 OFFER 5 a": b"OFFERED 0 5\n"})
         self.session.data_received(b"ZE\r\n")
         self.assert_calls(b"7 SIZE")
 
     async def test_lines_go_out_together_and_refusals_keep_their_places(self) -> None:
+        self.session.data_received(b"x\nSIZE\nAT 5\nAT 05\nPEEK\nOFFER 1 \x80\n" + b"y" * 257 + b"\n")
         self.assert_exchange(
-            b"x\nSIZE\nAT 5\nAT 05\nPEEK\nOFFER 1 \x80\n" + b"y" * 257 + b"\n",
             {b"7 SIZE": b"SIZE 0\n", b"7 PEEK": b"NONE\n"},
             b"ERR 1 syntax\nSIZE 0\nERR 1 syntax\nERR 2 number\nNONE\nERR 4 payload\nERR 8 line\n")
 
@@ -146,7 +146,7 @@ class SessionTest(unittest.IsolatedAsyncioTestCase):
         self.session.data_received(b"PEEK\nx\n")
         self.assert_idle()
         self.answer(b"SIZE 0\n", sends=b"SIZE 0\n")
-        self.assert_exchange(b"", {b"7 PEEK": b"NONE\n"}, b"NONE\nERR 1 syntax\n")
+        self.assert_exchange({b"7 PEEK": b"NONE\n"}, b"NONE\nERR 1 syntax\n")
 
     async def test_no_more_than_so_many_lines_go_out_at_once(self) -> None:
         self.session.data_received(b"SIZE\n" * (MOST_AT_ONCE + 1))
@@ -158,7 +158,7 @@ class SessionTest(unittest.IsolatedAsyncioTestCase):
         self.session.data_received(b"TAKE\n")
         self.session.data_received(b"x\n" * (MOST_WAITING_LINES + 1))
         self.assertFalse(self.transport.is_reading)
-        self.assert_exchange(b"", {b"7 TAKE": b"ITEM 0 5 1 a\n"})
+        self.assert_exchange({b"7 TAKE": b"ITEM 0 5 1 a\n"})
         for _ in range(MOST_WAITING_LINES // MOST_AT_ONCE + 1):
             await asyncio.sleep(0)
         self.assertTrue(self.transport.is_reading)
@@ -169,19 +169,20 @@ class SessionTest(unittest.IsolatedAsyncioTestCase):
         self.assert_idle()
         self.assertFalse(self.transport.is_reading)
         self.session.resume_writing()
-        self.assert_exchange(b"", {b"7 SIZE": b"SIZE 0\n"})
+        self.assert_exchange({b"7 SIZE": b"SIZE 0\n"})
         self.assertTrue(self.transport.is_reading)
 
     async def test_earlier_replies_are_sent_before_a_wait(self) -> None:
-        self.assert_exchange(b"SIZE\nx\nTAKE\nDONE 5\n", {b"7 SIZE": b"SIZE 0\n", b"7 TAKE": LATER},
-                             b"SIZE 0\nERR 1 syntax\n")
+        self.session.data_received(b"SIZE\nx\nTAKE\nDONE 5\n")
+        self.assert_exchange({b"7 SIZE": b"SIZE 0\n", b"7 TAKE": LATER}, b"SIZE 0\nERR 1 syntax\n")
         self.assert_idle()
         self.gateway.waits.heard(b"50 60")
-        self.assert_exchange(b"", {b"7 TAKE": b"ITEM 0 50 1 a\n"})
+        self.assert_exchange({b"7 TAKE": b"ITEM 0 50 1 a\n"})
         self.assert_calls(b"7 DONE 5")
 
     async def test_a_timed_poll_is_tried_again_from_where_it_began(self) -> None:
-        self.assert_exchange(b"POLLFOR 5000000000\n", {b"7 POLLFOR 5000000000": b"LATER 200 110 100\n"}, b"")
+        self.session.data_received(b"POLLFOR 5000000000\n")
+        self.assert_exchange({b"7 POLLFOR 5000000000": b"LATER 200 110 100\n"}, b"")
         self.gateway.waits.heard(b"110 110")
         self.assert_calls(b"7 POLLFOR 5000000000 100")
 
@@ -216,14 +217,14 @@ class SessionTest(unittest.IsolatedAsyncioTestCase):
     async def test_what_was_sent_before_the_end_of_input_is_carried_out(self) -> None:
         self.session.data_received(b"SIZE\nPEEK\nSI")
         self.session.eof_received()
-        self.assert_exchange(b"", {b"7 SIZE": b"SIZE 0\n", b"7 PEEK": b"NONE\n"}, b"SIZE 0\nNONE\nERR 8 line\n")
+        self.assert_exchange({b"7 SIZE": b"SIZE 0\n", b"7 PEEK": b"NONE\n"}, b"SIZE 0\nNONE\nERR 8 line\n")
         self.assert_ends()
 
     async def test_the_end_of_input_gives_a_wait_up(self) -> None:
         self.let_wait(b"SIZE")
         self.session.eof_received()
         self.assert_sent(b"STOPPED\n")
-        self.assert_exchange(b"", {b"7 SIZE": b"SIZE 0\n"})
+        self.assert_exchange({b"7 SIZE": b"SIZE 0\n"})
         self.assert_ends()
 
     async def test_nothing_is_fetched_for_a_client_that_has_left(self) -> None:

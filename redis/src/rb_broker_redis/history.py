@@ -58,6 +58,9 @@ class Element(NamedTuple):
         id, expiry, origin, first, attempt, payload = words.decode("ascii").split(" ")
         return cls(int(id), int(expiry), int(origin), int(first), int(attempt), payload)
 
+    def words(self) -> bytes:
+        return " ".join(map(str, self)).encode("ascii")
+
 
 class FollowedQueue:
     """The elements in a queue, by their ids in rising order, followed event by event.
@@ -68,8 +71,8 @@ class FollowedQueue:
     def __init__(self, next_id: int = 0, last: int = 0) -> None:
         self.next_id = next_id
         """The id of the next offer."""
-        self.last = last
-        """The moment of the last event."""
+        self.opened_at = self.last = last
+        """The moment of the last event, before the first one that is followed and now."""
         self.elements: dict[int, bytes] = {}
         """The words of each element, as a `keep` line has them."""
         self.offered: bytes | None = None
@@ -124,8 +127,11 @@ class FollowedQueue:
     def opening(self) -> Iterator[bytes]:
         """The `open` line of a run that continues here, and its `keep` lines."""
         yield b"open %d %d %d\n" % (self.next_id, self.last, len(self.elements))
-        for words in self.elements.values():
-            yield b"keep %b\n" % words
+        yield from self.kept()
+
+    def kept(self) -> Iterator[bytes]:
+        """The `keep` lines alone."""
+        return (b"keep %b\n" % words for words in self.elements.values())
 
     def _offer(self, words: bytes) -> None:
         if int(words.split(b" ", 1)[0]) != self.next_id:
@@ -140,18 +146,9 @@ class FollowedQueue:
         return words
 
 
-class Run(NamedTuple):
-    """What the text of a history tells."""
-
-    opened_at: int
-    """The moment of the last event before it."""
-    queue: FollowedQueue
-    """The queue at its end."""
-
-
-def read_text(path: Path) -> Run:
-    """Reads a text whole, in any version, also one that gzip has compressed. Raises a `Damaged` that names the file and
-    the line."""
+def read_text(path: Path) -> FollowedQueue:
+    """The queue at the end of a text, which is read whole, in any version, also if gzip has compressed it. Raises a
+    `Damaged` that names the file and the line."""
     opened: BinaryIO | gzip.GzipFile = gzip.GzipFile(path) if path.suffix == ".gz" else open(path, "rb")
     with opened as file:
         reader = _Reader(file)
@@ -171,7 +168,7 @@ class _Reader:
         self._version = 3
         self._firsts: dict[bytes, bytes] = {}  # the first expiry of each job, by its origin
 
-    def read(self) -> Run:
+    def read(self) -> FollowedQueue:
         header = self._line()
         self._version = 3 if header == HEADER else EARLIER.get(header, 0)
         if not self._version:
@@ -190,7 +187,7 @@ class _Reader:
                 if self._file.readline(LONGEST_LINE):
                     self.number += 1
                     raise Damaged("it stands behind the last line")
-                return Run(opened_at, queue)
+                return queue
             queue.follow(line[:-1])
         raise Damaged(f"an event behind {MOST_EVENTS:,} others")
 

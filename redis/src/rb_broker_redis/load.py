@@ -6,15 +6,14 @@ import hashlib
 import json
 import os
 import sys
-from dataclasses import dataclass, replace
 from pathlib import Path
-from typing import Iterator, Sequence
+from typing import Sequence
 
 import redis
 
 from .dates import date_text, nanoseconds_of
 from .ending import Failed
-from .history import GREATEST_ID, MOST_KEPT, Element, Run, read_text
+from .history import GREATEST_ID, MOST_KEPT, Element, FollowedQueue, read_text
 from .protocol import GREATEST_NUMBER
 from .queue import Queue
 from .shards import Rendezvous
@@ -49,54 +48,19 @@ class NotLoaded(Failed):
     """Why nothing, or not everything, was loaded."""
 
 
-@dataclass(frozen=True)
-class Left:
-    """What one or several runs left, by real time: moments are nanoseconds since 1970."""
-
-    next_id: int
-    last: int
-    """The moment of the last event."""
-    elements: Sequence[Element]
-    """In rising order of their ids."""
-
-    @classmethod
-    def of(cls, runs: Sequence[Run], began: Sequence[int]) -> Left:
-        """What these runs left, of which each began at that date. If there are several, the ids of each begin behind
-        those of the one before. Raises a `NotLoaded`."""
-        next_id, last, elements = 0, 0, []
-        for run, date in zip(runs, began):
-            shift = date - run.opened_at
-            elements += [_moved(Element.of(it), next_id, shift) for it in run.queue.elements.values()]
-            next_id += run.queue.next_id
-            last = max(last, run.queue.last + shift)
-        if len(elements) > MOST_KEPT or next_id > GREATEST_ID:
-            raise NotLoaded(f"a history begins with at most {MOST_KEPT:,} elements, and an id of at most 2^40")
-        return cls(next_id, last, elements)
-
-    @property
-    def token(self) -> str:
-        """What tells this load from every other one."""
-        digest = hashlib.sha256(f"{self.next_id} {self.last}\n".encode())
-        for line in self.lines():
-            digest.update(f"{line}\n".encode())
-        return digest.hexdigest()
-
-    def split(self, names: list[str]) -> list[Left]:
-        """The part of each of these shards."""
-        rendezvous = Rendezvous(names)
-        parts: list[list[Element]] = [[] for _ in names]
-        for it in self.elements:
-            parts[rendezvous.shard_of(it.payload.encode())].append(it)
-        return [replace(self, elements=it) for it in parts]
-
-    def lines(self) -> Iterator[str]:
-        """The `keep` line of each element."""
-        return ("keep " + " ".join(map(str, it)) for it in self.elements)
-
-    def json_lines(self) -> Iterator[str]:
-        """A line of JSON for each element, the one that expires first comes first."""
-        for it in sorted(self.elements, key=lambda it: (it.expiry, it.id)):
-            yield json.dumps({**it._asdict(), "due": date_text(it.expiry)})
+def left_by(runs: Sequence[FollowedQueue], began: Sequence[int]) -> FollowedQueue:
+    """What these runs left, of which each began at that date; its moments are nanoseconds since 1970. If there are
+    several, the ids of each begin behind those of the one before. Raises a `NotLoaded`."""
+    left = FollowedQueue()
+    for run, date in zip(runs, began):
+        shift = date - run.opened_at
+        for it in map(Element.of, run.elements.values()):
+            left.elements[it.id + left.next_id] = _moved(it, left.next_id, shift).words()
+        left.next_id += run.next_id
+        left.last = max(left.last, run.last + shift)
+    if len(left.elements) > MOST_KEPT or left.next_id > GREATEST_ID:
+        raise NotLoaded(f"a history begins with at most {MOST_KEPT:,} elements, and an id of at most 2^40")
+    return left
 
 
 def _moved(element: Element, ids: int, shift: int) -> Element:
@@ -105,20 +69,33 @@ def _moved(element: Element, ids: int, shift: int) -> Element:
     return element._replace(id=element.id + ids, expiry=expiry, origin=element.origin + ids, first=first)
 
 
-def load(queue: Queue, left: Left) -> bool:
-    """Loads the elements into a queue that nobody has used. Gives whether that was not done before.
+def split(left: FollowedQueue, names: list[str]) -> list[FollowedQueue]:
+    """The part of each of these shards."""
+    rendezvous, parts = Rendezvous(names), [FollowedQueue(left.next_id, left.last) for _ in names]
+    for id, words in left.elements.items():
+        parts[rendezvous.shard_of(words.rpartition(b" ")[2])].elements[id] = words
+    return parts
+
+
+def token_of(left: FollowedQueue) -> str:
+    """What tells this load from every other one."""
+    return hashlib.sha256(b"%d %d\n%b" % (left.next_id, left.last, b"".join(left.kept()))).hexdigest()
+
+
+def load(queue: Queue, left: FollowedQueue) -> bool:
+    """Loads what is left into a queue that nobody has used. Gives whether that was not done before.
 
     It may be killed at any moment: started again, it goes on, and no element is there twice. Nobody is served from the
     queue before it has all. Raises a `NotLoaded`.
     """
-    token = left.token
+    token = token_of(left)
     if queue.command("HGET", queue.state, "loaded") == token.encode():
         return False
     seconds, microseconds = map(int, queue.command("TIME"))
     if left.last > (seconds * 1_000_000 + microseconds) * 1_000:
         raise NotLoaded(f"the run would have ended at {date_text(left.last)}, which is still to come: look at --began")
     try:
-        queue.load(token, list(left.lines()), left.next_id, left.last)
+        queue.load(token, left)
     except redis.ResponseError as fault:
         if not str(fault).startswith("USED "):
             raise
@@ -152,20 +129,22 @@ def run(asked: argparse.Namespace) -> int:
     if not asked.histories or len(asked.histories) != len(asked.began):
         asked.parser.error("there is a HISTORY, and a --began for each")
     runs = [read_text(it) for it in asked.histories]
-    left = Left.of(runs, [run.opened_at if it is None else it for run, it in zip(runs, asked.began)])
+    left = left_by(runs, [run.opened_at if it is None else it for run, it in zip(runs, asked.began)])
     if asked.show:
         _show(left)
         return 0
     queues = queues_in(asked)
-    for queue, part in zip(queues, left.split([it.name for it in queues])):
+    for queue, part in zip(queues, split(left, [it.name for it in queues])):
         is_new = load(queue, part)
         print(f"{queue.name}: {len(part.elements)} elements {'loaded' if is_new else 'were loaded before'}")
     return 0
 
 
-def _show(left: Left) -> None:
+def _show(left: FollowedQueue) -> None:
+    """Prints a line of JSON for each element, the one that expires first comes first."""
     try:
-        sys.stdout.writelines(f"{it}\n" for it in left.json_lines())
+        for it in sorted(map(Element.of, left.elements.values()), key=lambda it: (it.expiry, it.id)):
+            print(json.dumps({**it._asdict(), "due": date_text(it.expiry)}))
         sys.stdout.flush()
     except OSError as fault:
         os.dup2(os.open(os.devnull, os.O_WRONLY), sys.stdout.fileno())  # for the last flush

@@ -1,7 +1,7 @@
 """One queue of a Redis, for the commands: each call waits for its reply. The gateway has a way of its own (`link`)."""
 from __future__ import annotations
 
-from typing import Any, Sequence, Union
+from typing import Any, Union
 
 import redis
 from redis.cluster import ClusterNode, RedisCluster
@@ -9,6 +9,7 @@ from redis.sentinel import Sentinel
 
 from . import library
 from .address import Address, Kind
+from .history import FollowedQueue
 from .keys import channel_of, keys_of
 
 COMMANDS_SEAT = 0
@@ -65,13 +66,14 @@ class Queue:
         """Calls one function with the queue's keys and these arguments."""
         return self.command("FCALL", function, len(self.keys), *self.keys, *args)
 
-    def load(self, token: str, lines: Sequence[str], next_id: int, last: int) -> None:
-        """Gives the queue, which nobody has used, the elements of these `keep` lines, the next id, and the moment of its
-        last event. Goes on where another load of this token was broken off."""
+    def load(self, token: str, left: FollowedQueue) -> None:
+        """Gives the queue, which nobody has used, what is left of another one. Goes on where another load of this token
+        was broken off."""
+        lines = [it[:-1] for it in left.kept()]
         there = int(self.call("rb_load", token, 0))
         while there < len(lines):
             there = int(self.call("rb_load", token, there, *lines[there:there + CHUNK]))
-        self.call("rb_loaded", token, next_id, last)
+        self.call("rb_loaded", token, left.next_id, left.last)
 
     def request(self, line: str, seat: int = COMMANDS_SEAT) -> str:
         """Makes one call of `rb_calls` by the node's time. The reply is without its last line feed."""

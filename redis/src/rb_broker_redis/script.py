@@ -63,7 +63,7 @@ def opening_of(path: Optional[str]) -> FollowedQueue:
         return FollowedQueue()
     try:
         with ends_with("cannot read history"):
-            queue = read_text(Path(path)).queue
+            queue = read_text(Path(path))
     except Damaged:
         raise Failed("bad opening") from None
     if queue.next_id > GREATEST_ID or len(queue.elements) > MOST_KEPT:
@@ -75,8 +75,7 @@ def begin(queue: Queue, opening: FollowedQueue, asked: argparse.Namespace) -> No
     """Makes the queue."""
     queue.load_functions()
     if opening.next_id or opening.last:
-        _, *kept = opening.opening()
-        queue.load(queue.name, [line.decode()[:-1] for line in kept], opening.next_id, opening.last)
+        queue.load(queue.name, opening)
     queue.call("rb_join", LEASE, *policy_in(asked), f"limit {asked.calls}")
 
 
