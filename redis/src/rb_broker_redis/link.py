@@ -98,10 +98,10 @@ def tls_of(address: Address) -> Optional[ssl.SSLContext]:
     """What a TLS connection to this address needs: the options of its URL are redis-py's."""
     if not address.is_tls:
         return None
-    context = ssl.create_default_context(cafile=address.option("ssl_ca_certs"))
-    certificate = address.option("ssl_certfile")
+    context = ssl.create_default_context(cafile=address.options.get("ssl_ca_certs"))
+    certificate = address.options.get("ssl_certfile")
     if certificate:
-        context.load_cert_chain(certificate, address.option("ssl_keyfile"))
-    if address.option("ssl_check_hostname") in ("false", "False", "0", "no"):
+        context.load_cert_chain(certificate, address.options.get("ssl_keyfile"))
+    if address.options.get("ssl_check_hostname") in ("false", "False", "0", "no"):
         context.check_hostname = False
     return context

@@ -25,7 +25,7 @@ def connect(address: Address, timeout: float = 5.0) -> Client:
     login: dict[str, Any] = {"username": address.username, "password": address.password, "socket_timeout": timeout}
     if address.is_tls:
         login["ssl"] = True
-        login.update((name, value) for name, value in address.options if name.startswith("ssl_"))
+        login.update((name, value) for name, value in address.options.items() if name.startswith("ssl_"))
     if address.kind is Kind.CLUSTER:
         return RedisCluster(startup_nodes=[ClusterNode(*host) for host in address.hosts], **login)
     if address.kind is Kind.SENTINEL:
