@@ -5,20 +5,18 @@
 - `Worker` takes jobs, runs a handler on each, and tells the server what came of it.
 - `AsyncBroker`, `AsyncProducer` and `AsyncWorker` do the same for asyncio.
 
-Delays, waits, timeouts and patience are seconds or a `timedelta`. Moments of the protocol are whole
-nanoseconds of the server's clock, under names that end in `_ns`.
+Delays, waits, timeouts and patience are seconds or a `timedelta`. Moments of the protocol are whole nanoseconds of the
+server's clock, under names that end in `_ns`.
 """
 from .broker import AsyncBroker, AsyncHeldJob, Broker, HeldJob
 from .dead_letters import DeadLetters
 from .durations import Duration, Pauses
 from .errors import (
-    BrokerError, DisconnectedError, FullError, HeldTooManyError, InDoubtError, LineRefusedError,
-    NotHeldError, NotOfferedError, NumberRefusedError, OutOfMemoryError, PayloadRefusedError,
-    RangeRefusedError, RefusedError, StoppedError, SyntaxRefusedError, UnknownReplyError,
+    BrokerError, DisconnectedError, FullError, HeldTooManyError, InDoubtError, LineRefusedError, NotHeldError,
+    NotOfferedError, NumberRefusedError, OutOfMemoryError, PayloadRefusedError, RangeRefusedError, RefusedError,
+    StoppedError, SyntaxRefusedError, UnknownReplyError,
 )
-from .job import (
-    GREATEST_NUMBER, LONGEST_PAYLOAD, MOST_HELD, Again, Dead, Job, Offered, Report, Verdict,
-)
+from .job import GREATEST_NUMBER, LONGEST_PAYLOAD, MOST_HELD, Again, Dead, Job, Offered, Report, Verdict
 from .producer import AsyncProducer, Producer
 from .record import RecordTarget
 from .request import Request
@@ -27,11 +25,10 @@ from .worker import AsyncHandler, AsyncWorker, Handler, OnDead, Worker
 __version__ = "2.0.0"
 
 __all__ = [
-    "Again", "AsyncBroker", "AsyncHandler", "AsyncHeldJob", "AsyncProducer", "AsyncWorker",
-    "Broker", "BrokerError", "Dead", "DeadLetters", "DisconnectedError", "Duration", "FullError",
-    "GREATEST_NUMBER", "Handler", "HeldJob", "HeldTooManyError", "InDoubtError", "Job",
-    "LONGEST_PAYLOAD", "LineRefusedError", "MOST_HELD", "NotHeldError", "NotOfferedError",
-    "NumberRefusedError", "Offered", "OnDead", "OutOfMemoryError", "Pauses", "PayloadRefusedError",
-    "Producer", "RangeRefusedError", "RecordTarget", "RefusedError", "Report", "Request",
-    "StoppedError", "SyntaxRefusedError", "UnknownReplyError", "Verdict", "Worker", "__version__",
+    "Again", "AsyncBroker", "AsyncHandler", "AsyncHeldJob", "AsyncProducer", "AsyncWorker", "Broker", "BrokerError",
+    "Dead", "DeadLetters", "DisconnectedError", "Duration", "FullError", "GREATEST_NUMBER", "Handler", "HeldJob",
+    "HeldTooManyError", "InDoubtError", "Job", "LONGEST_PAYLOAD", "LineRefusedError", "MOST_HELD", "NotHeldError",
+    "NotOfferedError", "NumberRefusedError", "Offered", "OnDead", "OutOfMemoryError", "Pauses", "PayloadRefusedError",
+    "Producer", "RangeRefusedError", "RecordTarget", "RefusedError", "Report", "Request", "StoppedError",
+    "SyntaxRefusedError", "UnknownReplyError", "Verdict", "Worker", "__version__",
 ]

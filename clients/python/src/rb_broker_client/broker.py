@@ -11,9 +11,7 @@ from typing import TYPE_CHECKING, Any, ClassVar, TypeVar, Union
 
 from .dialogue import Dialogue
 from .durations import Duration, seconds
-from .errors import (
-    BrokerError, DisconnectedError, NotHeldError, RefusedError, StoppedError, UnknownReplyError,
-)
+from .errors import BrokerError, DisconnectedError, NotHeldError, RefusedError, StoppedError, UnknownReplyError
 from .job import Job, Verdict
 from .record import Record, RecordTarget
 from .request import Answer, Request
@@ -35,8 +33,7 @@ def _like(of: Callable[..., Request[Any]]) -> Callable[[Method], Method]:
     return wraps(getattr(of, "__func__"), ("__name__", "__doc__"))
 
 
-def _asks(of: Callable[Words, Request[Answer]]
-          ) -> Callable[Concatenate[Any, Words], Coroutine[Any, Any, Answer]]:
+def _asks(of: Callable[Words, Request[Answer]]) -> Callable[Concatenate[Any, Words], Coroutine[Any, Any, Answer]]:
     @_like(of)
     async def method(self: Session, /, *words: Words.args, **options: Words.kwargs) -> Answer:
         return await self._ask(of(*words, **options))
@@ -47,8 +44,8 @@ def _asks(of: Callable[Words, Request[Answer]]
 class Session:
     """One session with `rb_broker serve`, from the connection to its end.
 
-    An exception in the middle of a wait, such as that of a signal handler, loses no byte that was
-    received. The coroutines are those of both kinds. Those of a blocking client never suspend.
+    An exception in the middle of a wait, such as that of a signal handler, loses no byte that was received. The
+    coroutines are those of both kinds. Those of a blocking client never suspend.
     """
 
     _kind: ClassVar[Kind]
@@ -56,13 +53,13 @@ class Session:
 
     def __init__(self, port: int, host: str = "127.0.0.1", patience: Duration | None = None, *,
                  tls: ssl.SSLContext | None = None, record: RecordTarget | None = None) -> None:
-        """A reply that does not come within `patience` raises `TimeoutError`; it is still due then.
-        With `tls` the connection is encrypted, and the certificates are those of this context. To
-        `record`, a path or an open text file, a line is added for each request and its reply."""
+        """A reply that does not come within `patience` raises `TimeoutError`; it is still due then. With `tls` the
+        connection is encrypted, and the certificates are those of this context. To `record`, a path or an open text
+        file, a line is added for each request and its reply."""
         self._port, self._host, self._tls = port, host, tls
         self.patience = None if patience is None else seconds(patience)
         self._fault: Exception | None = RuntimeError("the broker is not connected")
-        self.is_fed = False  # whether `is_lost` is called whenever something has come
+        self._unsent = bytearray()
         recorded, self.at_end = Record(record), ExitStack()
         self.dialogue = Dialogue(recorded.note)
         self.at_end.callback(recorded.close)
@@ -75,13 +72,17 @@ class Session:
         """How many requests were sent whose replies have not been received."""
         return self.dialogue.unanswered
 
+    @property
+    def is_sent(self) -> bool:
+        """Whether all of the requests are on their way."""
+        return not self._unsent
+
     def fileno(self) -> int:
         """The descriptor of the connection, for a selector that waits until something comes."""
         return self._socket.fileno()
 
     def is_lost(self) -> bool:
-        """Whether the server is known to have ended the session. If not, it may have ended it all
-        the same."""
+        """Whether the server is known to have ended the session. If not, it may have ended it all the same."""
         try:
             while self._fault is None:
                 piece = self._socket.recv(65_536)
@@ -101,13 +102,26 @@ class Session:
         self._fault = self._fault or DisconnectedError("this side hung up")
         self.at_end.close()
 
-    def receive_ready(self) -> list[Any]:
-        """Waits for nothing: the answers whose replies have come, each refusal in its place."""
-        if not self.is_fed:
-            self.is_lost()
+    def post(self, *questions: Request[Any]) -> None:
+        """Sends requests in one piece, as far as the connection takes it now. The rest is sent with what follows."""
+        self._unsent += self.dialogue.ask(*questions)
+        self._demand()
+        try:
+            while self._unsent:
+                del self._unsent[:self._socket.send(self._unsent)]
+        except _NOT_NOW:
+            pass
+
+    def received(self) -> list[Any]:
+        """The answers to what has come, each refusal in its place."""
         if not self.dialogue.answers:
             self._demand()
         return [self._take() for _ in range(len(self.dialogue.answers))]
+
+    def receive_ready(self) -> list[Any]:
+        """Waits for nothing: the answers whose replies have come, each refusal in its place."""
+        self.is_lost()
+        return self.received()
 
     async def _connect(self) -> None:
         if isinstance(self._fault, RuntimeError):
@@ -118,8 +132,8 @@ class Session:
     def _connected(self) -> socket.socket:
         made = socket.create_connection((self._host, self._port), timeout=self.patience)
         if made.getsockname() == made.getpeername():
-            # Nobody listens, and the system gave this side the very port that it looks for: it
-            # found itself. To stay connected would keep the port from the next server.
+            # Nobody listens, and the system gave this side the very port that it looks for: it found itself. To stay
+            # connected would keep the port from the next server.
             made.close()
             raise ConnectionRefusedError(f"nobody listens at {self._host}:{self._port}")
         made.setsockopt(socket.IPPROTO_TCP, socket.TCP_NODELAY, 1)
@@ -129,17 +143,10 @@ class Session:
         return made
 
     async def _send(self, *questions: Request[Any]) -> None:
-        """Sends requests in one piece, and waits for no reply. If this raises an `OSError`, some
-        may have been served."""
-        rest = memoryview(self.dialogue.ask(*questions))
-        while rest:
-            self._demand()
-            try:
-                rest = rest[self._socket.send(rest):]
-            except _NOT_NOW:
-                # A server reads no further while its replies are not read, so they are kept.
-                is_read = self.is_fed and self._kind.is_async
-                await self._wait(EVENT_WRITE if is_read else EVENT_READ | EVENT_WRITE)
+        """Sends requests in one piece, and waits for no reply. If this raises an `OSError`, some may have been
+        served."""
+        self.post(*questions)
+        await self._wait_until(lambda: self.is_sent)
 
     async def _receive(self) -> Any:
         """The answer to the first request that has none yet. A refusal is raised."""
@@ -156,8 +163,8 @@ class Session:
         return answer
 
     async def _ask_all(self, questions: Iterable[Request[Answer]]) -> list[Either[Answer]]:
-        """Sends any number of requests in one piece, and gives the answer to each. For a request
-        that was refused, or whose wait was given up, the answer is that exception."""
+        """Sends any number of requests in one piece, and gives the answer to each. For a request that was refused, or
+        whose wait was given up, the answer is that exception."""
         self._demand_none_due()
         await self._send(*questions)
         return [await self._receive_either() for _ in range(self.unanswered)]
@@ -168,17 +175,14 @@ class Session:
         self.close()
 
     async def _await_service(self) -> None:
-        """Waits until the server serves this session. One that connects while all of the server's
-        workers are busy is only served when one of them is free. This is no call and changes
-        nothing."""
+        """Waits until the server serves this session. One that connects while all of the server's workers are busy is
+        only served when one of them is free. This is no call and changes nothing."""
         await self._ask(Request.greeting())
 
     async def _receive_either(self) -> Any:
         if not self.unanswered:
             raise RuntimeError("no reply is due")
-        while not self.dialogue.answers:
-            self._demand()
-            await self._wait(EVENT_READ)
+        await self._wait_until(lambda: bool(self.dialogue.answers))
         return self._take()
 
     def _take(self) -> Any:
@@ -196,10 +200,16 @@ class Session:
         if self._fault is not None:
             raise self._fault
 
-    async def _wait(self, events: int) -> None:
-        if not await self._kind.ready(self._socket, events, self.patience):
-            raise TimeoutError(f"the server did not answer within {self.patience} seconds")
-        self.is_lost()
+    async def _wait_until(self, is_so: Callable[[], bool]) -> None:
+        # A server reads no further while its replies are not read, so they are kept whatever is waited for.
+        while not is_so():
+            self._demand()
+            events = EVENT_READ if self.is_sent else EVENT_READ | EVENT_WRITE
+            if not await self._kind.ready(self._socket, events, self.patience):
+                raise TimeoutError(f"the server did not answer within {self.patience} seconds")
+            self.is_lost()
+            if not self.is_sent:
+                self.post()
 
 
 class _Held(Job):
@@ -218,8 +228,7 @@ class AsyncHeldJob(_Held):
     """A job that an `AsyncBroker` holds until it is done or fails, or its session ends."""
 
     async def done(self) -> None:
-        """The job is finished. Raises `NotHeldError` if it isn't held any more, also if its session
-        has ended."""
+        """The job is finished. Raises `NotHeldError` if it isn't held any more, also if its session has ended."""
         await self._settle(Request.done)
 
     async def fail(self) -> Verdict:
@@ -239,9 +248,8 @@ class AsyncBroker(Session):
         async with AsyncBroker(7011) as broker:
             await broker.offer("letter-17")
 
-    If a task is cancelled while it waits for a reply, that is still due: `receive` waits for it
-    again, and nothing else can be asked before. So prefer `poll_for` to a `take` with a timeout
-    around it.
+    If a task is cancelled while it waits for a reply, that is still due: `receive` waits for it again, and nothing else
+    can be asked before. So prefer `poll_for` to a `take` with a timeout around it.
     """
 
     _kind, _held = Looping, AsyncHeldJob
@@ -282,15 +290,14 @@ class AsyncBroker(Session):
 
 
 class Broker(Session):
-    """One session with `rb_broker serve`, from the connection to its end. One thread at a time may
-    use it.
+    """One session with `rb_broker serve`, from the connection to its end. One thread at a time may use it.
 
-    There is a method for each request, which sends it, waits for the reply and gives that as a
-    value. A refusal is raised as a kind of `RefusedError`, a lost connection as an `OSError`. To
-    send several requests in one piece use `ask_all`, or `send` and then a `receive` for each.
+    There is a method for each request, which sends it, waits for the reply and gives that as a value. A refusal is
+    raised as a kind of `RefusedError`, a lost connection as an `OSError`. To send several requests in one piece use
+    `ask_all`, or `send` and then a `receive` for each.
 
-    The jobs that a session holds fail when it ends, by `quit`, by `close` or at the end of a
-    `with`: they come back to other sessions until their attempts are used up.
+    The jobs that a session holds fail when it ends, by `quit`, by `close` or at the end of a `with`: they come back to
+    other sessions until their attempts are used up.
     """
 
     _kind, _held = Blocking, HeldJob
@@ -309,10 +316,9 @@ class Broker(Session):
     else:
         poll, poll_for = blocking(AsyncBroker.poll), blocking(AsyncBroker.poll_for)
         take, drain = blocking(AsyncBroker.take), blocking(AsyncBroker.drain)
-    offer, offer_at = blocking(AsyncBroker.offer), blocking(AsyncBroker.offer_at)
-    peek, remove = blocking(AsyncBroker.peek), blocking(AsyncBroker.remove)
-    done, fail = blocking(AsyncBroker.done), blocking(AsyncBroker.fail)
+    offer, offer_at, peek = blocking(AsyncBroker.offer), blocking(AsyncBroker.offer_at), blocking(AsyncBroker.peek)
+    done, fail, remove = blocking(AsyncBroker.done), blocking(AsyncBroker.fail), blocking(AsyncBroker.remove)
     clear, size = blocking(AsyncBroker.clear), blocking(AsyncBroker.size)
+    ask, ask_all = blocking(Session._ask), blocking(Session._ask_all)
     send, receive = blocking(Session._send), blocking(Session._receive)
     quit, await_service = blocking(Session._quit), blocking(Session._await_service)
-    ask, ask_all = blocking(Session._ask), blocking(Session._ask_all)

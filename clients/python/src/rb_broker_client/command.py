@@ -34,6 +34,7 @@ from .tls import add_tls_words, context_of
 from .worker import AsyncWorker, Worker
 
 NAME = "rb_broker_client"
+FORM = argparse.RawDescriptionHelpFormatter
 Asked = argparse.Namespace
 
 
@@ -72,21 +73,17 @@ def main(words: list[str] | None = None) -> int:
 
 def _parser() -> argparse.ArgumentParser:
     about, _, rest = (__doc__ or "").partition("\n\n")
-    form = argparse.RawDescriptionHelpFormatter
-    parser = _Parser(f"python3 -m {NAME}", description=about, epilog=rest, formatter_class=form,
-                     allow_abbrev=False)
+    parser = _Parser(f"python3 -m {NAME}", description=about, epilog=rest, formatter_class=FORM, allow_abbrev=False)
     parser.add_argument("--version", action="version", version=f"{NAME} {__version__}")
     commands = parser.add_subparsers(metavar="COMMAND", required=True)
 
-    def command(name: str, example: str, help: str, run: Callable[[Asked], Iterator[str]],
-                **defaults: Any) -> Any:
-        added = commands.add_parser(
-            name, help=help, description=help, allow_abbrev=False, formatter_class=form,
-            epilog=f"example: python3 -m {NAME} {name} {example}--port 7011")
-        added.set_defaults(run=run, **defaults)
+    def command(name: str, help: str, run: Callable[[Asked], Iterator[str]], example: str = "",
+                **requests: Callable[[Asked], Any]) -> Callable[..., Any]:
+        added = commands.add_parser(name, help=help, description=help, allow_abbrev=False, formatter_class=FORM,
+                                    epilog=f"example: python3 -m {NAME} {name} {example}--port 7011")
+        added.set_defaults(run=run, **requests)
         add = added.add_argument
-        add("--port", type=_whole(1, 65_535), required=name != "dead", metavar="P",
-            help="the server's port")
+        add("--port", type=_whole(1, 65_535), required=name != "dead", metavar="P", help="the server's port")
         add("--host", default="127.0.0.1", metavar="H", help="where it is (default: 127.0.0.1)")
         add("--record", metavar="FILE", help="adds each request and its reply to this file")
         add_tls_words(added)
@@ -95,8 +92,7 @@ def _parser() -> argparse.ArgumentParser:
                 help="how long a server is looked for, and a reply waited for (default: 5)")
         return add
 
-    add = command("worker", "letters:deliver --concurrency 8 ", "calls a function with each job",
-                  _work)
+    add = command("worker", "calls a function with each job", _work, "letters:deliver --concurrency 8 ")
     add("handler", type=_function, metavar="MODULE:FUNCTION", help="what is called with each job")
     add("--concurrency", type=_whole(1, MOST_HELD), default=1, metavar="N",
         help=f"how many jobs run at the same time, 1 to {MOST_HELD} (default: 1)")
@@ -105,24 +101,20 @@ def _parser() -> argparse.ArgumentParser:
     add("--timeout", type=_seconds, metavar="SECONDS", help="fails a job that takes longer")
     add("--on-dead", type=_function, metavar="MODULE:FUNCTION",
         help="what is called with each job whose last attempt failed")
-    add = command("offer", "2s letter-17 letter-18 ", "offers jobs that expire after this delay",
-                  _offer)
+    add = command("offer", "offers jobs that expire after this delay", _offer, "2s letter-17 letter-18 ")
     add("delay", type=_word(read_delay), metavar="DELAY", help="5s, 2m, 1h, or a number of seconds")
-    add("payloads", nargs="*", metavar="PAYLOAD", help="1 to 64 characters of printable ASCII, no "
-        "space (default: the lines of standard input)")
-    command("size", "", "counts the elements in the queue, expired or not", _ask,
-            requests=lambda asked: [Request.size()])
-    command("peek", "", "shows an element of least expiry, expired or not", _ask,
-            requests=lambda asked: [Request.peek()])
-    add = command("drain", "10 ", "takes out the jobs that have expired, and finishes each", _drain)
+    add("payloads", nargs="*", metavar="PAYLOAD",
+        help="1 to 64 characters of printable ASCII, no space (default: the lines of standard input)")
+    command("size", "counts the elements in the queue, expired or not", _ask, requests=lambda _: [Request.size()])
+    command("peek", "shows an element of least expiry, expired or not", _ask, requests=lambda _: [Request.peek()])
+    add = command("drain", "takes out the jobs that have expired, and finishes each", _drain, "10 ")
     add("most", nargs="?", type=_whole(1, 10**9), default=10**9, metavar="MOST",
         help="how many (default: all that have expired)")
-    add = command("remove", "17 18 ", "takes the elements of these ids out, expired or not", _ask,
+    add = command("remove", "takes the elements of these ids out, expired or not", _ask, "17 18 ",
                   requests=lambda asked: map(Request.remove, asked.ids))
     add("ids", nargs="+", type=_whole(0, 2**64 - 1), metavar="ID", help="what `OFFERED` told")
-    command("clear", "", "takes all elements out, expired or not", _ask,
-            requests=lambda asked: [Request.clear()])
-    add = command("dead", "dead.jsonl --offer ", "shows dead letters, or offers them again", _dead)
+    command("clear", "takes all elements out, expired or not", _ask, requests=lambda _: [Request.clear()])
+    add = command("dead", "shows dead letters, or offers them again", _dead, "dead.jsonl --offer ")
     add("file", metavar="FILE", help="what DeadLetters wrote")
     add("--offer", action="store_true", help="offers each, and takes it out of the file")
     return parser
@@ -134,9 +126,8 @@ def _work(asked: Asked) -> Iterator[str]:
     if asked.on_dead is not None and inspect.iscoroutinefunction(asked.on_dead) != is_async:
         raise ValueError("either both functions are coroutine functions or none")
     kind: Any = AsyncWorker if is_async else Worker
-    worker = kind(asked.handler, asked.port, asked.host, concurrency=asked.concurrency,
-                  session=asked.session, timeout=asked.timeout, on_dead=asked.on_dead,
-                  tls=context_of(asked), record=asked.record)
+    worker = kind(asked.handler, asked.port, asked.host, concurrency=asked.concurrency, session=asked.session,
+                  timeout=asked.timeout, on_dead=asked.on_dead, tls=context_of(asked), record=asked.record)
 
     def stop(number: int, _: Any) -> None:
         signal.signal(number, signal.SIG_DFL)  # whoever asks twice does not want to wait
@@ -193,8 +184,7 @@ def _dead(asked: Asked) -> Iterator[str]:
 
 
 def _open(kind: Any, asked: Asked) -> Any:
-    return kind(asked.port, asked.host, patience=asked.patience, tls=context_of(asked),
-                record=asked.record)
+    return kind(asked.port, asked.host, patience=asked.patience, tls=context_of(asked), record=asked.record)
 
 
 @contextmanager

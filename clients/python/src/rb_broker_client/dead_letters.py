@@ -18,8 +18,8 @@ _LONGEST = 4_096  # bytes of no line are more
 class DeadLetters:
     """Keeps dead jobs: `Worker(.., on_dead=DeadLetters("dead.jsonl"))`.
 
-    A file has a line of JSON for each, which is on the disk when the call returns. Several workers
-    may have one file. A producer, of a server that is the queue for such jobs, offers each to it.
+    A file has a line of JSON for each, which is on the disk when the call returns. Several workers may have one file. A
+    producer, of a server that is the queue for such jobs, offers each to it.
     """
 
     def __init__(self, target: Path | Producer | AsyncProducer) -> None:
@@ -46,9 +46,8 @@ def read_letters(path: str) -> list[bytes]:
 
 
 def take_letters(path: str, use: Callable[[str], object]) -> int:
-    """Calls this with each payload, the latest first, and then takes its line out of the file.
-    Gives how many there were. One that is added meanwhile is left, unless it takes the place of one
-    that is."""
+    """Calls this with each payload, the latest first, and then takes its line out of the file. Gives how many there
+    were. One that is added meanwhile is left, unless it takes the place of one that is."""
     count = len(read_letters(path))
     for _ in range(count):
         with _locked(path, "r+b") as file:  # no line is added while one is taken out

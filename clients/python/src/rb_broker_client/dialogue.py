@@ -17,12 +17,12 @@ class _Incomplete(Exception):
 
 
 class Dialogue:
-    """The requests of a session, and what came to answer them: a client sends the bytes that `ask`
-    gives it, feeds those that come, and has the `answers`."""
+    """The requests of a session, and what came to answer them: a client sends the bytes that `ask` gives it, feeds
+    those that come, and has the `answers`."""
 
     def __init__(self, note: Callable[..., object]) -> None:
-        """`note` is told of each request once it has its answer, or at the end: when it was sent,
-        when its reply had come (None if that never came), its line, and the reply's lines."""
+        """`note` is told of each request once it has its answer, or at the end: when it was sent, when its reply had
+        come (None if that never came), its line, and the reply's lines."""
         self._note = note
         self._due: deque[tuple[Request[Any], int]] = deque()  # with when each was sent
         self._lines: deque[bytes] = deque()  # that came, and are not taken for a reply
@@ -77,11 +77,11 @@ class Dialogue:
                 return
             except BrokerError as instead:
                 answer = instead
+                self._is_unclear = isinstance(instead, UnknownReplyError)
             self._due.popleft()
             self._note(sent, self._came, request.line, self._begun)
             self.answers.append(answer)
             self._begun = []
-            self._is_unclear = isinstance(answer, UnknownReplyError)
 
     def _next_line(self) -> bytes:
         if not self._lines:

@@ -1,9 +1,9 @@
 """Durations as callers give them; those of pauses between tries, and those of sessions."""
 from __future__ import annotations
 
+import math
 import random
 import re
-import time
 from datetime import timedelta
 from fractions import Fraction
 from typing import Union
@@ -15,14 +15,14 @@ Duration = Union[int, float, timedelta]
 
 WAITED = 0.1  # seconds after which a session was served late: others may be waiting now
 BRIEF = 3.0  # seconds of a session while others may be waiting
+FOR_EVER = 1e6  # seconds of a wait that only what happens ends
 SECOND = 1_000_000_000  # nanoseconds
-UNITS = {"ns": 1, "us": 1_000, "ms": 1_000_000, "": SECOND, "s": SECOND, "m": 60 * SECOND,
-         "h": 3_600 * SECOND, "d": 86_400 * SECOND}
+UNITS = {"ns": 1, "us": 1_000, "ms": 1_000_000, "": SECOND, "s": SECOND, "m": 60 * SECOND, "h": 3_600 * SECOND,
+         "d": 86_400 * SECOND}
 
 
 def nanoseconds(duration: Duration | Fraction) -> int:
-    """A duration as the protocol has it: whole nanoseconds. Raises `ValueError` if it is below 0
-    or above 2^64 - 1."""
+    """A duration as the protocol has it: whole nanoseconds. Raises `ValueError` if it is below 0 or above 2^64 - 1."""
     if isinstance(duration, timedelta):
         whole = duration // timedelta(microseconds=1) * 1_000
     elif isinstance(duration, (int, float, Fraction)):
@@ -42,12 +42,16 @@ def seconds(duration: Duration) -> float:
     return value
 
 
+def seconds_or_infinity(duration: Duration | None) -> float:
+    """A duration in seconds, where None is one without an end."""
+    return math.inf if duration is None else seconds(duration)
+
+
 def read_delay(text: str) -> Fraction:
     """The seconds of `5s`, `1.5h` or `250`. Raises `ValueError` with a sentence."""
     found = re.fullmatch(r"([0-9]+(?:\.[0-9]+)?)(|ns|us|ms|s|m|h|d)", text, re.ASCII)
     if found is None:
-        raise ValueError(f"{text} is no delay: write seconds, or 5s, 2m or 1h (ns, us, ms, s, m, "
-                         f"h, d)")
+        raise ValueError(f"{text} is no delay: write seconds, or 5s, 2m or 1h (ns, us, ms, s, m, h, d)")
     delay = Fraction(found[1]) * UNITS[found[2]]
     if delay.denominator != 1:
         raise ValueError(f"{text} is not a whole number of nanoseconds")
@@ -59,9 +63,8 @@ def read_delay(text: str) -> Fraction:
 class Pauses:
     """The pauses between tries that fail one after the other.
 
-    Each is twice as long as the one before, from `first` up to `longest`. From that a random part
-    is taken off, up to a half: clients that lose their server at the same moment do not all come
-    back at the same moment.
+    Each is twice as long as the one before, from `first` up to `longest`. From that a random part is taken off, up to a
+    half: clients that lose their server at the same moment do not all come back at the same moment.
     """
 
     def __init__(self, first: Duration = 0.1, longest: Duration = 10.0) -> None:
@@ -81,28 +84,17 @@ class Pauses:
         self._next = self._first
 
 
-class Age:
-    """The age of a session that begins now, and is old after so many seconds. None: never."""
-
-    def __init__(self, limit: float | None) -> None:
-        self.end = None if limit is None else time.monotonic() + limit
-
-    def is_over(self) -> bool:
-        return self.end is not None and time.monotonic() >= self.end
-
-
 class Ages:
-    """How old the sessions of a client may become.
+    """How old the sessions of a client may become: as old as `limit`, or without an end if that is None.
 
-    One that was served late is brief, so that each of several clients that wait for a server's
-    workers has its turn. The first one may be brief, since it can't know whether others wait.
+    One that was served late is brief, so that each of several clients that wait for a server's workers has its turn.
+    The first one may be brief, since it can't know whether others wait.
     """
 
     def __init__(self, limit: Duration | None, first_is_brief: bool) -> None:
-        self._limit = None if limit is None else seconds(limit)
-        self._is_next_brief = first_is_brief
+        self._limit, self._is_next_brief = seconds_or_infinity(limit), first_is_brief
 
-    def next(self, waited: float) -> Age:
-        """That of a session that is served now, after a wait of so many seconds."""
+    def next(self, waited: float) -> float:
+        """The seconds of a session that is served now, after a wait of so many seconds."""
         is_brief, self._is_next_brief = self._is_next_brief or waited >= WAITED, False
-        return Age(min(self._limit, BRIEF) if self._limit and is_brief else self._limit)
+        return min(self._limit, BRIEF) if is_brief and self._limit < math.inf else self._limit

@@ -1,7 +1,7 @@
 """What may become of a request other than its answer, as exceptions.
 
-A connection that is lost raises an `OSError`, of which `DisconnectedError` and `TimeoutError` are
-kinds. Anything else is a `BrokerError`.
+A connection that is lost raises an `OSError`, of which `DisconnectedError` and `TimeoutError` are kinds. Anything else
+is a `BrokerError`.
 """
 
 
@@ -26,8 +26,7 @@ class NotOfferedError(BrokerError):
 
 
 class InDoubtError(BrokerError):
-    """A producer lost the connection between an offer and its reply. The job may have been offered
-    or not."""
+    """A producer lost the connection between an offer and its reply. The job may have been offered or not."""
 
 
 class RefusedError(BrokerError):
@@ -55,8 +54,7 @@ class NotHeldError(RefusedError):
 
 
 class FullError(RefusedError):
-    """`ERR 6`: the run has made as many calls as it has room for. Each further call will be refused
-    too."""
+    """`ERR 6`: the run has made as many calls as it has room for. Each further call will be refused too."""
 
 
 class OutOfMemoryError(RefusedError):

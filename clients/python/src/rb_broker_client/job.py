@@ -55,10 +55,10 @@ Verdict = Union[Again, Dead]
 class Report:
     """What became of the jobs that a worker took.
 
-    `done`: the handler returned, and the server was told. `again`: the handler raised an exception,
-    and the job was offered again. `dead`: it raised one in the last attempt. `lost`: it raised one
-    in a full run, which takes no job back, so that nobody will try it again. `unheard`: what the
-    server made of it is not known; unless it was told in time that the job is done, it comes back.
+    `done`: the handler returned, and the server was told. `again`: the handler raised an exception, and the job was
+    offered again. `dead`: it raised one in the last attempt. `lost`: it raised one in a full run, which takes no job
+    back, so that nobody will try it again. `unheard`: what the server made of it is not known; unless it was told in
+    time that the job is done, it comes back.
     """
 
     done: int = 0

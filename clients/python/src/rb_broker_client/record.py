@@ -26,8 +26,7 @@ def check_record(target: Target) -> Target:
 
 
 class Record:
-    """The record of one session, or none. If it can't be written that is logged, and the session
-    goes on without it."""
+    """The record of one session, or none. If it can't be written that is logged, and the session goes on without it."""
 
     def __init__(self, target: RecordTarget | None) -> None:
         self._session, self._target = uuid.uuid4().hex, check_record(target)

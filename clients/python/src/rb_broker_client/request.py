@@ -1,5 +1,5 @@
-"""The requests of a client of servers, each with its line and the reader of its reply, which is as
-strict as the protocol: what is not the reply that is due raises `UnknownReplyError`."""
+"""The requests of a client of servers, each with its line and the reader of its reply, which is as strict as the
+protocol: what is not the reply that is due raises `UnknownReplyError`."""
 from __future__ import annotations
 
 import re
@@ -62,9 +62,8 @@ def _reader(exact: Mapping[bytes, Answer], form: Callable[[bytes], Answer] = _un
     return read
 
 
-_item, _head = _form("ITEM # # @ *", Job), _form("HEAD # # @ *", Job)
-_offered, _again = _form("OFFERED # #", Offered), _form("AGAIN # #", Again)
-_count, _size = _reader({}, _form("DRAINED %", int)), _form("SIZE #", int)
+_item, _head, _offered = _form("ITEM # # @ *", Job), _form("HEAD # # @ *", Job), _form("OFFERED # #", Offered)
+_again, _size, _count = _form("AGAIN # #", Again), _form("SIZE #", int), _reader({}, _form("DRAINED %", int))
 
 
 @dataclass
@@ -84,16 +83,14 @@ class Request(Generic[Answer]):
 
     @classmethod
     def offer(cls, payload: str, *, delay: Duration = 0) -> Request[Offered]:
-        """Offers an element that expires this delay from now. Raises `ValueError` for a payload
-        that is not 1 to 64 characters of printable ASCII without a space."""
-        line = b"OFFER %d %s" % (nanoseconds(delay), _checked(payload))
-        return Request(line, _reader({}, _offered))
+        """Offers an element that expires this delay from now. Raises `ValueError` for a payload that is not 1 to 64
+        characters of printable ASCII without a space."""
+        return Request(b"OFFER %d %s" % (nanoseconds(delay), _checked(payload)), _reader({}, _offered))
 
     @classmethod
     def offer_at(cls, payload: str, *, expires_at_ns: int) -> Request[Offered]:
         """Offers an element that expires at this moment of the server's clock, even a past one."""
-        line = b"OFFERAT %d %s" % (expires_at_ns, _checked(payload))
-        return Request(line, _reader({}, _offered))
+        return Request(b"OFFERAT %d %s" % (expires_at_ns, _checked(payload)), _reader({}, _offered))
 
     @classmethod
     def poll(cls) -> Request[Optional[Job]]:
@@ -107,9 +104,8 @@ class Request(Generic[Answer]):
 
     @classmethod
     def take(cls) -> Request[Job]:
-        """Takes a job, and waits until there is one. Nothing cancels the wait, and a program that
-        is killed meanwhile may cost the next job an attempt, so a loop of `poll_for(1)` is better
-        in a service."""
+        """Takes a job, and waits until there is one. Nothing cancels the wait, and a program that is killed meanwhile
+        may cost the next job an attempt, so a loop of `poll_for(1)` is better in a service."""
         return Request(b"TAKE", _reader({}, _item, _WAITS))
 
     @classmethod
@@ -120,13 +116,12 @@ class Request(Generic[Answer]):
     @classmethod
     def drain(cls, most: int) -> Request[list[Job]]:
         """Takes up to so many jobs that have expired, and no more than the session may hold."""
-        return Request(b"DRAIN %d" % most, lambda next_line: [
-            _item(next_line()) for _ in range(_count(next_line))])
+        return Request(b"DRAIN %d" % most, lambda next_line: [_item(next_line()) for _ in range(_count(next_line))])
 
     @classmethod
     def done(cls, id: int) -> Request[None]:
         """The job that is held under this id is finished."""
-        return Request(b"DONE %d" % id, _reader({b"DONE %d" % id: None}))
+        return Request(line := b"DONE %d" % id, _reader({line: None}))
 
     @classmethod
     def fail(cls, id: int) -> Request[Verdict]:
@@ -163,6 +158,5 @@ def _checked(payload: str) -> bytes:
     if not isinstance(payload, str):  # as None, which could be written as a text all the same
         raise TypeError(f"a payload is a str, not {type(payload).__name__}")
     if not re.fullmatch(_PAYLOAD, payload):
-        raise ValueError(f"a payload is 1 to {LONGEST_PAYLOAD} characters of printable ASCII, "
-                         f"no space: {payload!r}")
+        raise ValueError(f"a payload is 1 to {LONGEST_PAYLOAD} characters of printable ASCII, no space: {payload!r}")
     return payload.encode()

@@ -10,15 +10,14 @@ def add_tls_words(parser: argparse.ArgumentParser) -> None:
     """Adds the words."""
     add = parser.add_argument
     add("--tls", action="store_true", help="encrypts; the server's certificate must be for --host")
-    add("--ca", metavar="FILE",
-        help="the certificates whose owners are trusted (default: those of the system)")
+    add("--ca", metavar="FILE", help="the certificates whose owners are trusted (default: those of the system)")
     add("--cert", metavar="FILE", help="the certificate that is shown to the server")
     add("--key", metavar="FILE", help="its key, if it is not in the same file")
 
 
 def context_of(asked: argparse.Namespace) -> ssl.SSLContext | None:
-    """What these words ask for. Raises `ValueError` if they don't go together, or `OSError` with
-    the name of a file that can't be used."""
+    """What these words ask for. Raises `ValueError` if they don't go together, or `OSError` with the name of a file
+    that can't be used."""
     files = [it for it in (asked.ca, asked.cert, asked.key) if it is not None]
     if files and not asked.tls:
         raise ValueError("--ca, --cert and --key need --tls")

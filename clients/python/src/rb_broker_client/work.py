@@ -1,19 +1,19 @@
 """What a worker asks in one session, and what the answers make of its jobs.
 
-No socket, thread or event loop is here: a worker sends what a `Work` asks, gives it the answers,
-and runs the jobs that it was given.
+No socket, thread or event loop is here: a worker sends what a `Work` asks, gives it the answers, and runs the jobs that
+it was given.
 """
 from __future__ import annotations
 
 import logging
 import math
-import time
 from collections import deque
 from collections.abc import Callable
 from functools import partial
+from time import monotonic
 from typing import Any
 
-from .durations import Age, Pauses
+from .durations import Ages, Pauses
 from .errors import BrokerError, FullError, HeldTooManyError, OutOfMemoryError, StoppedError
 from .job import Again, Job, Report
 from .request import Request
@@ -28,21 +28,21 @@ Asked = tuple[Request[Any], Callable[[Any], None]]  # a request, and what takes 
 
 
 class Work:
-    """One session of a worker, from the moment at which it is connected.
+    """One session of a worker, from the moment at which it is connected to that at which it has been left.
 
-    In turns: `ask` says what is to be sent, `answered` takes each answer, in order, and `given` and
-    `dead` say what came of it: jobs to be run, and jobs that failed in their last attempt. The
-    caller takes them out. `ended` is called with each job whose handler has ended.
+    In turns: `ask` says what is to be sent, `answered` takes each answer, in order, and `given` and `dead` say what
+    came of it: jobs to be run, and jobs that failed in their last attempt. The caller takes them out. `ended` is called
+    with each job whose handler has ended.
     """
 
-    def __init__(self, wait: float, report: Report, pauses: Pauses, run: Run,
-                 age: Age | None = None) -> None:
-        """A wait for a job lasts so many seconds while none runs. Without an age the session is not
-        served yet."""
-        self._wait, self._report, self._pauses, self._run = wait, report, pauses, run
-        self.age, self.is_served, self.began = age or Age(None), age is not None, time.monotonic()
+    def __init__(self, wait: float, report: Report, pauses: Pauses, run: Run, ages: Ages) -> None:
+        """A wait for a job lasts so many seconds while none runs."""
+        self._wait, self._report, self._pauses, self._run, self._ages = wait, report, pauses, run, ages
+        self._waits: list[Request[Any]] = [Request.poll_for(it) for it in (wait, wait / BESIDE)]  # one beside jobs
+        self.is_served, self._end = False, math.inf  # when the session is old
+        self.wait_anew()
         self._asked: deque[Callable[[Any], None]] = deque()  # what takes each answer that is due
-        self._ended: list[Asked] = []  # what tells of jobs that have ended, and is to be sent
+        self._ended: list[Asked] = [(Request.greeting(), self._served)]  # what is to be sent
         self._held: dict[int, Job] = {}  # what the server gave, and has not said to have ended
         self._refused: list[Job] = []  # what failed, and could not come back for want of memory
         self._fails = 0  # failures whose answer is due
@@ -51,60 +51,54 @@ class Work:
         self._next_try = 0.0  # no job is fetched, and no failure told again, before this moment
         self._looked = 0.0  # when it was asked for the last time what is to be sent
         self.is_used_up = False  # whether nothing more comes of this session, or of this run
+        self._is_leaving = self.is_left = False  # whether the server was told that it is left, and has read so
         self.given: list[Job] = []
         self.dead: list[Job] = []
 
     @property
     def is_old(self) -> bool:
         """Whether the session is to be left once no job is in hand."""
-        return self.is_used_up or self.age.is_over()
+        return self.is_used_up or monotonic() >= self._end
 
     @property
     def is_lingering(self) -> bool:
         """Whether it is to be left, and jobs are in hand."""
         return bool(self._held) and self.is_old
 
-    def is_over(self, is_stopping: bool) -> bool:
-        """Whether the session can be left: nothing is to be fetched, held, or answered."""
-        return not (self._held or self._asked) and (is_stopping or self.is_old)
-
-    def ask(self, free: int, running: int, is_stopping: bool,
-            stays: bool = False) -> list[Request[Any]]:
-        """What is to be sent now. `free` is how many more jobs can be started at once, and
-        `running` how many run. An old session fetches no more, unless it `stays` since no other can
-        take its place."""
-        self._looked = time.monotonic()
+    def ask(self, free: int, running: int, is_stopping: bool, stays: bool = False) -> list[Request[Any]]:
+        """What is to be sent now. `free` is how many more jobs can be started at once, and `running` how many run. An
+        old session fetches no more, unless it `stays` since no other can take its place. One that can be left, since
+        nothing is to be fetched, held, or answered, is left."""
+        self._looked = monotonic()
         if self._refused and (is_stopping or self._looked >= self._next_try):
-            refused, self._refused = self._refused, []
-            for job in refused:
-                if is_stopping:  # the end of the session fails it
-                    self._report.unheard += 1
-                    del self._held[job.id]
-                else:
-                    self.ended(job, False)
+            self._try_again(is_stopping)
         asked, self._ended = self._ended, []
-        is_leaving = is_stopping or self.is_used_up or (self.age.is_over() and not stays)
-        # A failure comes first: if the run is full nothing more is to be fetched, and without
-        # memory nothing yet.
-        is_busy = self.fetching or self._fails or self._refused
-        if free > 0 and not (is_leaving or is_busy) and self._looked >= self._next_try:
+        if not self.is_served or self._is_leaving:
+            pass  # a wait that a busy server has not read can't be taken back, and may cost a job an attempt
+        elif (is_stopping or self.is_old) and not (self._held or self._asked):
+            self._is_leaving = True
+            asked.append((Request.quit(), self._left))
+        elif free > 0 and not (is_stopping or self.is_used_up or self.is_old and not stays) and self._may_fetch():
             asked.append(self._fetch(free, running))
         self._asked.extend([take for _, take in asked])
         return [request for request, _ in asked]
 
     def answered(self, answer: Any) -> None:
-        """Takes the answer to the first request that has none: a value, a refusal, or a wait that
-        was given up."""
+        """Takes the answer to the first request that has none: a value, a refusal, or a wait that was given up."""
         self._asked.popleft()(answer)
 
     def ended(self, job: Job, is_done: bool) -> None:
-        """The handler of a job has ended, or took too long. If the session was lost meanwhile this
-        changes nothing, as nothing more is asked."""
+        """The handler of a job has ended, or took too long. If the session was lost meanwhile this changes nothing, as
+        nothing more is asked."""
         if is_done:
             self._ended.append((Request.done(job.id), partial(self._done, job)))
         else:
             self._fails += 1
             self._ended.append((Request.fail(job.id), partial(self._failed, job)))
+
+    def wait_anew(self) -> None:
+        """The server had no worker that is free for this session, other than one that the same client has left now."""
+        self._waits_since = monotonic()
 
     def lost(self) -> None:
         """The session was lost. What the server made of the jobs that it gave is not known."""
@@ -112,18 +106,30 @@ class Work:
         self._held.clear()
 
     def pause(self) -> float:
-        """Within how many seconds something is to be done though nothing happens, which was not to
-        be done when it was asked last."""
-        moments = [it for it in (self._next_try, self.age.end) if it and it > self._looked]
-        return max(min(moments) - time.monotonic(), 0) if moments else math.inf
+        """Within how many seconds something is to be done though nothing happens, which was not to be done when it was
+        asked last."""
+        moments = [it for it in (self._next_try, self._end) if it > self._looked]
+        return max(min(moments) - monotonic(), 0) if moments else math.inf
+
+    def _try_again(self, is_stopping: bool) -> None:
+        refused, self._refused = self._refused, []
+        for job in refused:
+            if is_stopping:  # the end of the session fails it
+                self._report.unheard += 1
+                del self._held[job.id]
+            else:
+                self.ended(job, False)
+
+    def _may_fetch(self) -> bool:
+        # A failure comes first: if the run is full nothing more is to be fetched, and without memory nothing yet.
+        return not (self.fetching or self._fails or self._refused) and self._looked >= self._next_try
 
     def _fetch(self, free: int, running: int) -> Asked:
         # As many as can be started, if that many are likely to be due.
-        most, self._fetched = free if self._more_are_due else 1, time.monotonic()
-        self.fetching, take = most, partial(self._answered_fetch, most)
-        if most > 1:
-            return Request.drain(most), take
-        return Request.poll_for(self._wait / BESIDE if running else self._wait), take
+        most, self._fetched = free if self._more_are_due else 1, monotonic()
+        self.fetching = most
+        take = partial(self._answered_fetch, most)
+        return Request.drain(most) if most > 1 else self._waits[running > 0], take
 
     def _answered_fetch(self, most: int, answer: Any) -> None:
         self.fetching = 0
@@ -132,8 +138,7 @@ class Work:
             return
         self._pauses.reset()
         jobs = answer if isinstance(answer, list) else [answer] if answer is not None else []
-        self._more_are_due = len(jobs) == most and (
-            most > 1 or time.monotonic() - self._fetched < AT_ONCE)
+        self._more_are_due = len(jobs) == most and (most > 1 or monotonic() - self._fetched < AT_ONCE)
         for job in jobs:
             self._run.given(job.id)
             self._held[job.id] = job
@@ -143,7 +148,7 @@ class Work:
         if isinstance(refused, (StoppedError, OutOfMemoryError)):
             # From one fetch to the next: a wait that was given up after a while needs no pause.
             self._next_try = self._fetched + min(self._pauses.next(), self._wait)
-            if time.monotonic() >= self._next_try:
+            if monotonic() >= self._next_try:
                 self._pauses.reset()
         elif isinstance(refused, (FullError, HeldTooManyError)):
             # Nothing more can be had here. A full server can end only when its clients have left.
@@ -152,9 +157,18 @@ class Work:
         else:
             raise refused
 
+    def _served(self, answer: Any) -> None:
+        _demand(answer)
+        self._run.served()
+        now = monotonic()
+        self.is_served, self._end = True, now + self._ages.next(now - self._waits_since)
+
+    def _left(self, answer: Any) -> None:
+        _demand(answer)
+        self.is_left = True
+
     def _done(self, job: Job, answer: Any) -> None:
-        if isinstance(answer, BrokerError):
-            raise answer
+        _demand(answer)
         del self._held[job.id]
         self._report.done += 1
 
@@ -162,10 +176,10 @@ class Work:
         self._fails -= 1
         if isinstance(answer, OutOfMemoryError):
             self._refused.append(job)
-            self._next_try = time.monotonic() + self._pauses.next()
+            self._next_try = monotonic() + self._pauses.next()
             return
-        if isinstance(answer, BrokerError) and not isinstance(answer, FullError):
-            raise answer
+        if not isinstance(answer, FullError):
+            _demand(answer)
         del self._held[job.id]
         if isinstance(answer, Again):
             self._run.came_back(answer.id)
@@ -178,3 +192,8 @@ class Work:
             self._report.dead += 1
             self.dead.append(job)
             log.error("job %s failed in its last attempt, %d", job.payload, job.attempt)
+
+
+def _demand(answer: Any) -> None:
+    if isinstance(answer, BrokerError):  # one that can't be
+        raise answer

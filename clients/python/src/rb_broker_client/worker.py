@@ -12,29 +12,30 @@ from collections import deque
 from collections.abc import Awaitable, Callable
 from contextlib import ExitStack
 from dataclasses import dataclass
-from typing import ClassVar, Generic, Optional, TypeVar
+from typing import Any, ClassVar, Generic, Optional, TypeVar
 
 from .broker import AsyncBroker, Broker, Session
-from .durations import Ages, Duration, Pauses, seconds
+from .durations import FOR_EVER, Ages, Duration, Pauses, seconds, seconds_or_infinity
 from .job import MOST_HELD, Job, Report
 from .record import RecordTarget, check_record
-from .request import Request
 from .run import Run
-from .waiting import FOR_EVER, run, start_thread
+from .turns import LoopTurns, ThreadTurns
+from .waiting import run, start_thread
 from .work import Work
 
 log = logging.getLogger(__name__)
 
 BESIDE = 1.0  # seconds within which a session is to be connected beside another, whose jobs may end
 LONG = 60.0  # seconds after which a handler that runs is logged, and may hang
+SOON = 0.01  # seconds after which what the connection did not take is tried again
 
 Handler = Callable[[Job], object]
 """Does a job, which is done when this returns, and fails when it raises an `Exception`."""
 AsyncHandler = Callable[[Job], Awaitable[object]]
 """Does a job, as a `Handler`, for asyncio."""
 OnDead = Callable[[Job], object]
-"""Is told of a job that failed in its last attempt, and that the server no longer has. For an
-`AsyncWorker` it may be a coroutine function."""
+"""Is told of a job that failed in its last attempt, and that the server no longer has. For an `AsyncWorker` it may be a
+coroutine function."""
 AnyHandler = TypeVar("AnyHandler", Handler, AsyncHandler)
 
 
@@ -52,128 +53,125 @@ class _Call:
 
 
 class BaseWorker(Generic[AnyHandler]):
-    """What `Worker` and `AsyncWorker` have in common. The coroutines are those of both."""
+    """What `Worker` and `AsyncWorker` have in common."""
 
     _session_of: ClassVar[type[Session]]
+    _turns_of: ClassVar[Any]
 
-    def __init__(self, handler: AnyHandler, port: int, host: str = "127.0.0.1", *,
-                 concurrency: int = 1, wait: Duration = 1.0, patience: Duration = 10.0,
-                 session: Duration | None = 30.0, timeout: Duration | None = None,
-                 on_dead: OnDead | None = None, tls: ssl.SSLContext | None = None,
+    def __init__(self, handler: AnyHandler, port: int, host: str = "127.0.0.1", *, concurrency: int = 1,
+                 wait: Duration = 1.0, patience: Duration = 10.0, session: Duration | None = 30.0,
+                 timeout: Duration | None = None, on_dead: OnDead | None = None, tls: ssl.SSLContext | None = None,
                  pauses: Pauses | None = None, record: RecordTarget | None = None) -> None:
         """Connects to nothing yet. Durations are seconds or a `timedelta`.
 
-        `wait` is how long the worker waits for a job at a time, and so how long a stop takes at
-        most while it is idle. It makes a call each time. While jobs run a wait is a fifth of that,
-        since a server reads nothing behind a wait: the end of a job is told so much later at most.
-        A reply that is `patience` late is taken for a lost session. `session` is the age beyond
-        which a session is left; None keeps each as long as it can be had. A job whose handler takes
-        longer than `timeout` fails; its place is free once the handler returns.
+        `wait` is how long the worker waits for a job at a time, and so how long a stop takes at most while it is idle.
+        It makes a call each time. While jobs run a wait is a fifth of that, since a server reads nothing behind a wait:
+        the end of a job is told so much later at most. A reply that is `patience` late is taken for a lost session.
+        `session` is the age beyond which a session is left; None keeps each as long as it can be had. A job whose
+        handler takes longer than `timeout` fails; its place is free once the handler returns.
 
-        `on_dead` is called with each job whose failure the server answered with `DEAD`, and is the
-        place to keep it. It isn't called for a job whose last attempt ended with its session, of
-        which no reply tells. An `Exception` that it raises is logged. With `tls` the connection is
-        encrypted, and the certificates are those of this context. `record` is a path or an open
-        text file to which a line is added for each request.
+        `on_dead` is called with each job whose failure the server answered with `DEAD`, and is the place to keep it. It
+        isn't called for a job whose last attempt ended with its session, of which no reply tells. An `Exception` that
+        it raises is logged. With `tls` the connection is encrypted, and the certificates are those of this context.
+        `record` is a path or an open text file to which a line is added for each request.
         """
         if not 1 <= concurrency <= MOST_HELD:
             raise ValueError(f"from 1 to {MOST_HELD} jobs can run at the same time")
         self._handler: Callable[[Job], object] = handler
         self._on_dead, self._concurrency = on_dead, concurrency
         self._port, self._host, self._tls, self._record = port, host, tls, check_record(record)
-        self._wait, self._patience = seconds(wait), seconds(patience)
-        self._timeout = math.inf if timeout is None else seconds(timeout)
+        self._wait, self._patience, self._timeout = seconds(wait), seconds(patience), seconds_or_infinity(timeout)
         self._ages, self._pauses = Ages(session, first_is_brief=True), pauses or Pauses()
         self._run_known = Run(log, f"{host}:{port}")
-        self._runner = self._session_of._kind.runner(concurrency > 1 or timeout is not None)
-        self._is_stopping = False
+        self._turns = self._turns_of(concurrency > 1 or timeout is not None)
+        self._is_stopping = self._is_connecting = False
         self._visits: dict[Work, Session] = {}  # two at most, the older one first
-        self._next_visit = self._last_end = 0.0  # when the next may begin, and when one has ended
+        self._next_visit = 0.0  # when the next may begin
         self._calls: set[_Call] = set()  # that run
-        self._ends: deque[tuple[_Call, bool, Optional[BaseException]]] = deque()
+        self._ends: deque[tuple[Optional[_Call], bool, Optional[BaseException]]] = deque()
         self._next_look = math.inf  # when one of them may have been running for too long
         self.report = Report()
 
     def stop(self, *_: object) -> None:
-        """Lets `run` end once the jobs in hand are settled. Other threads and signal handlers may
-        call it, and it can be a signal's handler itself: `signal.signal(signal.SIGTERM,
-        worker.stop)`."""
+        """Lets `run` end once the jobs in hand are settled. Other threads and signal handlers may call it, and it can
+        be a signal's handler itself: `signal.signal(signal.SIGTERM, worker.stop)`."""
         self._is_stopping = True
-        self._runner.wake()
+        self._turns.wake()
 
     async def _work(self) -> Report:
+        """Works until `stop`, once for each worker. At the end no job is held, and the session has ended."""
         try:
-            # Handlers that took too long are not waited for.
-            while not self._is_stopping or self._visits or not all(
-                    it.is_told for it in self._calls):
-                now = time.monotonic()
-                await self._begin(now)
-                await self._runner.wait(self._pause(now))
-                self._settle()
-                for work, session in [*self._visits.items()]:
-                    try:
-                        self._receive(work, session)
-                        await self._attend(work, session)
-                    except OSError as fault:
-                        self._run_known.away("the session at %s was lost: %s", fault)
-                        self._end(work, self._pauses.next())
+            await self._turns.run(self._turn)
         finally:
             for work in [*self._visits]:
                 self._end(work)
-            await self._runner.close()
+            await self._turns.close()
         return self.report
 
-    async def _begin(self, now: float) -> None:
-        """Begins a session if there is none, or the one that there is fetches no more since it is
-        old, and waits for jobs that may take long. Nothing is fetched before it is served: a
-        `POLLFOR` that waits for a busy server can't be taken back, and if the worker left meanwhile
-        it would cost a job one attempt."""
+    def _turn(self) -> float | None:
+        """Does what is to be done now. Gives within how many seconds something is to be done though nothing happens, or
+        None when all is done. Handlers that took too long are not waited for."""
+        self._settle()
+        for work, session in [*self._visits.items()]:
+            try:
+                self._receive(work, session)
+                if not self._turns.has_started:
+                    self._attend(work, session)
+            except OSError as fault:
+                self._run_known.away("the session at %s was lost: %s", fault)
+                self._end(work, self._pauses.next())
+        if self._may_connect():
+            self._is_connecting = True
+            self._turns.begin(self._connect())
+            self._settle()  # what it raised, if it has ended
+        is_over = self._is_stopping and not (self._visits or self._is_connecting)
+        return None if is_over and all(it.is_told for it in self._calls) else self._pause()
+
+    def _may_connect(self) -> bool:
+        # If there is no session, or the one that there is fetches no more since it is old, and waits for jobs that may
+        # take long.
         if self._visits and not (len(self._visits) == 1 and [*self._visits][0].is_lingering):
-            return
-        if self._is_stopping or now < self._next_visit or len(self._calls) >= self._concurrency:
-            return
+            return False
+        return not (self._is_stopping or self._is_connecting or len(self._calls) >= self._concurrency
+                    or time.monotonic() < self._next_visit)
+
+    async def _connect(self) -> None:
         patience = min(self._patience, BESIDE) if self._visits else self._patience
         try:
-            session = self._session_of(self._port, self._host, patience, tls=self._tls,
-                                       record=self._record)
+            session = self._session_of(self._port, self._host, patience, tls=self._tls, record=self._record)
             with ExitStack() as undo:
                 undo.callback(session.close)
                 await session._connect()
-                await session._send(Request.greeting())
+                work = Work(self._wait, self.report, self._pauses, self._run_known, self._ages)
+                session.post(*work.ask(0, 0, False))
                 undo.pop_all()
+            self._turns.watch(session)
+            self._visits[work] = session
         except OSError as fault:
             self._run_known.away("no server at %s: %s", fault)
             self._next_visit = time.monotonic() + self._pauses.next()
-            return
-        session.patience, session.is_fed = self._patience, True
-        self._runner.watch(session)
-        self._visits[Work(self._wait, self.report, self._pauses, self._run_known)] = session
+        except Exception as fault:  # as of a host that is none, for the caller of `run`
+            self._ends.append((None, False, fault))
+        self._is_connecting = False
+        self._turns.ended()
 
-    def _pause(self, now: float) -> float:
-        """Within how many seconds something is to be done though nothing happens."""
+    def _pause(self) -> float:
+        now = time.monotonic()
         pause = min(self._next_look - now, FOR_EVER)
         if self._next_visit > now:
             pause = min(self._next_visit - now, pause)
         for work, session in self._visits.items():
-            pause = min(self._late(work, session) - now, work.pause(), pause)
+            pause = min(self._late(work, session) - now, work.pause(), pause if session.is_sent else SOON)
         return max(pause, 0)
 
     def _late(self, work: Work, session: Session) -> float:
         # Even a reply to a wait.
-        late = session.dialogue.due_since + self._patience + self._wait
-        return late if work.is_served else math.inf
+        return session.dialogue.due_since + self._patience + self._wait if work.is_served else math.inf
 
     def _receive(self, work: Work, session: Session) -> None:
-        answers = session.receive_ready()
+        answers = session.received()
         for answer in answers:
-            if work.is_served:
-                work.answered(answer)
-            elif isinstance(answer, Exception):
-                raise answer
-            else:  # to the greeting: the server has a worker for this session
-                self._run_known.served()
-                waited = time.monotonic() - max(work.began, self._last_end)  # for others
-                work.age, work.is_served = self._ages.next(waited), True
+            work.answered(answer)
         if not answers and time.monotonic() >= self._late(work, session):
             raise TimeoutError(f"the server did not answer within {self._patience} seconds")
         for job in work.given:
@@ -184,21 +182,18 @@ class BaseWorker(Generic[AnyHandler]):
         work.given, work.dead = [], []
         self._settle()
 
-    async def _attend(self, work: Work, session: Session) -> None:
-        if work.is_served and not work.is_over(self._is_stopping):
-            running = len(self._calls)
-            free = self._concurrency - running - sum(it.fetching for it in self._visits)
-            questions = work.ask(free, running, self._is_stopping, self._stays(work))
-            if questions:
-                await session._send(*questions)
-        if work.is_over(self._is_stopping):
-            if work.is_served:
-                await session._quit()
+    def _attend(self, work: Work, session: Session) -> None:
+        running = len(self._calls)
+        free = self._concurrency - running - sum(it.fetching for it in self._visits)
+        questions = work.ask(free, running, self._is_stopping, self._stays(work))
+        if questions or not session.is_sent:
+            session.post(*questions)
+        if work.is_left or self._is_stopping and not work.is_served:
             self._end(work, self._pauses.next() if work.is_used_up else 0)
 
     def _stays(self, work: Work) -> bool:
-        # Though a session is old it fetches on if there are two already, or if the next one is not
-        # served and this one can't end soon: others would not have its place either.
+        # Though a session is old it fetches on if there are two already, or if the next one is not served and this one
+        # can't end soon: others would not have its place either.
         if len(self._visits) < 2:
             return False
         _, last = self._visits
@@ -208,15 +203,17 @@ class BaseWorker(Generic[AnyHandler]):
 
     def _end(self, work: Work, pause: float = 0) -> None:
         work.lost()
-        self._visits.pop(work).close()
-        self._last_end = time.monotonic()
-        self._next_visit = max(self._next_visit, self._last_end + pause)
+        session = self._visits.pop(work)
+        for it in self._visits:
+            it.wait_anew()
+        session.close()
+        self._next_visit = max(self._next_visit, time.monotonic() + pause)
 
     def _start(self, function: Callable[[Job], object], job: Job, work: Work | None) -> None:
         call = _Call(function, job, work, time.monotonic())
         self._next_look = min(self._next_look, call.began + min(LONG, self._timeout))
         self._calls.add(call)
-        call.cancel = self._runner.start(self._run(call), len(self._calls) - 1)
+        call.cancel = self._turns.start(self._run(call), len(self._calls) - 1)
 
     async def _run(self, call: _Call) -> None:
         job, is_done, fault = call.job, False, None
@@ -236,15 +233,17 @@ class BaseWorker(Generic[AnyHandler]):
         except BaseException as raised:  # for the caller of `run`
             fault = raised
         self._ends.append((call, is_done, fault))
+        self._turns.ended()
 
     def _settle(self) -> None:
         while self._ends:
             call, is_done, fault = self._ends.popleft()
-            self._calls.discard(call)
             if fault is not None:
                 raise fault
-            if call.work is not None and not call.is_told:
-                call.work.ended(call.job, is_done)
+            if call is not None:
+                self._calls.discard(call)
+                if call.work is not None and not call.is_told:
+                    call.work.ended(call.job, is_done)
         if time.monotonic() >= self._next_look:
             self._look()
 
@@ -255,11 +254,11 @@ class BaseWorker(Generic[AnyHandler]):
                 continue
             if it.began + LONG <= now and not it.is_logged:
                 it.is_logged = True
-                log.warning("the handler of job %s, attempt %d, has been running for %g seconds",
-                            it.job.payload, it.job.attempt, LONG)
+                log.warning("the handler of job %s, attempt %d, has been running for %g seconds", it.job.payload,
+                            it.job.attempt, LONG)
             if it.began + self._timeout <= now and not it.is_told:
-                log.error("the handler of job %s, attempt %d, takes longer than %g seconds: "
-                          "the job fails", it.job.payload, it.job.attempt, self._timeout)
+                log.error("the handler of job %s, attempt %d, takes longer than %g seconds: the job fails",
+                          it.job.payload, it.job.attempt, self._timeout)
                 it.is_told = True
                 it.work.ended(it.job, False)
                 it.cancel()
@@ -268,55 +267,46 @@ class BaseWorker(Generic[AnyHandler]):
 
 
 class AsyncWorker(BaseWorker[AsyncHandler]):
-    """Takes jobs and runs the handler on each, up to `concurrency` of them at the same time, as
-    `Worker`, for asyncio.
+    """Takes jobs and runs the handler on each, up to `concurrency` of them at the same time, as `Worker`, for asyncio.
 
         worker = AsyncWorker(deliver, 7011, concurrency=64)
         asyncio.get_running_loop().add_signal_handler(signal.SIGTERM, worker.stop)
         report = await worker.run()
 
-    Each job is a task of the loop, which is cancelled after `timeout`. If `run` is cancelled so are
-    these tasks, and the session ends with their jobs.
+    Each job is a task of the loop, which is cancelled after `timeout`. If `run` is cancelled so are these tasks, and
+    the session ends with their jobs.
     """
 
-    _session_of = AsyncBroker
-
-    async def run(self) -> Report:
-        """Works until `stop`, once for each worker. At the end no job is held, and the session has
-        ended."""
-        return await self._work()
+    _session_of, _turns_of, run = AsyncBroker, LoopTurns, BaseWorker._work
 
 
 class Worker(BaseWorker[Handler]):
     """Takes jobs and runs the handler on each, up to `concurrency` of them at the same time.
 
-    With a `concurrency` of 1 and no `timeout` the handler runs in the thread of `run`, and else in
-    up to 64 threads of its own: it must bear to be called by several at a time.
+    With a `concurrency` of 1 and no `timeout` the handler runs in the thread of `run`, and else in up to 64 threads of
+    its own: it must bear to be called by several at a time.
 
-    It has one session at a time. One that is older than `session` fetches no more and ends with its
-    last job; if that may take long the next begins beside it. So a server which is to be replaced
-    can end, and other clients have their turn. Where others may be waiting a session is left after
-    three seconds. When a session is lost the worker connects again, after pauses that grow while no
-    server answers. So a job may be handled more than once, even if its handler returned: when the
-    session is lost before the server has read that the job is done, it comes back as its next
+    It has one session at a time. One that is older than `session` fetches no more and ends with its last job; if that
+    may take long the next begins beside it. So a server which is to be replaced can end, and other clients have their
+    turn. Where others may be waiting a session is left after three seconds. When a session is lost the worker connects
+    again, after pauses that grow while no server answers. So a job may be handled more than once, even if its handler
+    returned: when the session is lost before the server has read that the job is done, it comes back as its next
     attempt.
 
-    It never fetches more jobs than it can start at once. Each session keeps one of the server's
-    workers busy.
+    It never fetches more jobs than it can start at once. Each session keeps one of the server's workers busy.
     """
 
-    _session_of = Broker
+    _session_of, _turns_of = Broker, ThreadTurns
 
     def run(self) -> Report:
-        """Works until `stop`, once for each worker. At the end no job is held, and the session has
-        ended."""
+        """Works until `stop`, once for each worker. At the end no job is held, and the session has ended."""
         is_over = threading.Event()
 
         def watch() -> None:  # while a handler runs in the thread of `run`, nothing else does there
             while not is_over.wait(LONG / 4):
                 self._look()
 
-        if not self._runner.is_apart:
+        if not self._turns.is_apart:
             start_thread(watch, "watches")
         try:
             return run(self._work())

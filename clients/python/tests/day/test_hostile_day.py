@@ -14,7 +14,6 @@ import subprocess
 import sys
 import threading
 import time
-import unittest
 
 from history import History
 from nuisance import Nuisance
@@ -220,7 +219,3 @@ class HostileDayTest(ServedTest):
         words = [sys.executable, os.path.join(TOP, "tools", "verify"), self.histories[number], path]
         ran = subprocess.run(words, stdout=subprocess.PIPE, stderr=subprocess.STDOUT, encoding="utf-8", timeout=LONGEST)
         self.assertEqual((ran.returncode, ran.stdout.splitlines()[-1]), (0, "0 faults"), ran.stdout)
-
-
-if __name__ == "__main__":
-    unittest.main()

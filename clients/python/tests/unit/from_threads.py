@@ -2,67 +2,46 @@
 import asyncio
 import functools
 import inspect
+import sys
 import threading
 
 from scripted import PATIENCE
-from rb_broker_client import AsyncBroker, AsyncProducer, AsyncWorker
-
-LONGEST = 10 * PATIENCE
-
-
-class Loop:
-    """An event loop that runs in a thread."""
-
-    def __init__(self):
-        self._loop = asyncio.new_event_loop()
-        self._thread = threading.Thread(target=self._loop.run_forever, daemon=True)
-        self._thread.start()
-
-    def run(self, coroutine):
-        """Runs it to its end. Its result."""
-        return asyncio.run_coroutine_threadsafe(coroutine, self._loop).result(LONGEST)
-
-    def end(self):
-        self._loop.call_soon_threadsafe(self._loop.stop)
-        self._thread.join(PATIENCE)
-        self._loop.close()
+from rb_broker_client import AsyncBroker, AsyncProducer, AsyncWorker, Broker, Producer, Worker
 
 
 class FromThreads:
     """An object whose coroutine functions can be called from threads, as if they were functions."""
 
-    def __init__(self, loop, thing):
-        self._loop, self.thing = loop, thing
+    def __init__(self, run, thing):
+        self._run, self.thing = run, thing
 
     def __getattr__(self, name):
         value = getattr(self.thing, name)
         if not inspect.iscoroutinefunction(value):
             return value
-        return lambda *words, **options: self._loop.run(value(*words, **options))
+        return lambda *words, **options: self._run(value(*words, **options))
 
     def __enter__(self):
-        self._loop.run(self.thing.__aenter__())
+        self._run(self.thing.__aenter__())
         return self
 
     def __exit__(self, *fault):
-        self._loop.run(self.thing.__aexit__(*fault))
+        self._run(self.thing.__aexit__(*fault))
 
 
-class BrokerFromThreads(FromThreads):
+def broker(run, *words, **options):
     """A broker, which connects at once as the other kind does."""
-
-    def __init__(self, loop, *words, **options):
-        super().__init__(loop, AsyncBroker(*words, **options))
-        loop.run(self.thing.connect())
+    return FromThreads(run, run(AsyncBroker(*words, **options).connect()))
 
 
+def producer(run, *words, **options):
+    return FromThreads(run, AsyncProducer(*words, **options))
 
-class WorkerFromThreads(FromThreads):
+
+def worker(run, handler, *words, on_dead=None, **options):
     """A worker whose handlers are functions, which run in threads of their own."""
-
-    def __init__(self, loop, handler, *words, on_dead=None, **options):
-        on_dead = on_dead and in_thread(on_dead)
-        super().__init__(loop, AsyncWorker(in_thread(handler), *words, on_dead=on_dead, **options))
+    on_dead = on_dead and in_thread(on_dead)
+    return FromThreads(run, AsyncWorker(in_thread(handler), *words, on_dead=on_dead, **options))
 
 
 def in_thread(function):
@@ -74,27 +53,26 @@ def in_thread(function):
 
 
 class LoopCase:
-    """A test whose objects are of asyncio. `kind` makes one of them."""
-
-    made = None
+    """A test whose client is one of asyncio. `made` makes it."""
 
     def setUp(self):
-        loop = Loop()
-        self.addCleanup(loop.end)
-        self.kind = functools.partial(self.made, loop)
+        loop = asyncio.new_event_loop()
+        thread = threading.Thread(target=loop.run_forever, daemon=True)
+        thread.start()
+        for end in (loop.close, lambda: thread.join(PATIENCE), lambda: loop.call_soon_threadsafe(loop.stop)):
+            self.addCleanup(end)
+        self.run_in_loop = lambda coroutine: asyncio.run_coroutine_threadsafe(coroutine, loop).result(10 * PATIENCE)
+        self.kind = functools.partial(self.made, self.run_in_loop)
         super().setUp()
 
-
-class BrokerCase(LoopCase):
-    made = BrokerFromThreads
-
     def end(self, of_job):
-        return self.kind.args[0].run(of_job())
+        """Calls `done` or `fail` of a job."""
+        return self.run_in_loop(of_job())
 
 
-class ProducerCase(LoopCase):
-    made = staticmethod(lambda loop, *words, **options: FromThreads(loop, AsyncProducer(*words, **options)))
-
-
-class WorkerCase(LoopCase):
-    made = WorkerFromThreads
+def for_both_kinds(case):
+    """Adds to the module of this test case one of the same tests, whose client is that of asyncio."""
+    made = {Broker: broker, Producer: producer, Worker: worker}[case.kind]
+    twin = type(f"Async{case.__name__}", (LoopCase, case), {"__module__": case.__module__, "made": staticmethod(made)})
+    setattr(sys.modules[case.__module__], twin.__name__, twin)
+    return case

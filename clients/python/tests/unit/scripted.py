@@ -1,4 +1,6 @@
 """A server that plays a script, for what the real one does rarely or at no stated moment."""
+import contextlib
+import logging
 import socket
 import threading
 import unittest
@@ -90,18 +92,40 @@ class ScriptedServer:
 
 
 class ScriptedTest(unittest.TestCase):
-    """A test whose servers play scripts. At its end each script has to be played to its last step."""
+    """A test whose servers play scripts. At its end each script has to be played to its last step. What clients log is
+    not shown."""
+
+    def setUp(self):
+        logging.disable(logging.CRITICAL)
+        self.addCleanup(logging.disable, logging.NOTSET)
+        super().setUp()
 
     def play(self, *sessions, together=False):
         """A server that plays these sessions."""
         server = ScriptedServer(*sessions, together=together)
-
-        def end():
-            server.end()
-            self.assertEqual(server.faults, [])
-
-        self.addCleanup(end)
+        self.addCleanup(self.assert_played, server)
         return server
+
+    def assert_played(self, server):
+        server.end()
+        self.assertEqual(server.faults, [])
+
+    @contextlib.contextmanager
+    def logged(self, level=logging.ERROR):
+        """The records of this level that are logged meanwhile, of which there is one at least."""
+        logging.disable(logging.NOTSET)
+        with self.assertLogs("rb_broker_client", level) as said:
+            yield said.records
+        logging.disable(logging.CRITICAL)
+
+    def in_threads(self, *functions):
+        """Runs these functions at the same time, to their ends."""
+        threads = [threading.Thread(target=it, daemon=True) for it in functions]
+        for it in threads:
+            it.start()
+        for it in threads:
+            it.join(PATIENCE)
+            self.assertFalse(it.is_alive())
 
 
 def free_port():

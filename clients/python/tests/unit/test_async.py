@@ -1,76 +1,12 @@
-"""The clients of asyncio: all tests of the others, and what is theirs alone."""
+"""What is of the clients of asyncio alone. The tests of the others are theirs too (`for_both_kinds`)."""
 import asyncio
+import contextvars
 import time
-import unittest
+import unittest.mock
 
-import from_threads
-import test_broker
-import test_concurrency
-import test_producer
-import test_worker
 from scripted import GOODBYE, GREETING, HANGS_UP, NOTHING, PATIENCE, SAYS_NOTHING, ScriptedTest, free_port
-from test_worker import POLL, setUpModule, tearDownModule
-from rb_broker_client import AsyncBroker, AsyncProducer, AsyncWorker, InDoubtError, Job, Offered, Report
-
-
-class AsyncBrokerTest(from_threads.BrokerCase, test_broker.BrokerTest):
-    pass
-
-
-class AsyncManyTest(from_threads.BrokerCase, test_broker.ManyTest):
-    pass
-
-
-class AsyncProducerTest(from_threads.ProducerCase, test_producer.ProducerTest):
-    pass
-
-
-class AsyncProducerAgeTest(from_threads.ProducerCase, test_producer.AgeTest):
-    pass
-
-
-class AsyncProducerTasksTest(from_threads.ProducerCase, test_producer.ThreadsTest):
-    pass
-
-
-class AsyncJobTest(from_threads.WorkerCase, test_worker.JobTest):
-    pass
-
-
-class AsyncRefusalTest(from_threads.WorkerCase, test_worker.RefusalTest):
-    pass
-
-
-class AsyncLossTest(from_threads.WorkerCase, test_worker.LossTest):
-    pass
-
-
-class AsyncAgeTest(from_threads.WorkerCase, test_worker.AgeTest):
-    pass
-
-
-class AsyncDeadTest(from_threads.WorkerCase, test_worker.DeadTest):
-    pass
-
-
-class AsyncLogTest(from_threads.WorkerCase, test_worker.LogTest):
-    pass
-
-
-class AsyncPauseTest(from_threads.WorkerCase, test_worker.PauseTest):
-    pass
-
-
-class AsyncStopTest(from_threads.WorkerCase, test_worker.StopTest):
-    pass
-
-
-class AsyncOrderTest(from_threads.WorkerCase, test_concurrency.OrderTest):
-    pass
-
-
-class AsyncEndTest(from_threads.WorkerCase, test_concurrency.EndTest):
-    pass
+from test_worker import A_IS_DONE, GIVES_A, POLL
+from rb_broker_client import AsyncBroker, AsyncProducer, AsyncWorker, Job, Offered, Report
 
 
 class CancelTest(ScriptedTest):
@@ -128,29 +64,59 @@ class CancelTest(ScriptedTest):
         self.assertEqual(asyncio.run(worker.run()), Report(again=1))
 
 
+class TaskTest(ScriptedTest):
+    def test_each_job_is_a_task_of_its_own_in_the_context_of_the_worker(self):
+        """What a handler sets is not seen by the next, though that begins when this one ends."""
+        seen, word, tasks = [], contextvars.ContextVar("word", default="unset"), []
+
+        async def handle(job):
+            seen.append(word.get())
+            tasks.append(asyncio.current_task())
+            word.set("of a job")
+            if len(seen) == 3:
+                worker.stop()
+
+        async def run():
+            word.set("of the worker")
+            return await worker.run()
+
+        server = self.play([GREETING, *[GIVES_A, A_IS_DONE] * 3, GOODBYE])
+        worker = AsyncWorker(handle, server.port)
+        self.assertEqual(asyncio.run(run()), Report(done=3))
+        self.assertEqual((seen, len({*tasks})), (["of the worker"] * 3, 3))
+
+
+    def test_what_ends_at_once_is_told_in_one_piece_and_its_place_is_free(self):
+        async def handle(job):
+            handled.append(job.payload)
+
+        handled = []
+        steps = [GIVES_A, A_IS_DONE, ("DRAIN 2", "DRAINED 2\nITEM 1 0 1 b\nITEM 2 0 1 c"), ("DONE 1", "DONE 1"),
+                 ("DONE 2", "DONE 2"), ("DRAIN 2", lambda: worker.stop() or "DRAINED 0"), GOODBYE]
+        worker = AsyncWorker(handle, self.play([GREETING, *steps]).port, concurrency=2)
+        with unittest.mock.patch("rb_broker_client.work.AT_ONCE", PATIENCE):
+            self.assertEqual(asyncio.run(worker.run()), Report(done=3))
+        self.assertEqual(handled, ["a", "b", "c"])
+
+
 class BusyLoopTest(ScriptedTest):
     def test_a_session_that_ended_while_the_loop_did_something_else(self):
-        server = self.play([GREETING, ("OFFER 5 a", "OFFERED 0 5"), (NOTHING, HANGS_UP)],
-                           [GREETING, ("OFFER 5 a", "OFFERED 1 5")])
-
         async def run():
             async with AsyncProducer(server.port, patience=PATIENCE) as producer:
                 first = await producer.offer("a", delay=5e-9)
                 self.assertTrue(server.ended.acquire(timeout=PATIENCE))
                 return first, await producer.offer("a", delay=5e-9)
 
+        server = self.play([GREETING, ("OFFER 5 a", "OFFERED 0 5"), (NOTHING, HANGS_UP)],
+                           [GREETING, ("OFFER 5 a", "OFFERED 1 5")])
         self.assertEqual(asyncio.run(run()), (Offered(0, 5), Offered(1, 5)))
 
 
-class UseTest(unittest.TestCase):
-    """What is no use of a broker."""
+class UseTest(ScriptedTest):
+    """What is no use of a client."""
 
-    def test_before_it_is_connected(self):
+    def test_a_broker_before_it_is_connected(self):
         self.assertRaises(RuntimeError, asyncio.run, AsyncBroker(7011).size())
 
     def test_no_server(self):
         self.assertRaises(ConnectionRefusedError, asyncio.run, AsyncBroker(free_port()).connect())
-
-
-if __name__ == "__main__":
-    unittest.main()

@@ -5,14 +5,16 @@ import threading
 import unittest
 import unittest.mock
 
+from from_threads import for_both_kinds
 from scripted import HANGS_UP, PATIENCE, SAYS_NOTHING, ScriptedTest, free_port
 from rb_broker_client import (
     Again, Broker, DisconnectedError, FullError, Job, NotHeldError, Offered, Request, StoppedError, UnknownReplyError,
 )
 
 
+@for_both_kinds
 class BrokerTest(ScriptedTest):
-    kind = Broker  # the tests of AsyncBroker are these too
+    kind = Broker
 
     def connect(self, *steps, patience=PATIENCE):
         broker = self.kind(self.play(steps).port, patience=patience)
@@ -62,23 +64,17 @@ class BrokerTest(ScriptedTest):
         self.assertEqual(receive_in_time(broker), [Job(0, 0, 1, "a"), Job(1, 0, 1, "b")])
         self.assertEqual(receive_in_time(broker), 0)
 
-    def test_a_server_that_hangs_up(self):
-        broker = self.connect(("SIZE", HANGS_UP))
-        self.assertRaises(DisconnectedError, broker.size)
+    def test_a_server_that_hangs_up_or_cuts_a_line_off(self):
+        for steps in ([("SIZE", HANGS_UP)], [("SIZE", b"SIZ"), ("QUIT", HANGS_UP)]):
+            broker = self.connect(*steps)
+            broker.send(*[Request.size(), Request.quit()][:len(steps)])
+            self.assertRaises(DisconnectedError, broker.receive)
 
-    def test_a_line_that_is_cut_off(self):
-        broker = self.connect(("SIZE", b"SIZ"), ("QUIT", HANGS_UP))
-        broker.send(Request.size(), Request.quit())
-        self.assertRaises(DisconnectedError, broker.receive)
-
-    def test_after_an_unknown_reply_the_session_is_closed(self):
-        broker = self.connect(("SIZE", "HELLO"))
-        self.assertRaises(UnknownReplyError, broker.size)
-        self.assertRaises(OSError, broker.size)
-
-    def test_a_line_that_never_ends(self):
-        broker = self.connect(("SIZE", "SIZE " + "1" * 1000))
-        self.assertRaises(UnknownReplyError, broker.size)
+    def test_after_an_unknown_reply_or_a_line_that_never_ends_the_session_is_closed(self):
+        for reply in ("HELLO", b"SIZE " + b"1" * 1000):
+            broker = self.connect(("SIZE", reply))
+            self.assertRaises(UnknownReplyError, broker.size)
+            self.assertRaises(OSError, broker.size)
 
     def test_service_is_awaited_by_a_request_that_is_no_call(self):
         broker = self.connect(("AT 0", "ERR 1 syntax"), ("QUIT", "BYE"))
@@ -128,6 +124,7 @@ class OwnPortTest(unittest.TestCase):
             self.assertRaises(ConnectionRefusedError, Broker, port)
 
 
+@for_both_kinds
 class ManyTest(unittest.TestCase):
     """Requests in one piece of which a server keeps no more than it answers."""
 
@@ -163,7 +160,3 @@ def receive_in_time(broker):
             return broker.receive()
         except TimeoutError:
             pass
-
-
-if __name__ == "__main__":
-    unittest.main()

@@ -142,7 +142,3 @@ class TypesTest(unittest.TestCase):
         if mypy is None:
             self.skipTest("there is no mypy")
         run([mypy, "--strict", "--python-version", "3.9", "--cache-dir", os.devnull, "src", "examples"], TOP)
-
-
-if __name__ == "__main__":
-    unittest.main()

@@ -3,7 +3,6 @@ import contextlib
 import io
 import json
 import os
-import sys
 import tempfile
 import unittest
 import unittest.mock
@@ -188,7 +187,3 @@ class DelayTest(unittest.TestCase):
         for text in ("", "s", "-1s", "+1s", "1 s", "1S", "1.s", ".5s", "1e3", "1h30m", "1_000", "1.5ns",
                      "18446744073709551616ns", "18446744074", "213504d", "\u0665s"):
             self.assertRaises(ValueError, read_delay, text)
-
-
-if __name__ == "__main__":
-    unittest.main()

@@ -1,14 +1,13 @@
 """Dead letters: kept in a file or in a queue of their own, shown, and offered again."""
 import asyncio
+import functools
 import json
 import os
 import tempfile
-import threading
-import unittest
 
 from scripted import GOODBYE, GREETING, HANGS_UP, PATIENCE, ScriptedTest, free_port
 from test_command import run
-from test_worker import POLL, WorkerCase, setUpModule, tearDownModule
+from test_worker import POLL, WorkerCase
 from rb_broker_client import AsyncProducer, AsyncWorker, DeadLetters, Job, Producer, Report
 
 BAD = (POLL, "ITEM 2 1000 3 b"), ("FAIL 2", "DEAD 2")
@@ -36,8 +35,7 @@ class FileCase(ScriptedTest):
 
 class KeptTest(FileCase, WorkerCase):
     def test_each_dead_job_is_a_line(self):
-        worker = self.work([*BAD, *self.last()], on_dead=DeadLetters(self.path))
-        self.assertEqual(worker.run(), Report(dead=1))
+        self.assert_reports(Report(dead=1), [*BAD, *self.last()], on_dead=DeadLetters(self.path))
         (letter,) = self.letters()
         self.assertRegex(letter.pop("died"), r"^20\d\d-\d\d-\d\dT\d\d:\d\d:\d\d\.\d{3}\+00:00$")
         self.assertEqual(letter, {"payload": "b", "attempts": 3, "id": 2})
@@ -45,8 +43,7 @@ class KeptTest(FileCase, WorkerCase):
     def test_a_queue_of_its_own(self):
         other = self.play([GREETING, ("OFFER 0 b", "OFFERED 0 5")])
         with Producer(other.port, patience=PATIENCE) as producer:
-            worker = self.work([*BAD, *self.last()], on_dead=DeadLetters(producer))
-            self.assertEqual(worker.run(), Report(dead=1))
+            self.assert_reports(Report(dead=1), [*BAD, *self.last()], on_dead=DeadLetters(producer))
 
     def test_for_asyncio(self):
         other = self.play([GREETING, ("OFFER 0 b", "OFFERED 0 5")])
@@ -73,11 +70,7 @@ class KeptTest(FileCase, WorkerCase):
         def keep(number):
             self.keep(*[f"{number}-{it}" for it in range(50)])
 
-        threads = [threading.Thread(target=keep, args=[it], daemon=True) for it in range(4)]
-        for it in threads:
-            it.start()
-        for it in threads:
-            it.join(PATIENCE)
+        self.in_threads(*[functools.partial(keep, it) for it in range(4)])
         self.assertEqual(sorted(self.payloads()), sorted(f"{n}-{it}" for n in range(4) for it in range(50)))
 
     def test_a_file_that_can_not_be_written(self):
@@ -117,7 +110,3 @@ class CommandTest(FileCase):
     def test_no_file(self):
         told = "rb_broker_client: /no/such/file can't be used: No such file or directory\n"
         self.assertEqual(run("dead", "/no/such/file"), (1, "", told))
-
-
-if __name__ == "__main__":
-    unittest.main()

@@ -68,7 +68,3 @@ class VersionTest(unittest.TestCase):
         with open(os.path.join(TOP, "CHANGELOG.md"), encoding="utf-8") as file:
             changes = re.search(r"\bPython package,? version ([0-9.]+[0-9])", file.read())[1]
         self.assertEqual((rb_broker_client.__version__, changes), (project, project))
-
-
-if __name__ == "__main__":
-    unittest.main()

@@ -24,7 +24,3 @@ class PausesTest(unittest.TestCase):
     def test_limits_that_make_no_sense(self):
         for first, longest in ((0.0, 1.0), (-1.0, 1.0), (2.0, 1.0)):
             self.assertRaises(ValueError, Pauses, first, longest)
-
-
-if __name__ == "__main__":
-    unittest.main()

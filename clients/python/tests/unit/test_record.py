@@ -1,14 +1,12 @@
 """Records of what clients asked and were answered."""
+import functools
 import io
 import json
-import logging
 import os
 import tempfile
-import threading
 import time
-import unittest
 
-import from_threads
+from from_threads import for_both_kinds
 from scripted import GOODBYE, GREETING, HANGS_UP, NOTHING, PATIENCE, SAYS_NOTHING, ScriptedTest
 from rb_broker_client import Broker, Offered, Pauses, Producer, Report, Request, UnknownReplyError, Worker
 
@@ -37,6 +35,7 @@ class RecordCase(ScriptedTest):
         return [(it["request"], it["reply"]) for it in self.lines()]
 
 
+@for_both_kinds
 class BrokerRecordTest(RecordCase):
     kind = Broker
 
@@ -121,16 +120,13 @@ class BrokerRecordTest(RecordCase):
         broker = self.connect(("SIZE", "SIZE 3"), ("SIZE", "SIZE 4"), ("SIZE", "SIZE 5"), record=file)
         self.assertEqual(broker.size(), 3)
         file.close()
-        with self.assertLogs("rb_broker_client", logging.ERROR) as said:
+        with self.logged() as said:
             self.assertEqual((broker.size(), broker.size()), (4, 5))
-        self.assertEqual(len(said.records), 1)
-        self.assertIn("the record can't be written", said.records[0].getMessage())
+        (record,) = said
+        self.assertIn("the record can't be written", record.getMessage())
 
 
-class AsyncBrokerRecordTest(from_threads.BrokerCase, BrokerRecordTest):
-    pass
-
-
+@for_both_kinds
 class ProducerRecordTest(RecordCase):
     kind = Producer
 
@@ -150,10 +146,7 @@ class ProducerRecordTest(RecordCase):
         self.assertRaises(FileNotFoundError, self.kind, 7011, record="/no/such/folder/record")
 
 
-class AsyncProducerRecordTest(from_threads.ProducerCase, ProducerRecordTest):
-    pass
-
-
+@for_both_kinds
 class WorkerRecordTest(RecordCase):
     kind = Worker
     POLL = "POLLFOR 1000000000"
@@ -164,8 +157,6 @@ class WorkerRecordTest(RecordCase):
         server = self.play([GREETING, (self.POLL, "ITEM 0 0 1 a"), ("DONE 0", "DONE 0"), (self.POLL, SAYS_NOTHING),
                             (NOTHING, HANGS_UP)], [GREETING, (self.POLL, stops), GOODBYE])
         worker = self.kind(lambda job: None, server.port, pauses=Pauses(0.01, 0.02), record=self.path)
-        logging.disable(logging.CRITICAL)
-        self.addCleanup(logging.disable, logging.NOTSET)
         self.assertEqual(worker.run(), Report(done=1))
         greeted = ("AT 0", ["ERR 1 syntax"])
         self.assertEqual(self.told(), [
@@ -178,10 +169,6 @@ class WorkerRecordTest(RecordCase):
         self.assertRaises(FileNotFoundError, self.kind, print, 7011, record="/no/such/folder/record")
 
 
-class AsyncWorkerRecordTest(from_threads.WorkerCase, WorkerRecordTest):
-    pass
-
-
 class ThreadsTest(RecordCase):
     def test_clients_of_several_threads_may_have_one_path(self):
         count = 200
@@ -192,14 +179,6 @@ class ThreadsTest(RecordCase):
                 for _ in range(count):
                     broker.size()
 
-        threads = [threading.Thread(target=ask, args=(it.port,), daemon=True) for it in servers]
-        for it in threads:
-            it.start()
-        for it in threads:
-            it.join(PATIENCE)
+        self.in_threads(*[functools.partial(ask, it.port) for it in servers])
         names = [it["session"] for it in self.lines()]
         self.assertEqual(sorted(names.count(it) for it in set(names)), [count] * 4)
-
-
-if __name__ == "__main__":
-    unittest.main()

@@ -124,7 +124,3 @@ class UnknownTest(unittest.TestCase):
         self.assertRaises(UnknownReplyError, answer, Request.drain(100), "DRAINED 65")
         for line in ("NONE", "ERR 6 full", "HEAD 0 0 1 a"):
             self.assertRaises(UnknownReplyError, answer, Request.drain(100), "DRAINED 1", line)
-
-
-if __name__ == "__main__":
-    unittest.main()

@@ -67,7 +67,3 @@ class LineTest(unittest.TestCase):
     def test_other_numbers_are_the_servers_to_judge(self):
         self.assertEqual(Request.offer_at("a", expires_at_ns=-1).line, b"OFFERAT -1 a")
         self.assertEqual(Request.done(2**64).line, b"DONE 18446744073709551616")
-
-
-if __name__ == "__main__":
-    unittest.main()

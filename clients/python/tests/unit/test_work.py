@@ -6,7 +6,7 @@ import unittest.mock
 from rb_broker_client import (
     Again, Dead, FullError, HeldTooManyError, Job, NotHeldError, OutOfMemoryError, Pauses, Report, StoppedError,
 )
-from rb_broker_client.durations import Age
+from rb_broker_client.durations import Ages
 from rb_broker_client.run import Run
 from rb_broker_client.work import Work
 
@@ -20,16 +20,19 @@ class WorkTest(unittest.TestCase):
         logging.disable(logging.CRITICAL)
         self.addCleanup(logging.disable, logging.NOTSET)
         self.moment = 1_000.0
-        for module in ("work", "durations"):
-            patch = unittest.mock.patch(f"rb_broker_client.{module}.time")
-            patch.start().monotonic.side_effect = lambda: self.moment
-            self.addCleanup(patch.stop)
+        patch = unittest.mock.patch("rb_broker_client.work.monotonic", lambda: self.moment)
+        patch.start()
+        self.addCleanup(patch.stop)
         self.report = Report()
 
     def begin(self, concurrency=1, age=None, pauses=None):
+        """Begins a session, which is served at once."""
         run = Run(logging.getLogger("rb_broker_client.worker"), "a place")
-        self.work = Work(1.0, self.report, pauses or Pauses(first=PAUSE, longest=PAUSE), run, Age(age))
+        ages = Ages(age, first_is_brief=False)
+        self.work = Work(1.0, self.report, pauses or Pauses(first=PAUSE, longest=PAUSE), run, ages)
         self.concurrency = concurrency
+        self.assertEqual((self.asked(), self.asked(is_stopping=True)), (["AT 0"], []))
+        self.work.answered(None)
 
     def asked(self, running=0, is_stopping=False):
         """What is asked while so many jobs run."""
@@ -41,6 +44,13 @@ class WorkTest(unittest.TestCase):
         jobs = [*self.work.given]
         self.work.given.clear()
         return jobs
+
+    def assert_left(self, is_stopping=False):
+        """The session is left, and nothing is asked in it any more."""
+        self.assertEqual([self.asked(is_stopping=is_stopping) for _ in range(2)], [["QUIT"], []])
+        self.assertFalse(self.work.is_left)
+        self.work.answered(None)
+        self.assertTrue(self.work.is_left)
 
     def test_a_wait_that_was_given_up_at_once_is_asked_again_after_a_pause(self):
         for refusal in (StoppedError("STOPPED"), OutOfMemoryError("ERR 7 memory")):
@@ -98,7 +108,7 @@ class WorkTest(unittest.TestCase):
         self.work.ended(B, True)
         self.assertEqual(self.asked(running=1), ["DONE 1", BRIEF])
         self.work.answered(None)
-        self.assertEqual((self.report, self.work.is_over(True)), (Report(done=1), False))
+        self.assertEqual((self.report, self.asked(running=1, is_stopping=True)), (Report(done=1), []))
 
     def test_many_that_are_due_are_drained(self):
         self.begin(concurrency=64)
@@ -130,7 +140,8 @@ class WorkTest(unittest.TestCase):
         self.assertEqual(self.asked(), [])  # a failure has no answer yet
         self.work.answered(FullError("ERR 6 full"))
         self.assertEqual((self.report, self.work.dead), (Report(done=1, again=1, dead=1, lost=1), [jobs[2]]))
-        self.assertTrue(self.work.is_used_up and self.work.is_over(False))
+        self.assertTrue(self.work.is_used_up)
+        self.assert_left()
 
     def test_failures_that_find_no_memory(self):
         self.begin(concurrency=2)
@@ -143,24 +154,22 @@ class WorkTest(unittest.TestCase):
         self.moment += self.work.pause() + 0.01
         self.assertEqual(self.asked(), ["FAIL 0"])
         self.work.answered(OutOfMemoryError("ERR 7 memory"))
-        self.assertFalse(self.work.is_over(False))
-        self.assertEqual(self.asked(is_stopping=True), [])
-        self.assertEqual((self.work.is_over(True), self.report), (True, Report(unheard=1)))
+        self.assertEqual(self.asked(), [])
+        self.assert_left(is_stopping=True)
+        self.assertEqual(self.report, Report(unheard=1))
 
     def test_an_old_session_is_over_once_nothing_is_held(self):
         self.begin(concurrency=2, age=30)
         self.asked()
         self.moment += 29
         self.work.answered(A)
-        self.assertFalse(self.work.is_over(False))
         self.moment += 1
         self.assertEqual(self.asked(running=1), [])
-        self.assertFalse(self.work.is_over(False))
         self.work.ended(A, True)
         self.assertEqual(self.asked(), ["DONE 0"])
-        self.assertFalse(self.work.is_over(False))
+        self.assertEqual(self.asked(), [])
         self.work.answered(None)
-        self.assertTrue(self.work.is_over(False))
+        self.assert_left()
         self.assertFalse(self.work.is_used_up)
 
     def test_a_session_in_which_nothing_can_be_asked_is_left_in_time(self):
@@ -168,14 +177,15 @@ class WorkTest(unittest.TestCase):
         self.assertEqual(self.asked(running=2), [])  # jobs of an earlier session take all places
         self.assertEqual(self.work.pause(), 30)
         self.moment += 30
-        self.assertTrue(self.work.is_over(False))
+        self.assert_left()
 
     def test_a_full_run_and_a_session_that_holds_too_many_are_used_up(self):
         for refusal in (FullError("ERR 6 full"), HeldTooManyError("ERR 9 held")):
             self.begin()
             self.asked()
             self.work.answered(refusal)
-            self.assertTrue(self.work.is_used_up and self.work.is_over(False))
+            self.assertTrue(self.work.is_used_up)
+            self.assert_left()
 
     def test_refusals_that_can_not_be(self):
         self.begin()
@@ -200,7 +210,3 @@ class WorkTest(unittest.TestCase):
         self.work.lost()
         self.work.ended(B, True)
         self.assertEqual(self.report, Report(unheard=2))
-
-
-if __name__ == "__main__":
-    unittest.main()

@@ -1,0 +1,196 @@
+"""How the turns of a worker are taken and its handlers run: in threads, or in an event loop.
+
+A turn does what is to be done now, and waits for nothing. It gives within how many seconds the next one is due though
+nothing happens, or None when all is done. Each kind takes the next one as soon as something happens.
+"""
+from __future__ import annotations
+
+import asyncio
+import contextvars
+import queue
+import selectors
+import socket
+from collections.abc import Callable
+from contextlib import suppress
+from typing import Any, Optional
+
+from .waiting import Task, run, start_thread
+
+Turn = Callable[[], Optional[float]]
+
+
+class ThreadTurns:
+    """Takes turns in the thread that calls `run`. Tasks run in this thread, or `apart`, in others.
+
+    There is no lock here: a signal handler runs in the middle of what its thread does, and would wait for ever for a
+    lock that the thread holds. A byte in a socket does it.
+    """
+
+    has_started = False  # nothing that is waited for
+
+    def __init__(self, is_apart: bool) -> None:
+        self.is_apart, self._threads = is_apart, 0
+        self._tasks: queue.SimpleQueue[Optional[Task]] = queue.SimpleQueue()
+        self._reader, self._writer = socket.socketpair()
+        self._is_rung = False  # whether a byte is in it or about to be: one is enough
+        self._selector = selectors.DefaultSelector()
+        self._selector.register(self._reader, selectors.EVENT_READ, self._hear)
+
+    def __del__(self) -> None:  # once nobody can wake any more
+        self._selector.close()
+        self._reader.close()
+        self._writer.close()
+
+    async def run(self, turn: Turn) -> None:
+        """Takes turns until all is done."""
+        while (pause := turn()) is not None:
+            for key, _ in self._selector.select(pause):
+                key.data()
+
+    def wake(self) -> None:
+        """Something has happened. Other threads and signal handlers may call it."""
+        if not self._is_rung:
+            self._is_rung = True
+            self._writer.send(b".")
+
+    def _hear(self) -> None:
+        self._reader.recv(1)
+        self._is_rung = False  # before the turn looks what happened: what comes then rings again
+
+    def watch(self, session: Any) -> None:
+        """Takes a turn when something comes in this session too, and reads it."""
+        self._selector.register(session, selectors.EVENT_READ, session.is_lost)
+        session.at_end.callback(self._selector.unregister, session)
+
+    def begin(self, task: Task) -> None:
+        """Runs a task of the worker itself."""
+        run(task)
+
+    def start(self, task: Task, running: int) -> Callable[[], object]:
+        """Runs a task, beside so many others. Gives what cancels it, which no thread can be."""
+        if not self.is_apart:
+            run(task)
+        else:
+            self._tasks.put(task)
+            if running >= self._threads:
+                self._threads += 1
+                start_thread(self._work, str(self._threads))
+        return lambda: None
+
+    def _work(self) -> None:
+        for task in iter(self._tasks.get, None):
+            run(task)
+
+    def ended(self) -> None:
+        """A task that was started ends now."""
+        if self.is_apart:
+            self.wake()
+
+    async def close(self) -> None:
+        """Ends the threads, each once its task has ended."""
+        for _ in range(self._threads):
+            self._tasks.put(None)
+
+
+class LoopTurns:
+    """Takes turns in callbacks of an event loop, and runs each task beside them.
+
+    A turn that starts tasks is followed by another as soon as each has run up to where it waits: what ends at once is
+    told in one piece, and its place is free when more is fetched.
+    """
+
+    is_apart = True
+
+    def __init__(self, is_apart: bool) -> None:
+        self._tasks: set[Any] = set()
+        self._loop: asyncio.AbstractEventLoop | None = None  # the one in which it runs
+        self._is_rung = self.has_started = False  # whether a turn is due in it, and whether this one has started tasks
+        self._timer: asyncio.TimerHandle | None = None
+
+    async def run(self, turn: Turn) -> None:
+        """Takes turns until all is done."""
+        self._turn = turn
+        self._over: asyncio.Future[None] = asyncio.get_running_loop().create_future()
+        self._context = contextvars.copy_context()  # of turns, also of those that the end of a task brings about
+        self._loop = asyncio.get_running_loop()
+        self._take()
+        await self._over
+
+    def _take(self) -> None:
+        self._is_rung = self.has_started = False
+        if self._over.done():
+            return
+        try:
+            pause = self._turn()
+        except BaseException as fault:  # for the caller of `run`
+            self._over.set_exception(fault)
+            return
+        if pause is None:
+            self._over.set_result(None)
+        elif self.has_started:
+            self._ring()
+        else:
+            self._take_within(pause)
+
+    def _ring(self) -> None:
+        if not self._is_rung:
+            self._is_rung = True
+            asyncio.get_running_loop().call_soon(self._hear, context=self._context)
+
+    def _hear(self) -> None:
+        if self._is_rung:  # and no turn was taken since
+            self._take()
+
+    def _take_within(self, pause: float) -> None:
+        # A timer that is due too early takes a turn in which nothing is to be done, which costs less than a timer for
+        # each turn.
+        loop = asyncio.get_running_loop()
+        if self._timer is not None:
+            if self._timer.when() <= loop.time() + pause:
+                return
+            self._timer.cancel()
+        self._timer = loop.call_later(pause, self._on_time)
+
+    def _on_time(self) -> None:
+        self._timer = None
+        self._take()
+
+    def wake(self) -> None:
+        """Something has happened. Other threads and signal handlers may call it."""
+        if self._loop is not None:
+            with suppress(RuntimeError):  # the loop is closed, and nothing runs any more
+                self._loop.call_soon_threadsafe(self._take, context=self._context)
+
+    def watch(self, session: Any) -> None:
+        """Takes a turn when something comes in this session too, and reads it."""
+        loop = asyncio.get_running_loop()
+        loop.add_reader(session.fileno(), self._feed, session)
+        session.at_end.callback(loop.remove_reader, session.fileno())
+
+    def _feed(self, session: Any) -> None:
+        session.is_lost()
+        self._take()
+
+    def begin(self, task: Task) -> None:
+        """Runs a task of the worker itself."""
+        self.start(task, 0)
+
+    def start(self, task: Task, running: int) -> Callable[[], object]:
+        """Runs a task, beside others. Gives what cancels it."""
+        self.has_started = True
+        started = asyncio.get_running_loop().create_task(task)
+        self._tasks.add(started)
+        return started.cancel
+
+    def ended(self) -> None:
+        """A task that was started ends now."""
+        self._tasks.discard(asyncio.current_task())
+        self._ring()
+
+    async def close(self) -> None:
+        """Cancels all tasks, and waits until they have ended."""
+        if self._timer is not None:
+            self._timer.cancel()
+        for it in self._tasks:
+            it.cancel()
+        await asyncio.gather(*self._tasks, return_exceptions=True)
