@@ -2,7 +2,9 @@
 
 It is no part of the repository's tools: the tests of this package need nothing but the program.
 """
+import asyncio
 import atexit
+import inspect
 import logging
 import os
 import random
@@ -14,10 +16,13 @@ import time
 import unittest
 
 from crew import PATIENCE, Crew
+from history import History
+from rb_broker_client import Broker, Request
 
 TOP = os.path.realpath(os.path.join(os.path.dirname(os.path.realpath(__file__)), *[os.pardir] * 4))
 PROGRAM = os.environ.get("RB_BROKER_PROGRAM") or os.path.join(TOP, "crates", "rb_broker", "out", "rb_broker")
 
+PIECE = 1_000  # offers
 LONGEST = 600  # seconds after which a server is killed, so that no test lasts for ever
 
 
@@ -98,6 +103,35 @@ class ServedTest(unittest.TestCase):
         self.addCleanup(crew.stop)
         return crew
 
+    def begin(self, run):
+        """Runs this in a thread of its own, for whose end the test waits."""
+        thread = threading.Thread(target=run, daemon=True)
+        thread.start()
+        self.addCleanup(thread.join, PATIENCE)
+        return thread
+
+    def begin_worker(self, worker):
+        """Runs a worker of either kind in a thread of its own, until it is stopped."""
+        is_async = inspect.iscoroutinefunction(worker.run)
+        thread = self.begin(lambda: asyncio.run(worker.run()) if is_async else worker.run())
+        self.addCleanup(worker.stop)
+        return thread
+
+    def assert_stops(self, worker, thread, report):
+        """The worker ends when it is asked to, and makes this report."""
+        worker.stop()
+        thread.join(PATIENCE)
+        self.assertEqual((thread.is_alive(), worker.report), (False, report))
+
+    def offer(self, server, payloads):
+        """Offers a job of each payload, many in one piece. Their ids rise."""
+        payloads = [*map(str, payloads)]
+        with Broker(server.port, patience=PATIENCE) as broker:
+            for first in range(0, len(payloads), PIECE):
+                ids = [it.id for it in broker.ask_all(map(Request.offer, payloads[first:first + PIECE]))]
+                self.assertEqual(ids, sorted(set(ids)))
+            broker.quit()
+
     def assert_lost_none(self, ended, sessions):
         """The server ended well after so many sessions, and no job was lost. A client that was stopped between its
         connection and its first reply may have left a fault."""
@@ -112,6 +146,15 @@ class ServedTest(unittest.TestCase):
         said, _ = process.communicate(timeout=LONGEST)
         self.assertEqual(process.returncode, 0, said)
         return said.strip()
+
+    def assert_attempts(self, histories, handled, attempts):
+        """The histories have these attempts of each payload, and each that was given was handled once, as it was
+        offered."""
+        history = History(*histories)
+        self.assertEqual(history.attempts(), attempts)
+        given = [history.elements[id] for id in sorted(history.given)]
+        self.assertEqual(sorted((it.id, it.expires_at_ns, it.attempt, it.payload) for it in handled),
+                         [(it.id, it.expiry, it.attempt, it.payload) for it in given])
 
     def wait_until(self, is_so, seconds=PATIENCE):
         """Waits for a condition that another thread brings about."""

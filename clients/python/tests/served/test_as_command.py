@@ -3,7 +3,6 @@ import signal
 import subprocess
 import sys
 import time
-import unittest
 
 from server import PATIENCE, ServedTest, start
 
@@ -123,7 +122,3 @@ class CommandTest(ServedTest):
         self.assertRegex(again, f" INFO served again at {place}$")
         told = f" ERROR the server at {place} has lost its run: it gave a job of id 0 for the second time, "
         self.assertIn(told, run)
-
-
-if __name__ == "__main__":
-    unittest.main()

@@ -1,6 +1,4 @@
 """Workers and producers that nobody stops, while servers end and are followed by the next."""
-import threading
-import unittest
 from datetime import timedelta
 
 from history import History
@@ -52,8 +50,7 @@ class LeavingTest(ServedTest):
     def test_jobs_are_done_through_servers_in_a_row(self):
         server = self.serve_run(0)
         crew = self.gather(server, 3, is_done, session=0.2)
-        producing = threading.Thread(target=self.produce, args=(server.port,), daemon=True)
-        producing.start()
+        producing = self.begin(lambda: self.produce(server.port))
         for number in range(1, SERVERS):
             self.wait_until(lambda: len(crew.done()) >= number * JOBS // (SERVERS + 1), 2 * PATIENCE)
             self.assert_ends_well(server)
@@ -62,10 +59,7 @@ class LeavingTest(ServedTest):
         self.wait_until(lambda: len(crew.done()) >= JOBS, 2 * PATIENCE)
         self.assertEqual(crew.stop(), Report(done=JOBS, again=JOBS // 5))
         self.assert_ends_well(server)
-        history = History(*self.histories)
-        wanted = {str(it): [1] if it % 5 else [1, 2] for it in range(JOBS)}
-        self.assertEqual(history.attempts(), wanted)
-        self.assertEqual(sorted(it.id for it in crew.handled), sorted(history.given))
+        self.assert_attempts(self.histories, crew.handled, {str(it): [1] if it % 5 else [1, 2] for it in range(JOBS)})
 
     def produce(self, port):
         with Producer(port, patience=2 * PATIENCE, session=0.2, pauses=Pauses(0.05, 0.2)) as producer:
@@ -85,7 +79,3 @@ class DeadTest(ServedTest):
         self.assertEqual(crew.stop(), Report(done=1, again=2, dead=2))
         self.assertEqual(sorted((it.attempt, it.payload) for it in dead), [(2, "bad"), (2, "worse")])
         self.assertEqual(server.end()[1][0], "sessions 2 faults 0 lost 0")
-
-
-if __name__ == "__main__":
-    unittest.main()

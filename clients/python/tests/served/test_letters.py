@@ -3,7 +3,6 @@ import os
 import socket
 import subprocess
 import sys
-import unittest
 
 from server import PATIENCE, TOP, ServedTest
 
@@ -36,7 +35,3 @@ class LettersTest(ServedTest):
             told = run_letters(wrong)
             self.assertEqual((told.returncode, told.stdout), (1, ""))
             self.assertRegex(told.stderr, "^letters: .*\n$")
-
-
-if __name__ == "__main__":
-    unittest.main()

@@ -1,7 +1,5 @@
 """A server that goes away while workers and a producer go on, and the next one at its port."""
 import logging
-import threading
-import unittest
 
 from history import History
 from rb_broker_client import Broker, FullError, NotHeldError, Producer
@@ -25,8 +23,7 @@ class NextServerTest(ServedTest):
     def test_what_a_full_run_left_is_worked_off_in_the_next(self):
         first = self.serve("--workers", 6, "--sessions", 60, "--calls", JOBS, *POLICY, "--history", self.histories[0])
         crew = self.gather(first, WORKERS, is_done)
-        producing = threading.Thread(target=self.produce, args=(first.port,), daemon=True)
-        producing.start()
+        producing = self.begin(lambda: self.produce(first.port))
         self.wait_until_full(first)
         first.use_up()
         first_end = first.end()
@@ -137,7 +134,3 @@ class NextServerTest(ServedTest):
             self.wait_until(lambda: crew.done() == ["first", "second"])
         crew.stop()
         self.assertEqual(following.end()[1][0], "sessions 2 faults 0 lost 0")
-
-
-if __name__ == "__main__":
-    unittest.main()

@@ -4,7 +4,6 @@ import signal
 import subprocess
 import sys
 import time
-import unittest
 
 from history import History
 from rb_broker_client import Broker, Report
@@ -81,7 +80,3 @@ class OneWorkerTest(ServedTest):
         worker.send_signal(signal.SIGTERM)
         self.assert_ends(worker, Report())
         self.assert_attempts(server, 1, {})
-
-
-if __name__ == "__main__":
-    unittest.main()

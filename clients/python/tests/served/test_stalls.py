@@ -2,7 +2,6 @@
 import asyncio
 import threading
 import time
-import unittest
 import unittest.mock
 
 from rb_broker_client import AsyncWorker, Broker, Producer, Report, Worker
@@ -30,60 +29,47 @@ class HangTest(ServedTest):
             await asyncio.sleep(0.05)
         self.done.append(job.payload)
 
-    def start(self, run):
-        thread = threading.Thread(target=run, daemon=True)
-        thread.start()
-        return thread
-
     def work(self, server, kind, **options):
         """A worker of this kind, and the thread that runs it."""
         handler = self.handle if kind is Worker else self.handle_async
         worker = kind(handler, server.port, concurrency=16, **{"session": AGE, **options})
-        return worker, self.start(worker.run if kind is Worker else lambda: asyncio.run(worker.run()))
+        return worker, self.begin_worker(worker)
 
-    def offer(self, server):
+    def offer_slowly(self, offer, look=lambda: None):
         """Offers a job that hangs, and others behind it."""
-        with Producer(server.port) as producer:
-            for payload in ("hangs", *map(str, range(QUICK))):
-                producer.offer(payload)
-                time.sleep(PAUSE)
+        for payload in ("hangs", *map(str, range(QUICK))):
+            offer(payload)
+            look()
+            time.sleep(PAUSE)
 
-    def end(self, worker, thread):
+    def assert_ends(self, worker, thread, report):
         self.may_end.set()
-        worker.stop()
-        thread.join(PATIENCE)
-        self.assertFalse(thread.is_alive())
-        return worker.report
-
-    def fetch_on(self, kind):
-        server = self.serve("--workers", 4, "--sessions", 100)
-        worker, thread = self.work(server, kind)
-        self.offer(server)
-        self.wait_until(lambda: len(self.done) == QUICK)
-        self.assertNotIn("hangs", self.done)
-        self.assertEqual(self.end(worker, thread), Report(done=QUICK + 1))
-        server.use_up()
-        self.assert_lost_none(server.end(), 100)
+        self.assert_stops(worker, thread, report)
 
     def test_jobs_go_on_being_fetched(self):
-        self.fetch_on(Worker)
-
-    def test_jobs_go_on_being_fetched_for_asyncio(self):
-        self.fetch_on(AsyncWorker)
+        for kind in (Worker, AsyncWorker):
+            self.done.clear()
+            self.may_end.clear()
+            server = self.serve("--workers", 4, "--sessions", 100)
+            worker, thread = self.work(server, kind)
+            with Producer(server.port) as producer:
+                self.offer_slowly(producer.offer)
+            self.wait_until(lambda: len(self.done) == QUICK)
+            self.assertNotIn("hangs", self.done)
+            self.assert_ends(worker, thread, Report(done=QUICK + 1))
+            server.use_up()
+            self.assert_lost_none(server.end(), 100)
 
     def test_two_sessions_at_a_time_at_most(self):
         server = self.serve("--workers", 3, "--sessions", 100)
         worker, thread = self.work(server, Worker)
         most = []
         with Broker(server.port, patience=PATIENCE) as broker:  # the third worker, which is never taken from it
-            for payload in ("hangs", *map(str, range(QUICK))):
-                broker.offer(payload)
-                most.append(len(worker._visits))
-                time.sleep(PAUSE)
+            self.offer_slowly(broker.offer, lambda: most.append(len(worker._visits)))
             self.wait_until(lambda: len(self.done) == QUICK)
             broker.quit()
         self.assertEqual(max(most), 2)
-        self.assertEqual(self.end(worker, thread), Report(done=QUICK + 1))
+        self.assert_ends(worker, thread, Report(done=QUICK + 1))
 
     def test_where_the_server_has_no_worker_for_the_next(self):
         """The session that it has fetches on, once it is clear that its job takes long."""
@@ -94,16 +80,17 @@ class HangTest(ServedTest):
                 for payload in ("hangs", *map(str, range(QUICK))):
                     producer.offer(payload)
             self.wait_until(lambda: len(self.done) == QUICK)
-            self.assertEqual(self.end(worker, thread), Report(done=QUICK + 1))
+            self.assert_ends(worker, thread, Report(done=QUICK + 1))
 
     def test_a_job_that_takes_too_long_fails_and_is_given_again(self):
         server = self.serve("--workers", 4, "--sessions", 100, "--attempts", 2)
         dead = []
         worker, thread = self.work(server, Worker, timeout=0.5, on_dead=dead.append)
-        self.offer(server)
+        with Producer(server.port) as producer:
+            self.offer_slowly(producer.offer)
         self.wait_until(lambda: len(self.done) == QUICK and dead)
         self.assertEqual([(it.payload, it.attempt) for it in dead], [("hangs", 2)])
-        self.assertEqual(self.end(worker, thread), Report(done=QUICK, again=1, dead=1))
+        self.assert_ends(worker, thread, Report(done=QUICK, again=1, dead=1))
 
 
 class CrowdTest(ServedTest):
@@ -122,7 +109,3 @@ class CrowdTest(ServedTest):
             self.assertGreater(producer.waited, 0)
         self.wait_until(lambda: len(crew.done()) == 2)
         self.assertEqual(crew.stop(), Report(done=2))
-
-
-if __name__ == "__main__":
-    unittest.main()

@@ -45,15 +45,13 @@ class TlsTest(ServedTest):
     def test_jobs_from_their_offers_to_their_ends(self):
         port, tls, done = self.protect(), self.certificates.client(), []
         worker = Worker(lambda job: done.append(job.payload), port, concurrency=8, session=0.3, tls=tls)
-        thread = threading.Thread(target=worker.run, daemon=True)
-        thread.start()
+        thread = self.begin_worker(worker)
         with Producer(port, session=0.3, tls=tls) as producer:
             for number in range(JOBS):
                 producer.offer(str(number))
         self.wait_until(lambda: len(done) == JOBS)
-        worker.stop()
-        thread.join(PATIENCE)
-        self.assertEqual((worker.report, sorted(done)), (Report(done=JOBS), sorted(map(str, range(JOBS)))))
+        self.assert_stops(worker, thread, Report(done=JOBS))
+        self.assertEqual(sorted(done), sorted(map(str, range(JOBS))))
 
     def test_for_asyncio(self):
         port, tls, done = self.protect(), self.certificates.client(), []
@@ -125,9 +123,7 @@ class TlsTest(ServedTest):
                 broker.size()
 
         for client in (ask_now, lambda: asyncio.run(ask())):
-            with self.assertRaises(OSError) as raised:
-                client()
-            self.assertRegex(str(raised.exception), text)
+            self.assertRaisesRegex(OSError, text, client)
         with Producer(port, patience=0.5, tls=tls) as producer:
             with self.assertRaisesRegex(NotOfferedError, text):
                 producer.offer("letter")
@@ -136,24 +132,21 @@ class TlsTest(ServedTest):
         self.assertRegex(errors, rf"\Arb_broker_client: no answer from 127\.0\.0\.1:{port}: [^\n]+\n\Z")
         self.assertRegex(errors, text)
 
-    def test_a_certificate_of_another_authority(self):
-        self.refuse(self.protect(), "CERTIFICATE_VERIFY_FAILED", authority="other")
-
-    def test_a_certificate_that_has_expired(self):
-        self.refuse(self.protect("expired"), "certificate has expired")
-
-    def test_a_client_without_a_certificate(self):
-        self.refuse(self.protect(), REFUSED, name=None)
-
-    def test_a_client_with_a_certificate_of_another_authority(self):
-        self.refuse(self.protect(), REFUSED, name="stranger")
+    def test_who_is_refused_and_why(self):
+        """By which certificate of the server, for which reason, and what the client trusts and shows."""
+        for served, text, shown in (
+            ("server", "CERTIFICATE_VERIFY_FAILED", {"authority": "other"}),
+            ("expired", "certificate has expired", {}),
+            ("server", REFUSED, {"name": None}),  # a client without a certificate
+            ("server", REFUSED, {"name": "stranger"}),  # and one with that of another authority
+            ("server", "(?i)closed|reset|broken pipe", {"encrypts": False}),
+        ):
+            with self.subTest(served=served, shown=shown):
+                self.refuse(self.protect(served), text, **shown)
 
     def test_a_port_that_has_no_encryption(self):
         server = self.serve("--workers", 4, "--sessions", 100)
         self.refuse(server.port, "(?i)wrong.version|EOF|record")
-
-    def test_a_client_that_does_not_encrypt(self):
-        self.refuse(self.protect(), "(?i)closed|reset|broken pipe", encrypts=False)
 
     def test_a_worker_logs_why_and_tries_again(self):
         port = self.protect("expired")
@@ -201,7 +194,3 @@ class StunnelTest(TlsTest):
     def is_listening(self, port):
         with open("/proc/net/tcp", encoding="ascii") as file:
             return any(it.split()[1].endswith(f":{port:04X}") and it.split()[3] == "0A" for it in file.readlines()[1:])
-
-
-if __name__ == "__main__":
-    unittest.main()

@@ -3,8 +3,6 @@ import asyncio
 import os
 import subprocess
 import sys
-import threading
-import unittest
 
 from rb_broker_client import AsyncProducer, AsyncWorker, Producer, Report, Worker
 from server import LONGEST, PATIENCE, TOP, ServedTest
@@ -35,11 +33,7 @@ class VerifiedTest(ServedTest):
         options = {"session": 0.5, "record": record}
         workers = [Worker(handle, server.port, concurrency=4, **options), Worker(handle, server.port, **options),
                    AsyncWorker(handle_async, server.port, concurrency=16, **options)]
-        runs = [workers[0].run, workers[1].run, lambda: asyncio.run(workers[2].run())]
-        threads = [threading.Thread(target=it, daemon=True) for it in runs]
-        for it in threads:
-            it.start()
-        self.addCleanup(lambda: [it.stop() for it in workers])
+        threads = [self.begin_worker(it) for it in workers]
         self.produce(server.port, options)
         self.wait_until(lambda: sum(it.report.done for it in workers) >= JOBS)
         for worker, thread in zip(workers, threads):
@@ -58,8 +52,7 @@ class VerifiedTest(ServedTest):
                 for number in range(1, JOBS, 2):
                     await producer.offer(str(number))
 
-        other = threading.Thread(target=lambda: asyncio.run(offer()), daemon=True)
-        other.start()
+        other = self.begin(lambda: asyncio.run(offer()))
         with Producer(port, **options) as producer:
             for number in range(0, JOBS, 2):
                 producer.offer(str(number))
@@ -70,7 +63,3 @@ class VerifiedTest(ServedTest):
         words = [sys.executable, os.path.join(TOP, "tools", "verify"), "--all", history, record]
         ran = subprocess.run(words, stdout=subprocess.PIPE, stderr=subprocess.STDOUT, encoding="utf-8", timeout=LONGEST)
         self.assertEqual((ran.returncode, ran.stdout.splitlines()[-1]), (0, "0 faults"), ran.stdout)
-
-
-if __name__ == "__main__":
-    unittest.main()

@@ -1,6 +1,5 @@
 """Workers that wait: at a server that lets nothing wait, and for one that is busy."""
 import time
-import unittest
 
 from history import History
 from rb_broker_client import Broker, Report
@@ -35,7 +34,3 @@ class WaitingWorkerTest(ServedTest):
         self.assertEqual(self.assert_chained(path), lines[1])
         history = History(path)
         self.assertEqual((history.attempts(), history.given), ({"letter": [1]}, []))
-
-
-if __name__ == "__main__":
-    unittest.main()
