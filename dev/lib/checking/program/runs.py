@@ -7,7 +7,6 @@ from dataclasses import dataclass, field, replace
 from pathlib import Path
 from typing import IO, Iterator, Optional
 
-from conforming.text import appended, split_form
 from serving.server import free_port
 
 RUNS = Path(__file__).with_name("runs.txt")
@@ -111,8 +110,8 @@ def read_runs(room: Path) -> list[Run]:
             case "audit":
                 it.add("<", audit(told))
             case mark if mark not in ("", "#"):
-                mark, count = split_form(mark)
-                it.add(mark, appended(told, count).decode())
+                mark, _, times = mark.partition("*")
+                it.add(mark.rstrip("~"), int(times or 1) * (told if mark.endswith("~") else f"{told}\n"))
     return runs
 
 
