@@ -17,5 +17,5 @@ RecordsByScript sends =
     (got : Option (List ℕ)) (policy : Policy) (calls : ℕ) (delivery : Delivery) (rest : Option (List ℕ))
     (opening : Opening) (served : Served) (to : KeptState)
     → RanSession (script_terms sends got policy calls delivery opening) (IsAtEnd rest) served to
-    → (run : MadeByRun (IsAtEnd rest) served (λ made. made_in to.log ≡ made))
+    → (run : MadeByRun policy (IsAtEnd rest) served (λ made. made_in to.log ≡ made))
     × (to.log.opening ≡ opening) × (to.moment ≡ latest opening.last_at run.lines)

@@ -11,7 +11,8 @@ use Rattle.rb_session.specs.Served.{Served}
 use Rattle.rb_session.specs.declared.ended.Ended.{Ended}
 use Rattle.rb_session.specs.declared.session_fault.SessionFault.{SessionFault}
 use Rattle.rb_serving.specs.Terms.{Terms}
-use Rattle.rb_serving.specs.VisitCounts.{both_counts, ended_visit, refused_visit, lost_in, faults_in}
+use Rattle.rb_session.specs.JobEnds.{lost_in}
+use Rattle.rb_serving.specs.VisitCounts.{both_counts, ended_visit, refused_visit, faults_in}
 use Rattle.rb_serving.specs.Serving.{WorksOff}
 use Rattle.rb_serving.specs.Visits.{LeftVisit, AreVisits, IsVisit, IsWorkerOf, AreWorkers}
 use Rattle.rb_serving.specs.Visits.{all_visits, counts_of, faults_of, lost_of, number_of}

@@ -1,5 +1,5 @@
 -- The calls of each worker are those of its visits, each with its reply, and the history that is gathered has no other.
-use Rattle.std.proofs.Common.{◌≡◌, ◌≢◌, ℕ, ◌+◌, ◌<◌, List, [], ◌∷◌, ◌++◌, length, Option, None, Some, refl, sym, ap, ap₂, subst, ◌∙◌, inl, inr, arith, Contains}
+use Rattle.std.proofs.Common.{◌≡◌, ◌≢◌, ℕ, ◌+◌, ◌<◌, List, [], ◌∷◌, ◌++◌, length, Option, None, Some, refl, sym, ap, subst, ◌∙◌, inl, inr, arith, Contains}
 use Rattle.std.proofs.lemmas.List.{append_cancel_left, nil_from_length}
 use Rattle.std.proofs.lemmas.List.Elements.{Contains-append_left, Contains-append_right, Contains-append_cases}
 use Rattle.std.specs.Prelude.{◌⊎◌}
@@ -14,6 +14,7 @@ use Rattle.rb_lock.specs.Records.{AreRecords, IsRecord, names_of, times_in}
 use Rattle.rb_lock.specs.declared.pass_record.PassRecord.{PassRecord}
 use Rattle.rb_lock.proofs.Sums.{bit_apart}
 use Rattle.rb_retry.specs.Made.{Made, made_after, made_by}
+use Rattle.rb_retry.specs.declared.policy.Policy.{Policy}
 use Rattle.rb_shared_desk.specs.SharedLaws.{counted, length_own, made_by-none}
 use Rattle.rb_session.specs.Served.{Served}
 use Rattle.rb_session.proofs.RunEvents.{grows_so}
@@ -25,12 +26,12 @@ use Rattle.rb_serving.proofs.GatheredNames.{contained, named_behind, of_history,
 use Rattle.rb_serving.proofs.VisitEvents.{calls_by_visit}
 
 -- a pass that has seen no event of its name has made nothing
-made_none : (pass : Seen) → events_of pass.seen pass.name ≡ [] → made_of pass ≡ []
+pub made_none : (pass : Seen) → events_of pass.seen pass.name ≡ [] → made_of pass ≡ []
 made_none pass unheard =
     nil_from_length (made_of pass) (length_own pass.name pass.opening [] pass.seen ∙ ap length unheard)
 
 -- what the history has of a record's name is what had been seen of it
-seen_all : (begun : Opening) (history : List Event) (one : PassRecord) → IsRecord history one
+pub seen_all : (begun : Opening) (history : List Event) (one : PassRecord) → IsRecord history one
     → made_by one.name begun history ≡ made_by one.name begun one.seen
 seen_all begun history one known =
     let more : List Event = known.begins.0 in
@@ -43,7 +44,7 @@ seen_all begun history one known =
 module _ {I O G C : Type 0} (terms : Terms I O G C) where
   -- the calls of a pass that served visits grow by theirs
   grows_by_visits : (worker earlier : ℕ) (old new : Seen) (visits : List (Option Served))
-      → AreVisits terms worker earlier old visits new → GrowsByVisits (made_of old) visits (made_of new)
+      → AreVisits terms worker earlier old visits new → GrowsByVisits terms.rules.policy (made_of old) visits (made_of new)
   grows_by_visits worker earlier old new [] same = ap made_of same
   grows_by_visits worker earlier old new (None ∷ visits) (away, are) = grows_by_visits worker (earlier + 1) old new visits are
   grows_by_visits worker earlier old new (Some served ∷ visits) (between, is, are) = (
@@ -58,20 +59,20 @@ module _ {I O G C : Type 0} (terms : Terms I O G C) where
   -- a worker had made no call before, and its calls are all that the history has of it
   of_worker : (room : ℕ) (begun : Opening) (history : List Event) (worker : ℕ) (own : List (Option Served)) (pass : Seen) (one : PassRecord)
       → IsWorkerOf terms room begun worker own pass → one ≡ record_of pass → IsRecord history one
-      → GrowsByVisits [] own (made_by one.name begun history)
+      → GrowsByVisits terms.rules.policy [] own (made_by one.name begun history)
   of_worker room begun history worker own pass one of_run is known =
       let works = of_run.works in
       let same : made_of pass ≡ made_by one.name begun history =
       ap (λ (opening : Opening). made_by pass.name opening pass.seen) of_run.opening
       ∙ ap (λ (entry : PassRecord). made_by entry.name begun entry.seen) (sym is)
       ∙ sym (seen_all begun history one known) in
-      subst (λ (after : List Made). GrowsByVisits [] own after) same
-      (subst (λ (before : List Made). GrowsByVisits before own (made_of pass)) (made_none works.first works.unheard)
+      subst (λ (after : List Made). GrowsByVisits terms.rules.policy [] own after) same
+      (subst (λ (before : List Made). GrowsByVisits terms.rules.policy before own (made_of pass)) (made_none works.first works.unheard)
       (grows_by_visits worker 0 works.first pass own works.served))
 
   of_workers : (room : ℕ) (begun : Opening) (history : List Event) (worker : ℕ) (visits : List (List (Option Served))) (records : List PassRecord)
       → AreWorkers terms room begun worker visits records → AreRecords history records
-      → AllZip (λ (name : ℕ) (own : List (Option Served)). GrowsByVisits [] own (made_by name begun history)) (names_of records) visits
+      → AllZip (λ (name : ℕ) (own : List (Option Served)). GrowsByVisits terms.rules.policy [] own (made_by name begun history)) (names_of records) visits
   of_workers room begun history worker [] [] are known = tt
   of_workers room begun history worker [] (one ∷ records) are known = absurd are
   of_workers room begun history worker (own ∷ visits) [] are known = absurd are
@@ -80,69 +81,70 @@ module _ {I O G C : Type 0} (terms : Terms I O G C) where
     of_workers room begun history (worker + 1) visits records are rest,
   )
 
--- what is of some visits is of them and of others
-of_front : (one : Made) (visits others : List (Option Served)) → IsOfOne one visits → IsOfOne one (visits ++ others)
-of_front one visits others (served, among, made) = (served, Contains-append_left visits others (Some served) among, made)
+module _ (policy : Policy) where
+  -- what is of some visits is of them and of others
+  of_front : (one : Made) (visits others : List (Option Served)) → IsOfOne policy one visits → IsOfOne policy one (visits ++ others)
+  of_front one visits others (served, among, made) = (served, Contains-append_left visits others (Some served) among, made)
 
-of_back : (one : Made) (others visits : List (Option Served)) → IsOfOne one visits → IsOfOne one (others ++ visits)
-of_back one others visits (served, among, made) = (served, Contains-append_right others visits (Some served) among, made)
+  of_back : (one : Made) (others visits : List (Option Served)) → IsOfOne policy one visits → IsOfOne policy one (others ++ visits)
+  of_back one others visits (served, among, made) = (served, Contains-append_right others visits (Some served) among, made)
 
--- what stands behind a visit stood there before, or the visit made it
-of_visit : (one : Made) (before after : List Made) (served : Served) → MadeByVisit served (λ made. after ≡ before ++ made)
-    → Contains after one → Contains before one ⊎ MadeByVisit served (λ made. Contains made one)
-of_visit one before after served (rest, run) has =
-    let all : List Made = run.by_lines ++ run.by_closing in
-    elim (Contains-append_cases before all one (subst (λ (mades : List Made). Contains mades one) run.grows has)) [
-      | inl old ↦ inl old
-      | inr made ↦
-          inr (
-            rest,
-            (grows_so (λ other grows. subst (λ (mades : List Made). Contains mades one)
-                (append_cancel_left before all other (sym run.grows ∙ grows)) made) run).0,
-          )
-    ]
-
--- and by more of them
-of_visits : (one : Made) (before after : List Made) (visits : List (Option Served)) → GrowsByVisits before visits after
-    → Contains after one → Contains before one ⊎ IsOfOne one visits
-of_visits one before after [] same has = inl (subst (λ (mades : List Made). Contains mades one) same has)
-of_visits one before after (None ∷ visits) grows has =
-    elim (of_visits one before after visits grows has) [
-      | inl old ↦ inl old
-      | inr later ↦ inr (of_back one (None ∷ []) visits later)
-    ]
-of_visits one before after (Some served ∷ visits) (between, made, grows) has =
-    elim (of_visits one between after visits grows has) [
-      | inl here ↦ elim (of_visit one before between served made here) [
+  -- what stands behind a visit stood there before, or the visit made it
+  of_visit : (one : Made) (before after : List Made) (served : Served) → MadeByVisit policy served (λ made. after ≡ before ++ made)
+      → Contains after one → Contains before one ⊎ MadeByVisit policy served (λ made. Contains made one)
+  of_visit one before after served (rest, run) has =
+      let all : List Made = run.by_lines ++ run.by_closing in
+      elim (Contains-append_cases before all one (subst (λ (mades : List Made). Contains mades one) run.grows has)) [
         | inl old ↦ inl old
-        | inr first ↦ inr (served, (0, omega arith, refl), first)
+        | inr made ↦
+            inr (
+              rest,
+              (grows_so (λ other grows. subst (λ (mades : List Made). Contains mades one)
+                  (append_cancel_left before all other (sym run.grows ∙ grows)) made) run).0,
+            )
       ]
-      | inr later ↦ inr (of_back one (Some served ∷ []) visits later)
-    ]
 
--- what one worker made is of one of its visits
-of_own : (one : Made) (own : List (Option Served)) (mades : List Made) → GrowsByVisits [] own mades → Contains mades one → IsOfOne one own
-of_own one own mades grows has =
-    elim (of_visits one [] mades own grows has) [
-      | inl none ↦ absurd (omega (arith, none.1))
-      | inr of ↦ of
-    ]
+  -- and by more of them
+  of_visits : (one : Made) (before after : List Made) (visits : List (Option Served)) → GrowsByVisits policy before visits after
+      → Contains after one → Contains before one ⊎ IsOfOne policy one visits
+  of_visits one before after [] same has = inl (subst (λ (mades : List Made). Contains mades one) same has)
+  of_visits one before after (None ∷ visits) grows has =
+      elim (of_visits one before after visits grows has) [
+        | inl old ↦ inl old
+        | inr later ↦ inr (of_back one (None ∷ []) visits later)
+      ]
+  of_visits one before after (Some served ∷ visits) (between, made, grows) has =
+      elim (of_visits one between after visits grows has) [
+        | inl here ↦ elim (of_visit one before between served made here) [
+          | inl old ↦ inl old
+          | inr first ↦ inr (served, (0, omega arith, refl), first)
+        ]
+        | inr later ↦ inr (of_back one (Some served ∷ []) visits later)
+      ]
 
--- what has the name of a worker is of one of the visits
-of_names : (begun : Opening) (history : List Event) (one : Made) (names : List ℕ) (visits : List (List (Option Served)))
-    → AllZip (λ (name : ℕ) (own : List (Option Served)). GrowsByVisits [] own (made_by name begun history)) names visits
-    → Contains (made_after begun [] history) one → 0 < times_in one.event.seat names → IsOfOne one (all_visits visits)
-of_names begun history one [] [] zip has some = absurd (omega (arith, some))
-of_names begun history one [] (own ∷ visits) zip has some = absurd zip
-of_names begun history one (name ∷ names) [] zip has some = absurd zip
-of_names begun history one (name ∷ names) (own ∷ visits) (first, rest) has some =
-    dite (ℕ_discrete name one.event.seat)
-    (λ (is : name ≡ one.event.seat).
-    of_front one own (all_visits visits) (of_own one own (made_by name begun history) first
-    (subst (λ (seat : ℕ). Contains (made_by seat begun history) one) (sym is) (of_its_seat (made_after begun [] history) one has))))
-    (λ (apart : name ≢ one.event.seat).
-    of_back one own (all_visits visits)
-    (of_names begun history one names visits rest has (omega (arith, some, bit_apart name one.event.seat apart))))
+  -- what one worker made is of one of its visits
+  of_own : (one : Made) (own : List (Option Served)) (mades : List Made) → GrowsByVisits policy [] own mades → Contains mades one → IsOfOne policy one own
+  of_own one own mades grows has =
+      elim (of_visits one [] mades own grows has) [
+        | inl none ↦ absurd (omega (arith, none.1))
+        | inr of ↦ of
+      ]
+
+  -- what has the name of a worker is of one of the visits
+  of_names : (begun : Opening) (history : List Event) (one : Made) (names : List ℕ) (visits : List (List (Option Served)))
+      → AllZip (λ (name : ℕ) (own : List (Option Served)). GrowsByVisits policy [] own (made_by name begun history)) names visits
+      → Contains (made_after begun [] history) one → 0 < times_in one.event.seat names → IsOfOne policy one (all_visits visits)
+  of_names begun history one [] [] zip has some = absurd (omega (arith, some))
+  of_names begun history one [] (own ∷ visits) zip has some = absurd zip
+  of_names begun history one (name ∷ names) [] zip has some = absurd zip
+  of_names begun history one (name ∷ names) (own ∷ visits) (first, rest) has some =
+      dite (ℕ_discrete name one.event.seat)
+      (λ (is : name ≡ one.event.seat).
+      of_front one own (all_visits visits) (of_own one own (made_by name begun history) first
+      (subst (λ (seat : ℕ). Contains (made_by seat begun history) one) (sym is) (of_its_seat (made_after begun [] history) one has))))
+      (λ (apart : name ≢ one.event.seat).
+      of_back one own (all_visits visits)
+      (of_names begun history one names visits rest has (omega (arith, some, bit_apart name one.event.seat apart))))
 
 module _ {I O G C : Type 0} (terms : Terms I O G C) {T : Type 0} where
   pub gathers_sessions : GathersSessions terms T
@@ -155,6 +157,6 @@ module _ {I O G C : Type 0} (terms : Terms I O G C) {T : Type 0} where
         different = λ number. omega (arith, holds.different number);
         workers = workers;
         no_other = λ event has. contained event.seat (names_of run.records) (among event has);
-        each = λ made has. of_names begun history made (names_of run.records) run.visits workers has
+        each = λ made has. of_names terms.rules.policy begun history made (names_of run.records) run.visits workers has
             (among made.event (of_history begun [] history made has));
       }

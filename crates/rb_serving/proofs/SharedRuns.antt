@@ -21,16 +21,16 @@ use Rattle.rb_shared_desk.specs.SharedLaws.{shared_makes, shared_refuses}
 
 module _ {C G : Type 0} where
   -- the desk as if it had been made before the pass's first call
-  abbrev whole : SharedState C G → SharedState C G
+  abbrev pub whole : SharedState C G → SharedState C G
   whole desk = record desk { before = 0 }
 
   -- all that the desk's pass made
-  abbrev whole_mine : SharedState C G → List Made
+  abbrev pub whole_mine : SharedState C G → List Made
   whole_mine desk = made_through (whole desk)
 
   module _ (waits : WaitRules C G) where
     -- the readings of the desk's clock
-    abbrev desk_gives : SharedState C G → ℕ → Type 0
+    abbrev pub desk_gives : SharedState C G → ℕ → Type 0
     desk_gives desk moment = waits.gives desk.clock moment
 
     ends_whole : (old new : SharedState C G) (handed : ℕ) (ask : Ask) (result : Result Reply DeskFault)
@@ -51,23 +51,23 @@ module _ {C G : Type 0} where
       stays = ap whole steps.stays;
     }
 
-    makes_whole : (old new : SharedState C G) (asked : ℕ) (ask : Ask) (reply : Reply) → SharedSteps waits old asked ask (Ok reply) new
+    pub makes_whole : (old new : SharedState C G) (asked : ℕ) (ask : Ask) (reply : Reply) → SharedSteps waits old asked ask (Ok reply) new
         → Makes (desk_gives old) asked ask reply (whole_mine old) (whole_mine new)
     makes_whole old new asked ask reply steps =
         shared_makes waits (whole old) (whole new) asked ask reply (steps_whole old new asked ask (Ok reply) steps)
 
-    refuses_whole : (old new : SharedState C G) (asked : ℕ) (ask : Ask) (fault : DeskFault) → SharedSteps waits old asked ask (Err fault) new
+    pub refuses_whole : (old new : SharedState C G) (asked : ℕ) (ask : Ask) (fault : DeskFault) → SharedSteps waits old asked ask (Err fault) new
         → MayGet ask fault × (whole_mine new ≡ whole_mine old)
     refuses_whole old new asked ask fault steps =
         shared_refuses waits (whole old) (whole new) asked ask fault (steps_whole old new asked ask (Err fault) steps)
 
-    stays_whole : (old new : SharedState C G) (moment : ℕ) (result : Option ℕ) → SetsShared old moment result new → whole_mine new ≡ whole_mine old
+    pub stays_whole : (old new : SharedState C G) (moment : ℕ) (result : Option ℕ) → SetsShared old moment result new → whole_mine new ≡ whole_mine old
     stays_whole old new moment result sets = ap whole_mine sets.1
 
     pub calls_by_run : (policy : Policy) (HadGot : List ℕ → Type 0) (delivery : Delivery) (Over : Type 0)
         (from to : SharedState C G) (served : Served)
         → Ran (session_rules (shared_rules waits policy) delivery HadGot) Over from served to
-        → MadeByRun Over served (λ made. made_of to.pass ≡ made_of from.pass ++ made)
+        → MadeByRun policy Over served (λ made. made_of to.pass ≡ made_of from.pass ++ made)
     calls_by_run policy HadGot delivery Over from to served ran =
         let desk = shared_rules waits policy in
         let run = ends_of (session_rules desk delivery HadGot) Over from to served served.ended ran in

@@ -6,6 +6,7 @@ use Rattle.rb_queue.specs.declared.event.Event.{Event}
 use Rattle.rb_queue.specs.declared.opening.Opening.{Opening}
 use Rattle.rb_lock.specs.Records.{AreDifferent}
 use Rattle.rb_retry.specs.Made.{Made, made_after, made_by}
+use Rattle.rb_retry.specs.declared.policy.Policy.{Policy}
 use Rattle.rb_session.specs.RunEvents.{MadeByRun}
 use Rattle.rb_session.specs.Served.{Served}
 use Rattle.rb_options.specs.declared.server_run_options.ServerRunOptions.{ServerRunOptions}
@@ -15,36 +16,36 @@ use Rattle.rb_serving.specs.Visits.{all_visits}
 use Rattle.rb_serving.specs.declared.serve_report.ServeReport.{ServeReport}
 
 -- the session of this visit made something, of which this holds
-abbrev pub MadeByVisit : Served → (List Made → Type 0) → Type 0
-MadeByVisit served Holds =
-    (rest : Option (List ℕ)) × MadeByRun (IsAtEnd rest) served Holds
+abbrev pub MadeByVisit : Policy → Served → (List Made → Type 0) → Type 0
+MadeByVisit policy served Holds =
+    (rest : Option (List ℕ)) × MadeByRun policy (IsAtEnd rest) served Holds
 
 -- the calls grew from these to those by what the first of these visits made, then by what the next made, and so on
-abbrev pub GrowsByVisits : List Made → List (Option Served) → List Made → Type 0
-GrowsByVisits before [] after = after ≡ before
-GrowsByVisits before (None ∷ visits) after = GrowsByVisits before visits after
-GrowsByVisits before (Some served ∷ visits) after =
-    (between : List Made) × MadeByVisit served (λ made. between ≡ before ++ made)
-    × GrowsByVisits between visits after
+abbrev pub GrowsByVisits : Policy → List Made → List (Option Served) → List Made → Type 0
+GrowsByVisits policy before [] after = after ≡ before
+GrowsByVisits policy before (None ∷ visits) after = GrowsByVisits policy before visits after
+GrowsByVisits policy before (Some served ∷ visits) after =
+    (between : List Made) × MadeByVisit policy served (λ made. between ≡ before ++ made)
+    × GrowsByVisits policy between visits after
 
 -- the session of one of these visits made this event, with this reply
-abbrev pub IsOfOne : Made → List (Option Served) → Type 0
-IsOfOne one visits =
-    (served : Served) × Contains visits (Some served) × MadeByVisit served (λ made. Contains made one)
+abbrev pub IsOfOne : Policy → Made → List (Option Served) → Type 0
+IsOfOne policy one visits =
+    (served : Served) × Contains visits (Some served) × MadeByVisit policy served (λ made. Contains made one)
 
 -- Each worker has a name of its own, and its events in the history, each with its reply, are those of the visits that
 -- it served, one after the other. No event has another name, so each is one that a session made.
-pub record IsOfSessions (begun : Opening) (history : List Event) (visits : List (List (Option Served))) : Type 0 where
+pub record IsOfSessions (policy : Policy) (begun : Opening) (history : List Event) (visits : List (List (Option Served))) : Type 0 where
   pub names : List ℕ
   pub different : AreDifferent names
   pub workers :
-      AllZip (λ (name : ℕ) (own : List (Option Served)). GrowsByVisits [] own (made_by name begun history)) names visits
+      AllZip (λ (name : ℕ) (own : List (Option Served)). GrowsByVisits policy [] own (made_by name begun history)) names visits
   pub no_other : (event : Event) → Contains history event → Contains names event.seat
-  pub each : (made : Made) → Contains (made_after begun [] history) made → IsOfOne made (all_visits visits)
+  pub each : (made : Made) → Contains (made_after begun [] history) made → IsOfOne policy made (all_visits visits)
 
 module _ {I O G C : Type 0} (terms : Terms I O G C) where
   -- the law of servers: the history that a server gives back is that of the sessions of its visits
   abbrev pub GathersSessions : Type 0 → Type 0
   GathersSessions T =
       (begun : Opening) (options : ServerRunOptions) (report : ServeReport T)
-      → (run : IsServersRun terms begun options report) → IsOfSessions begun report.kept.history run.visits
+      → (run : IsServersRun terms begun options report) → IsOfSessions terms.rules.policy begun report.kept.history run.visits

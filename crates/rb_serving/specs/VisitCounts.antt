@@ -1,10 +1,9 @@
 -- What visits come to.
 use Rattle.std.specs.Prelude.{ℕ, Result, Ok, Err}
 use Rattle.rb_ledger.specs.Totals.{capped_sum}
+use Rattle.rb_session.specs.JobEnds.{lost_in}
 use Rattle.rb_session.specs.declared.ended.Ended.{Ended}
-use Rattle.rb_session.specs.declared.ended.Ended.TheVariants.{Quit, EndOfInput}
 use Rattle.rb_session.specs.declared.session_fault.SessionFault.{SessionFault}
-use Rattle.rb_session.specs.declared.session_fault.SessionFault.TheVariants.{Memory, Read, Write, ReadTurns}
 use Rattle.rb_serving.specs.declared.serve_report.ServeReport.{ServeReport}
 use Rattle.rb_serving.specs.declared.visit_counts.VisitCounts.{VisitCounts}
 
@@ -18,15 +17,6 @@ no_visit = record { sessions = 0; faults = 0; lost = 0 }
 -- a visit that was refused at the door
 abbrev pub refused_visit : VisitCounts
 refused_visit = record { sessions = 1; faults = 1; lost = 0 }
-
--- how many jobs a session lost at its end
-abbrev pub lost_in : Result Ended SessionFault → ℕ
-lost_in (Ok (Quit lost)) = lost
-lost_in (Ok (EndOfInput lost)) = lost
-lost_in (Err Memory) = 0
-lost_in (Err (Read lost)) = lost
-lost_in (Err (Write lost)) = lost
-lost_in (Err (ReadTurns lost)) = lost
 
 -- a session that ends by a fault is one fault
 abbrev pub faults_in : Result Ended SessionFault → ℕ

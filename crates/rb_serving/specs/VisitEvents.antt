@@ -21,5 +21,5 @@ module _ {I O G C : Type 0} (terms : Terms I O G C) where
   CallsByVisit =
       (visit : Visit I O G) (reader : LimitedReader I) (writer : O) (old new : Seen) (served : Served)
       → RanVisit terms visit reader writer old served new
-      → MadeByRun (IsAtEnd (terms.remaining reader.inner.now)) served
+      → MadeByRun terms.rules.policy (IsAtEnd (terms.remaining reader.inner.now)) served
       (λ made. made_of new ≡ made_of old ++ made)

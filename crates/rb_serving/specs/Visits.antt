@@ -13,11 +13,12 @@ use Rattle.rb_shared_desk.specs.SharedSteps.{SharedState, SharedSteps, SetsShare
 use Rattle.rb_retry.specs.DeskRules.{DeskRules}
 use Rattle.rb_retry.specs.declared.policy.Policy.{Policy}
 use Rattle.rb_session.specs.Rules.{SessionRules, session_rules, HadGotBehind}
+use Rattle.rb_session.specs.JobEnds.{lost_in}
 use Rattle.rb_session.specs.Served.{Served}
 use Rattle.rb_session.specs.Ran.{Ran}
 use Rattle.rb_session.specs.Reasons.{IsReason}
 use Rattle.rb_serving.specs.Terms.{Terms}
-use Rattle.rb_serving.specs.VisitCounts.{lost_in, faults_in}
+use Rattle.rb_serving.specs.VisitCounts.{faults_in}
 use Rattle.rb_serving.specs.declared.visit.Visit.{Visit}
 use Rattle.rb_serving.specs.declared.visit_counts.VisitCounts.{VisitCounts}
 use Rattle.rb_serving.specs.declared.visit_number.VisitNumber.{VisitNumber}

@@ -1,7 +1,7 @@
 -- What a session holds is some of what it handed out, in that order.
 use Rattle.std.proofs.Common.{◌≡◌, ℕ, suc, zero, ◌+◌, List, [], ◌∷◌, ◌++◌, map, remove, length, Result, Ok, Err}
-use Rattle.std.proofs.Common.{refl, sym, ap, subst, ◌∙◌, append-nil, append_assoc, inl, inr}
-use Rattle.std.specs.Prelude.{◌⊎◌, Bool, true, false, MatchBool, MatchOption, nat_le, nat_lt}
+use Rattle.std.proofs.Common.{refl, sym, ap, subst, ◌∙◌, append_assoc, inl, inr}
+use Rattle.std.specs.Prelude.{nat_le, nat_lt}
 use Rattle.rb_delayed.specs.declared.element.Element.{Element}
 use Rattle.rb_delayed.specs.declared.moment.TheConstants.{GREATEST_MOMENT}
 use Rattle.rb_queue.specs.declared.ask.Ask.{Ask}
@@ -61,7 +61,7 @@ some_trans (x ∷ xs) (y ∷ ys) (z ∷ zs) (inl (same, rest)) (inl (equal, more
 some_trans (x ∷ xs) (y ∷ ys) (z ∷ zs) (inr rest) (inl (equal, more)) = inr (some_trans (x ∷ xs) ys zs rest more)
 some_trans (x ∷ xs) (y ∷ ys) (z ∷ zs) one (inr more) = inr (some_trans (x ∷ xs) (y ∷ ys) zs one more)
 
-some_removed : (xs : List Element) (place : ℕ) → AreSomeOf (remove xs place) xs
+pub some_removed : (xs : List Element) (place : ℕ) → AreSomeOf (remove xs place) xs
 some_removed [] zero = tt
 some_removed [] (suc place) = tt
 some_removed (x ∷ xs) zero = some_skip xs xs x (some_all xs)
@@ -72,7 +72,7 @@ handed_items : (items : List Element) → handed_by (map lines.Item items) ≡ i
 handed_items [] = refl
 handed_items (item ∷ items) = ap (λ (rest : List Element). item ∷ rest) (handed_items items)
 
-handed_fetched : (answer : Result Reply DeskFault) → handed_by (lines_for answer) ≡ fetched_by answer
+pub handed_fetched : (answer : Result Reply DeskFault) → handed_by (lines_for answer) ≡ fetched_by answer
 handed_fetched (Ok (Offered element)) = refl
 handed_fetched (Ok (Item element)) = refl
 handed_fetched (Ok Nothing) = refl

@@ -16,4 +16,5 @@ pub mod KeptEvents
 pub mod JobMaps
 pub mod GivenJobs
 pub mod HandedOut
+pub mod EndedJobs
 pub mod RunEvents

@@ -1,12 +1,17 @@
 -- What a whole run of a session makes: what its lines made, and then what the jobs made that were still held.
 use Rattle.std.proofs.Common.{◌≡◌, ℕ, ◌<◌, List, [], ◌∷◌, ◌++◌, length, Option, Result, Ok, Err, inl, inr}
 use Rattle.std.proofs.Common.{refl, sym, ap, subst, ◌∙◌, append-nil, append_assoc, arith}
-use Rattle.std.specs.Prelude.{◌⊎◌}
+use Rattle.std.proofs.lemmas.Bool.Decides.{nat_tests}
+use Rattle.std.proofs.lemmas.List.{append_cancel_left}
+use Rattle.std.proofs.lemmas.List.Sums.{sum_by-cons}
+use Rattle.std.specs.Prelude.{◌+◌, ◌≤◌, true, false, Some, nat_le}
 use Rattle.std.specs.Io.KnownBytes.{IsAtEnd}
 use Rattle.rb_delayed.specs.declared.element.Element.{Element}
 use Rattle.rb_queue.specs.declared.ask.Ask.{Ask}
-use Rattle.rb_queue.specs.declared.opening.Opening.{Opening}
+use Rattle.rb_queue.specs.declared.ask.Ask.TheVariants as asks
 use Rattle.rb_queue.specs.declared.reply.Reply.{Reply}
+use Rattle.rb_queue.specs.declared.reply.Reply.TheVariants.{Offered}
+use Rattle.rb_queue.proofs.Effects.{bit}
 use Rattle.rb_kept.specs.Log.{Log}
 use Rattle.rb_kept.specs.Tries.{StepsTo}
 use Rattle.rb_kept.specs.declared.fault.CallFault.{CallFault}
@@ -17,7 +22,7 @@ use Rattle.rb_kept.specs.declared.tries.Try.{Try}
 use Rattle.rb_retry.specs.Asked.{Makes, MayGet}
 use Rattle.rb_retry.specs.DeskRules.{DeskRules, kept_rules}
 use Rattle.rb_retry.specs.Jobs.{FailsTo}
-use Rattle.rb_retry.specs.KeptSteps.{KeptState, KeptSteps, SetsKept}
+use Rattle.rb_retry.specs.KeptSteps.{KeptState, KeptSteps, fault_of}
 use Rattle.rb_retry.specs.Made.{Made}
 use Rattle.rb_retry.specs.declared.desk_fault.DeskFault.{DeskFault}
 use Rattle.rb_retry.specs.declared.policy.Policy.{Policy}
@@ -36,17 +41,19 @@ use Rattle.rb_protocol.specs.Line.{HasNoLineFeed}
 use Rattle.rb_session.specs.Rules.{SessionRules, session_rules, HadGotBehind}
 use Rattle.rb_session.specs.Served.{Served}
 use Rattle.rb_session.specs.Turn.{Point, point, IsTurn}
-use Rattle.rb_session.specs.Session.{Turn, IsLine, Serves, ServesFirst, ServesToEnd, ServesToQuit}
+use Rattle.rb_session.specs.Session.{Turn, Serves, ServesFirst, ServesToEnd, ServesToQuit}
 use Rattle.rb_session.specs.Session.{bytes_of, answers_of, texts_of, rest_text}
-use Rattle.rb_session.specs.Closing.{Closes}
+use Rattle.rb_session.specs.Closing.{Closes, lost_by}
+use Rattle.rb_session.specs.JobEnds.{spent_count, lost_in}
 use Rattle.rb_session.specs.Ran.{BeginsWith, BreaksOff, FailsToWrite, FailsToSend, LosesReplies, RanUntil, ServesSome}
-use Rattle.rb_session.specs.Events.{AreOfLines, AreOfClosing, latest}
+use Rattle.rb_session.specs.Events.{AreOfLines, latest}
 use Rattle.rb_session.specs.RunEvents.{AreSomeOf, StandFirst, SendsAll, MadeByRun, RecordsByRun, handed_by, handed_out}
 use Rattle.rb_session.specs.declared.ended.Ended.{Ended}
 use Rattle.rb_session.specs.declared.ended.Ended.TheVariants as ends
 use Rattle.rb_session.specs.declared.session_fault.SessionFault.{SessionFault}
 use Rattle.rb_session.specs.declared.session_fault.SessionFault.TheVariants as faults
 use Rattle.rb_session.proofs.HandedOut.{holds_lines, holds_turn, some_all, some_both, some_more, some_trans}
+use Rattle.rb_session.proofs.EndedJobs.{PartsAll, parts_then, one_parts, line_parts, lines_part}
 use Rattle.rb_session.proofs.Events.{Way, way_of, of_way, makes_by_closing}
 use Rattle.rb_session.proofs.KeptEvents.{whole_mine, makes_whole, refuses_whole, stays_whole}
 use Rattle.rb_session.proofs.KeptEvents.{moment_of, closing_moment}
@@ -87,6 +94,7 @@ module _ {S : Type 0} (rules : DeskRules S) where
     pub answers : answers_of lines ≡ text
     pub ways : WaysAlong from lines to.desk
     pub handed : AreSomeOf to.held (handed_out lines)
+    pub parted : (amount : ℕ → ℕ) → PartsAll amount [] lines to.held
 
   -- What a run comes to: a path to where serving stopped, and the end of the jobs that were held there.
   pub record Ends (Over : Type 0) (from : S) (served : Served) (ended : Result Ended SessionFault)
@@ -96,6 +104,7 @@ module _ {S : Type 0} (rules : DeskRules S) where
     pub last : Point S
     pub path : Path Over from served.came (served.sent ++ unsent) last
     pub lost : ℕ
+    pub lost_is : lost ≡ lost_in ended
     pub closes : Closes rules last.desk last.held lost to
 
   ways_append : (one two three : S) (turns more : List Turn) → WaysAlong one turns two → WaysAlong two more three
@@ -128,8 +137,8 @@ module _ {S : Type 0} (rules : DeskRules S) where
     path : (from : S) (to : Point S) (came : List ℕ) (turns more : List Turn) (bytes text : List ℕ) (last : Point S)
         → Serves rules (point from []) turns to → came ≡ bytes_of turns ++ bytes → StandFirst Over bytes more
         → answers_of more ≡ text → WaysAlong to.desk more last.desk → AreSomeOf last.held (to.held ++ handed_out more)
-        → Path Over from came (answers_of turns ++ text) last
-    path from to came turns more bytes text last serves split stand answers ways handed = record {
+        → ((amount : ℕ → ℕ) → PartsAll amount to.held more last.held) → Path Over from came (answers_of turns ++ text) last
+    path from to came turns more bytes text last serves split stand answers ways handed parted = record {
       lines = turns ++ more;
       stand = subst (λ all. StandFirst Over all (turns ++ more)) (sym split)
           (stands (point from []) to turns more bytes serves stand);
@@ -139,15 +148,18 @@ module _ {S : Type 0} (rules : DeskRules S) where
           (some_trans last.held (to.held ++ handed_out more) (handed_out turns ++ handed_out more) handed
           (some_both to.held (handed_out turns) (handed_out more)
           (holds_lines rules (point from []) to turns serves)));
+      parted = λ amount. parts_then amount [] to.held last.held turns more
+          (lines_part amount rules (point from []) to turns serves) (parted amount) (handed_append turns more);
     }
 
     -- lines that hand out nothing, and leave the desk alone
     path_quiet : (from : S) (to : Point S) (came : List ℕ) (turns more : List Turn) (bytes text : List ℕ)
         → Serves rules (point from []) turns to → came ≡ bytes_of turns ++ bytes → StandFirst Over bytes more
-        → answers_of more ≡ text → WaysAlong to.desk more to.desk → Path Over from came (answers_of turns ++ text) to
-    path_quiet from to came turns more bytes text serves split stand answers ways =
+        → answers_of more ≡ text → WaysAlong to.desk more to.desk
+        → ((amount : ℕ → ℕ) → PartsAll amount to.held more to.held) → Path Over from came (answers_of turns ++ text) to
+    path_quiet from to came turns more bytes text serves split stand answers ways parted =
         path from to came turns more bytes text to serves split stand answers ways
-        (some_more to.held to.held (handed_out more) (some_all to.held))
+        (some_more to.held to.held (handed_out more) (some_all to.held)) parted
 
     -- no more of them
     path_none : (from : S) (to : Point S) (came : List ℕ) (turns : List Turn) (bytes : List ℕ)
@@ -155,7 +167,7 @@ module _ {S : Type 0} (rules : DeskRules S) where
         → Path Over from came (answers_of turns) to
     path_none from to came turns bytes serves split =
         subst (λ text. Path Over from came text to) (append-nil (answers_of turns))
-        (path_quiet from to came turns [] bytes [] serves split tt refl refl)
+        (path_quiet from to came turns [] bytes [] serves split tt refl refl (λ amount. omega arith))
 
     -- a line that begins the bytes
     begins_stand : (bytes : List ℕ) (reading : Result Request LineFault) (replies : List LineReply)
@@ -177,13 +189,14 @@ module _ {S : Type 0} (rules : DeskRules S) where
         (last.desk, way_of rules reading to last replies is_turn, refl)
         (subst (λ all. AreSomeOf last.held (to.held ++ all)) (sym (append-nil (handed_by replies)))
         (holds_turn rules to last reading replies is_turn))
+        (λ amount. one_parts amount to.held last.held turn (line_parts amount rules to last reading replies is_turn))
 
     -- what stands behind the last line feed
     path_rest : (from : S) (to : Point S) (came : List ℕ) (turns : List Turn) (rest : List ℕ)
         → Serves rules (point from []) turns to → came ≡ bytes_of turns ++ rest → HasNoLineFeed rest → Over
         → Path Over from came (answers_of turns ++ rest_text rest) to
     path_rest from to came turns [] serves split no_line over =
-        path_quiet from to came turns [] [] [] serves split tt refl refl
+        path_quiet from to came turns [] [] [] serves split tt refl refl (λ amount. omega arith)
     path_rest from to came turns (byte ∷ rest) serves split no_line over =
         let turn : Turn = record { raw = byte ∷ rest; reading = Err Line; replies = lines.Err words.Line ∷ [] } in
         path_quiet from to came turns (turn ∷ []) (byte ∷ rest) (text_of (lines.Err words.Line)) serves split
@@ -198,18 +211,19 @@ module _ {S : Type 0} (rules : DeskRules S) where
             stands = λ moment. refl;
           }),
           refl,
-        )
+        ) (λ amount. omega arith)
 
     -- all was sent
     ends_whole : (from : S) (served : Served) (ended : Result Ended SessionFault) (to : S) (last : Point S) (lost : ℕ)
         → SendsAll ended [] → Path Over from served.came served.sent last → Closes rules last.desk last.held lost to
-        → Ends Over from served ended to
-    ends_whole from served ended to last lost all way closes = record {
+        → lost ≡ lost_in ended → Ends Over from served ended to
+    ends_whole from served ended to last lost all way closes lost_is = record {
       unsent = [];
       all_sent = all;
       last = last;
       path = subst (λ text. Path Over from served.came text last) (sym (append-nil served.sent)) way;
       lost = lost;
+      lost_is = lost_is;
       closes = closes;
     }
 
@@ -226,8 +240,10 @@ module _ {S : Type 0} (rules : DeskRules S) where
         answers = sym silent ∙ sym (append-nil served.sent);
         ways = refl;
         handed = tt;
+        parted = λ amount. omega arith;
       };
       lost = 0;
+      lost_is = refl;
       closes = (refl, same);
     }
 
@@ -236,7 +252,7 @@ module _ {S : Type 0} (rules : DeskRules S) where
         → ((unsent : List ℕ) × Path Over from served.came (served.sent ++ unsent) last)
         → Closes rules last.desk last.held lost to → Ends Over from served (Err (faults.Write lost)) to
     ends_part from served to last lost (unsent, way) closes =
-        record { unsent = unsent; all_sent = tt; last = last; path = way; lost = lost; closes = closes }
+        record { unsent = unsent; all_sent = tt; last = last; path = way; lost = lost; lost_is = refl; closes = closes }
 
   -- what lines and a closing add to what a desk made
   module _ (mine : S → List Made)
@@ -257,12 +273,65 @@ module _ {S : Type 0} (rules : DeskRules S) where
           (here.0, more.0, refl, here.2, more.2),
         )
 
+    -- each job that was held was offered again, had had its last attempt, or was lost
+    closing_counted : (from to : S) (held : List Element) (lost : ℕ) → Closes rules from held lost to
+        → (made : List Made) × (mine to ≡ mine from ++ made)
+        × (length held ≡ length made + spent_count rules.policy held + lost)
+    closing_counted from to [] lost (zero, same) =
+        ([], ap mine same ∙ sym (append-nil (mine from)), omega (arith, zero))
+    closing_counted from to (element ∷ held) lost (now, is_now, result, between, fails, fewer, rest, sum) =
+        behind result fails sum (closing_counted between to held fewer rest)
+      where
+        all_spent : spent_count rules.policy (element ∷ held)
+            ≡ bit (nat_le rules.policy.attempts element.attempt) + spent_count rules.policy held
+        all_spent = sum_by-cons (λ (e : Element). bit (nat_le rules.policy.attempts e.attempt)) element held
+
+        not_spent : element.attempt < rules.policy.attempts → bit (nat_le rules.policy.attempts element.attempt) ≡ 0
+        not_spent fewer = ap bit (test_fails fewer)
+          where
+            test_fails : element.attempt < rules.policy.attempts → nat_le rules.policy.attempts element.attempt ≡ false
+            test_fails h = grind (arith, nat_tests, h)
+
+        is_spent : rules.policy.attempts ≤ element.attempt → bit (nat_le rules.policy.attempts element.attempt) ≡ 1
+        is_spent enough = ap bit (test_passes enough)
+          where
+            test_passes : rules.policy.attempts ≤ element.attempt → nat_le rules.policy.attempts element.attempt ≡ true
+            test_passes h = grind (arith, nat_tests, h)
+
+        behind : (result : Result Verdict (Element × CallFault)) → FailsTo rules element now from result between
+            → lost ≡ lost_by result + fewer
+            → (made : List Made) × (mine to ≡ mine between ++ made)
+            × (length held ≡ length made + spent_count rules.policy held + fewer)
+            → (made : List Made) × (mine to ≡ mine from ++ made)
+            × (length (element ∷ held) ≡ length made + spent_count rules.policy (element ∷ held) + lost)
+        behind (Ok (Again again)) (draft, retry, steps) sum (made, is, count) =
+            let call = makes from between now (asks.Offer draft) (Offered again) steps in
+            let first : Made = record { event = call.event; reply = Some (Offered again) } in (
+              first ∷ made,
+              is ∙ ap (λ (m : List Made). m ++ made) call.grows ∙ append_assoc (mine from) (first ∷ []) made,
+              omega (arith, count, sum, all_spent, not_spent retry.0),
+            )
+        behind (Ok (Dead dead)) (retry, is_dead, same) sum (made, is, count) = (
+          made,
+          is ∙ ap (λ (m : List Made). m ++ made) (ap mine same),
+          omega (arith, count, sum, all_spent, is_spent retry),
+        )
+        behind (Err (back, fault)) (draft, retry, steps, is_back) sum (made, is, count) = (
+          made,
+          is ∙ ap (λ (m : List Made). m ++ made)
+              (refuses from between now (asks.Offer draft) (fault_of fault) steps).1,
+          omega (arith, count, sum, all_spent, not_spent retry.0),
+        )
+
     pub made_by_ends : (Over : Type 0) (from to : S) (served : Served) → (run : Ends Over from served served.ended to)
-        → (made : MadeByRun Over served (λ made. mine to ≡ mine from ++ made)) × (made.lines ≡ run.path.lines)
+        → (made : MadeByRun rules.policy Over served (λ made. mine to ≡ mine from ++ made))
+        × (made.lines ≡ run.path.lines)
     made_by_ends Over from to served run =
         let by_lines = ways_make from run.last.desk run.path.lines run.path.ways in
         let by_closing =
-        makes_by_closing rules mine makes refuses stays run.last.desk to run.last.held run.lost run.closes in (
+        makes_by_closing rules mine makes refuses stays run.last.desk to run.last.held run.lost run.closes in
+        let counted = closing_counted run.last.desk to run.last.held run.lost run.closes in
+        let same = append_cancel_left (mine run.last.desk) counted.0 by_closing.0 (sym counted.1 ∙ by_closing.1) in (
           record {
             lines = run.path.lines;
             stand = run.path.stand;
@@ -273,8 +342,10 @@ module _ {S : Type 0} (rules : DeskRules S) where
             of_lines = by_lines.2;
             held = run.last.held;
             handed = run.path.handed;
+            parted = λ amount. omega (arith, run.path.parted amount);
             by_closing = by_closing.0;
             of_closing = by_closing.2;
+            closed = omega (arith, counted.2, ap length same, run.lost_is);
             grows = by_closing.1 ∙ ap (λ (m : List Made). m ++ by_closing.0) by_lines.1
                 ∙ append_assoc (mine from) by_lines.0 by_closing.0;
           },
@@ -329,7 +400,7 @@ module _ {S : Type 0} (rules : SessionRules S) (Over : Type 0) (from : S) where
         to.desk,
         inl (record { line = lines.Bye; is = refl; none = tt; same = refl; stands = λ moment. refl }),
         refl,
-      ))
+      ) (λ amount. omega arith))
 
   path_to_end : (to : Point S) (came sent : List ℕ) → ServesToEnd rules Over (point from []) came sent to
       → Path rules.desk Over from came sent to
@@ -393,25 +464,25 @@ module _ {S : Type 0} (rules : SessionRules S) (Over : Type 0) (from : S) where
       → RanUntil rules Over from served ended to → Ends rules.desk Over from served ended to
   ends_of to served (Ok (ends.Quit lost)) (last, quits, closes) =
       ends_whole rules.desk Over from served (Ok (ends.Quit lost)) to last lost refl
-      (path_to_quit last served.came served.sent quits) closes
+      (path_to_quit last served.came served.sent quits) closes refl
   ends_of to served (Ok (ends.EndOfInput lost)) (last, ending, closes) =
       ends_whole rules.desk Over from served (Ok (ends.EndOfInput lost)) to last lost refl
-      (path_to_end last served.came served.sent ending) closes
+      (path_to_end last served.came served.sent ending) closes refl
   ends_of to served (Err (faults.Read lost)) (last, breaks, closes) =
       ends_whole rules.desk Over from served (Err (faults.Read lost)) to last lost refl
-      (path_to_break last served.came served.sent breaks) closes
+      (path_to_break last served.came served.sent breaks) closes refl
   ends_of to served (Err (faults.ReadTurns lost)) (last, breaks, closes) =
       ends_whole rules.desk Over from served (Err (faults.ReadTurns lost)) to last lost refl
-      (path_to_break last served.came served.sent breaks) closes
+      (path_to_break last served.came served.sent breaks) closes refl
   ends_of to served (Err (faults.Write lost)) (last, loses, closes) =
       ends_part rules.desk Over from served to last lost (path_to_loss last served.came served.sent loses) closes
   ends_of to served (Err faults.Memory) (same, nothing, silent) =
       ends_unbegun rules.desk Over from to served same silent
 
 -- a run's growth in other words
-pub grows_so : {Over : Type 0} {served : Served} {Grows More : List Made → Type 0}
-    → ((made : List Made) → Grows made → More made) → (run : MadeByRun Over served Grows)
-    → (so : MadeByRun Over served More) × (so.lines ≡ run.lines)
+pub grows_so : {policy : Policy} {Over : Type 0} {served : Served} {Grows More : List Made → Type 0}
+    → ((made : List Made) → Grows made → More made) → (run : MadeByRun policy Over served Grows)
+    → (so : MadeByRun policy Over served More) × (so.lines ≡ run.lines)
 grows_so implies run = (
   record {
     lines = run.lines;
@@ -423,8 +494,10 @@ grows_so implies run = (
     of_lines = run.of_lines;
     held = run.held;
     handed = run.handed;
+    parted = run.parted;
     by_closing = run.by_closing;
     of_closing = run.of_closing;
+    closed = run.closed;
     grows = implies (run.by_lines ++ run.by_closing) run.grows;
   },
   refl,

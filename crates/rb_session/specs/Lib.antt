@@ -13,6 +13,7 @@ pub mod JobMap
 pub mod Turn
 pub mod Session
 pub mod Exchange
+pub mod JobEnds
 pub mod Closing
 pub mod Events
 pub mod Ran

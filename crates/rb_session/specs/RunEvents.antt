@@ -1,5 +1,5 @@
 -- Which events a whole run of a session makes at its desk, however it ends.
-use Rattle.std.specs.Prelude.{◌≡◌, ℕ, ◌<◌, ◌⊎◌, List, [], ◌∷◌, ◌++◌, length, Option, Result, Err}
+use Rattle.std.specs.Prelude.{◌≡◌, ℕ, ◌+◌, ◌<◌, ◌⊎◌, List, [], ◌∷◌, ◌++◌, length, Option, Result, Err}
 use Rattle.std.specs.Io.KnownBytes.{IsAtEnd}
 use Rattle.rb_delayed.specs.declared.element.Element.{Element}
 use Rattle.rb_retry.specs.Made.{Made}
@@ -16,6 +16,7 @@ use Rattle.rb_session.specs.Rules.{session_rules, HadGotBehind}
 use Rattle.rb_session.specs.Served.{Served}
 use Rattle.rb_session.specs.Session.{Turn, IsLine, answers_of}
 use Rattle.rb_session.specs.Ran.{Ran}
+use Rattle.rb_session.specs.JobEnds.{done_in, dead_in, again_in, sum_over, sum_over_elements, spent_count, lost_in}
 use Rattle.rb_session.specs.Events.{AreOfLines, AreOfClosing, made_in, latest}
 use Rattle.rb_session.specs.declared.delivery.Delivery.{Delivery}
 use Rattle.rb_session.specs.declared.ended.Ended.{Ended}
@@ -58,8 +59,9 @@ SendsAll ended unsent = unsent ≡ []
 -- Some lines were served, which stand first in what came, a QUIT and a truncated line among them. Their replies are
 -- what was sent and, after a failing write, what was not. Each line made one event, of which its replies tell, or
 -- none; then each job that was still held, of those that the replies handed out, made at most one, the offer of its
--- next attempt. By these it grew.
-pub record MadeByRun (Over : Type 0) (served : Served) (Grows : List Made → Type 0) : Type 0 where
+-- next attempt. By these it grew. Of each job that was handed out one line says that it is done, is dead or was offered
+-- again, or it was still held; and then it was offered again, had had its last attempt, or was lost.
+pub record MadeByRun (policy : Policy) (Over : Type 0) (served : Served) (Grows : List Made → Type 0) : Type 0 where
   pub lines : List Turn
   pub stand : StandFirst Over served.came lines
   pub unsent : List ℕ
@@ -69,8 +71,11 @@ pub record MadeByRun (Over : Type 0) (served : Served) (Grows : List Made → Ty
   pub of_lines : AreOfLines lines by_lines
   pub held : List Element
   pub handed : AreSomeOf held (handed_out lines)
+  pub parted : (amount : ℕ → ℕ) → sum_over_elements amount (handed_out lines)
+      ≡ sum_over amount (done_in lines) + sum_over amount (dead_in lines) + sum_over amount (again_in lines) + sum_over_elements amount held
   pub by_closing : List Made
   pub of_closing : AreOfClosing held by_closing
+  pub closed : length held ≡ length by_closing + spent_count policy held + lost_in served.ended
   pub grows : Grows (by_lines ++ by_closing)
 
 -- the law of runs: what was made through the desk grows by just what the run made
@@ -79,7 +84,7 @@ MakesByRun words contents =
     (policy : Policy) (got : Option (List ℕ)) (delivery : Delivery) (rest : Option (List ℕ))
     (from to : words.State) (served : Served)
     → Ran (session_rules (desk_rules words policy) delivery (HadGotBehind contents got)) (IsAtEnd rest) from served to
-    → MadeByRun (IsAtEnd rest) served (λ made. words.mine to ≡ words.mine from ++ made)
+    → MadeByRun policy (IsAtEnd rest) served (λ made. words.mine to ≡ words.mine from ++ made)
 
 -- the law of runs at a desk over a kept queue, by its rules under each policy: the history grows by just what the run
 -- made, each event with its reply, the clock stands at the latest moment, and what the log began with stays
@@ -88,5 +93,5 @@ RecordsByRun rules contents =
     (policy : Policy) (got : Option (List ℕ)) (delivery : Delivery) (rest : Option (List ℕ))
     (from to : KeptState) (served : Served)
     → Ran (session_rules (rules policy) delivery (HadGotBehind contents got)) (IsAtEnd rest) from served to
-    → (run : MadeByRun (IsAtEnd rest) served (λ made. made_in to.log ≡ made_in from.log ++ made))
+    → (run : MadeByRun policy (IsAtEnd rest) served (λ made. made_in to.log ≡ made_in from.log ++ made))
     × (to.moment ≡ latest from.moment run.lines) × (to.log.opening ≡ from.log.opening)
