@@ -1,0 +1,159 @@
+-- Each worker's pass holds what its sessions were given until that ends, and the history that is gathered has no other
+-- events.
+use Rattle.std.proofs.Common.{◌≡◌, ◌≢◌, ℕ, ◌+◌, ◌<◌, ◌⊎◌, inl, inr, List, [], ◌∷◌, ◌++◌, Contains, Bool, cond, Option, None, Some, refl, sym, ap, subst, ◌∙◌, arith, append-nil, append_assoc, ◌≤◌, ne_eqb}
+use Rattle.std.proofs.lemmas.Bool.{cases_lt}
+use Rattle.std.proofs.lemmas.List.Elements.{Contains-append_right}
+use Rattle.std.specs.Prelude.{filter, ◌==◌}
+use Rattle.std.specs.Io.KnownBytes.{IsAtEnd}
+use Rattle.rb_queue.specs.History.{IsLegal}
+use Rattle.rb_queue.specs.Replies.{reply_of}
+use Rattle.rb_queue.specs.declared.event.Event.{Event}
+use Rattle.rb_queue.specs.declared.opening.Opening.{Opening}
+use Rattle.rb_queue.proofs.Options.{same_or_not}
+use Rattle.rb_lock.specs.Passes.{Seen, record_of}
+use Rattle.rb_lock.specs.Records.{AreRecords, IsRecord, names_of, times_in}
+use Rattle.rb_lock.specs.declared.pass_record.PassRecord.{PassRecord}
+use Rattle.rb_lock.proofs.Sums.{bit_apart}
+use Rattle.rb_retry.specs.Made.{Made, made_after, made_by}
+use Rattle.rb_retry.specs.declared.policy.Policy.{Policy}
+use Rattle.rb_shared_desk.specs.SharedSteps.{SharedState}
+use Rattle.rb_shared_desk.specs.WaitRules.{WaitRules}
+use Rattle.rb_session.specs.Ran.{Ran}
+use Rattle.rb_session.specs.Rules.{session_rules, HadGotBehind}
+use Rattle.rb_session.specs.Served.{Served}
+use Rattle.rb_session.specs.Turn.{point}
+use Rattle.rb_session.specs.declared.delivery.Delivery.{Delivery}
+use Rattle.rb_serving.specs.Terms.{Terms}
+use Rattle.rb_serving.specs.VisitEvents.{made_of}
+use Rattle.rb_serving.specs.Visits.{AreVisits, AreWorkers, IsWorkerOf, RanVisit, shared_rules, visit_waits}
+use Rattle.rb_serving.proofs.GatheredNames.{named_behind}
+use Rattle.rb_serving.proofs.ServerEvents.{made_none, seen_all}
+use Rattle.rb_serving.proofs.SharedRuns.{whole_mine, makes_whole, refuses_whole, stays_whole}
+use Rattle.rb_jobs.specs.Hands.{HandlesAll, AreHands}
+use Rattle.rb_jobs.specs.RunJobs.{ServerKeepsJobs, empty_hands}
+use Rattle.rb_jobs.specs.SessionHands.{LeadsOn}
+use Rattle.rb_jobs.proofs.Histories.{jobs_are_kept}
+use Rattle.rb_jobs.proofs.SessionHands.{goes_same, goes_then, goes_line, goes_ends, handles_then}
+use Rattle.rb_jobs.proofs.Sessions.{along_run}
+
+module _ {C G : Type 0} where
+  module _ (waits : WaitRules C G) where
+    -- a session begins and ends with nothing held, whatever its pass had made before
+    run_handles : (policy : Policy) (HadGot : List ℕ → Type 0) (delivery : Delivery) (Over : Type 0)
+        (from to : SharedState C G) (served : Served)
+        → Ran (session_rules (shared_rules waits policy) delivery HadGot) Over from served to
+        → LeadsOn policy whole_mine (point from []) (point to [])
+    run_handles policy HadGot delivery Over from to served ran =
+        along_run (session_rules (shared_rules waits policy) delivery HadGot) (LeadsOn policy whole_mine)
+        (goes_same (shared_rules waits policy) whole_mine (makes_whole waits) (refuses_whole waits) (stays_whole waits))
+        (goes_then (shared_rules waits policy) whole_mine (makes_whole waits) (refuses_whole waits) (stays_whole waits))
+        (goes_line (shared_rules waits policy) whole_mine (makes_whole waits) (refuses_whole waits) (stays_whole waits))
+        (goes_ends (shared_rules waits policy) whole_mine (makes_whole waits) (refuses_whole waits) (stays_whole waits))
+        Over from to served ran
+
+-- From one pass to another these calls were made, and nothing was held before them or behind.
+abbrev PassHandles : Policy → Seen → Seen → Type 0
+PassHandles policy old new =
+    (made : List Made) × (made_of new ≡ made_of old ++ made) × HandlesAll policy [] made []
+
+pass_then : (policy : Policy) (one two three : Seen) → PassHandles policy one two → PassHandles policy two three
+    → PassHandles policy one three
+pass_then policy one two three (made, grows, handles) (more, grows_more, handles_more) = (
+  made ++ more,
+  grows_more ∙ ap (λ (mades : List Made). mades ++ more) grows ∙ append_assoc (made_of one) made more,
+  handles_then policy [] [] [] made more handles handles_more,
+)
+
+-- what no event of the history is of, nobody made
+nobody_made : (seat : ℕ) (opening : Opening) (before events : List Event)
+    → ((event : Event) → Contains events event → event.seat ≢ seat)
+    → filter (λ (made : Made). made.event.seat == seat) (made_after opening before events) ≡ []
+nobody_made seat opening before [] differ = refl
+nobody_made seat opening before (event ∷ events) differ =
+    let here : Made = record { event = event; reply = reply_of opening (before ++ event ∷ []) } in
+    let rest : List Made =
+    filter (λ (made : Made). made.event.seat == seat) (made_after opening (before ++ event ∷ []) events) in
+    ap (λ (test : Bool). cond test (here ∷ rest) rest)
+    (ne_eqb event.seat seat (differ event (0, omega arith, refl)))
+    ∙ nobody_made seat opening (before ++ event ∷ []) events
+    (λ other has. differ other (Contains-append_right (event ∷ []) events other has))
+
+module _ {I O G C : Type 0} (terms : Terms I O G C) where
+  visits_handle : (worker earlier : ℕ) (old new : Seen) (visits : List (Option Served))
+      → AreVisits terms worker earlier old visits new → PassHandles terms.rules.policy old new
+  visits_handle worker earlier old new [] same =
+      ([], ap made_of same ∙ sym (append-nil (made_of old)), tt)
+  visits_handle worker earlier old new (None ∷ visits) (away, are) =
+      visits_handle worker (earlier + 1) old new visits are
+  visits_handle worker earlier old new (Some served ∷ visits) (between, is, are) =
+      pass_then terms.rules.policy old between new (of_visit is.leaves.ran)
+      (visits_handle worker (earlier + 1) between new visits are)
+    where
+      of_visit : RanVisit terms is.visit is.leaves.reader is.leaves.writer old served between
+          → PassHandles terms.rules.policy old between
+      of_visit ran =
+          let (made, grows, handles) = run_handles (visit_waits terms) terms.rules.policy
+          (HadGotBehind terms.contents (terms.contents is.visit.writer)) terms.rules.delivery
+          (IsAtEnd (terms.remaining is.leaves.reader.inner.now)) ran.from ran.to served ran.ran in (
+            made,
+            ap made_of (sym ran.seen) ∙ grows ∙ ap (λ (pass : Seen). made_of pass ++ made) ran.begun.pass_is,
+            handles,
+          )
+
+  worker_handles : (room : ℕ) (begun : Opening) (history : List Event) (worker : ℕ) (own : List (Option Served))
+      (pass : Seen) (one : PassRecord) → IsWorkerOf terms room begun worker own pass → one ≡ record_of pass
+      → IsRecord history one → HandlesAll terms.rules.policy [] (made_by one.name begun history) []
+  worker_handles room begun history worker own pass one of_run is known =
+      let works = of_run.works in
+      let (made, grows, handles) = visits_handle worker 0 works.first pass own works.served in
+      let all : made_by one.name begun history ≡ made =
+      seen_all begun history one known
+      ∙ ap (λ (entry : PassRecord). made_by entry.name begun entry.seen) is
+      ∙ ap (λ (opening : Opening). made_by pass.name opening pass.seen) (sym of_run.opening)
+      ∙ grows ∙ ap (λ (mades : List Made). mades ++ made) (made_none works.first works.unheard) in
+      subst (λ mades. HandlesAll terms.rules.policy [] mades []) (sym all) handles
+
+  workers_handle : (room : ℕ) (begun : Opening) (history : List Event) (worker : ℕ)
+      (visits : List (List (Option Served))) (records : List PassRecord) → AreWorkers terms room begun worker visits records
+      → AreRecords history records → (seat : ℕ) → 0 < times_in seat (names_of records)
+      → HandlesAll terms.rules.policy [] (made_by seat begun history) []
+  workers_handle room begun history worker visits [] are known seat some = absurd (omega (arith, some))
+  workers_handle room begun history worker [] (one ∷ records) are known seat some = absurd are
+  workers_handle room begun history worker (own ∷ visits) (one ∷ records) (is, are) (first, rest) seat some =
+      by_name (same_or_not one.name seat) (workers_handle room begun history (worker + 1) visits records are rest seat)
+    where
+      by_name : (one.name ≡ seat) ⊎ (one.name ≢ seat)
+          → (0 < times_in seat (names_of records) → HandlesAll terms.rules.policy [] (made_by seat begun history) [])
+          → HandlesAll terms.rules.policy [] (made_by seat begun history) []
+      by_name (inl same) later =
+          subst (λ s. HandlesAll terms.rules.policy [] (made_by s begun history) []) same
+          (worker_handles room begun history worker own is.0 one is.1 is.2 first)
+      by_name (inr differ) later = later (omega (arith, some, bit_apart one.name seat differ))
+
+module _ {I O G C : Type 0} (terms : Terms I O G C) {T : Type 0} where
+  pub server_keeps_jobs : ServerKeepsJobs terms T
+  server_keeps_jobs begun options report jobs run =
+      let history = report.kept.history in
+      let hands : AreHands terms.rules.policy begun history empty_hands =
+      λ seat. by_seat seat (cases_lt 0 (times_in seat (names_of run.records))) in
+      record {
+        keeps = jobs_are_kept terms.rules.policy begun history empty_hands jobs
+            (subst (λ o. IsLegal o history) run.opening run.holds.legal) hands;
+        hands = hands;
+      }
+    where
+      by_seat : (seat : ℕ) → (0 < times_in seat (names_of run.records)) ⊎ (times_in seat (names_of run.records) ≤ 0)
+          → HandlesAll terms.rules.policy [] (made_by seat begun report.kept.history) []
+      by_seat seat (inl some) =
+          workers_handle terms options.calls begun report.kept.history 0 run.visits run.records run.served
+          run.holds.are_records.1 seat some
+      by_seat seat (inr none) =
+          subst (λ mades. HandlesAll terms.rules.policy [] mades [])
+          (sym (nobody_made seat begun [] report.kept.history (λ event has same.
+          absurd (omega (
+            arith,
+            none,
+            subst (λ s. 0 < times_in s (names_of run.records)) same
+                (named_behind report.kept.history run.first run.records run.holds.are_records run.holds.different
+                run.holds.all run.idle event has),
+          ))))) tt

@@ -1,0 +1,11 @@
+pub use Rattle.rb_replay.specs.Chaining
+pub use Rattle.rb_session.specs.RunEvents
+pub use Rattle.rb_runs.specs.Script
+pub mod Among
+pub mod Attempts
+pub mod Hands
+pub mod Places
+pub mod SessionHands
+pub mod RunJobs
+pub mod JobCounts
+pub mod Continued

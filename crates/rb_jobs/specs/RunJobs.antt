@@ -1,0 +1,58 @@
+-- That scripts and servers keep jobs, over whole runs.
+use Rattle.std.specs.Prelude.{ℕ, List, [], Option, ◌==◌, if◌then◌else◌}
+use Rattle.std.specs.Io.KnownBytes.{IsAtEnd}
+use Rattle.rb_delayed.specs.declared.element.Element.{Element}
+use Rattle.rb_queue.specs.History.{start_of}
+use Rattle.rb_queue.specs.declared.event.Event.{Event}
+use Rattle.rb_queue.specs.declared.opening.Opening.{Opening}
+use Rattle.rb_retry.specs.DeskRules.{kept_rules}
+use Rattle.rb_retry.specs.KeptSteps.{KeptState}
+use Rattle.rb_retry.specs.declared.policy.Policy.{Policy}
+use Rattle.rb_session.specs.Served.{Served}
+use Rattle.rb_session.specs.Session.{Turn, Serves}
+use Rattle.rb_session.specs.Turn.{Point, point}
+use Rattle.rb_session.specs.declared.delivery.Delivery.{Delivery}
+use Rattle.rb_options.specs.declared.server_run_options.ServerRunOptions.{ServerRunOptions}
+use Rattle.rb_runs.specs.Script.{IsNew, RanSession, script_terms}
+use Rattle.rb_serving.specs.Serving.{IsServersRun}
+use Rattle.rb_serving.specs.Terms.{Terms}
+use Rattle.rb_serving.specs.declared.serve_report.ServeReport.{ServeReport}
+use Rattle.rb_jobs.specs.Hands.{AreHands}
+use Rattle.rb_jobs.specs.Places.{AreJobs, KeepsJobs}
+
+-- nobody holds anything
+abbrev pub empty_hands : ℕ → List Element
+empty_hands seat = []
+
+-- the only seat of a queue that is not shared holds these
+abbrev pub only_hands : List Element → ℕ → List Element
+only_hands held seat = if seat == 0 then held else []
+
+-- A run kept jobs from this opening on, and at its end nobody holds one.
+pub record RunKeepsJobs (policy : Policy) (opening : Opening) (history : List Event) : Type 0 where
+  pub keeps : KeepsJobs policy opening history
+  pub hands : AreHands policy opening history empty_hands
+
+-- The law of each moment of a script: behind each line that is served, what the session holds is what its seat may hold,
+-- and jobs are kept.
+abbrev pub LinesKeepJobs : Type 0
+LinesKeepJobs =
+    (policy : Policy) (calls : ℕ) (opening : Opening) (from : KeptState) (to : Point KeptState) (turns : List Turn)
+    → AreJobs (start_of opening).queue → IsNew from opening calls → Serves (kept_rules policy) (point from []) turns to
+    → KeepsJobs policy opening to.desk.log.history × AreHands policy opening to.desk.log.history (only_hands to.held)
+
+-- the law of scripts
+abbrev pub ScriptKeepsJobs : {W : Type 0} → (W → Option (List ℕ)) → Type 0
+ScriptKeepsJobs sends =
+    (got : Option (List ℕ)) (policy : Policy) (calls : ℕ) (delivery : Delivery) (rest : Option (List ℕ))
+    (opening : Opening) (served : Served) (to : KeptState)
+    → AreJobs (start_of opening).queue
+    → RanSession (script_terms sends got policy calls delivery opening) (IsAtEnd rest) served to
+    → RunKeepsJobs policy opening to.log.history
+
+module _ {I O G C : Type 0} (terms : Terms I O G C) where
+  -- the law of servers
+  abbrev pub ServerKeepsJobs : Type 0 → Type 0
+  ServerKeepsJobs T =
+      (begun : Opening) (options : ServerRunOptions) (report : ServeReport T) → AreJobs (start_of begun).queue
+      → IsServersRun terms begun options report → RunKeepsJobs terms.rules.policy begun report.kept.history
