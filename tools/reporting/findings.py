@@ -72,7 +72,7 @@ def _returns(history: History, policy: Policy, retries: Retries) -> Iterator[Fin
     if retries.misfits:
         option = f"--delay {policy.delay}" if policy.rate is None else f"--rate {policy.rate}"
         yield Finding(f"{retries.misfits:,} of {counted(retries.returns, 'return')} have another expiry than {option}"
-                      " gives: the run had another policy, or is not chained")
+                      " gives: the run had another policy, or this history is not one that the program wrote")
     if retries.beyond:
         yield Finding(f"{counted(len(retries.beyond), 'job')} had attempts beyond --attempts {policy.attempts}: the run"
                       " allowed more", _named(history, retries.beyond))
