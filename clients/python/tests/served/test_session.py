@@ -123,11 +123,20 @@ class SessionTest(ServedTest):
             self.assertEqual(client.size(), 1)
 
     def test_a_full_run_and_no_turn(self):
-        with self.connect("--calls", 1, "--turns", 0) as client:
+        with self.connect("--calls", 2, "--turns", 0) as client:
             self.assertRaises(StoppedError, client.take)
             self.assertRaises(StoppedError, client.poll_for, 60)
             self.assertIsNone(client.poll_for(0))
+            self.assertEqual(client.size(), 0)
             self.assertRaises(FullError, client.size)
+
+    def test_a_drain_gives_the_earliest_first(self):
+        with self.connect() as client:
+            client.ask_all([Request.offer_at("b", expires_at_ns=6), Request.offer_at("a", expires_at_ns=5)])
+            drained = client.drain(9)
+            self.assertEqual([it.payload for it in drained], ["a", "b"])
+            self.end(drained[0].done)
+            self.assertIsInstance(self.end(drained[1].fail), Again)
 
     def test_many_requests_in_one_piece(self):
         count = 5_000

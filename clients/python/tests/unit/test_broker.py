@@ -71,7 +71,7 @@ class BrokerTest(ScriptedTest):
             self.assertRaises(DisconnectedError, broker.receive)
 
     def test_after_an_unknown_reply_or_a_line_that_never_ends_the_session_is_closed(self):
-        for reply in ("HELLO", b"SIZE " + b"1" * 1000):
+        for reply in ("HELLO", "SIZE " + "1" * 1000, b"SIZE " + b"1" * 1000):
             broker = self.connect(("SIZE", reply))
             self.assertRaises(UnknownReplyError, broker.size)
             self.assertRaises(OSError, broker.size)

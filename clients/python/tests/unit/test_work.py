@@ -163,6 +163,7 @@ class WorkTest(unittest.TestCase):
         self.asked()
         self.moment += 29
         self.work.answered(A)
+        self.assertFalse(self.work.is_old)
         self.moment += 1
         self.assertEqual(self.asked(running=1), [])
         self.work.ended(A, True)
