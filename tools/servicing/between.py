@@ -3,7 +3,6 @@ from __future__ import annotations
 
 import subprocess
 import time
-from typing import Optional, Union
 
 from histories.files import open_history
 from servicing.current import Current
@@ -18,7 +17,7 @@ from servicing.showing import lost_text
 from servicing.state import End, Phase, Reason, Run
 
 
-def resumed(parts: Parts) -> Union[Current, Next]:
+def resumed(parts: Parts) -> Current | Next:
     """A server that goes on, or what the next one begins with. Raises an `Unusable`."""
     last, settings = parts.runs.last, parts.settings
     if last is None:
@@ -48,7 +47,7 @@ def resumed(parts: Parts) -> Union[Current, Next]:
     return lost(parts, last, "its server and its keeper were gone")
 
 
-def _held_server(parts: Parts, last: Run, held: Optional[Held]) -> Optional[Server]:
+def _held_server(parts: Parts, last: Run, held: Held | None) -> Server | None:
     """The server of the last run, if a keeper holds it, or if it is found without one."""
     if held is not None:
         return parts.keeping.held() if held.run == last.number else None

@@ -3,7 +3,7 @@ from __future__ import annotations
 
 import time
 from dataclasses import replace
-from typing import Callable, Dict, List, Optional, Tuple
+from typing import Callable
 
 from servicing.clock import elapsed, read_clock
 from servicing.deciding import Seen, is_to_prepare, why_to_end
@@ -27,24 +27,24 @@ class Current:
     """The run that goes on, or that has just ended."""
 
     def __init__(
-        self, parts: Parts, record: Run, server: Server, first_aside: int = 0, before: Optional[Current] = None
+        self, parts: Parts, record: Run, server: Server, first_aside: int = 0, before: Current | None = None
     ) -> None:
         """`first_aside` is the moment at which the first element aside expires, `before` the run behind which it is."""
         self._parts, self._settings, self._signals = parts, parts.settings, parts.signals
         self.record, self.server, self._first_aside = replace(record, server=server.pid), server, first_aside
         self.looks = Looks(self._settings.port, record, self._settings.workers, self._settings.sessions)
-        self._visits: Optional[Visits] = None  # which use up most sessions in the last part of the run
-        self._crowd: Optional[Crowd] = None  # so that clients come to leave soon
+        self._visits: Visits | None = None  # which use up most sessions in the last part of the run
+        self._crowd: Crowd | None = None  # so that clients come to leave soon
         self.is_crowded: bool = False  # whether clients outnumbered the workers when its end began
         self._was_crowded = before is not None and before.is_crowded
         self.why = Reason.UNKNOWN  # it ends
         self.closed = 0.0  # since when new clients are served no longer, by the monotonic clock
         self._cut_at, self._why_not = 0.0, ""
-        self._held: Dict[str, float] = {}  # for how many seconds each client was waited for
+        self._held: dict[str, float] = {}  # for how many seconds each client was waited for
         self.cut = 0
 
     @property
-    def held_by(self) -> Tuple[str, ...]:
+    def held_by(self) -> tuple[str, ...]:
         """Who was waited for longest."""
         order = sorted(self._held.items(), key=lambda it: -it[1])[:MOST_NAMED]
         return tuple(f"{name}: {text_of(seconds)}" for name, seconds in order if seconds >= LAST_LOOK)
@@ -65,7 +65,7 @@ class Current:
             self.looks.own.drop()
             self._leave()  # not before: whoever comes while the last sessions are used up has to wait, too
 
-    def _watched(self) -> Optional[Reason]:
+    def _watched(self) -> Reason | None:
         """Watches the server until its run has to end, and returns why. None if it has ended by itself."""
         self._keep_busy()  # before the first look: clients come at once
         try:
@@ -107,7 +107,7 @@ class Current:
         """The seconds since it began, whatever the machine's date is set to."""
         return elapsed(self.record.began, read_clock()) / SECOND
 
-    def _why_to_end(self) -> Optional[Reason]:
+    def _why_to_end(self) -> Reason | None:
         if self._signals.count:
             return Reason.ASKED
         settings, looks = self._settings, self.looks
@@ -181,7 +181,7 @@ class Current:
             visits.stop()
             self.closed = max(self._end_began, self.looks.last_begun)
 
-    def _cut(self, ports: List[int]) -> None:
+    def _cut(self, ports: list[int]) -> None:
         """Cuts sessions. Clients may connect again, so this is done until the server has ended."""
         self._cut_at = time.monotonic()
         run, pid = self.server.run, self.server.pid
@@ -203,5 +203,5 @@ class Current:
         say("info", "waiting", run=self.server.run, seconds=round(seconds),
             clients="; ".join(names[:MOST_NAMED]) or "none")
 
-    def _doings(self, ports: List[int]) -> List[str]:
+    def _doings(self, ports: list[int]) -> list[str]:
         return [f"{name}: {doing}" for name, doing in self.looks.names(ports).items()]

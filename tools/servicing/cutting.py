@@ -11,17 +11,17 @@ import contextlib
 import os
 import socket
 import struct
-from typing import Collection, Iterator, Set, Tuple
+from typing import Collection, Iterator
 
 ROOM = 512  # connections that may wait for a worker. With more of them a look takes too long
 PIDFD_GETFD = 438  # the number of the call, the same on all machines but Alpha
 RESETS = struct.pack("ii", 1, 0)
 
 
-def cut_sessions(pid: int, ports: Collection[int], again: Collection[int] = ()) -> Tuple[Set[int], str]:
+def cut_sessions(pid: int, ports: Collection[int], again: Collection[int] = ()) -> tuple[set[int], str]:
     """Cuts the sessions of the clients at these ports. Returns those that were cut, and why others were not.
     `again` are those at which it was tried before."""
-    done: Set[int] = set()
+    done: set[int] = set()
     try:
         for it in _sockets_of(pid):
             with it, contextlib.suppress(OSError):  # a socket that listens has no other end

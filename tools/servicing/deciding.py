@@ -3,7 +3,7 @@ from __future__ import annotations
 
 from dataclasses import dataclass
 from enum import Enum
-from typing import List, Optional, Sequence
+from typing import Sequence
 
 from histories.grammar import MOST_OPENING_ELEMENTS
 from servicing.keeping import Held
@@ -29,7 +29,7 @@ class Start(Enum):
     LOST = "lost"  # the last run is lost
 
 
-def how_to_start(last: Optional[Run], has_history: bool, held: Optional[Held], is_alive: bool) -> Start:
+def how_to_start(last: Run | None, has_history: bool, held: Held | None, is_alive: bool) -> Start:
     """`held` is what a keeper of an earlier service holds, and `is_alive` whether the server there still runs."""
     if last is None:
         return Start.FIRST
@@ -57,15 +57,15 @@ class Seen:
     unanswered: float  # seconds that the service's own session waits for a worker, though one is free
     free_workers: int
     waiting: int  # clients
-    elements: Optional[int]
-    moment: Optional[int]
+    elements: int | None
+    moment: int | None
     aside: int
     first_aside: int  # a moment
-    leaving: Optional[float]  # seconds in which all clients will probably have left
+    leaving: float | None  # seconds in which all clients will probably have left
     is_prepared: bool  # whether most sessions are used up, so that an end takes no time
 
 
-def why_to_end(seen: Seen) -> Optional[Reason]:
+def why_to_end(seen: Seen) -> Reason | None:
     """Why the run has to end now, if it has to."""
     if seen.is_full or _is_low(seen.calls, seen.ending):
         return Reason.CALLS
@@ -88,7 +88,7 @@ def _is_closed(seen: Seen) -> bool:
     return seen.waiting > 0 and seen.free_workers > 0
 
 
-def _is_quiet(leaving: Optional[float]) -> bool:
+def _is_quiet(leaving: float | None) -> bool:
     """Whether this is a good moment to serve no new clients: those that are served leave soon."""
     return leaving is not None and leaving <= SHORTLY
 
@@ -107,7 +107,7 @@ def _is_wanted_aside(seen: Seen) -> bool:
     return room > 0 and (seen.first_aside <= seen.moment + SOON or room >= min(seen.aside, MOST_OPENING_ELEMENTS // 10))
 
 
-def runs_to_drop(records: Sequence[Run], keep: Keep, now: float) -> List[int]:
+def runs_to_drop(records: Sequence[Run], keep: Keep, now: float) -> list[int]:
     """The runs that are kept no longer, at this date. The last two are always kept, and one that has not ended."""
     ended = [it for it in records[:-2] if it.end is not None]
     if keep.runs is not None:

@@ -21,7 +21,7 @@ import shutil
 import time
 from dataclasses import asdict
 from pathlib import Path
-from typing import Any, BinaryIO, Dict, Iterable, Iterator, List, Optional
+from typing import Any, BinaryIO, Iterable, Iterator
 
 from servicing.clock import Reading
 from servicing.state import End, Reason, Run
@@ -105,11 +105,11 @@ class Folder:
     def remove(self, name: str) -> None:
         Path(self.file(name)).unlink(missing_ok=True)
 
-    def numbers(self) -> List[int]:
+    def numbers(self) -> list[int]:
         """The numbers of the runs of which there is something, in their order."""
         return sorted({int(it[1]) for it in map(_RUN.fullmatch, os.listdir(self.path)) if it})
 
-    def run(self, number: int) -> Optional[Run]:
+    def run(self, number: int) -> Run | None:
         """What is known of a run. Raises an `Unusable` if that can't be read."""
         name = f"run-{number}.json"
         try:
@@ -119,7 +119,7 @@ class Folder:
         except (ValueError, KeyError, TypeError) as fault:
             raise Unusable(f"{self.file(name)} is no record of a run: {fault!r}") from None
 
-    def history(self, number: int) -> Optional[str]:
+    def history(self, number: int) -> str | None:
         """The path of the history of a run, if there is one."""
         paths = (self.file(f"run-{number}.txt"), self.file(f"run-{number}.txt.gz"))
         return next((it for it in paths if os.path.exists(it)), None)
@@ -156,7 +156,7 @@ def record_of(run: Run) -> bytes:
 
 def run_in(text: bytes, id: str) -> Run:
     """The run of a record. Raises a `ValueError`, `KeyError` or `TypeError` if the text is none."""
-    told: Dict[str, Any] = dict(json.loads(text))
+    told: dict[str, Any] = dict(json.loads(text))
     end = told["end"]
     if end is not None:
         end.update(why=Reason(end["why"]), held_by=tuple(end["held_by"]))

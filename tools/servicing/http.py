@@ -18,7 +18,7 @@ import traceback
 from dataclasses import dataclass
 from http import HTTPStatus
 from pathlib import Path
-from typing import Any, Callable, Dict, Iterator, List, Optional, Tuple, Type
+from typing import Any, Callable, Iterator
 
 from servicing.address import Address
 
@@ -43,10 +43,10 @@ class Answer:
     status: HTTPStatus
     kind: str  # of the body, as Content-Type
     body: bytes
-    headers: Tuple[Tuple[str, str], ...] = ()
+    headers: tuple[tuple[str, str], ...] = ()
 
     @classmethod
-    def line(cls, status: HTTPStatus, says: str, *headers: Tuple[str, str]) -> Answer:
+    def line(cls, status: HTTPStatus, says: str, *headers: tuple[str, str]) -> Answer:
         """A line of text."""
         return cls(status, "text/plain; charset=utf-8", f"{says}\n".encode(), headers)
 
@@ -60,7 +60,7 @@ class Answer:
 
 
 # What is answered where no request has come, by the fault with which its reading ended.
-FAULTS: Dict[Type[Exception], Answer] = {
+FAULTS: dict[type[Exception], Answer] = {
     asyncio.LimitOverrunError: Answer.line(HTTPStatus.REQUEST_HEADER_FIELDS_TOO_LARGE, "the request is too long"),
     asyncio.TimeoutError: Answer.line(HTTPStatus.REQUEST_TIMEOUT, "the request did not come in time"),
     asyncio.IncompleteReadError: Answer.line(HTTPStatus.BAD_REQUEST, "the request is not whole"),
@@ -72,7 +72,7 @@ FAULTY = Answer.line(HTTPStatus.INTERNAL_SERVER_ERROR, "a fault of the service, 
 NOTHING = Answer.line(HTTPStatus.NOT_FOUND, "there is nothing here")
 
 
-def request_in(head: bytes) -> Tuple[str, str, str]:
+def request_in(head: bytes) -> tuple[str, str, str]:
     """The method of a request, its path, and the host that it names, or nothing. Raises a `ValueError`."""
     first, *fields = head.decode("latin-1").split("\r\n")
     method, target, version = first.split(" ")
@@ -85,11 +85,11 @@ def request_in(head: bytes) -> Tuple[str, str, str]:
 class HttpServer:
     """Serves what `answer` says of a path, or None where there is nothing. Its thread calls `beat` every second."""
 
-    def __init__(self, answer: Callable[[str], Optional[Answer]], beat: Callable[[], None] = lambda: None) -> None:
+    def __init__(self, answer: Callable[[str], Answer | None], beat: Callable[[], None] = lambda: None) -> None:
         self._answer, self._beat = answer, beat
-        self._listening: List[Tuple[socket.socket, Optional[Address]]] = []  # no address for one of the file system
+        self._listening: list[tuple[socket.socket, Address | None]] = []  # no address for one of the file system
         self._at_end = contextlib.ExitStack()
-        self._talks: Dict[Any, None] = {}  # the tasks of open connections, the oldest first
+        self._talks: dict[Any, None] = {}  # the tasks of open connections, the oldest first
         self._turn = 0.0  # of the next answer, by the thread's clock
         self._has_begun = threading.Event()
         self._thread = threading.Thread(target=self._run, name="http", daemon=True)
@@ -143,7 +143,7 @@ class HttpServer:
                 it.close()
 
     async def _meet(
-        self, address: Optional[Address], reader: asyncio.StreamReader, writer: asyncio.StreamWriter
+        self, address: Address | None, reader: asyncio.StreamReader, writer: asyncio.StreamWriter
     ) -> None:
         """One connection to an address."""
         if len(self._talks) >= MOST_CONNECTIONS:
@@ -160,7 +160,7 @@ class HttpServer:
             writer.transport.abort()
 
     async def _talk(
-        self, address: Optional[Address], reader: asyncio.StreamReader, writer: asyncio.StreamWriter
+        self, address: Address | None, reader: asyncio.StreamReader, writer: asyncio.StreamWriter
     ) -> None:
         method = ""
         try:
@@ -188,13 +188,13 @@ class HttpServer:
             return FAULTY
 
 
-def _present_task() -> "asyncio.Task[Any]":
+def _present_task() -> asyncio.Task[Any]:
     task = asyncio.current_task()
     assert task is not None
     return task
 
 
-def _complain(loop: asyncio.AbstractEventLoop, context: Dict[str, Any]) -> None:
+def _complain(loop: asyncio.AbstractEventLoop, context: dict[str, Any]) -> None:
     """Says what went wrong, unless a client did it."""
     if not isinstance(context.get("exception"), OSError):
         loop.default_exception_handler(context)

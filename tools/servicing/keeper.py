@@ -29,7 +29,7 @@ import signal
 import socket
 import subprocess
 import sys
-from typing import Any, Dict, List, Optional, Set, Tuple
+from typing import Any
 
 if __name__ == "__main__":
     sys.path.insert(0, os.path.dirname(os.path.dirname(os.path.realpath(__file__))))
@@ -48,12 +48,12 @@ HISTORY, OPENING = "HISTORY", "OPENING"
 
 class Keeper:
     def __init__(self) -> None:
-        self._run: Optional[int] = None
-        self._last: Optional[int] = None
+        self._run: int | None = None
+        self._last: int | None = None
         self._pid = 0
-        self._child: Optional[subprocess.Popen[bytes]] = None
-        self._held: List[int] = []
-        self._cut: Set[int] = set()  # clients at whose sessions a cut was tried
+        self._child: subprocess.Popen[bytes] | None = None
+        self._held: list[int] = []
+        self._cut: set[int] = set()  # clients at whose sessions a cut was tried
 
     def is_needed(self, folder: str) -> bool:
         if self._run is None:
@@ -61,7 +61,7 @@ class Keeper:
         has_ended = bool(select.select([self._held[2]], [], [], 0)[0])
         return not has_ended or os.path.isdir(folder)
 
-    def answer(self, asked: Dict[str, Any], given: List[int]) -> Tuple[Dict[str, Any], List[int]]:
+    def answer(self, asked: dict[str, Any], given: list[int]) -> tuple[dict[str, Any], list[int]]:
         """Does what was asked. Descriptors that came with it are this process's now."""
         do = asked["do"]
         if do == "start":
@@ -80,7 +80,7 @@ class Keeper:
         told = {"run": self._run, "last": self._last, "pid": self._pid, "status": status}
         return told, self._held if do == "take" else []
 
-    def _start(self, run: int, words: List[str], given: List[int]) -> None:
+    def _start(self, run: int, words: list[str], given: list[int]) -> None:
         self._drop()
         history, printed, opening = given
         names = {HISTORY: f"/dev/fd/{history}", OPENING: f"/dev/fd/{opening}"}

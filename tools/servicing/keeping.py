@@ -9,7 +9,7 @@ import struct
 import subprocess
 import sys
 from dataclasses import dataclass
-from typing import Any, Dict, List, Optional, Sequence, Tuple
+from typing import Any, Sequence
 
 from servicing.folder import Unusable
 from servicing.keeper import MOST_BYTES, MOST_FILES
@@ -31,10 +31,10 @@ class NotStarted(Exception):
 class Held:
     """What a keeper holds."""
 
-    run: Optional[int]
-    last: Optional[int]  # the last run whose server it has started
+    run: int | None
+    last: int | None  # the last run whose server it has started
     pid: int
-    status: Optional[int]  # of the server, once it has ended
+    status: int | None  # of the server, once it has ended
 
 
 class Keeping:
@@ -105,7 +105,7 @@ class Keeping:
             self.hold(server)
             return True
 
-    def cut(self, ports: Sequence[int]) -> Tuple[int, str]:
+    def cut(self, ports: Sequence[int]) -> tuple[int, str]:
         """Cuts sessions. Returns how many, and why others were not."""
         try:
             answer, _ = self._ask("cut", ports=list(ports))
@@ -130,7 +130,7 @@ class Keeping:
                 self._ask("end")
                 self._link.close()
 
-    def _ask(self, do: str, fds: Sequence[int] = (), **words: Any) -> Tuple[Dict[str, Any], List[int]]:
+    def _ask(self, do: str, fds: Sequence[int] = (), **words: Any) -> tuple[dict[str, Any], list[int]]:
         try:
             socket.send_fds(self._link, [json.dumps({"do": do, **words}).encode()], list(fds))
             told, got, _, _ = socket.recv_fds(self._link, MOST_BYTES, MOST_FILES)

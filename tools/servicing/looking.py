@@ -3,7 +3,7 @@ from __future__ import annotations
 
 import time
 from collections import deque
-from typing import Collection, Deque, Dict, List, Optional, Set, Tuple
+from typing import Collection
 
 from servicing.session import OwnSession, Told
 from servicing.sockets import Connection, Sockets, look_at
@@ -24,7 +24,7 @@ class Pace:
     """How fast a number rises, over the last minute."""
 
     def __init__(self) -> None:
-        self._marks: Deque[Tuple[float, int]] = deque()
+        self._marks: deque[tuple[float, int]] = deque()
 
     def add(self, at: float, number: int) -> None:
         """The number had this value at this reading of the monotonic clock."""
@@ -33,7 +33,7 @@ class Pace:
             self._marks.popleft()
 
     @property
-    def a_second(self) -> Optional[float]:
+    def a_second(self) -> float | None:
         """None in the first seconds, in which one session more or less would mean too much."""
         if not self._marks:
             return None
@@ -68,7 +68,7 @@ def has_given_up(it: Connection) -> bool:
     return not it.is_served and it.has_hung_up and it.receive_queue <= 1
 
 
-def silent_ports(connections: List[Connection], seconds: float) -> List[int]:
+def silent_ports(connections: list[Connection], seconds: float) -> list[int]:
     """The clients over whose sessions nothing came and nothing went for so long."""
     return [it.port for it in connections if it.is_served and it.heard is not None and it.told is not None
             and min(it.heard, it.told) >= seconds * 1000]
@@ -80,20 +80,20 @@ class Looks:
     def __init__(self, port: int, record: Run, workers: int, sessions: int) -> None:
         self._port, self._record, self._workers, self._limit = port, record, workers, sessions
         self.own = OwnSession(port)
-        self.crowd: Set[int] = set()  # the ports of sessions that the service begins beside its own
+        self.crowd: set[int] = set()  # the ports of sessions that the service begins beside its own
         self._asked = 0.0
-        self._unread: Set[str] = set()  # the connections with a queue to the client at the last look
-        self._seen: Set[str] = set()  # the connections that were served at the last look
+        self._unread: set[str] = set()  # the connections with a queue to the client at the last look
+        self._seen: set[str] = set()  # the connections that were served at the last look
         self._used_sessions = self._used_calls = 0
-        self._since: Dict[str, float] = {}  # when each client that is served now was first seen so
+        self._since: dict[str, float] = {}  # when each client that is served now was first seen so
         self.last_begun = self._all_busy = 0.0  # when one was last, and when each worker had one
-        self._lasted: Deque[float] = deque(maxlen=MANY)  # seconds that others were served, until they left
+        self._lasted: deque[float] = deque(maxlen=MANY)  # seconds that others were served, until they left
         self._sessions, self._calls, self.offers, self.leaves = Pace(), Pace(), Pace(), Pace()
-        self.clients: Optional[Clients] = None
-        self.connections: List[Connection] = []  # of clients
-        self.queue: Optional[Queue] = None
-        self.moment: Optional[int] = None
-        self.began: Optional[int] = None  # when the server's clock began to go at the latest, by `clock.up_time`
+        self.clients: Clients | None = None
+        self.connections: list[Connection] = []  # of clients
+        self.queue: Queue | None = None
+        self.moment: int | None = None
+        self.began: int | None = None  # when the server's clock began to go at the latest, by `clock.up_time`
         self.offered = self.left = 0  # elements of this run; a job that came back is offered again
 
     def look(self, between: float = ASK) -> None:
@@ -107,7 +107,7 @@ class Looks:
         if self.waiting:
             self.own.leave()  # a client needs the worker
 
-    def see(self, sockets: Optional[Sockets] = None) -> None:
+    def see(self, sockets: Sockets | None = None) -> None:
         """Takes what the system tells of the connections. Raises an `Unwatchable`."""
         sockets, crowd = sockets or look_at(self._port), {*self.crowd}
         own = {self.own.own_port, *crowd}
@@ -124,14 +124,14 @@ class Looks:
         if self.free_workers <= 0:
             self._all_busy = time.monotonic()
 
-    def _time_sessions(self, served: Set[str]) -> None:
+    def _time_sessions(self, served: set[str]) -> None:
         now = time.monotonic()
         self._lasted.extend(now - self._since.pop(it) for it in [*self._since] if it not in served)
         for it in served - self._since.keys():
             self._since[it] = self.last_begun = now
 
     @property
-    def leaving(self) -> Optional[float]:
+    def leaving(self) -> float | None:
         """In how many seconds all clients that are served now will have left, if they stay as long as the longest of
         those that have left. None if nobody has left yet."""
         if not self._since:
@@ -189,17 +189,17 @@ class Looks:
         return min(self.own.waits, time.monotonic() - self._all_busy)
 
     @property
-    def ports(self) -> List[int]:
+    def ports(self) -> list[int]:
         """The ports of the clients that a worker serves."""
         return [it.port for it in self.connections if it.is_served]
 
-    def stayed(self, seconds: float, since: float) -> List[int]:
+    def stayed(self, seconds: float, since: float) -> list[int]:
         """Those that it has served for so long, from this reading of the monotonic clock on."""
         now = time.monotonic()
         return [it.port for it in self.connections
                 if it.is_served and now - max(self._since[it.key], since) >= seconds]
 
-    def names(self, ports: Collection[int]) -> Dict[str, str]:
+    def names(self, ports: Collection[int]) -> dict[str, str]:
         """Who is at these ports, the worst first, and what each does."""
         clients = self.clients.all if self.clients else ()
         return {f"client {it.port}" + (f" ({it.program} {it.pid})" if it.program else ""): it.doing.value

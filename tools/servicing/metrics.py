@@ -2,7 +2,7 @@
 Counters rise as long as the service lasts, whatever becomes of its runs; what is counted of one run is a gauge."""
 from __future__ import annotations
 
-from typing import Any, Dict, Iterator, Tuple
+from typing import Any, Iterator
 
 from servicing.looking import SILENT_FROM
 from servicing.state import Phase, State
@@ -10,10 +10,10 @@ from servicing.told import past, told
 
 KIND = "text/plain; version=0.0.4; charset=utf-8"
 
-Metric = Tuple[str, str, Dict[str, Any], str]  # its name, its help, its values, and the label that tells these apart
+Metric = tuple[str, str, dict[str, Any], str]  # its name, its help, its values, and the label that tells these apart
 
 # The name of each metric that is a number, where the object has it, and what it means.
-NUMBERS: Tuple[Tuple[str, str, str], ...] = (
+NUMBERS: tuple[tuple[str, str, str], ...] = (
     ("up", "is_up", "Whether a server serves clients."),
     ("healthy", "is_healthy", "Whether /health says 200."),
     ("service_start_time_seconds", "began", "When the service began, since the epoch."),
@@ -86,7 +86,7 @@ def _found(whole: Any, path: str) -> Any:
     return round(whole, 3) if isinstance(whole, float) else whole
 
 
-def _text(port: str, name: str, help: str, values: Dict[str, Any], label: str) -> str:
+def _text(port: str, name: str, help: str, values: dict[str, Any], label: str) -> str:
     """The lines of a metric, if a value is known."""
     kind = "counter" if name.endswith("_total") else "gauge"
     lines = [f"rb_broker_{name}{{{_labels(port=port, **({label: it} if label else {}))}}} {value!r}\n"

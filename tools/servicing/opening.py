@@ -2,12 +2,12 @@
 from __future__ import annotations
 
 from dataclasses import dataclass, field
-from typing import BinaryIO, Dict, Iterable, Iterator, List, Tuple
+from typing import BinaryIO, Iterable, Iterator
 
 from histories.grammar import GREATEST, GREATEST_OPENING_ID, MOST_OPENING_ELEMENTS
 
 # An element by its id: the rest of its `keep` line, which is EXPIRY ORIGIN FIRST ATTEMPT PAYLOAD. The ids rise.
-Elements = Dict[bytes, bytes]
+Elements = dict[bytes, bytes]
 
 # The element by which the service asks for the moment. It would expire after 146 years, and never outlives a run.
 PROBE, PROBE_DELAY = "rb_broker-service", 1 << 62
@@ -64,7 +64,7 @@ def opening_after(left: Left, aside: Elements, moment: int, given: int = 0) -> O
     return Opening(next_id, min(max(moment, left.moment), GREATEST), elements, aside)
 
 
-def _parted(elements: Elements) -> Tuple[Elements, Elements]:
+def _parted(elements: Elements) -> tuple[Elements, Elements]:
     """As many as an opening may have, and the others, which expire last. The ids of both rise."""
     if len(elements) <= MOST_OPENING_ELEMENTS:
         return _rising(elements.items()), {}
@@ -72,7 +72,7 @@ def _parted(elements: Elements) -> Tuple[Elements, Elements]:
     return _rising(order[:MOST_OPENING_ELEMENTS]), _rising(order[MOST_OPENING_ELEMENTS:])
 
 
-def _rising(elements: Iterable[Tuple[bytes, bytes]]) -> Elements:
+def _rising(elements: Iterable[tuple[bytes, bytes]]) -> Elements:
     return dict(sorted(elements, key=lambda it: int(it[0])))
 
 
@@ -99,8 +99,8 @@ def left_in(file: BinaryIO, attempts: int = 0) -> Left:
     """
     left = _left_at_first(file)
     elements, last = left.elements, b" %d " % attempts
-    event: List[bytes] = []
-    probes: List[bytes] = []
+    event: list[bytes] = []
+    probes: list[bytes] = []
     for line in file:
         words = line[:-1].split(b" ", 5)
         if len(words) < 4:  # the last line
@@ -137,7 +137,7 @@ def _left_at_first(file: BinaryIO) -> Left:
     return left
 
 
-def _gone(event: List[bytes], elements: Elements) -> Iterable[bytes]:
+def _gone(event: list[bytes], elements: Elements) -> Iterable[bytes]:
     """The ids of the elements that an event took out."""
     act = event[3]
     if act in (b"take", b"poll", b"pollfor"):

@@ -4,7 +4,7 @@ from __future__ import annotations
 
 import time
 from dataclasses import dataclass
-from typing import Callable, Optional, TypeVar
+from typing import Callable, TypeVar
 
 from servicing.durations import SECOND
 from servicing.folder import Folder
@@ -36,7 +36,7 @@ class Parts:
 
     def until_written(self, name: str, kept: int, write: Callable[[], Done]) -> Done:
         """Writes a file, of which so many bytes are in memory only. Raises a `LeftBehind` if an end is asked for."""
-        asked: Optional[float] = None
+        asked: float | None = None
         while True:
             try:
                 done = write()

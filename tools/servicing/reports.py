@@ -10,7 +10,6 @@ import threading
 from concurrent.futures import Future, ThreadPoolExecutor
 from http import HTTPStatus
 from pathlib import Path
-from typing import Dict, Optional
 
 from servicing.http import Answer
 from servicing.settings import Settings
@@ -35,9 +34,9 @@ class Reports:
 
     def __init__(self) -> None:
         self._maker, self._lock = ThreadPoolExecutor(1, "report"), threading.Lock()
-        self._kept: "Dict[str, Future[Answer]]" = {}  # by the run's id, the one that was asked for last at the end
+        self._kept: dict[str, Future[Answer]] = {}  # by the run's id, the one that was asked for last at the end
         self._is_stopped = False
-        self._process: "Optional[subprocess.Popen[bytes]]" = None
+        self._process: subprocess.Popen[bytes] | None = None
 
     def of(self, run: Run, settings: Settings) -> Answer:
         """The report on a run, or a page that asks again as long as it, or another one, is being made. One that could
@@ -83,7 +82,7 @@ class Reports:
             raise OSError(f"the report is larger than {MOST_BYTES:,} bytes")
         return path.read_bytes()
 
-    def _begun(self, *words: str) -> "subprocess.Popen[bytes]":
+    def _begun(self, *words: str) -> subprocess.Popen[bytes]:
         """A process that gives way to all others, and that Ctrl-C does not end."""
         with self._lock:
             if self._is_stopped:

@@ -10,14 +10,14 @@ import contextlib
 import os
 import threading
 import time
-from dataclasses import dataclass, replace
-from typing import Callable, Dict, Optional, Tuple
+from dataclasses import dataclass, field, replace
+from typing import Callable
 
 from histories.files import open_history
 from servicing.clock import Reading, elapsed, read_clock
 from servicing.deciding import runs_to_drop
 from servicing.folder import Folder, Unusable, record_of
-from servicing.opening import Left, Opening, left_in, opening_after
+from servicing.opening import Elements, Left, Opening, left_in, opening_after
 from servicing.saying import say
 from servicing.server import Server
 from servicing.settings import Keep, Settings
@@ -31,18 +31,21 @@ _TIDYING = threading.Lock()
 class Next:
     """What the next run begins with, once it is known when."""
 
-    make: Callable[[int], Opening]  # by its moment
+    left: Left
     moment: int  # at `since`
-    since: Optional[Reading]
+    since: Reading | None = None
+    aside: Elements = field(default_factory=dict)
+    given: int = 0  # ids that a lost run may have given
 
     def at(self, now: Reading) -> Opening:
-        return self.make(self.moment + (elapsed(self.since, now) if self.since else 0))
+        moment = self.moment + (elapsed(self.since, now) if self.since else 0)
+        return opening_after(self.left, self.aside, moment, self.given)
 
 
 class Runs:
     def __init__(self, folder: Folder) -> None:
         self.folder = folder
-        self.records: Dict[int, Run] = {}
+        self.records: dict[int, Run] = {}
         for number in folder.numbers():
             record = folder.run(number)
             if record is not None:
@@ -51,7 +54,7 @@ class Runs:
         self._greatest = max(folder.numbers(), default=0)
 
     @property
-    def last(self) -> Optional[Run]:
+    def last(self) -> Run | None:
         return self.records.get(max(self.records, default=0))
 
     @property
@@ -61,26 +64,26 @@ class Runs:
         is_unused = last is not None and last.end is None and not self.folder.history(last.number)
         return self._greatest if is_unused else self._greatest + 1
 
-    def first(self, begin_with: Optional[str], program_accepts: Callable[[str], str]) -> Next:
+    def first(self, begin_with: str | None, program_accepts: Callable[[str], str]) -> Next:
         """What the first run begins with: nothing, what a history left, or what the last history left that a series
         of runs has left in this folder. Raises an `Unusable`."""
         path = begin_with or (self.folder.history(self._greatest) if self._greatest else None)
         if path is None:
-            return Next(lambda moment: Opening(0, moment, {}), 0, None)
+            return Next(Left(0, 0, {}), 0)
         why_not = program_accepts(path)
         if why_not:
             raise Unusable(f"{path} can't be continued: {why_not}")
         left = left_of(path)
         age = max(time.time_ns() - os.stat(path).st_mtime_ns, 0)
         say("info", "begins-with", history=path, elements=len(left.elements))
-        return Next(lambda moment: opening_after(left, {}, moment), left.moment + age, None)
+        return Next(left, left.moment + age)
 
     @property
     def lost(self) -> int:
         """How many runs were lost since the folder exists."""
         return self.last.lost if self.last else 0
 
-    def past(self) -> Tuple[Run, ...]:
+    def past(self) -> tuple[Run, ...]:
         """The runs that have ended, the latest first, with their histories."""
         ended = sorted((it for it in self.records.values() if it.end), key=lambda it: -it.number)
         return tuple(replace(it, history=self.folder.history(it.number)) for it in ended)
@@ -111,7 +114,7 @@ class Runs:
     def after(self, record: Run, left: Left, given: int = 0) -> Next:
         """What follows a run that left this, and may have given so many ids more."""
         aside = left_of(self.folder.file(f"aside-{record.number}.txt")).elements if record.aside else {}
-        return Next(lambda moment: opening_after(left, aside, moment, given), record.moment, record.surely_began)
+        return Next(left, record.moment, record.surely_began, aside, given)
 
     def again(self, record: Run, given: int) -> Next:
         """What follows a run that was lost, and may have given so many ids."""
@@ -144,7 +147,7 @@ class Runs:
             del self.records[number]
         threading.Thread(target=self._tidy, args=(ended, dropped, then), daemon=True).start()
 
-    def _tidy(self, ended: "list[int]", dropped: "list[int]", then: Callable[[], None]) -> None:
+    def _tidy(self, ended: list[int], dropped: list[int], then: Callable[[], None]) -> None:
         with contextlib.suppress(OSError):
             os.setpriority(os.PRIO_PROCESS, threading.get_native_id(), LOW_PRIORITY)
         with _TIDYING:

@@ -8,7 +8,6 @@ import re
 import socket
 import sys
 import time
-from typing import Dict
 
 PATIENCE = 1.0  # seconds; a manager that takes nothing is not waited for
 
@@ -19,7 +18,7 @@ def say(level: str, event: str, **fields: object) -> None:
     """Says a line. The level is info, warning or error. Nobody may be there to hear it."""
     now = time.time()
     date = time.strftime("%Y-%m-%dT%H:%M:%S", time.gmtime(now)) + f".{int(now % 1 * 1000):03d}Z"
-    words: Dict[str, object] = {"time": date, "level": level, "event": event, **fields}
+    words: dict[str, object] = {"time": date, "level": level, "event": event, **fields}
     line = " ".join(f"{name}={_quoted(str(value))}" for name, value in words.items() if value is not None)
     with contextlib.suppress(OSError):
         sys.stderr.write(line + "\n")

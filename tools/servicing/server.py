@@ -9,7 +9,7 @@ import select
 import subprocess
 from dataclasses import dataclass
 from pathlib import Path
-from typing import Dict, Iterator, Optional, Sequence, Tuple
+from typing import Iterator, Sequence
 
 from servicing.opening import Left, left_in
 
@@ -51,7 +51,7 @@ class Server:
         return (self.says.splitlines() or [""])[-1]
 
     @property
-    def lost_jobs(self) -> Optional[int]:
+    def lost_jobs(self) -> int | None:
         """How many jobs could not come back at the end of their sessions."""
         counts = _COUNTS.search(self.says)
         return int(counts[3]) if counts else None
@@ -72,7 +72,7 @@ class Server:
         for it in (self.history, self.printed, self.process):
             os.close(it)
 
-    def collect(self, program: str, policy: Sequence[str]) -> Tuple[Dict[str, int], Left]:
+    def collect(self, program: str, policy: Sequence[str]) -> tuple[dict[str, int], Left]:
         """Has the history checked, and reads meanwhile what is left in it. Returns the audit too. Raises a `Damaged`."""
         if not self.size:
             raise Damaged(f"the server left no history: {self.last_line or 'it was killed'}")
@@ -95,7 +95,7 @@ def file_name(folder_id: str, number: int, what: str) -> str:
     return f"rb_broker-{folder_id}-{number}-{what}"
 
 
-def orphan_of(folder_id: str, number: int) -> Optional[Server]:
+def orphan_of(folder_id: str, number: int) -> Server | None:
     """The server of a run whose service and keeper were both killed, if it is there and this user may look at it."""
     wanted = f"/memfd:{file_name(folder_id, number, 'printed')} (deleted)"
     for name in filter(str.isdigit, os.listdir("/proc")):

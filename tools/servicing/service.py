@@ -5,7 +5,6 @@ import contextlib
 import os
 import time
 from dataclasses import replace
-from typing import Optional
 
 from servicing.between import resumed, saved
 from servicing.clock import read_clock
@@ -56,7 +55,7 @@ def _serve(parts: Parts) -> None:
             return
 
 
-def _say_serving(parts: Parts, current: Current, before: Optional[Current]) -> None:
+def _say_serving(parts: Parts, current: Current, before: Current | None) -> None:
     record, showing = current.record, parts.showing
     showing.lower_alert("not-listening")
     showing.run, showing.looks = current.record, current.looks
@@ -71,7 +70,7 @@ def _say_serving(parts: Parts, current: Current, before: Optional[Current]) -> N
             parts.runs.end(last, replace(last.end, closed=round(closed, 3)))
 
 
-def _started(parts: Parts, following: Next, before: Optional[Current]) -> Optional[Current]:
+def _started(parts: Parts, following: Next, before: Current | None) -> Current | None:
     """The run behind the one before, whose server listens. None if the end is asked for before that. Raises an
     `Unusable` if the first one can't be started; later that is tried again, since clients wait."""
     while not parts.signals.count:

@@ -5,7 +5,6 @@ import contextlib
 import socket
 import time
 from dataclasses import dataclass
-from typing import Optional
 
 from servicing.clock import up_time
 from servicing.opening import PROBE, PROBE_DELAY
@@ -36,10 +35,10 @@ class OwnSession:
 
     def __init__(self, port: int) -> None:
         self._port = port
-        self._socket: Optional[socket.socket] = None
+        self._socket: socket.socket | None = None
         self._heard = b""
         self._is_greeted = False
-        self._since: Optional[float] = None  # when it was tried first to have a worker, since one last served this
+        self._since: float | None = None  # when it was tried first to have a worker, since one last served this
         self.sessions = self.calls = self.probes = 0  # that were begun or made
         self.is_full = False  # whether the run takes no further calls
 
@@ -49,10 +48,6 @@ class OwnSession:
         return 0.0 if self._since is None else time.monotonic() - self._since
 
     @property
-    def is_open(self) -> bool:
-        return self._socket is not None
-
-    @property
     def own_port(self) -> int:
         """The port of this end, or 0."""
         try:
@@ -60,7 +55,7 @@ class OwnSession:
         except OSError:
             return 0
 
-    def look(self) -> Optional[Told]:
+    def look(self) -> Told | None:
         """Asks the server. None if it does not answer soon, since no worker is free, if the run is full, or if the
         session is lost: the server has ended, or another session will do."""
         try:
@@ -143,7 +138,7 @@ class OwnSession:
         return line.decode("ascii")
 
 
-def _head(line: str, moment: int) -> Optional[Head]:
+def _head(line: str, moment: int) -> Head | None:
     """The element that expires first, unless it is one of a service's own."""
     words = line.split(" ")
     if words[0] != "HEAD" or words[4] == PROBE:

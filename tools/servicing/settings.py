@@ -7,7 +7,7 @@ import functools
 import math
 import os
 from dataclasses import dataclass
-from typing import Callable, List, NoReturn, Optional, Tuple
+from typing import Callable, NoReturn
 
 from common.words import number, parser_of
 from servicing.address import Address, address_of
@@ -24,8 +24,8 @@ DAY = 86_400 * SECOND
 class Keep:
     """Which old runs are kept: so many, or those of so many nanoseconds."""
 
-    runs: Optional[int]
-    age: Optional[int]
+    runs: int | None
+    age: int | None
 
 
 @dataclass(frozen=True)
@@ -35,27 +35,27 @@ class Settings:
     port: int
     folder: str
     program: str
-    begin_with: Optional[str]  # the history whose elements the first run begins with
+    begin_with: str | None  # the history whose elements the first run begins with
     workers: int
     sessions: int
     calls: int
     turns: int
-    retry: Tuple[str, int]  # --delay or --rate, with its time
+    retry: tuple[str, int]  # --delay or --rate, with its time
     attempts: int
     timer: str
     every: int
     stop_within: int
-    silent: Optional[int]  # sessions that are silent for so long are cut
+    silent: int | None  # sessions that are silent for so long are cut
     keep: Keep
-    http: Optional[Address]
+    http: Address | None
 
     @property
-    def policy(self) -> List[str]:
+    def policy(self) -> list[str]:
         """The words by which `replay --chains` checks the retries of a run."""
         return [*map(str, self.retry), "--attempts", str(self.attempts)]
 
     @property
-    def serve_words(self) -> List[str]:
+    def serve_words(self) -> list[str]:
         """The command that serves a run, for a keeper."""
         said = ((f"--{it}", str(getattr(self, it))) for it in ("port", "workers", "sessions", "calls", "turns", "timer"))
         return [self.program, "serve", *sum(said, ()), *self.policy, "--from", OPENING, "--history", HISTORY]
@@ -78,7 +78,7 @@ def _span(least: int, most: int, said: str) -> Callable[[str], int]:
     return read
 
 
-def _silent(word: str) -> Optional[int]:
+def _silent(word: str) -> int | None:
     return None if word == "never" else _span(SECOND, DAY, "1s to 1d")(word)
 
 
@@ -96,7 +96,7 @@ def _http(word: str) -> Address:
         raise argparse.ArgumentTypeError(str(fault)) from None
 
 
-def parser(doc: Optional[str]) -> argparse.ArgumentParser:
+def parser(doc: str | None) -> argparse.ArgumentParser:
     """The parser of all words."""
     made = parser_of("service", doc, "service [--port P] [--folder DIR] [OPTION ..]")
     made.error = functools.partial(_refuse, made)  # type: ignore[assignment]
@@ -138,7 +138,7 @@ def _add_server_options(made: argparse.ArgumentParser) -> None:
         help="how the next element is found (heap)")
 
 
-def folder_of(given: Optional[str], port: int) -> str:
+def folder_of(given: str | None, port: int) -> str:
     """Where the runs are kept: as said, where systemd keeps the state of its units, or where users keep theirs."""
     if given is not None:
         return os.path.abspath(given)

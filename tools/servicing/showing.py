@@ -3,7 +3,7 @@ from __future__ import annotations
 
 import time
 from dataclasses import replace
-from typing import Dict, Iterator, Optional, Tuple
+from typing import Iterator
 
 from histories.grammar import MOST_OPENING_ELEMENTS
 from servicing.durations import text_of
@@ -25,11 +25,11 @@ class Showing:
     def __init__(self, settings: Settings, runs: Runs, board: Board) -> None:
         self._board, self._history, began = board, runs, time.time()
         self._state = State(began, settings, began, Phase.STARTING, began)
-        self.run: Optional[Run] = None
-        self.looks: Optional[Looks] = None
-        self.waits_for: Tuple[str, ...] = ()
-        self.disk: Optional[DiskFault] = None
-        self._raised: Dict[str, Alert] = {}  # alerts that the service has raised
+        self.run: Run | None = None
+        self.looks: Looks | None = None
+        self.waits_for: tuple[str, ...] = ()
+        self.disk: DiskFault | None = None
+        self._raised: dict[str, Alert] = {}  # alerts that the service has raised
         self._counted = Traffic()  # in runs that have ended
         self.renew_runs()
 
@@ -37,7 +37,7 @@ class Showing:
         """Takes note of runs that have ended, and where their histories are."""
         self._runs = self._history.past()
 
-    def enter(self, phase: Phase, why: Optional[Reason] = None, **told: object) -> None:
+    def enter(self, phase: Phase, why: Reason | None = None, **told: object) -> None:
         """Another phase begins, which a line says."""
         self._state, self.waits_for = replace(self._state, phase=phase, why=why, since=time.time()), ()
         say("info", phase.value.replace(" ", "-"), run=self.run.number if self.run else None,

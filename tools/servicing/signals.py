@@ -6,7 +6,6 @@ import os
 import select
 import signal
 from types import FrameType
-from typing import Optional
 
 SIGNALS = (signal.SIGINT, signal.SIGTERM, signal.SIGHUP)
 
@@ -23,7 +22,7 @@ class Signals:
         for number in SIGNALS:
             signal.signal(number, self._note)
 
-    def wait(self, seconds: float, descriptor: Optional[int] = None) -> bool:
+    def wait(self, seconds: float, descriptor: int | None = None) -> bool:
         """Waits so long, until a signal comes, or until there is something at the descriptor. Returns whether there
         is."""
         others = [] if descriptor is None else [descriptor]
@@ -32,5 +31,5 @@ class Signals:
             os.read(self._read, 64)
         return descriptor is not None and descriptor in ready
 
-    def _note(self, number: int, frame: Optional[FrameType]) -> None:
+    def _note(self, number: int, frame: FrameType | None) -> None:
         self.count += 1

@@ -18,7 +18,6 @@ import os
 import re
 import time
 from http import HTTPStatus
-from typing import List, Optional
 
 from servicing import metrics
 from servicing.address import Address
@@ -39,12 +38,12 @@ COUNTS = ("offered", "left", "failed", "dead_or_done")  # of the traffic, which 
 class Pages:
     """What a service shows, at an address if there is one, and at the folder's socket."""
 
-    def __init__(self, board: Board, port: int, folder: str, http: Optional[Address]) -> None:
+    def __init__(self, board: Board, port: int, folder: str, http: Address | None) -> None:
         self._reports, self._path, self._http = Reports(), os.path.join(folder, SOCKET), http
         site = Site(board, port, self._reports)
         self._server = HttpServer(site.answer, site.beat)
 
-    def start(self) -> List[str]:
+    def start(self) -> list[str]:
         """Serves from now on. Returns what an operator has to know of that. Raises an `OSError` if the address can't be
         had."""
         warnings = [self._server.listen(self._http).warning] if self._http else []
@@ -66,11 +65,11 @@ class Site:
 
     def __init__(self, board: Board, port: int, reports: Reports) -> None:
         self._board, self._reports, self._trend, self._page = board, reports, Trend(), page(port)
-        self._seen: Optional[State] = None
+        self._seen: State | None = None
         self._changed = time.monotonic()
         self._counted = Traffic()
-        self._told: Optional[Answer] = None  # which is made once, however many ask
-        self._told_of: Optional[State] = None
+        self._told: Answer | None = None  # which is made once, however many ask
+        self._told_of: State | None = None
 
     def beat(self) -> None:
         """Takes note of the present state. To be called about once a second."""
@@ -81,7 +80,7 @@ class Site:
         elif self._is_stale:
             self._told = None
 
-    def answer(self, path: str) -> Optional[Answer]:
+    def answer(self, path: str) -> Answer | None:
         """The answer to a path. None if there is nothing."""
         if path == "/":
             return Answer(HTTPStatus.OK, HTML, self._page)
@@ -116,7 +115,7 @@ class Site:
         why = f"the service has found nothing for {STALE:g} seconds" if self._is_stale else why
         return Answer.line(HTTPStatus.SERVICE_UNAVAILABLE, why)
 
-    def _report(self, state: State, number: int) -> Optional[Answer]:
+    def _report(self, state: State, number: int) -> Answer | None:
         run = next((it for it in state.runs if it.number == number and it.history is not None), None)
         return self._reports.of(run, state.settings) if run else None
 

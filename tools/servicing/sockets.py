@@ -4,7 +4,6 @@ from __future__ import annotations
 import re
 import subprocess
 from dataclasses import dataclass
-from typing import Dict, List, Optional
 
 HOST = "127.0.0.1"
 PATIENCE = 10  # seconds that the command may take
@@ -38,10 +37,10 @@ class Connection:
     is_served: bool  # or it waits until a worker accepts it
     receive_queue: int  # what the client has sent, and the server has not read
     send_queue: int  # what the server has sent, and the client's end has not taken
-    heard: Optional[int]  # since something last came from the client
-    told: Optional[int]  # since something was last sent to it
+    heard: int | None  # since something last came from the client
+    told: int | None  # since something was last sent to it
     owes_reply: bool  # whether a request seems to be under way
-    program: Optional[Program]  # the client, as far as this user may see it
+    program: Program | None  # the client, as far as this user may see it
 
 
 @dataclass(frozen=True)
@@ -49,8 +48,8 @@ class Sockets:
     """What is at the port at one moment."""
 
     is_listening: bool
-    server: Optional[Program]  # as far as this user may see it
-    connections: List[Connection]
+    server: Program | None  # as far as this user may see it
+    connections: list[Connection]
 
 
 def look_at(port: int) -> Sockets:
@@ -73,8 +72,8 @@ def sockets_in(text: str, port: int) -> Sockets:
     """Reads what `ss` printed. A line that begins with a space belongs to the one before."""
     here = f"{HOST}:{port}"
     is_listening, server = False, None
-    ends: List[str] = []
-    clients: Dict[str, Optional[Program]] = {}
+    ends: list[str] = []
+    clients: dict[str, Program | None] = {}
     for line in re.sub(r"\n[ \t]+", " ", text).splitlines():
         words = line.split(None, 5)
         if len(words) < 5:
@@ -89,12 +88,12 @@ def sockets_in(text: str, port: int) -> Sockets:
     return Sockets(is_listening, server, [_connection(it, clients) for it in ends])
 
 
-def _program(line: str) -> Optional[Program]:
+def _program(line: str) -> Program | None:
     found = _PROGRAM.search(line)
     return Program(found[1], int(found[2])) if found else None
 
 
-def _connection(line: str, clients: Dict[str, Optional[Program]]) -> Connection:
+def _connection(line: str, clients: dict[str, Program | None]) -> Connection:
     state, receive_queue, send_queue, _, peer = line.split(None, 5)[:5]
     fields = dict(_FIELD.findall(line))
     has_times = "rto:" in line  # the kernel told about the connection; what is 0 is left out then

@@ -7,7 +7,6 @@ from __future__ import annotations
 
 from dataclasses import dataclass
 from enum import Enum
-from typing import Optional, Tuple
 
 from servicing.clock import Reading
 from servicing.settings import Settings
@@ -54,10 +53,10 @@ class Client:
     """A client's connection. The service's own is not among them."""
 
     port: int  # the client's own
-    program: Optional[str]  # its name, as far as this user may see it
-    pid: Optional[int]
+    program: str | None  # its name, as far as this user may see it
+    pid: int | None
     doing: Doing
-    seconds: Optional[float]  # since something last came from it
+    seconds: float | None  # since something last came from it
     unread_by_client: int  # bytes
     unread_by_server: int  # bytes
 
@@ -66,7 +65,7 @@ class Client:
 class Clients:
     """The clients at the last look."""
 
-    all: Tuple[Client, ...]  # the worst first
+    all: tuple[Client, ...]  # the worst first
     workers: int  # how many clients can be served at once
     silent_from: float  # seconds of silence that count
 
@@ -78,7 +77,7 @@ class Clients:
         return len(self.all) - self.count(Doing.WAITING)
 
     @property
-    def silent(self) -> Tuple[Client, ...]:
+    def silent(self) -> tuple[Client, ...]:
         """Those that have said nothing for so long that it counts, the longest silence first."""
         silent = [it for it in self.all if it.doing is Doing.SILENT and (it.seconds or 0) >= self.silent_from]
         return tuple(sorted(silent, key=lambda it: -(it.seconds or 0)))
@@ -101,7 +100,7 @@ class Queue:
 
     at: float  # when it was looked at
     elements: int  # the depth: expired or not, without those that are set aside
-    head: Optional[Head]  # None if the queue is empty
+    head: Head | None  # None if the queue is empty
 
 
 @dataclass(frozen=True)
@@ -111,10 +110,10 @@ class Supply:
     used: int
     is_least: bool  # whether more may be used than was seen
     limit: int
-    a_second: Optional[float]  # over the last minute
+    a_second: float | None  # over the last minute
 
     @property
-    def lasts(self) -> Optional[float]:
+    def lasts(self) -> float | None:
         """In how many seconds nothing is left at this pace."""
         return max(self.limit - self.used, 0) / self.a_second if self.a_second else None
 
@@ -131,9 +130,9 @@ class Traffic:
     left: int = 0  # elements that were given, removed or cleared
     failed: int = 0  # jobs that came back, in the runs that have ended in good order
     dead_or_done: int = 0  # jobs that were given their last attempt, in those runs
-    offered_a_second: Optional[float] = None  # over the last minute
-    left_a_second: Optional[float] = None
-    failed_a_second: Optional[float] = None  # over the last run that has ended in good order
+    offered_a_second: float | None = None  # over the last minute
+    left_a_second: float | None = None
+    failed_a_second: float | None = None  # over the last run that has ended in good order
 
 
 @dataclass(frozen=True)
@@ -142,19 +141,19 @@ class End:
 
     date: float  # for a lost run, when that was found
     why: Reason
-    calls: Optional[int] = None
-    offered: Optional[int] = None  # new jobs and those that came back
-    failed: Optional[int] = None  # jobs that came back
-    given: Optional[int] = None
-    left: Optional[int] = None  # elements at its end
-    last_attempts: Optional[int] = None  # jobs that were given their last attempt
-    lost_jobs: Optional[int] = None  # held at a session's end in a full run, so that they could not come back
-    closed: Optional[float] = None  # seconds without a server that served new clients, before the next run
-    held_by: Tuple[str, ...] = ()  # the clients that were waited for longest
+    calls: int | None = None
+    offered: int | None = None  # new jobs and those that came back
+    failed: int | None = None  # jobs that came back
+    given: int | None = None
+    left: int | None = None  # elements at its end
+    last_attempts: int | None = None  # jobs that were given their last attempt
+    lost_jobs: int | None = None  # held at a session's end in a full run, so that they could not come back
+    closed: float | None = None  # seconds without a server that served new clients, before the next run
+    held_by: tuple[str, ...] = ()  # the clients that were waited for longest
     cut: int = 0  # sessions that were cut
 
     @property
-    def new_jobs(self) -> Optional[int]:
+    def new_jobs(self) -> int | None:
         return None if self.offered is None or self.failed is None else self.offered - self.failed
 
 
@@ -170,12 +169,12 @@ class Run:
     opening: int  # elements that it began with
     aside: int  # elements beyond the 1,000,000 of an opening, which wait in a file
     calls: int  # for which it has room, and so at most as many ids
-    policy: Tuple[str, ...]  # the words for `replay --chains`
+    policy: tuple[str, ...]  # the words for `replay --chains`
     is_seen: bool = False  # whether the server has shown since when its clock goes
     lost_before: int = 0  # how many runs of the folder were lost before this one
-    server: Optional[int] = None  # the process
-    history: Optional[str] = None  # the path of the file, which ends in .gz if it is compressed, once it is looked for
-    end: Optional[End] = None
+    server: int | None = None  # the process
+    history: str | None = None  # the path of the file, which ends in .gz if it is compressed, once it is looked for
+    end: End | None = None
 
     @property
     def surely_began(self) -> Reading:
@@ -230,18 +229,18 @@ class State:
     began: float  # when the service began
     phase: Phase
     since: float  # when that phase began
-    why: Optional[Reason] = None  # in ENDING, BETWEEN and STOPPED: why the run ends
-    waits_for: Tuple[str, ...] = ()  # what the phase waits for, a text each: clients that hold a run up, a full disk
-    run: Optional[Run] = None
-    queue: Optional[Queue] = None
-    clients: Optional[Clients] = None
-    calls: Optional[Supply] = None
-    sessions: Optional[Supply] = None
+    why: Reason | None = None  # in ENDING, BETWEEN and STOPPED: why the run ends
+    waits_for: tuple[str, ...] = ()  # what the phase waits for, a text each: clients that hold a run up, a full disk
+    run: Run | None = None
+    queue: Queue | None = None
+    clients: Clients | None = None
+    calls: Supply | None = None
+    sessions: Supply | None = None
     traffic: Traffic = Traffic()
-    runs: Tuple[Run, ...] = ()  # those that are kept, the latest first
+    runs: tuple[Run, ...] = ()  # those that are kept, the latest first
     lost_runs: int = 0  # since the folder exists
-    alerts: Tuple[Alert, ...] = ()
-    disk: Optional[DiskFault] = None
+    alerts: tuple[Alert, ...] = ()
+    disk: DiskFault | None = None
 
     @property
     def is_healthy(self) -> bool:
@@ -252,7 +251,7 @@ class State:
 class Board:
     """Holds the latest state, None before the first. The service's own thread puts it there, and any may look at it."""
 
-    state: Optional[State] = None
+    state: State | None = None
 
     def put(self, state: State) -> None:
         self.state = state

@@ -2,7 +2,7 @@
 from __future__ import annotations
 
 import time
-from typing import Iterator, List, Optional, Tuple
+from typing import Iterator
 
 from reporting.tables import table
 from reporting.units import SECOND, counted, span
@@ -15,10 +15,10 @@ STYLES = {Doing.NOT_READING.value: RED, Doing.HUNG_UP.value: RED, Doing.WAITING.
 
 LATE = 1.0  # seconds from which on lateness is marked
 
-Line = Tuple[str, str]  # a style and a text
+Line = tuple[str, str]  # a style and a text
 
 
-def head_lines(told: Told) -> List[Line]:
+def head_lines(told: Told) -> list[Line]:
     """What is told of the service as a whole."""
     why = f" ({told['why']})" if told["why"] else ""
     title = f"port {told['port']}, {told['phase']}{why} for {_span(told['at'] - told['since'])}    {_date(told['at'])}"
@@ -32,7 +32,7 @@ def head_lines(told: Told) -> List[Line]:
     ]
 
 
-def client_lines(told: Told) -> List[Line]:
+def client_lines(told: Told) -> list[Line]:
     """A line for each client, the worst first."""
     clients = told["clients"]["all"] if told["clients"] else []
     if not clients:
@@ -50,7 +50,7 @@ def _attention(told: Told) -> Iterator[Line]:
     yield from [*lines, ("", "")] if lines else []
 
 
-def _clients(clients: Optional[Told]) -> List[Line]:
+def _clients(clients: Told | None) -> list[Line]:
     if not clients:
         return [("", f"{name:10} not known") for name in ("clients", "ill", "silent")]
     workers, longest = counted(clients["workers"], "worker"), clients["longest_silence"]
@@ -63,7 +63,7 @@ def _clients(clients: Optional[Told]) -> List[Line]:
             ("", f"silent     {silent}")]
 
 
-def _queue(queue: Optional[Told], now: float) -> Line:
+def _queue(queue: Told | None, now: float) -> Line:
     if not queue:
         return "", "queue      not answered yet"
     head, said = queue["head"], f"queue      {counted(queue['elements'], 'element')}"
@@ -82,7 +82,7 @@ def _traffic(traffic: Told) -> str:
         "not known yet")
 
 
-def _supply(supply: Optional[Told]) -> str:
+def _supply(supply: Told | None) -> str:
     """How much of something is used, and how long the rest lasts."""
     if not supply:
         return "not known"
@@ -95,7 +95,7 @@ def _supply(supply: Optional[Told]) -> str:
     return ", ".join(parts)
 
 
-def _run(run: Optional[Told]) -> str:
+def _run(run: Told | None) -> str:
     if not run:
         return "none yet"
     aside = f", {counted(run['aside'], 'element waits', 'elements wait')} in a file" if run["aside"] else ""
@@ -109,7 +109,7 @@ def _before(last: Told) -> str:
     return f"run {last['number']} {WHY[Reason(last['why'])][0]}{', '.join(last['says'])}"
 
 
-def _cells(client: Told) -> List[str]:
+def _cells(client: Told) -> list[str]:
     gone = "gone" if client["doing"] == Doing.HUNG_UP.value else "not shown to this user"
     program = gone if client["program"] is None else f"{client['program']} {client['pid']}"
     ago = f"{_span(client['seconds'])} ago" if client["seconds"] is not None else ""

@@ -10,7 +10,6 @@ import signal
 import socket
 import sys
 import time
-from typing import List, Optional
 
 from common.words import give_up_output
 from reporting.units import counted
@@ -43,12 +42,12 @@ class _Connection(http.client.HTTPConnection):
             self.sock.connect(name)
 
 
-def state_in(folder: str) -> Optional[Told]:
+def state_in(folder: str) -> Told | None:
     """The state of the service of a folder, or None before its first. Raises an OSError if no service answers."""
     connection = _Connection(folder)
     try:
         connection.request("GET", "/state.json")
-        told: Optional[Told] = json.loads(connection.getresponse().read())
+        told: Told | None = json.loads(connection.getresponse().read())
         return told
     except (http.client.HTTPException, ValueError) as fault:
         raise OSError(0, f"no service answers there ({fault})") from fault
@@ -77,7 +76,7 @@ def show(folder: str, as_json: bool) -> int:
         return 1
 
 
-def _show_again(folder: str, told: Optional[Told]) -> int:
+def _show_again(folder: str, told: Told | None) -> int:
     """Draws the screen again and again. A service that ends may come back."""
     signal.signal(signal.SIGTERM, lambda *_: sys.exit(128 + signal.SIGTERM))
     try:
@@ -98,7 +97,7 @@ def _show_again(folder: str, told: Optional[Told]) -> int:
         sys.stdout.flush()
 
 
-def frame(told: Optional[Told], is_gone: bool = False) -> str:
+def frame(told: Told | None, is_gone: bool = False) -> str:
     """What is written to the terminal, cut to its size. `is_gone` says that the service does not answer any more."""
     width, height = shutil.get_terminal_size()
     head = head_lines(told) if told else [STARTING]
@@ -110,11 +109,11 @@ def frame(told: Optional[Told], is_gone: bool = False) -> str:
     return HOME + NEXT_LINE.join(drawn) + REST_OF_SCREEN
 
 
-def _lines(told: Optional[Told]) -> List[Line]:
+def _lines(told: Told | None) -> list[Line]:
     return [*head_lines(told), *client_lines(told)] if told else [STARTING]
 
 
-def _fitting(head: List[Line], rows: List[Line], height: int) -> List[Line]:
+def _fitting(head: list[Line], rows: list[Line], height: int) -> list[Line]:
     """As many lines as fit. If rows are left out, the last line says how many."""
     if len(head) + len(rows) <= height:
         return head + rows

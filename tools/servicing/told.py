@@ -6,13 +6,13 @@ from __future__ import annotations
 
 import dataclasses
 from enum import Enum
-from typing import Any, Dict, Iterator
+from typing import Any, Iterator
 
 from reporting.units import SECOND, counted, span
 from servicing.durations import text_of
 from servicing.state import Clients, Doing, End, Reason, Run, State
 
-Told = Dict[str, Any]
+Told = dict[str, Any]
 
 MOST_CLIENTS, MOST_RUNS = 32, 100  # that are told one by one
 MOST_HELD_BY = 2  # clients that held up a run

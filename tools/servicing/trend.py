@@ -2,21 +2,21 @@
 from __future__ import annotations
 
 from collections import deque
-from typing import Deque, Dict, List, NamedTuple, Optional, Sequence
+from typing import NamedTuple, Optional, Sequence
 
 from servicing.state import State
 
 SPAN, BETWEEN = 900.0, 2.0  # seconds that are kept, and from one sample to the next at least
 
-Values = List[Optional[float]]
+Values = list[Optional[float]]
 
 
 class Sample(NamedTuple):
     """What is drawn of one moment."""
 
     at: float
-    elements: Optional[int]
-    late: Optional[float]  # seconds for which the first element has been due; 0 if none is
+    elements: int | None
+    late: float | None  # seconds for which the first element has been due; 0 if none is
     counted_at: float  # when the server last answered, which it is asked more rarely than the system is
     offers: int  # since the service began
     gifts: int
@@ -34,7 +34,7 @@ class Trend:
     """Samples of the last SPAN seconds, at most one for each BETWEEN."""
 
     def __init__(self) -> None:
-        self._samples: Deque[Sample] = deque()
+        self._samples: deque[Sample] = deque()
 
     def add(self, state: State) -> None:
         """Takes a sample. A machine's clock that was set back begins the samples anew."""
@@ -46,7 +46,7 @@ class Trend:
             while samples[0].at < state.at - SPAN:
                 samples.popleft()
 
-    def told(self) -> Dict[str, Values]:
+    def told(self) -> dict[str, Values]:
         """A list for each value, with a place for each sample. Rates are those between the last two counts."""
         at, elements, late, counted_at, offers, gifts = zip(*self._samples) if self._samples else [()] * 6
         return {"at": [round(it, 1) for it in at], "elements": [*elements], "late": [*late],

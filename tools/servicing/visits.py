@@ -6,7 +6,6 @@ import contextlib
 import select
 import socket
 import threading
-from typing import Optional, Set
 
 HOST = "127.0.0.1"
 THREADS = 4
@@ -23,7 +22,7 @@ class Visits:
     tried again after a second, and then ever more rarely. So visits fill half of the room at most.
     """
 
-    def __init__(self, port: int, most: Optional[int] = None, room: int = 0) -> None:
+    def __init__(self, port: int, most: int | None = None, room: int = 0) -> None:
         """Begins at once. With `most` no more than so many sessions are used. `room` is how many connections may wait
         for a worker, if that was changed."""
         self._port, self._most = port, most
@@ -35,7 +34,7 @@ class Visits:
             it.start()
 
     def _run(self) -> None:
-        before: Optional[socket.socket] = None  # the last visit of the batch before
+        before: socket.socket | None = None  # the last visit of the batch before
         while not self._is_over.is_set() and (self._may_begin or before is not None):
             last = self._made() if self._may_begin else None
             if before is not None:
@@ -46,7 +45,7 @@ class Visits:
     def _may_begin(self) -> bool:
         return self._most is None or self.count < self._most
 
-    def _made(self) -> Optional[socket.socket]:
+    def _made(self) -> socket.socket | None:
         """Makes some visits. Returns the last, which stays until it is served, and so the others before it."""
         for left in reversed(range(self._batch)):
             try:
@@ -89,7 +88,7 @@ class Crowd:
         """Begins at once, with none."""
         self._port = port
         self.free = 0  # workers that no client has
-        self.ports: Set[int] = set()  # of all sessions that were begun
+        self.ports: set[int] = set()  # of all sessions that were begun
         self._is_over = threading.Event()
         self._threads = [threading.Thread(target=self._run, args=(it,), name="crowd", daemon=True)
                          for it in range(MOST_AT_ONCE)]

@@ -4,7 +4,7 @@ import unittest
 
 from servicing.clock import elapsed, read_clock
 from servicing.durations import nanoseconds_of, text_of
-from servicing.opening import Opening
+from servicing.opening import Left
 from servicing.runs import Next
 from servicing.tests.support import SECOND, reading
 
@@ -31,7 +31,7 @@ class ClockTest(unittest.TestCase):
         self.assertLess(elapsed(one, two), SECOND)
 
     def test_a_run_begins_at_the_moment_of_the_one_before_plus_the_time_since(self) -> None:
-        following = Next(lambda moment: Opening(0, moment, {}), 5 * SECOND, reading(up=100))
+        following = Next(Left(0, 0, {}), 5 * SECOND, reading(up=100))
         self.assertEqual(following.at(reading(up=112)).moment, 17 * SECOND)
         self.assertEqual(following.at(reading(up=3712)).moment, 3617 * SECOND)
 

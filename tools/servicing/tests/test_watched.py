@@ -112,7 +112,7 @@ class WatchedTest(ServingTest):
         seen = self.see(server, workers=1)
         seen.until(lambda it: it.queue is not None)
         client = self.connect(server, "SIZE")
-        seen.until(lambda it: not seen.own.is_open)
+        seen.until(lambda it: not seen.own.own_port)
         self.assertEqual(client.heard(), "SIZE 0")
         client.hang_up()
         seen.until(lambda it: seen.own.sessions > 1 and seen.own.waits == 0)
