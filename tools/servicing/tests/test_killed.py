@@ -4,6 +4,7 @@ import os
 import signal
 import threading
 import time
+from collections.abc import Callable
 
 from serving.session import Session
 from servicing.tests.process import Service, ServiceTest
@@ -56,8 +57,8 @@ class KilledTest(ServiceTest):
         done: list[str] = []
         offered: list[str] = []
         is_over = threading.Event()
-        clients = [threading.Thread(target=self.produce, args=(offered, is_over)),
-                   threading.Thread(target=self.work, args=(done, is_over))]
+        clients = [threading.Thread(target=self.until_over, args=(is_over, act, them))
+                   for act, them in ((self.produce, offered), (self.drain, done))]
         options = ("--every", "1s", "--wait", "100ms", "--delay", "0s", "--sessions", "600")
         service = self.begin(*options)
         for it in clients:
@@ -79,17 +80,15 @@ class KilledTest(ServiceTest):
         self.assertGreater(len(offered), 100)
         self.assertEqual(sorted(done), sorted(offered))
 
-    def produce(self, offered: list[str], is_over: threading.Event) -> None:
+    def until_over(self, is_over: threading.Event, act: Callable[[list[str]], None], them: list[str]) -> None:
         while not is_over.is_set():
-            name = f"job-{len(offered)}"
-            self.assertRegex(self.ask(f"OFFER 0 {name}")[0], "^OFFERED ")
-            offered.append(name)
+            act(them)
             time.sleep(0.01)
 
-    def work(self, done: list[str], is_over: threading.Event) -> None:
-        while not is_over.is_set():
-            self.drain(done)
-            time.sleep(0.01)
+    def produce(self, offered: list[str]) -> None:
+        name = f"job-{len(offered)}"
+        self.assertRegex(self.ask(f"OFFER 0 {name}")[0], "^OFFERED ")
+        offered.append(name)
 
     def drain(self, done: list[str]) -> None:
         """Does all jobs that are due. Whether one is done is known before it is noted."""

@@ -1,14 +1,12 @@
 """The text for Prometheus, which promtool checks if it is there. The states are written by hand."""
-import dataclasses
 import re
 import shutil
 import subprocess
-from typing import Any
 
 from checking.testing import RoomTest
 from common.program import TOP
 from servicing.metrics import metrics
-from servicing.state import Alert, Queue, State
+from servicing.state import Alert, Queue, State, Supply
 from servicing.tests.states import AT, first_state, state, troubled_state
 
 PROMTOOL = shutil.which("promtool")
@@ -58,7 +56,7 @@ class MetricsTest(RoomTest):
         })
         self.assertEqual((told["up"], told["healthy"], told['phase{phase="starting"}']), (0, 0, 1))
         self.assertEqual(self.told(state(queue=Queue(AT, 0, None)))["head_late_seconds"], 0)
-        self.assertNotIn("run_calls_left_seconds", self.told(state(calls=dataclasses.replace(_calls(), a_second=0.0))))
+        self.assertNotIn("run_calls_left_seconds", self.told(state(calls=Supply(1, False, 9, 0.0))))
 
     def test_what_is_wrong(self) -> None:
         told = self.told(troubled_state(), False)
@@ -97,7 +95,3 @@ class MetricsTest(RoomTest):
         if not PROMTOOL:
             self.skipTest("there is no promtool")
         self.assertNotEqual(promtool("metrics", "no metric\n")[0], 0)
-
-
-def _calls() -> Any:
-    return state().calls

@@ -126,9 +126,14 @@ class ServedTest(RoomTest):
     def setUp(self) -> None:
         super().setUp()
         self.board = Board()
-        self.pages = Pages(self.board, SETTINGS.port, self.room, None)
-        self.assertEqual(self.pages.start(), [])
-        self.addCleanup(self.pages.stop)
+        self.pages = self.serve()
+
+    def serve(self) -> Pages:
+        """Serves what is on the board in the folder."""
+        pages = Pages(self.board, SETTINGS.port, self.room, None)
+        self.assertEqual(pages.start(), [])
+        self.addCleanup(pages.stop)
+        return pages
 
     def show(self, as_json: bool = False) -> tuple[int, str, str]:
         """The status of a view whose output is no terminal, and what it prints."""
@@ -179,9 +184,7 @@ class PrintedTest(ServedTest):
         subprocess.run([sys.executable, "-B", "-c", script, f"{TOP}/tools", self.path("status")], check=True)
         says = f"service: no service answers in {self.room}: Connection refused\n"
         self.assertEqual(self.show(), (1, "", says))
-        pages = Pages(self.board, SETTINGS.port, self.room, None)
-        pages.start()
-        self.addCleanup(pages.stop)
+        self.serve()
         self.assertEqual(self.show()[1], "starting\n")
 
     def test_no_room_for_the_socket(self) -> None:
@@ -218,26 +221,20 @@ class TerminalTest(ServedTest):
         self.pages.stop()
         lines = terminal.lines(lambda lines: lines[0] == "no service answers; this was seen last:")
         self.assertTrue(lines[1].startswith("port 7011, serving"))
-        again = Pages(self.board, SETTINGS.port, self.room, None)
-        again.start()
-        self.addCleanup(again.stop)
+        self.serve()
         terminal.lines(lambda lines: lines[0].startswith("port 7011"))
 
-    def test_ctrl_c(self) -> None:
+    def test_signals(self) -> None:
+        """Ctrl-C and SIGTERM."""
         self.board.put(state())
-        terminal = self.terminal()
-        terminal.lines(lambda lines: lines[0].startswith("port 7011"))
-        terminal.type("\x03")
-        self.assertEqual(terminal.end(), 130)
-        self.assertTrue(terminal.written.endswith("\r\n"))
-        self.assertNotIn("Traceback", terminal.written)
-
-    def test_sigterm(self) -> None:
-        self.board.put(state())
-        terminal = self.terminal()
-        terminal.lines(lambda lines: lines[0].startswith("port 7011"))
-        terminal.process.send_signal(signal.SIGTERM)
-        self.assertEqual(terminal.end(), 143)
+        for stop, status in ((lambda it: it.type("\x03"), 130),
+                             (lambda it: it.process.send_signal(signal.SIGTERM), 143)):
+            terminal = self.terminal()
+            terminal.lines(lambda lines: lines[0].startswith("port 7011"))
+            stop(terminal)
+            self.assertEqual(terminal.end(), status)
+            self.assertTrue(terminal.written.endswith("\r\n"))
+            self.assertNotIn("Traceback", terminal.written)
 
     def test_a_terminal_without_a_service(self) -> None:
         self.pages.stop()
