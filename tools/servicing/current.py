@@ -166,10 +166,10 @@ class Current:
                 self._see(self.looks.see)
                 if not self.looks.ports:
                     self.looks.own.last_call()
-                seconds = now - self._end_began
+                seconds = time.monotonic() - self._end_began  # by now: a look may take long on a busy machine
                 is_over = self._signals.count > 1 or (self._signals.count and seconds >= within)
                 late = self.looks.ports if is_over else self.looks.stayed(within, self._end_began)
-                if late and now - self._cut_at >= CUT:
+                if late and time.monotonic() - self._cut_at >= CUT:
                     self._cut(late)
                 if now - told >= TELL:
                     told = now
