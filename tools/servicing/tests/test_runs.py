@@ -85,7 +85,7 @@ class RunsTest(ServiceTest):
         (folder / "run-3.txt").write_text(history, encoding="ascii")
         service = self.begin()
         self.assertGreaterEqual(self.numbers(self.ask("OFFER 0 new")[0])[0], 1)
-        self.assertEqual(self.ask("SIZE"), ["SIZE 2"])
+        self.until(lambda: self.ask("SIZE") == ["SIZE 2"], "both, and the service's own element no more")
         self.assertEqual(service.all("serving")[0]["run"], "4")
         self.assertEqual((folder / "run-3.txt").read_text(encoding="ascii"), history)
 
