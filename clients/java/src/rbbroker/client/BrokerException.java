@@ -4,7 +4,11 @@ package rbbroker.client;
 public abstract class BrokerException extends RuntimeException {
     private static final long serialVersionUID = 1;
 
-    BrokerException(String text, Throwable cause) {
+    /** Whether the same call may succeed later. */
+    final boolean mayPass;
+
+    BrokerException(String text, boolean mayPass, Throwable cause) {
         super(text, cause);
+        this.mayPass = mayPass;
     }
 }

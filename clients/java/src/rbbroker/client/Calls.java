@@ -9,6 +9,9 @@ import java.util.Collection;
 import java.util.List;
 import java.util.function.Function;
 import java.util.function.Supplier;
+import rbbroker.client.Request.Element;
+import rbbroker.client.Request.Placed;
+import rbbroker.client.Session.Use;
 
 /**
  * Makes the calls of a queue: on some session, again if that is safe, and with the jobs that they give acknowledged as
@@ -21,7 +24,6 @@ final class Calls {
     private static final System.Logger LOG = System.getLogger("rbbroker.client");
     /** The least time from one wait to the next, at a server that gives waits up. */
     private static final long LEAST_WAIT = MILLISECONDS.toNanos(20);
-
     /** What is offered and removed at once, to be told the server's moment, and a delay of 146 years for that. */
     private static final String PROBE = "rbbroker.client-asks-for-the-moment";
     private static final long LONGEST_DELAY = Long.MAX_VALUE / 2;
@@ -30,7 +32,7 @@ final class Calls {
     private final Runs runs;
     private final SessionPool pool;
 
-    /** What one wait brought: a job, or nothing; and whether it lasted to the end of the time that is left. */
+    /** What one wait brought: a job, or nothing; and whether no other one follows. */
     private record Waited(Job job, boolean isLast) { }
 
     /** How many jobs a drain added to the collection, and what the collection threw then. */
@@ -42,53 +44,47 @@ final class Calls {
         pool = new SessionPool(options, runs);
     }
 
+    /** Makes a call that gives what the server answers. */
+    <T> T ask(Use use, Request<T> request) {
+        return make(use, session -> session.ask(request));
+    }
+
     /** Offers a job, which has an id and an expiry then. */
     void offer(Job job) {
-        make(SessionPool.Use.CALL, false, session -> {
+        make(Use.CHANGE, session -> {
             long deadline = job.deadline();
             long delay = deadline - System.nanoTime();
             // A job that is overdue keeps its place before those that are less so. That takes the server's clock, as
             // this session told it: by another server's clock the job might come late.
-            boolean isPlaced = delay < 0 && session.contact().isTold();
-            job.isOffered(isPlaced ? session.ask(Request.offerAt(runs.clock().momentOf(deadline), job.payload()))
-                : offerIn(session, Math.max(0, delay), job.payload()), session.contact());
+            boolean isPlaced = delay < 0 && session.contact.isTold;
+            job.isOffered(isPlaced ? session.ask(Request.offerAt(runs.clock.momentOf(deadline), job.payload()))
+                : offerIn(session, Math.max(0, delay), job.payload()), session.contact);
             return null;
         });
     }
 
-    /** Makes a call that takes no job, and is not made again if it is in doubt. */
-    <T> T change(Request<T> request) {
-        return make(SessionPool.Use.CALL, false, session -> session.ask(request));
-    }
-
-    /** Makes a call that changes nothing. */
-    <T> T look(Request<T> request) {
-        return make(SessionPool.Use.CALL, true, session -> session.look(request));
-    }
-
     /** The head of the queue, or null if the queue is empty. */
     Job peek() {
-        return make(SessionPool.Use.CALL, true, session -> {
-            Element element = session.look(Request.peek());
-            return element == null ? null : new Job(element, session.contact(), false);
+        return make(Use.LOOK, session -> {
+            Element element = session.ask(Request.PEEK);
+            return element == null ? null : new Job(element, session.contact, false);
         });
     }
 
     /** Takes the job of this id out of the queue, if a server has it that surely continues the run of that contact. */
     boolean remove(long id, Contact contact) {
-        return make(() -> pool.lend(contact), SessionPool.Use.CALL, false,
+        return make(() -> pool.lend(contact), Use.CHANGE,
             session -> hasRunOf(contact, session) && session.ask(Request.remove(id)));
     }
 
     private boolean hasRunOf(Contact contact, Session session) {
-        if (session.contact() == contact) {
+        if (session.contact == contact) {
             return true;
         }
-        if (!session.contact().isTold()) {
-            Replies.Placed probe = offerIn(session, LONGEST_DELAY, PROBE);
-            session.ask(Request.remove(probe.id()));
+        if (!session.contact.isTold) {
+            session.ask(Request.remove(offerIn(session, LONGEST_DELAY, PROBE).id()));
         }
-        boolean isKnown = runs.isKnownToContinue(session.contact(), contact);
+        boolean isKnown = runs.isKnownToContinue(session.contact, contact);
         if (!isKnown) {
             LOG.log(Level.WARNING, "a job is not removed: the server at {0} may have lost the run that has it",
                 options.address());
@@ -98,36 +94,27 @@ final class Calls {
 
     /** Takes a job that has expired, or gives null if there is none. */
     Job poll() {
-        return unlessClosed(make(SessionPool.Use.TAKE, true, session -> {
-            Element element = session.ask(Request.poll());
-            return element == null ? null : taken(session, element);
-        }));
+        return unlessClosed(make(Use.TAKE, session -> taken(session, session.ask(Request.POLL))));
     }
 
     /** Takes a job, and waits for one up to {@code timeout}. Gives null if none expired by then. */
     Job poll(long timeout) throws InterruptedException {
-        long nanos = Math.max(0, timeout);
-        long begun = System.nanoTime();
-        Tries tries = new Tries(options.patience());
+        long deadline = System.nanoTime() + Math.max(0, timeout);
+        Tries tries = new Tries(Use.WAIT, options.patience());
         while (true) {
             if (Thread.interrupted()) {
                 throw new InterruptedException();
             }
-            if (nanos - (System.nanoTime() - begun) <= 0) {
+            if (deadline - System.nanoTime() <= 0) {
                 return poll();
             }
             try {
-                Waited waited = waitOnce(begun, nanos);
-                if (waited.job != null || waited.isLast) {
+                Waited waited = waitOnce(deadline);
+                if (waited.isLast) {
                     return unlessClosed(waited.job);
                 }
-                tries.succeed();
-            } catch (FullException | NoMemoryException fault) {
-                tries.pauseAfter(fault);
-            } catch (ServerLostException fault) {
-                if (!fault.mayPass()) {
-                    throw fault;
-                }
+                tries = new Tries(Use.WAIT, options.patience());
+            } catch (BrokerException fault) {
                 tries.pauseAfter(fault);
             }
         }
@@ -137,8 +124,8 @@ final class Calls {
     int drainTo(Collection<? super Job> jobs, int most) {
         int count = 0;
         while (count < most) {
-            int asked = Math.min(most - count, Limits.MOST_HELD);
-            Drained drained = make(SessionPool.Use.TAKE, true, session -> drain(session, jobs, asked));
+            int asked = Math.min(most - count, Session.MOST_HELD);
+            Drained drained = make(Use.TAKE, session -> drain(session, jobs, asked));
             if (drained.fault != null) {
                 throw drained.fault;
             }
@@ -154,38 +141,32 @@ final class Calls {
         pool.close();
     }
 
-    private <T> T make(SessionPool.Use use, boolean mayRepeat, Function<Session, T> exchange) {
-        return make(() -> pool.lend(use), use, mayRepeat, exchange);
+    private <T> T make(Use use, Function<Session, T> exchange) {
+        return make(() -> pool.lend(use), use, exchange);
     }
 
-    private <T> T make(Supplier<Session> lender, SessionPool.Use use, boolean mayRepeat,
-            Function<Session, T> exchange) {
-        Tries tries = new Tries(options.patience());
+    private <T> T make(Supplier<Session> lender, Use use, Function<Session, T> exchange) {
+        Tries tries = new Tries(use, options.patience());
         while (true) {
             try {
                 Session session = lender.get();
                 try {
                     return exchange.apply(session);
                 } finally {
-                    pool.giveBack(session, use);
+                    pool.giveBack(session);
                 }
-            } catch (FullException | NoMemoryException fault) {
-                tries.pauseUnlessInterrupted(fault);
-            } catch (ServerLostException fault) {
-                if (!fault.mayPass() || fault.isInDoubt() && !mayRepeat) {
-                    throw fault;
-                }
-                tries.pauseUnlessInterrupted(fault);
+            } catch (BrokerException fault) {
+                tries.pauseAfter(fault);
             }
         }
     }
 
     /** Makes an offer, whose reply tells the server's moment. */
-    private Replies.Placed offerIn(Session session, long delay, String payload) {
+    private Placed offerIn(Session session, long delay, String payload) {
         long sent = System.nanoTime();
-        Replies.Placed placed = session.ask(Request.offer(delay, payload));
+        Placed placed = session.ask(Request.offer(delay, payload));
         Contact.Told told = new Contact.Told(placed.id(), placed.expiry() - delay);
-        runs.tell(session.contact(), told, sent, System.nanoTime());
+        runs.tell(session.contact, told, sent, System.nanoTime());
         return placed;
     }
 
@@ -193,50 +174,50 @@ final class Calls {
      * Waits at the server once, for a short time. An interrupt meanwhile is put off: when the reply is there, the
      * thread has the job or none is held for it.
      */
-    private Waited waitOnce(long begun, long nanos) throws InterruptedException {
-        long left = nanos - (System.nanoTime() - begun);
-        Session session = pool.lendToWait(Math.min(left, options.longestWait()));
+    private Waited waitOnce(long deadline) throws InterruptedException {
+        long left = deadline - System.nanoTime();
+        Session session = pool.lend(Use.WAIT, Math.min(left, options.longestWait()));
         if (session == null) {
             return new Waited(null, false);
         }
         long asked = System.nanoTime();
-        Replies.Awaited awaited;
-        long wait;
+        left = Math.max(0, deadline - asked);
+        long wait = Math.min(left, options.longestWait());
+        boolean isGivenUp;
         try {
-            left = Math.max(0, nanos - (asked - begun));
-            wait = Math.min(left, options.longestWait());
-            awaited = session.askWaiting(Request.pollFor(wait), wait);
-            if (awaited.element() != null) {
-                return new Waited(taken(session, awaited.element()), false);
+            Request.Awaited awaited = session.ask(Request.pollFor(wait));
+            Job job = taken(session, awaited.element());
+            if (job != null) {
+                return new Waited(job, true);
             }
+            isGivenUp = awaited.isGivenUp();
         } finally {
-            pool.giveBack(session, SessionPool.Use.WAIT);
+            pool.giveBack(session);
         }
-        if (awaited.isGivenUp()) {
+        if (isGivenUp) {
             NANOSECONDS.sleep(Math.min(left, LEAST_WAIT - (System.nanoTime() - asked)));
         }
-        return new Waited(null, wait == left && !awaited.isGivenUp());
+        return new Waited(null, wait == left && !isGivenUp);
     }
 
-    /** The job that a session was given. */
+    /** The job that a session was given by a call that takes one, or null if it was given none. */
     private Job taken(Session session, Element element) {
-        Job job = given(session, element);
-        if (options.acknowledge() == Acknowledge.BY_CALL) {
-            return job.heldBy(new HeldJob(pool, session, element.id()));
+        Job job = element == null ? null : given(session, element);
+        if (job != null && options.acknowledge() == Acknowledge.ON_TAKE) {
+            settle(session, List.of(Request.done(element.id())));
         }
-        settle(session, List.of(Request.done(element.id())));
-        return job.heldBy(Holding.ACKNOWLEDGED);
+        return job;
     }
 
     private Drained drain(Session session, Collection<? super Job> jobs, int asked) {
         List<Element> elements = session.ask(Request.drain(asked));
-        if (elements.isEmpty() && session.held().size() >= Limits.MOST_HELD) {
+        if (elements.isEmpty() && session.held.size() >= Session.MOST_HELD) {
             throw new TooManyHeldException();
         }
         int count = 0;
         try {
             for (Element element : elements) {
-                jobs.add(drained(session, element));
+                jobs.add(given(session, element));
                 count++;
             }
             return new Drained(count, null);
@@ -247,44 +228,71 @@ final class Calls {
         }
     }
 
-    private Job drained(Session session, Element element) {
-        boolean isHeld = options.acknowledge() == Acknowledge.BY_CALL;
-        return given(session, element)
-            .heldBy(isHeld ? new HeldJob(pool, session, element.id()) : Holding.ACKNOWLEDGED);
-    }
-
-    private Job given(Session session, Element element) {
-        runs.clock().hasReached(element.expiry(), System.nanoTime());
-        return new Job(element, session.contact(), true);
-    }
-
     /** Acknowledges the drained jobs that the collection has, if that is due, and fails the others: they come back. */
     private void settleDrained(Session session, List<Element> elements, int count) {
-        List<Request<Boolean>> answers = new ArrayList<>();
-        for (Element element : elements.subList(0, count)) {
-            if (options.acknowledge() == Acknowledge.ON_TAKE) {
-                answers.add(Request.done(element.id()));
-            }
+        List<Request<Placed>> answers = new ArrayList<>();
+        if (options.acknowledge() == Acknowledge.ON_TAKE) {
+            elements.subList(0, count).forEach(it -> answers.add(Request.done(it.id())));
         }
         for (Element element : elements.subList(count, elements.size())) {
-            session.held().remove(element.id());
+            session.held.remove(element.id());
             answers.add(Request.fail(element.id()));
         }
         settle(session, answers);
     }
 
     /** Answers jobs that the caller has already, or never gets. No fault of that is the caller's. */
-    private void settle(Session session, List<Request<Boolean>> answers) {
+    private void settle(Session session, List<Request<Placed>> answers) {
         try {
-            session.askAll(answers);
+            if (!answers.isEmpty()) {
+                session.askAll(answers, 0);
+            }
         } catch (BrokerException fault) {
             LOG.log(Level.WARNING, "a job that was taken may be given again: {0}", fault.getMessage());
         }
     }
 
+    /** The job of an element that a session was given, which holds it unless it is acknowledged when it is taken. */
+    private Job given(Session session, Element element) {
+        runs.clock.hasReached(element.expiry(), System.nanoTime());
+        Job job = new Job(element, session.contact, true);
+        if (options.acknowledge() == Acknowledge.ON_TAKE) {
+            return job.heldBy(Calls::answerAcknowledged);
+        }
+        session.held.add(element.id());
+        return job.heldBy(isDone -> answer(session, element.id(), isDone));
+    }
+
+    private static boolean answerAcknowledged(boolean isDone) {
+        if (!isDone) {
+            throw new NotHeldException("the job was acknowledged when it was taken");
+        }
+        return false;
+    }
+
+    /** Answers a job on the session that holds it. Gives whether it comes back. */
+    private boolean answer(Session session, long id, boolean isDone) {
+        pool.lend(session, id);
+        try {
+            Placed again = session.ask(isDone ? Request.done(id) : Request.fail(id));
+            session.held.remove(id);
+            return again != null;
+        } catch (FullException full) {
+            // Only a failure is refused so. The job can't come back, and its session need not be kept for it.
+            session.held.remove(id);
+            String name = Long.toUnsignedString(id);
+            throw new FullException("the run takes no failed job back, so job " + name + " is gone");
+        } catch (NotHeldException refusal) {
+            session.held.remove(id);
+            throw refusal;
+        } finally {
+            pool.giveBack(session);
+        }
+    }
+
     /** The job, unless the queue was closed meanwhile, by which a job that is held went back. */
     private Job unlessClosed(Job job) {
-        if (job != null && options.acknowledge() == Acknowledge.BY_CALL && pool.isClosed()) {
+        if (job != null && options.acknowledge() == Acknowledge.BY_CALL && pool.isClosed) {
             throw new IllegalStateException("the queue was closed, and the job that it took went back");
         }
         return job;

@@ -14,15 +14,19 @@ final class Contact {
     /** The clocks of two machines drift by a nanosecond in this many, at the most. */
     private static final int DRIFT = 4_096;
 
-    private final ServerClock clock;
-    private final Map<Integer, Told> before;
+    final ServerClock clock;
+    /** What was told last of each queue before the session began. */
+    final Map<Integer, Told> before;
     private final long since = System.nanoTime();
     private volatile long until = since;
-    private volatile boolean isTold;
+    /** Whether the server's moment was told. */
+    volatile boolean isTold;
     private volatile long least;
     private volatile long most;
-    private volatile AtomicBoolean isLost;
-    private volatile Contact continuedBy;
+    /** Whether the run that it showed first was lost. */
+    volatile AtomicBoolean isLost;
+    /** A later contact, whose server has all that the one here had. */
+    volatile Contact continuedBy;
 
     /** An id that a server gave, and its moment then. Both are unsigned. */
     record Told(long id, long moment) {
@@ -50,28 +54,9 @@ final class Contact {
         this.before = Map.copyOf(before);
     }
 
-    ServerClock clock() {
-        return clock;
-    }
-
-    /** What was told of the same queue before the session began, or null. */
-    Told before(Told told) {
-        return before.get(told.queue());
-    }
-
     /** A request that was sent at this time was answered. */
     void answered(long sent) {
         until = sent;
-    }
-
-    /** Whether the server's moment was told. */
-    boolean isTold() {
-        return isTold;
-    }
-
-    /** The server has told its moment for the first time, in a run of which this says whether it was lost. */
-    void isIn(AtomicBoolean run) {
-        isLost = run;
     }
 
     /** The server's clock read {@code moment} at some time between these two. */
@@ -96,12 +81,7 @@ final class Contact {
             && least - earlier.most < lasted;
     }
 
-    /** The server of a later contact has all that the one here had. */
-    void isContinuedBy(Contact later) {
-        continuedBy = later;
-    }
-
-    /** The last contact of which that is known, from one to the next. */
+    /** The last contact that is known to continue it, from one to the next. */
     Contact last() {
         Contact last = this;
         while (last.continuedBy != null) {

@@ -8,10 +8,9 @@ package rbbroker.client;
  */
 public final class FullException extends RefusedException {
     static final String REPLY = "ERR 6 full";
-
     private static final long serialVersionUID = 1;
 
     FullException(String why) {
-        super(REPLY, why);
+        super(REPLY, why, true);
     }
 }

@@ -5,6 +5,8 @@ import static java.util.concurrent.TimeUnit.NANOSECONDS;
 import java.time.Duration;
 import java.util.concurrent.Delayed;
 import java.util.concurrent.TimeUnit;
+import java.util.regex.Pattern;
+import rbbroker.client.Request.Element;
 
 /**
  * An element of a {@link RemoteDelayQueue}: a payload and the delay after which it may be taken.
@@ -18,21 +20,34 @@ import java.util.concurrent.TimeUnit;
  * <p>Jobs can be elements of {@link java.util.concurrent.DelayQueue} too. Any thread may use any job.
  */
 public final class Job implements Delayed {
+    private static final Pattern PAYLOAD = Pattern.compile(Request.PAYLOAD);
     /** The most that a job which is made may be late. */
     private static final long LONGEST_AGO = Long.MIN_VALUE / 2;
 
-    private final String payload;
-    /** When it expires by {@link System#nanoTime}, unless a server's queue has it. */
-    private final long deadline;
     private volatile Place place;
-    private volatile Holding holding;
+    private volatile Holding holding = isDone -> {
+        throw new NotHeldException("the job was not taken");
+    };
 
-    /** Where a server's queue has a job, or had it before it was given. */
-    private record Place(Contact contact, long id, long expiry, int attempt, boolean hasExpired) {
+    /**
+     * Where a server's queue has a job, or had it before it was given. Without a contact the job was not offered, and
+     * the deadline is when it expires by {@link System#nanoTime}.
+     */
+    private record Place(Contact contact, Element element, long deadline, boolean hasExpired) {
+        /** The nanoseconds until the job expires. */
         long delay() {
-            long delay = contact.clock().until(expiry);
+            long delay = hasContact() ? contact.clock.until(element.expiry()) : deadline - System.nanoTime();
             return hasExpired ? Math.min(0, delay) : delay;
         }
+
+        boolean hasContact() {
+            return contact != null;
+        }
+    }
+
+    /** What answers a job that was taken: that it is done, or failed. Gives whether it comes back. */
+    interface Holding {
+        boolean answer(boolean isDone);
     }
 
     /**
@@ -60,18 +75,15 @@ public final class Job implements Delayed {
 
     /** Makes a job that expires at this time of {@link System#nanoTime}. */
     Job(String payload, long deadline) {
-        if (!Limits.isPayload(payload)) {
+        if (!PAYLOAD.matcher(payload).matches()) {
             throw new IllegalArgumentException("a payload is 1 to 64 characters of printable ASCII without spaces");
         }
-        this.payload = payload;
-        this.deadline = deadline;
+        place = new Place(null, new Element(0, 0, 1, payload), deadline, false);
     }
 
     /** Makes a job that a server's queue has shown, or has given. */
     Job(Element element, Contact contact, boolean hasExpired) {
-        payload = element.payload();
-        deadline = 0;
-        place = new Place(contact, element.id(), element.expiry(), element.attempt(), hasExpired);
+        place = new Place(contact, element, 0, hasExpired);
     }
 
     /**
@@ -80,7 +92,7 @@ public final class Job implements Delayed {
      * @return 1 to 64 characters of printable ASCII, none of which is a space
      */
     public String payload() {
-        return payload;
+        return place.element.payload();
     }
 
     /**
@@ -91,7 +103,7 @@ public final class Job implements Delayed {
      * @throws IllegalStateException if the job has not been offered
      */
     public long id() {
-        return offeredPlace().id;
+        return offered().id();
     }
 
     /**
@@ -101,7 +113,7 @@ public final class Job implements Delayed {
      * @throws IllegalStateException if the job has not been offered
      */
     public long expiryNanos() {
-        return offeredPlace().expiry;
+        return offered().expiry();
     }
 
     /**
@@ -110,8 +122,7 @@ public final class Job implements Delayed {
      * @return 1 for a job that has not failed, 1,000 at most
      */
     public int attempt() {
-        Place here = place;
-        return here == null ? 1 : here.attempt;
+        return place.element.attempt();
     }
 
     /**
@@ -126,7 +137,7 @@ public final class Job implements Delayed {
      */
     @Override
     public long getDelay(TimeUnit unit) {
-        return unit.convert(delay(), NANOSECONDS);
+        return unit.convert(place.delay(), NANOSECONDS);
     }
 
     /**
@@ -135,19 +146,19 @@ public final class Job implements Delayed {
      */
     @Override
     public int compareTo(Delayed other) {
-        if (!(other instanceof Job that)) {
-            return Long.compare(delay(), other.getDelay(NANOSECONDS));
-        }
         Place here = place;
+        if (!(other instanceof Job that)) {
+            return Long.compare(here.delay(), other.getDelay(NANOSECONDS));
+        }
         Place there = that.place;
-        if (here == null && there == null) {
+        if (!here.hasContact() && !there.hasContact()) {
             long now = System.nanoTime();
-            return Long.compare(deadline - now, that.deadline - now);
+            return Long.compare(here.deadline - now, there.deadline - now);
         }
-        if (here != null && there != null && here.contact.clock() == there.contact.clock()) {
-            return Long.compareUnsigned(here.expiry, there.expiry);
+        if (here.hasContact() && there.hasContact() && here.contact.clock == there.contact.clock) {
+            return Long.compareUnsigned(here.element.expiry(), there.element.expiry());
         }
-        return Long.compare(delay(), that.delay());
+        return Long.compare(here.delay(), there.delay());
     }
 
     /**
@@ -159,7 +170,7 @@ public final class Job implements Delayed {
      *         that the job is done, otherwise the job comes back as its next attempt
      */
     public void done() {
-        answering().done();
+        holding.answer(true);
     }
 
     /**
@@ -174,7 +185,7 @@ public final class Job implements Delayed {
      * @throws ServerLostException if the session that held the job has ended, by which the job failed
      */
     public boolean fail() {
-        return answering().fail();
+        return holding.answer(false);
     }
 
     /**
@@ -188,27 +199,26 @@ public final class Job implements Delayed {
         }
         Place here = place;
         Place there = that.place;
-        return this == that || here != null && there != null && here.id == there.id && here.expiry == there.expiry
-            && here.attempt == there.attempt && payload.equals(that.payload);
+        return this == that || here.hasContact() && there.hasContact() && here.element.equals(there.element);
     }
 
     /** The hash code of the payload, which an offer does not change. */
     @Override
     public int hashCode() {
-        return payload.hashCode();
+        return payload().hashCode();
     }
 
     /** The payload with the job's id and attempt, if it was offered. */
     @Override
     public String toString() {
         Place here = place;
-        return here == null ? "job " + payload + ", not offered"
-            : "job " + payload + ", id " + Long.toUnsignedString(here.id) + ", attempt " + here.attempt;
+        return "job " + here.element.payload() + (here.hasContact() ? ", id "
+            + Long.toUnsignedString(here.element.id()) + ", attempt " + here.element.attempt() : ", not offered");
     }
 
     /** A server's queue has accepted it. */
-    void isOffered(Replies.Placed placed, Contact contact) {
-        place = new Place(contact, placed.id(), placed.expiry(), 1, false);
+    void isOffered(Request.Placed placed, Contact contact) {
+        place = new Place(contact, new Element(placed.id(), placed.expiry(), 1, payload()), 0, false);
     }
 
     /** It was taken, and this answers it. */
@@ -220,34 +230,20 @@ public final class Job implements Delayed {
     /** Takes it out of the queue of these calls. Gives whether it was there. */
     boolean remove(Calls calls) {
         Place here = place;
-        return here != null && calls.remove(here.id, here.contact);
+        return here.hasContact() && calls.remove(here.element.id(), here.contact);
     }
 
     /** When it expires by {@link System#nanoTime}. */
     long deadline() {
         Place here = place;
-        return here == null ? deadline : System.nanoTime() + here.delay();
+        return here.hasContact() ? System.nanoTime() + here.delay() : here.deadline;
     }
 
-    /** The nanoseconds until it expires. */
-    private long delay() {
+    private Element offered() {
         Place here = place;
-        return here == null ? deadline - System.nanoTime() : here.delay();
-    }
-
-    private Place offeredPlace() {
-        Place here = place;
-        if (here == null) {
+        if (!here.hasContact()) {
             throw new IllegalStateException("the job has not been offered");
         }
-        return here;
-    }
-
-    private Holding answering() {
-        Holding here = holding;
-        if (here == null) {
-            throw new NotHeldException("the job was not taken");
-        }
-        return here;
+        return here.element;
     }
 }

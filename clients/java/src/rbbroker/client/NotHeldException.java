@@ -6,10 +6,9 @@ package rbbroker.client;
  */
 public final class NotHeldException extends RefusedException {
     static final String REPLY = "ERR 5 not-held";
-
     private static final long serialVersionUID = 1;
 
     NotHeldException(String why) {
-        super(REPLY, why);
+        super(REPLY, why, false);
     }
 }

@@ -12,8 +12,8 @@ public class RefusedException extends BrokerException {
     /** The reply line. */
     private final String reply;
 
-    RefusedException(String reply, String why) {
-        super(reply + ": " + why, null);
+    RefusedException(String reply, String why, boolean mayPass) {
+        super(reply + ": " + why, mayPass, null);
         this.reply = reply;
     }
 
@@ -35,7 +35,7 @@ public class RefusedException extends BrokerException {
             case NoMemoryException.REPLY -> new NoMemoryException();
             case TooManyHeldException.REPLY -> new TooManyHeldException();
             case "ERR 1 syntax", "ERR 2 number", "ERR 4 payload", "ERR 8 line" ->
-                new RefusedException(reply, "the server refused the form of a request");
+                new RefusedException(reply, "the server refused the form of a request", false);
             default -> null;
         };
     }

@@ -8,10 +8,6 @@ import java.util.Objects;
 import java.util.Spliterator;
 import java.util.concurrent.BlockingQueue;
 import java.util.concurrent.TimeUnit;
-import java.util.function.Consumer;
-import java.util.function.IntFunction;
-import java.util.function.Predicate;
-import java.util.stream.Stream;
 import javax.net.ssl.SSLSocketFactory;
 
 /**
@@ -42,7 +38,8 @@ import javax.net.ssl.SSLSocketFactory;
  * {@link IllegalStateException} once the queue is closed.
  *
  * <p><b>What can't be had.</b> The server shows no element other than the head, so there is no iteration, no array, no
- * stream and no {@code contains}. They throw {@link UnsupportedOperationException}.
+ * stream and no {@code contains}. They throw {@link UnsupportedOperationException}, and so do {@code containsAll},
+ * {@code retainAll}, {@code removeIf}, {@code forEach} and {@code spliterator}.
  */
 public final class RemoteDelayQueue extends AbstractQueue<Job> implements BlockingQueue<Job>, AutoCloseable {
     private final Options options;
@@ -355,19 +352,14 @@ public final class RemoteDelayQueue extends AbstractQueue<Job> implements Blocki
      */
     @Override
     public void clear() {
-        calls.change(Request.clear());
+        calls.ask(Session.Use.CHANGE, Request.CLEAR);
     }
 
     /** How many jobs are in the queue, expired or not. Held jobs are not. */
     @Override
     public int size() {
-        long size = calls.look(Request.size());
+        long size = calls.ask(Session.Use.LOOK, Request.SIZE);
         return size < 0 ? Integer.MAX_VALUE : (int) Math.min(size, Integer.MAX_VALUE);
-    }
-
-    @Override
-    public boolean isEmpty() {
-        return calls.peek() == null;
     }
 
     /** Always {@code Integer.MAX_VALUE}: an offer waits for no room. How many calls a run has left is not told. */
@@ -443,103 +435,27 @@ public final class RemoteDelayQueue extends AbstractQueue<Job> implements Blocki
         return contains(jobs);
     }
 
-    /**
-     * Can't be had: the server shows the head alone.
-     *
-     * @throws UnsupportedOperationException always
-     */
-    @Override
-    public boolean retainAll(Collection<?> jobs) {
-        throw onlyHeadShown();
-    }
-
-    /**
-     * Can't be had: the server shows the head alone.
-     *
-     * @throws UnsupportedOperationException always
-     */
-    @Override
-    public boolean removeIf(Predicate<? super Job> filter) {
-        throw onlyHeadShown();
-    }
-
-    /**
-     * Can't be had: the server shows the head alone.
-     *
-     * @throws UnsupportedOperationException always
-     */
+    /** Can't be had, and throws {@link UnsupportedOperationException}: the server shows the head alone. */
     @Override
     public Iterator<Job> iterator() {
         throw onlyHeadShown();
     }
 
-    /**
-     * Can't be had: the server shows the head alone.
-     *
-     * @throws UnsupportedOperationException always
-     */
+    /** Can't be had, and throws {@link UnsupportedOperationException}: the server shows the head alone. */
     @Override
     public Spliterator<Job> spliterator() {
         throw onlyHeadShown();
     }
 
-    /**
-     * Can't be had: the server shows the head alone.
-     *
-     * @throws UnsupportedOperationException always
-     */
-    @Override
-    public Stream<Job> stream() {
-        throw onlyHeadShown();
-    }
-
-    /**
-     * Can't be had: the server shows the head alone.
-     *
-     * @throws UnsupportedOperationException always
-     */
-    @Override
-    public Stream<Job> parallelStream() {
-        throw onlyHeadShown();
-    }
-
-    /**
-     * Can't be had: the server shows the head alone.
-     *
-     * @throws UnsupportedOperationException always
-     */
-    @Override
-    public void forEach(Consumer<? super Job> action) {
-        throw onlyHeadShown();
-    }
-
-    /**
-     * Can't be had: the server shows the head alone.
-     *
-     * @throws UnsupportedOperationException always
-     */
+    /** Can't be had, and throws {@link UnsupportedOperationException}: the server shows the head alone. */
     @Override
     public Object[] toArray() {
         throw onlyHeadShown();
     }
 
-    /**
-     * Can't be had: the server shows the head alone.
-     *
-     * @throws UnsupportedOperationException always
-     */
+    /** Can't be had, and throws {@link UnsupportedOperationException}: the server shows the head alone. */
     @Override
     public <T> T[] toArray(T[] jobs) {
-        throw onlyHeadShown();
-    }
-
-    /**
-     * Can't be had: the server shows the head alone.
-     *
-     * @throws UnsupportedOperationException always
-     */
-    @Override
-    public <T> T[] toArray(IntFunction<T[]> generator) {
         throw onlyHeadShown();
     }
 

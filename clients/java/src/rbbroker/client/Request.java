@@ -1,88 +1,155 @@
 package rbbroker.client;
 
 import java.io.IOException;
+import java.net.ProtocolException;
+import java.util.ArrayList;
 import java.util.List;
+import java.util.function.Function;
+import java.util.regex.MatchResult;
+import java.util.regex.Matcher;
+import java.util.regex.Pattern;
 
-/** A request: its line without the line feed, and what reads its reply. */
-record Request<T>(String line, Reader<T> reader) {
-    /** Gives the lines of a reply, one after the other. */
-    interface Lines {
-        /** The next line, without its line feed. */
-        String next() throws IOException;
-    }
+/**
+ * A request: its line without the line feed, how many nanoseconds it may wait at the server, the form of the first line
+ * of its reply, and what reads that line and those that follow.
+ *
+ * <p>Replies are read as strictly as the protocol has them: one space between two words, numbers without leading zeros,
+ * payloads of printable ASCII. Ids and moments are unsigned.
+ */
+record Request<T>(String line, long longestWait, Pattern form, Reader<T> reader) {
+    static final String PAYLOAD = "[!-~]{1,64}";
 
-    /**
-     * Reads one reply. Throws a {@link RefusedException}, or a {@link java.net.ProtocolException} if it is no such
-     * reply.
-     */
-    interface Reader<T> {
-        T read(Lines lines) throws IOException;
-    }
+    private static final Pattern OFFERED = form("OFFERED # #");
+    private static final Pattern AWAITED = form("ITEM @|NONE|STOPPED");
+    private static final Pattern DRAINED = form("DRAINED ([1-5]?[0-9]|6[0-4])");
+    private static final Pattern ITEM = form("ITEM @");
+    private static final Pattern REMOVED = form("REMOVED (yes|no)");
+    private static final Pattern DONE = form("DONE #");
+    private static final Pattern FAILED = form("AGAIN # #|DEAD #");
 
     /** Of no effect and no call: the {@code AT} that a server refuses. Its reply tells that the session is served. */
-    static Request<Void> greeting() {
-        return new Request<>("AT 0", Replies::greeting);
+    static final Request<Long> GREETING = of("AT 0", form("ERR 1 syntax|NOW #"), it -> number(it, 1));
+    /** Takes a job that has expired, or gives null. */
+    static final Request<Element> POLL = of("POLL", form("ITEM @|NONE"), Request::element);
+    /** Shows the head, or gives null. */
+    static final Request<Element> PEEK = of("PEEK", form("HEAD @|NONE"), Request::element);
+    /** Takes all elements out of the queue. */
+    static final Request<Void> CLEAR = of("CLEAR", form("CLEARED"), it -> null);
+    /** Counts the elements in the queue. */
+    static final Request<Long> SIZE = of("SIZE", form("SIZE #"), it -> number(it, 1));
+    /** Ends the session. */
+    static final Request<Void> QUIT = of("QUIT", form("BYE"), it -> null);
+
+    /** Reads a reply, whose first line is of the right form. Further ones can be received. */
+    interface Reader<T> {
+        T read(MatchResult first, Connection rest) throws IOException;
     }
 
+    /** An element as the server tells it. */
+    record Element(long id, long expiry, int attempt, String payload) { }
+
+    /** What became of an element that the queue accepted: its id, and the moment at which it expires. */
+    record Placed(long id, long expiry) { }
+
+    /** What a wait brought: an element, null where none expired in time, or null since the server gave the wait up. */
+    record Awaited(Element element, boolean isGivenUp) { }
+
     /** Adds an element that expires {@code delay} nanoseconds from now. */
-    static Request<Replies.Placed> offer(long delay, String payload) {
-        return new Request<>("OFFER " + Long.toUnsignedString(delay) + " " + payload, Replies::offered);
+    static Request<Placed> offer(long delay, String payload) {
+        return of("OFFER " + Long.toUnsignedString(delay) + " " + payload, OFFERED, Request::placed);
     }
 
     /** Adds an element that expires at {@code expiry}. */
-    static Request<Replies.Placed> offerAt(long expiry, String payload) {
-        return new Request<>("OFFERAT " + Long.toUnsignedString(expiry) + " " + payload, Replies::offered);
-    }
-
-    /** Takes a job that has expired, or gives null. */
-    static Request<Element> poll() {
-        return new Request<>("POLL", Replies::given);
+    static Request<Placed> offerAt(long expiry, String payload) {
+        return of("OFFERAT " + Long.toUnsignedString(expiry) + " " + payload, OFFERED, Request::placed);
     }
 
     /** Takes a job, and waits for one up to {@code timeout} nanoseconds. */
-    static Request<Replies.Awaited> pollFor(long timeout) {
-        return new Request<>("POLLFOR " + timeout, Replies::awaited);
-    }
-
-    /** Shows the head, or gives null. */
-    static Request<Element> peek() {
-        return new Request<>("PEEK", Replies::head);
+    static Request<Awaited> pollFor(long timeout) {
+        return new Request<>("POLLFOR " + timeout, timeout, AWAITED,
+            (first, rest) -> new Awaited(element(first), first.group().equals("STOPPED")));
     }
 
     /** Takes up to {@code most} jobs that have expired, and no more than the session may hold. */
     static Request<List<Element>> drain(int most) {
-        return new Request<>("DRAIN " + most, Replies::drained);
+        return new Request<>("DRAIN " + most, 0, DRAINED, (first, rest) -> {
+            List<Element> elements = new ArrayList<>();
+            for (long left = number(first, 1); left > 0; left--) {
+                elements.add(element(matched(ITEM, rest.receiveLine())));
+            }
+            return elements;
+        });
     }
 
-    /** Finishes the job that is held under this id. */
-    static Request<Boolean> done(long id) {
-        String line = "DONE " + Long.toUnsignedString(id);
-        return new Request<>(line, lines -> Replies.done(line, lines));
+    /** Finishes the job that is held under this id. Gives null, as it does not come back. */
+    static Request<Placed> done(long id) {
+        return of("DONE " + Long.toUnsignedString(id), DONE, it -> gone(it, 1, id));
     }
 
-    /** Fails the job that is held under this id. Gives whether it comes back. */
-    static Request<Boolean> fail(long id) {
-        String word = Long.toUnsignedString(id);
-        return new Request<>("FAIL " + word, lines -> Replies.failed("DEAD " + word, lines));
+    /** Fails the job that is held under this id. Gives null if it does not come back. */
+    static Request<Placed> fail(long id) {
+        return of("FAIL " + Long.toUnsignedString(id), FAILED,
+            it -> it.group(1) == null ? gone(it, 3, id) : placed(it));
     }
 
     /** Takes the element of this id out of the queue. Gives whether it was there. */
     static Request<Boolean> remove(long id) {
-        return new Request<>("REMOVE " + Long.toUnsignedString(id), Replies::removed);
+        return of("REMOVE " + Long.toUnsignedString(id), REMOVED, it -> it.group(1).equals("yes"));
     }
 
-    /** Takes all elements out of the queue. */
-    static Request<Void> clear() {
-        return new Request<>("CLEAR", Replies::cleared);
+    /** Receives the reply. Throws a {@link RefusedException}, or a {@link ProtocolException} if it is no such reply. */
+    T receive(Connection connection) throws IOException {
+        String line = connection.receiveLine();
+        RefusedException refusal = RefusedException.of(line);
+        if (refusal != null && !form.matcher(line).matches()) {
+            throw refusal;
+        }
+        try {
+            return reader.read(matched(form, line), connection);
+        } catch (IllegalArgumentException wrongNumber) {
+            throw new ProtocolException(line);
+        }
     }
 
-    /** Counts the elements in the queue. */
-    static Request<Long> size() {
-        return new Request<>("SIZE", Replies::size);
+    /** A request that does not wait, and whose reply is one line. */
+    private static <T> Request<T> of(String line, Pattern form, Function<MatchResult, T> reading) {
+        return new Request<>(line, 0, form, (first, rest) -> reading.apply(first));
     }
 
-    /** Ends the session. */
-    static Request<Void> quit() {
-        return new Request<>("QUIT", Replies::bye);
+    /** The pattern of a form of lines, where # stands for a number, and @ for what is told of an element. */
+    private static Pattern form(String form) {
+        return Pattern.compile(form.replace("@", "# # ([1-9][0-9]{0,2}|1000) (" + PAYLOAD + ")")
+            .replace("#", "(0|[1-9][0-9]*)"));
+    }
+
+    private static MatchResult matched(Pattern form, String line) throws ProtocolException {
+        Matcher words = form.matcher(line);
+        if (!words.matches()) {
+            throw new ProtocolException(line);
+        }
+        return words;
+    }
+
+    /** The number that a group of a form has matched, or 0 if it has matched nothing. */
+    private static long number(MatchResult words, int group) {
+        return words.group(group) == null ? 0 : Long.parseUnsignedLong(words.group(group));
+    }
+
+    private static Placed placed(MatchResult words) {
+        return new Placed(number(words, 1), number(words, 2));
+    }
+
+    /** Null, as the element of this id is gone, which the line has to name. */
+    private static Placed gone(MatchResult words, int group, long id) {
+        if (number(words, group) != id) {
+            throw new IllegalArgumentException("another element");
+        }
+        return null;
+    }
+
+    /** What a line tells of an element, or null if it is another line. */
+    private static Element element(MatchResult words) {
+        return words.group(4) == null ? null
+            : new Element(number(words, 1), number(words, 2), (int) number(words, 3), words.group(4));
     }
 }

@@ -15,8 +15,8 @@ import java.util.concurrent.atomic.AtomicBoolean;
 final class Runs {
     private static final System.Logger LOG = System.getLogger("rbbroker.client");
 
+    final ServerClock clock = new ServerClock();
     private final String address;
-    private final ServerClock clock = new ServerClock();
     /** The contact whose moment was told for the first time last. */
     private Contact latest;
     /** The one before, unless the latest is known to continue it. */
@@ -30,10 +30,6 @@ final class Runs {
         this.address = address;
     }
 
-    ServerClock clock() {
-        return clock;
-    }
-
     /** A session has begun: its server has answered. */
     synchronized Contact begin() {
         return new Contact(clock, greatest);
@@ -42,15 +38,15 @@ final class Runs {
     /** A server gave a new id to an offer, which was sent and answered at these times of {@link System#nanoTime}. */
     synchronized void tell(Contact contact, Contact.Told told, long sent, long received) {
         clock.learn(told.moment(), sent, received);
-        if (!contact.isTold()) {
-            noticeLoss(told, contact.before(told));
-            contact.isIn(isLost);
+        if (!contact.isTold) {
+            noticeLoss(told, contact.before.get(told.queue()));
+            contact.isLost = isLost;
             previous = latest;
             latest = contact;
         }
         contact.learn(told.moment(), sent, received);
         if (contact == latest && previous != null && contact.continues(previous)) {
-            previous.isContinuedBy(contact);
+            previous.continuedBy = contact;
             previous = null;
         }
         greatest.merge(told.queue(), told, (before, now) -> now.isBehind(before) ? before : now);

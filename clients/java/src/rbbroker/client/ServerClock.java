@@ -15,13 +15,8 @@ final class ServerClock {
 
     /** The server's clock read {@code moment} at some time between these two. */
     synchronized void learn(long moment, long sent, long received) {
-        long least = moment - received;
-        long most = moment - sent;
-        // A clock that is behind what was known is another server's.
-        if (!isBounded || most - ahead < 0 || least - ahead > 0) {
-            ahead = least;
-        }
-        isBounded = true;
+        isBounded &= moment - sent - ahead >= 0; // a clock that is behind what was known is another server's
+        hasReached(moment, received);
     }
 
     /** The server's clock had reached {@code moment} at this time. */

@@ -1,6 +1,8 @@
 package rbbroker.client;
 
+import java.io.EOFException;
 import java.io.IOException;
+import javax.net.ssl.SSLException;
 
 /**
  * There is no server, it serves nobody else at the moment, or it was lost before it answered.
@@ -22,20 +24,17 @@ public class ServerLostException extends BrokerException {
     /** Whether the server may have carried out the call. */
     private final boolean isInDoubt;
 
-    ServerLostException(String text, boolean isInDoubt, Throwable cause) {
-        super(text + (isInDoubt ? "; the call is in doubt" : ""), cause);
+    ServerLostException(String text, boolean isInDoubt, boolean mayPass, Throwable cause) {
+        super(text + (isInDoubt ? "; the call is in doubt" : ""), mayPass, cause);
         this.isInDoubt = isInDoubt;
     }
 
-    /** The fault of a connection. */
+    /** The fault of a connection: of TLS itself, or of one that was lost. */
     static ServerLostException of(String text, boolean isInDoubt, IOException cause) {
-        return TlsException.isOf(cause) ? new TlsException(text, isInDoubt, cause)
-            : new ServerLostException(text, isInDoubt, cause);
-    }
-
-    /** Whether the same call may succeed later. */
-    boolean mayPass() {
-        return true;
+        String name = cause.getMessage() == null ? cause.getClass().getSimpleName() : cause.getMessage();
+        boolean isTls = cause instanceof SSLException && !(cause.getCause() instanceof EOFException);
+        return isTls ? new TlsException(text + ": " + name, isInDoubt, cause)
+            : new ServerLostException(text + ": " + name, isInDoubt, true, cause);
     }
 
     /**

@@ -18,9 +18,24 @@ import java.util.function.BooleanSupplier;
  * this session; before that nothing is asked, and so nothing is in doubt.
  */
 final class Session {
+    /**
+     * What a session is wanted for: a call that changes nothing, so that it is never in doubt; one that takes no job,
+     * and is not made again if it is in doubt; one that takes jobs at once; or one that waits for a job.
+     */
+    enum Use {
+        LOOK, CHANGE, TAKE, WAIT;
+
+        boolean takes() {
+            return this == TAKE || this == WAIT;
+        }
+    }
+
+    /** How many jobs a session may hold. */
+    static final int MOST_HELD = 64;
+
     private static final System.Logger LOG = System.getLogger("rbbroker.client");
     /** How long a thread that may be interrupted waits at a time before it looks. */
-    private static final long LOOK = TimeUnit.MILLISECONDS.toNanos(50);
+    private static final long LOOK_AFTER = TimeUnit.MILLISECONDS.toNanos(50);
     /** How long the reply to {@code QUIT} is waited for, whatever the patience is. */
     private static final long FAREWELL = TimeUnit.SECONDS.toNanos(2);
 
@@ -32,95 +47,104 @@ final class Session {
     /** How long a session that has lasted long enough takes no jobs, so that it ends with those that it holds. */
     private static final long LAST_JOBS = TimeUnit.SECONDS.toNanos(5);
 
-    private final Options options;
-    private final Connection connection;
-    private final Contact contact;
-    private final long begun = System.nanoTime();
-    private volatile long longest;
-    private final Set<Long> held = ConcurrentHashMap.newKeySet();
-    private volatile boolean isFull;
-    private volatile boolean isClosed;
-
     // The pool's, under its lock.
-    /** Whether a thread uses it. */
-    boolean isLent;
+    /** What it is lent for, or null. */
+    Use use;
     /** How many threads wait for this very session, to answer a job that it holds. */
     int answering;
     /** The thread that last took jobs on it, or 0. */
     long taker;
 
-    /** The session over a connection on which it was served after this time. */
-    private Session(Options options, Connection connection, Contact contact, long waited) {
+    /** The ids of the jobs that it holds. */
+    final Set<Long> held = ConcurrentHashMap.newKeySet();
+    /** What it shows of its server, once a worker of the server serves it. */
+    volatile Contact contact;
+    /** How long it is to last. */
+    volatile long longest;
+    /** Whether it has ended. If not, it may be lost all the same. */
+    volatile boolean isClosed;
+
+    private final Options options;
+    private final Connection connection;
+    private long begun;
+    private volatile boolean isFull;
+
+    /** A session that is to be opened. */
+    Session(Options options) {
         this.options = options;
-        this.connection = connection;
-        this.contact = contact;
+        connection = options.tls() == null ? new Connection(options) : new TlsConnection(options);
         longest = options.longestSession();
-        if (waited >= WAIT) {
-            makeWay();
-        }
     }
 
     /**
      * Connects, and waits until the session is served, or is no longer wanted. If it is interrupted then, nothing has
      * been asked.
      */
-    static Session open(Options options, Runs runs, boolean mayInterrupt, BooleanSupplier isWanted)
-            throws InterruptedException {
-        Connection connection = null;
-        boolean isServed = false;
+    void open(Runs runs, BooleanSupplier isWanted) throws InterruptedException {
         try {
-            connection = Connection.to(options);
-            long waited = awaitService(connection, options, mayInterrupt, isWanted);
-            isServed = true;
-            return new Session(options, connection, runs.begin(), waited);
+            awaitService(isWanted);
+            begun = System.nanoTime();
+            contact = runs.begin();
         } catch (ProtocolException fault) {
             String text = options.address() + " is no broker: it sent " + fault.getMessage();
             throw new UnknownReplyException(text, false, fault);
         } catch (IOException fault) {
-            throw ServerLostException.of("no server at " + options.address() + ": " + textOf(fault), false, fault);
+            throw ServerLostException.of("no server at " + options.address(), false, fault);
         } finally {
-            if (connection != null && !isServed) {
-                connection.close();
+            if (!isServed()) {
+                close();
             }
         }
+    }
+
+    boolean isServed() {
+        return contact != null;
+    }
+
+    /** Asks, and gives the answer. A server that is lost meanwhile leaves in doubt what changes anything. */
+    <T> T ask(Request<T> request) {
+        return askAll(List.of(request), request.longestWait());
     }
 
     /**
-     * Asks, and gives the answer. A server that is lost meanwhile leaves the request in doubt if that changes anything.
+     * Asks several requests in one piece, which may wait for so long, and gives the last answer. The first that is
+     * refused raises its refusal, when all were answered.
      */
-    <T> T ask(Request<T> request) {
-        return ask(request, 0, true);
-    }
-
-    /** Asks for something that changes nothing, so that it is never in doubt. */
-    <T> T look(Request<T> request) {
-        return ask(request, 0, false);
-    }
-
-    /** Asks something that may wait at the server for this long. */
-    <T> T askWaiting(Request<T> request, long wait) {
-        return ask(request, wait, true);
-    }
-
-    /** Asks several requests in one piece. The first that is refused raises its refusal, when all were answered. */
-    void askAll(List<? extends Request<?>> requests) {
-        StringBuilder piece = new StringBuilder();
-        requests.forEach(it -> piece.append(it.line()).append('\n'));
-        Request<RefusedException> all = new Request<>(piece.toString().strip(), lines -> {
-            RefusedException first = null;
-            for (Request<?> it : requests) {
+    <T> T askAll(List<Request<T>> requests, long longestWait) {
+        StringBuilder text = new StringBuilder();
+        requests.forEach(it -> text.append(it.line()).append('\n'));
+        long sent = System.nanoTime();
+        T answer = null;
+        RefusedException refusal = null;
+        boolean isAnswered = false;
+        try {
+            connection.send(text.toString(), sent + options.patience() + longestWait);
+            for (Request<T> it : requests) {
                 try {
-                    it.reader().read(lines);
-                } catch (RefusedException refusal) {
-                    first = first == null ? refusal : first;
+                    answer = it.receive(connection);
+                } catch (RefusedException refused) {
+                    refusal = refusal == null ? refused : refusal;
                 }
             }
-            return first;
-        });
-        RefusedException refusal = requests.isEmpty() ? null : ask(all);
+            isAnswered = true;
+        } catch (ProtocolException fault) {
+            String why = options.address() + " answered '" + fault.getMessage() + "' to " + text.toString().strip();
+            throw new UnknownReplyException(why, use != Use.LOOK, fault);
+        } catch (IOException fault) {
+            String why = "the server at " + options.address() + " was lost after " + text.toString().strip();
+            throw ServerLostException.of(why, use != Use.LOOK, fault);
+        } finally {
+            if (isAnswered) {
+                contact.answered(sent);
+            } else {
+                close(); // which line answers which request is no longer known
+            }
+        }
         if (refusal != null) {
+            isFull |= refusal instanceof FullException;
             throw refusal;
         }
+        return answer;
     }
 
     /** Ends it in good order, as far as that can be had. The jobs that it holds fail. */
@@ -128,9 +152,8 @@ final class Session {
         try {
             if (!isClosed) {
                 long sent = System.nanoTime();
-                long deadline = sent + Math.min(FAREWELL, options.patience());
-                connection.send("QUIT\n", deadline);
-                Request.quit().reader().read(() -> connection.receiveLine(deadline));
+                connection.send("QUIT\n", sent + Math.min(FAREWELL, options.patience()));
+                Request.QUIT.receive(connection);
                 contact.answered(sent);
             }
         } catch (IOException | RefusedException ignored) {
@@ -140,28 +163,12 @@ final class Session {
         }
     }
 
-    /** Hangs up. */
-    void close() {
-        isClosed = true;
-        connection.close();
-    }
-
-    /** Whether it has ended. If not, it may be lost all the same. */
-    boolean isClosed() {
-        return isClosed;
-    }
-
     /** Looks whether it is lost, and if so closes it. */
     boolean isLost() {
         if (!isClosed && connection.isLost()) {
             close();
         }
         return isClosed;
-    }
-
-    /** How long it is to last. */
-    long longest() {
-        return longest;
     }
 
     /** It lasts no longer than a turn, since others may wait for a worker of the server. Gives whether that is less. */
@@ -185,45 +192,35 @@ final class Session {
         return over >= 0 && !held.isEmpty() && over / LAST_JOBS % 2 == 0;
     }
 
-    /** What it shows of its server. */
-    Contact contact() {
-        return contact;
-    }
-
-    /** The ids of the jobs that it holds. Other threads may look at them. */
-    Set<Long> held() {
-        return held;
-    }
-
-    /** Waits until the server has answered a request that costs nothing. Gives how long that took. */
-    private static long awaitService(Connection connection, Options options, boolean mayInterrupt,
-            BooleanSupplier isWanted) throws IOException, InterruptedException {
-        long begun = System.nanoTime();
-        long deadline = begun + options.patience();
-        Request<Void> greeting = Request.greeting();
-        while (!connection.awaitConnected(LOOK)) {
-            goOn(deadline, mayInterrupt, isWanted, "it does not accept the connection");
+    /** Waits until the server has answered a request that costs nothing. */
+    private void awaitService(BooleanSupplier isWanted) throws IOException, InterruptedException {
+        long sent = System.nanoTime();
+        long deadline = sent + options.patience();
+        connection.begin();
+        while (!connection.awaitConnected(LOOK_AFTER)) {
+            goOn(deadline, isWanted, "it does not accept the connection");
         }
-        connection.send(greeting.line() + "\n", deadline);
-        while (!connection.awaitInput(LOOK)) {
-            goOn(deadline, mayInterrupt, isWanted, "all its workers are busy (waited " + secondsSince(begun) + ")");
+        connection.send(Request.GREETING.line() + "\n", deadline);
+        while (!connection.awaitInput(LOOK_AFTER)) {
+            goOn(deadline, isWanted, "all its workers are busy (waited " + secondsSince(sent) + ")");
         }
-        greeting.reader().read(() -> connection.receiveLine(deadline));
-        long waited = System.nanoTime() - begun;
+        Request.GREETING.receive(connection);
+        long waited = System.nanoTime() - sent;
+        if (waited >= WAIT) {
+            makeWay();
+        }
         if (waited >= LONG_WAIT) {
-            LOG.log(Level.WARNING, "waited {0} for a worker of the server at {1}", secondsSince(begun),
+            LOG.log(Level.WARNING, "waited {0} for a worker of the server at {1}", secondsSince(sent),
                 options.address());
         }
-        return waited;
     }
 
     private static String secondsSince(long begun) {
         return String.format(Locale.ROOT, "%.1f s", (System.nanoTime() - begun) / 1e9);
     }
 
-    private static void goOn(long deadline, boolean mayInterrupt, BooleanSupplier isWanted, String why)
-            throws IOException, InterruptedException {
-        if (mayInterrupt && Thread.interrupted()) {
+    private void goOn(long deadline, BooleanSupplier isWanted, String why) throws IOException, InterruptedException {
+        if (use == Use.WAIT && Thread.interrupted()) {
             throw new InterruptedException();
         }
         if (System.nanoTime() - deadline > 0 || !isWanted.getAsBoolean()) {
@@ -231,35 +228,9 @@ final class Session {
         }
     }
 
-    private <T> T ask(Request<T> request, long wait, boolean mayChange) {
-        long sent = System.nanoTime();
-        long deadline = sent + options.patience() + wait;
-        boolean isAnswered = false;
-        try {
-            connection.send(request.line() + "\n", deadline);
-            T answer = request.reader().read(() -> connection.receiveLine(deadline));
-            isAnswered = true;
-            return answer;
-        } catch (RefusedException refusal) {
-            isAnswered = true;
-            isFull |= refusal instanceof FullException;
-            throw refusal;
-        } catch (ProtocolException fault) {
-            String text = options.address() + " answered '" + fault.getMessage() + "' to " + request.line();
-            throw new UnknownReplyException(text, mayChange, fault);
-        } catch (IOException fault) {
-            String text = "the server at " + options.address() + " was lost after " + request.line();
-            throw ServerLostException.of(text + ": " + textOf(fault), mayChange, fault);
-        } finally {
-            if (isAnswered) {
-                contact.answered(sent);
-            } else {
-                close(); // which line answers which request is no longer known
-            }
-        }
-    }
-
-    private static String textOf(IOException fault) {
-        return fault.getMessage() == null ? fault.getClass().getSimpleName() : fault.getMessage();
+    /** Hangs up. */
+    private void close() {
+        isClosed = true;
+        connection.close();
     }
 }

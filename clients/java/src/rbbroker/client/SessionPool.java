@@ -4,11 +4,12 @@ import java.lang.System.Logger.Level;
 import java.util.ArrayList;
 import java.util.Comparator;
 import java.util.List;
+import java.util.Optional;
 import java.util.concurrent.ScheduledThreadPoolExecutor;
+import java.util.concurrent.ThreadPoolExecutor;
 import java.util.concurrent.TimeUnit;
-import java.util.concurrent.locks.Condition;
-import java.util.concurrent.locks.ReentrantLock;
 import java.util.function.Predicate;
+import rbbroker.client.Session.Use;
 
 /**
  * The sessions of a queue, each of which is lent to one thread at a time.
@@ -25,37 +26,22 @@ import java.util.function.Predicate;
  * nobody knows then whether other clients wait for a worker of the server: those behind would be served after a wait.
  */
 final class SessionPool {
-    /** What a session is wanted for. */
-    enum Use {
-        /** A call that takes no job. */
-        CALL,
-        /** A call that takes jobs and does not wait. */
-        TAKE,
-        /** A call that waits for a job. */
-        WAIT
-    }
-
     private static final System.Logger LOG = System.getLogger("rbbroker.client");
     /** How long a session that is to end may be kept by jobs before that is worth a line in the log. */
     private static final long KEPT_LONG = TimeUnit.MINUTES.toNanos(1);
 
     private final Options options;
     private final Runs runs;
-    private final ReentrantLock lock = new ReentrantLock();
-    private final Condition changed = lock.newCondition();
+    /** Those that are served, and those that are being opened, which are lent. */
     private final List<Session> sessions = new ArrayList<>();
     private final ScheduledThreadPoolExecutor timer;
-    /** Sessions that are being opened. */
-    private int opening;
-    /** Sessions that are lent for waits, or opened for them. */
-    private int waiting;
     /** Threads that wait for a session for a call that does not wait at the server. They come before those that do. */
     private int calling;
     /** Whether a session that took jobs has been left, so that whoever waited then had a turn. */
     private boolean hasMadeWay;
-    private boolean hasBeenCrowded;
-    private long crowdedSince;
-    private boolean isClosed;
+    /** Until when the others have to do, since the server did not serve a further session. */
+    private long crowdedUntil = System.nanoTime();
+    volatile boolean isClosed;
 
     SessionPool(Options options, Runs runs) {
         this.options = options;
@@ -64,193 +50,147 @@ final class SessionPool {
             Thread thread = new Thread(work, "rbbroker-sessions-" + options.port());
             thread.setDaemon(true);
             return thread;
-        });
+        }, new ThreadPoolExecutor.DiscardPolicy());
         timer.setKeepAliveTime(1, TimeUnit.SECONDS);
         timer.allowCoreThreadTimeOut(true);
-        timer.setExecuteExistingDelayedTasksAfterShutdownPolicy(false);
     }
 
     /** Lends a session for a call that does not wait, and that no interrupt ends. */
     Session lend(Use use) {
-        boolean wasInterrupted = false;
         try {
-            while (true) {
-                try {
-                    Session session = find(use, Long.MAX_VALUE, false);
-                    if (session != null) {
-                        return session;
-                    }
-                } catch (InterruptedException interrupt) {
-                    wasInterrupted = true;
-                }
-            }
-        } finally {
-            if (wasInterrupted) {
-                Thread.currentThread().interrupt();
+            return lend(use, Long.MAX_VALUE);
+        } catch (InterruptedException never) {
+            throw new AssertionError(never);
+        }
+    }
+
+    /** Lends a session for a use, or gives null if none can be had for so long. An interrupt ends a call that waits. */
+    Session lend(Use use, long nanos) throws InterruptedException {
+        long deadline = System.nanoTime() + nanos;
+        while (true) {
+            Session session = find(use, deadline);
+            if (session == null || session.isServed() || open(session)) {
+                return session;
             }
         }
     }
 
-    /** Lends a session for a call that waits, or gives null if as many wait already and go on for this long. */
-    Session lendToWait(long nanos) throws InterruptedException {
-        return find(Use.WAIT, nanos, true);
-    }
-
-    /** Lends the session that shows its server so, if it goes on, or otherwise another one, for a call. */
+    /** Lends the session that shows its server so, if it goes on, or otherwise another one, for a change. */
     Session lend(Contact contact) {
-        lock.lock();
-        try {
-            Session session = sessions.stream().filter(it -> it.contact() == contact).findFirst().orElse(null);
-            if (session != null) {
-                await(session);
-                if (session.isLost()) {
-                    forgetLost(session);
-                } else if (!isClosed) {
-                    return lent(session, Use.CALL);
-                }
+        synchronized (this) {
+            Session session = sessions.stream().filter(it -> it.contact == contact).findFirst().orElse(null);
+            if (session != null && await(session) && !isClosed) {
+                return lent(session, Use.CHANGE);
             }
-        } finally {
-            lock.unlock();
         }
-        return lend(Use.CALL);
+        return lend(Use.CHANGE);
     }
 
     /** Lends this session, to answer a job that it holds. */
-    void lendToAnswer(Session session, long id) {
-        lock.lock();
-        try {
-            await(session);
-            if (!session.held().contains(id)) {
-                changed.signalAll();
-                throw new NotHeldException("the job has been answered");
-            }
-            if (session.isLost()) {
-                forgetLost(session);
-                throw new ServerLostException("the session that held job " + Long.toUnsignedString(id)
-                    + " has ended, and so the job failed", false, null);
-            }
-            session.isLent = true;
-        } finally {
-            lock.unlock();
+    synchronized void lend(Session session, long id) {
+        boolean goesOn = await(session);
+        if (!session.held.contains(id)) {
+            notifyAll();
+            throw new NotHeldException("the job has been answered");
         }
-    }
-
-    /** Waits until nobody uses this session. Who waits for it comes before others. */
-    private void await(Session session) {
-        session.answering++;
-        while (session.isLent && !session.isClosed()) {
-            changed.awaitUninterruptibly();
+        if (!goesOn) {
+            throw new ServerLostException("the session that held job " + Long.toUnsignedString(id)
+                + " has ended, and so the job failed", false, true, null);
         }
-        session.answering--;
+        lent(session, Use.CHANGE);
     }
 
     /** The borrower needs the session no longer. If it is to be left, this leaves it. */
     void giveBack(Session session) {
-        giveBack(session, Use.CALL);
-    }
-
-    /** The borrower, who had it for this use, needs the session no longer. If it is to be left, this leaves it. */
-    void giveBack(Session session, Use use) {
-        boolean isLost = session.isClosed();
-        if (isClosed() || session.isToBeLeft() && session.held().isEmpty()) {
+        boolean isLost = session.isClosed;
+        if (isClosed || session.isToBeLeft() && session.held.isEmpty()) {
             session.leave();
         }
-        lock.lock();
-        try {
-            session.isLent = false;
-            waiting -= use == Use.WAIT ? 1 : 0;
+        synchronized (this) {
+            session.use = null;
             if (isLost) {
-                forgetLost(session);
-            } else if (session.isClosed()) {
+                forgetLost(it -> it == session);
+            } else if (session.isClosed) {
                 sessions.remove(session);
                 hasMadeWay |= session.taker != 0;
             }
-            changed.signalAll();
-        } finally {
-            lock.unlock();
+            notifyAll();
         }
     }
 
     /**
      * Ends all sessions, each once it is given back. The jobs that they hold fail. Waits for that, but not for ever.
      */
-    void close() {
-        lock.lock();
+    synchronized void close() {
+        isClosed = true;
+        timer.shutdownNow();
+        notifyAll();
+        for (Session it : sessions.stream().filter(it -> it.use == null).toList()) {
+            it.leave();
+            sessions.remove(it);
+        }
+        long deadline = System.nanoTime() + options.patience() + options.longestWait();
         try {
-            isClosed = true;
-            timer.shutdownNow();
-            changed.signalAll();
-            for (Session session : sessions.stream().filter(it -> !it.isLent).toList()) {
-                session.leave();
-                sessions.remove(session);
-            }
-            long left = options.patience() + options.longestWait();
-            while (left > 0 && (opening > 0 || !sessions.isEmpty())) {
-                left = changed.awaitNanos(left);
+            while (!sessions.isEmpty() && deadline - System.nanoTime() > 0) {
+                TimeUnit.NANOSECONDS.timedWait(this, deadline - System.nanoTime());
             }
         } catch (InterruptedException interrupt) {
             Thread.currentThread().interrupt();
-        } finally {
-            lock.unlock();
         }
     }
 
-    boolean isClosed() {
-        lock.lock();
-        try {
-            return isClosed;
-        } finally {
-            lock.unlock();
-        }
-    }
-
-    /** Lends a session for a use, or gives null if none can be had for so long. */
-    private Session find(Use use, long nanos, boolean mayInterrupt) throws InterruptedException {
-        long begun = System.nanoTime();
+    /** Lends a session that is served or to be opened, or gives null if there is none until then. */
+    private synchronized Session find(Use use, long deadline) throws InterruptedException {
         while (true) {
-            lock.lock();
-            try {
-                while (true) {
-                    requireOpen();
-                    Session session = choose(use);
-                    if (session != null) {
-                        return lent(session, use);
-                    }
-                    if (mayOpen(use)) {
-                        break;
-                    }
-                    long left = nanos - (System.nanoTime() - begun);
-                    if (left <= 0) {
-                        return null;
-                    }
-                    awaitChange(use, left);
-                }
-                opening++;
-                waiting += use == Use.WAIT ? 1 : 0;
-            } finally {
-                lock.unlock();
+            if (isClosed) {
+                throw new IllegalStateException("the queue is closed");
             }
-            Session opened = open(use, mayInterrupt);
-            if (opened != null) {
-                return opened;
+            Optional<Session> session = choose(use);
+            if (session.isPresent()) {
+                return lent(session.get(), use);
+            }
+            long left = deadline - System.nanoTime();
+            if (left <= 0) {
+                return null;
+            }
+            if (use == Use.WAIT) {
+                TimeUnit.NANOSECONDS.timedWait(this, left);
+            } else {
+                calling++;
+                awaitChange();
+                calling--;
             }
         }
     }
 
-    private void awaitChange(Use use, long nanos) throws InterruptedException {
-        calling += use == Use.WAIT ? 0 : 1;
+    /** Waits for a change. An interrupt is put off. */
+    private void awaitChange() {
+        boolean wasInterrupted = Thread.interrupted();
         try {
-            changed.awaitNanos(nanos);
-        } finally {
-            calling -= use == Use.WAIT ? 0 : 1;
+            wait();
+        } catch (InterruptedException interrupt) {
+            wasInterrupted = true;
         }
+        if (wasInterrupted) {
+            Thread.currentThread().interrupt();
+        }
+    }
+
+    /** Waits until nobody uses this session. Who waits for it comes before others. Gives whether it goes on. */
+    private boolean await(Session session) {
+        session.answering++;
+        while (session.use != null && !session.isClosed) {
+            awaitChange();
+        }
+        session.answering--;
+        forgetLost(it -> it == session);
+        return !session.isClosed;
     }
 
     /** Marks a session as lent. */
     private Session lent(Session session, Use use) {
-        session.isLent = true;
-        waiting += use == Use.WAIT ? 1 : 0;
-        if (use != Use.CALL) {
+        session.use = use;
+        if (use.takes()) {
             session.taker = Thread.currentThread().getId();
             if (!hasMadeWay && session.makeWay()) {
                 watch(session);
@@ -259,154 +199,130 @@ final class SessionPool {
         return session;
     }
 
-    /** A session that can be lent, or null if one should be opened or waited for. */
-    private Session choose(Use use) {
-        if (use == Use.WAIT && (waiting >= options.waiters() || calling > 0)) {
-            return null;
+    /** A session that can be lent, or a new one. */
+    private Optional<Session> choose(Use use) {
+        if (use == Use.WAIT && sessions.stream().filter(it -> it.use == Use.WAIT).count() >= options.waiters()) {
+            return Optional.empty();
         }
-        sessions.stream().filter(it -> !it.isLent).toList().forEach(it -> {
-            if (it.isLost()) {
-                forgetLost(it);
-            }
-        });
-        if (use == Use.CALL) {
-            return first(it -> true);
+        forgetLost(it -> true);
+        if (use == Use.WAIT && calling > 0) {
+            return another();
+        }
+        if (!use.takes()) {
+            return first(it -> true).or(this::another);
         }
         // A thread takes its jobs on one session if it can: so none of them waits for another thread to be answered.
         long thread = Thread.currentThread().getId();
-        Session session = first(it -> it.taker == thread && it.held().size() < Limits.MOST_HELD && !it.isLeaving());
-        session = session == null ? first(it -> it.held().isEmpty()) : session;
-        return session != null || mayOpen(use) ? session : fewestHeld();
+        return first(it -> it.taker == thread && it.held.size() < Session.MOST_HELD && !it.isLeaving())
+            .or(() -> first(it -> it.held.isEmpty())).or(this::another).or(this::fewestHeld);
     }
 
-    private Session first(Predicate<Session> isRight) {
-        return sessions.stream().filter(SessionPool::isFree).filter(isRight).findFirst().orElse(null);
+    private Optional<Session> first(Predicate<Session> isRight) {
+        return sessions.stream().filter(SessionPool::isFree).filter(isRight).findFirst();
     }
 
-    private Session fewestHeld() {
-        Comparator<Session> byHeld = Comparator.comparingInt(it -> it.held().size());
-        return sessions.stream().filter(it -> isFree(it) && !it.isLeaving()).min(byHeld).orElse(null);
+    private Optional<Session> fewestHeld() {
+        Comparator<Session> byHeld = Comparator.comparingInt(it -> it.held.size());
+        return sessions.stream().filter(it -> isFree(it) && !it.isLeaving()).min(byHeld);
     }
 
     private static boolean isFree(Session session) {
-        return !session.isLent && session.answering == 0;
+        return session.use == null && session.answering == 0;
     }
 
-    /** Whether there is a place for a further session. One that is leaving keeps no place, if that is not many. */
-    private boolean mayOpen(Use use) {
+    /** A further session, if there is a place. One that is leaving keeps no place, if that is not many. */
+    private Optional<Session> another() {
         int leaving = (int) sessions.stream().filter(Session::isLeaving).count();
         int staying = sessions.size() - Math.min(leaving, options.sessions());
-        return staying + opening < options.sessions() && (use != Use.WAIT || waiting < options.waiters())
-            && (sessions.isEmpty() || !isCrowded());
+        boolean isCrowded = hasServed() && System.nanoTime() - crowdedUntil < 0;
+        if (staying >= options.sessions() || isCrowded) {
+            return Optional.empty();
+        }
+        sessions.add(new Session(options));
+        return Optional.of(sessions.get(sessions.size() - 1));
     }
 
-    /** Whether the server did not serve a further session when it was last asked to. */
-    private boolean isCrowded() {
-        return hasBeenCrowded && System.nanoTime() - crowdedSince < options.longestSession();
+    private boolean hasServed() {
+        return sessions.stream().anyMatch(Session::isServed);
     }
 
-    /** Opens a session, for which there is a place. Gives null if it is not served, but others are. */
-    private Session open(Use use, boolean mayInterrupt) throws InterruptedException {
+    /** Opens a session. Gives whether it is served: if not, others are. */
+    private boolean open(Session session) throws InterruptedException {
         long begun = System.nanoTime();
-        Session session = null;
         try {
-            session = Session.open(options, runs, mayInterrupt, () -> isWanted(begun));
-            return session;
+            session.open(runs, () -> isWanted(begun));
         } catch (ServerLostException fault) {
-            if (!fault.mayPass() || !makesDo()) {
+            if (!fault.mayPass || !makesDo()) {
                 throw fault;
             }
-            return null;
         } finally {
-            isOpened(session, use);
+            endOpening(session);
         }
+        return session.isServed();
     }
 
     /** Whether a session that was begun at this time is waited for: not for long, if there are others. */
-    private boolean isWanted(long begun) {
-        lock.lock();
-        try {
-            return !isClosed && (sessions.isEmpty() || System.nanoTime() - begun < options.longestWait());
-        } finally {
-            lock.unlock();
-        }
+    private synchronized boolean isWanted(long begun) {
+        return !isClosed && (!hasServed() || System.nanoTime() - begun < options.longestWait());
     }
 
     /** The server serves no further session. Gives whether there are others, which have to do for a while. */
-    private boolean makesDo() {
-        lock.lock();
-        try {
-            if (isClosed || sessions.isEmpty()) {
-                return isClosed;
-            }
-            hasBeenCrowded = true;
-            crowdedSince = System.nanoTime();
-            sessions.forEach(it -> {
-                it.makeWay();
-                watch(it);
-            });
-            return true;
-        } finally {
-            lock.unlock();
+    private synchronized boolean makesDo() {
+        if (isClosed || !hasServed()) {
+            return isClosed;
         }
+        crowdedUntil = System.nanoTime() + options.longestSession();
+        sessions.stream().filter(Session::isServed).forEach(it -> {
+            it.makeWay();
+            watch(it);
+        });
+        return true;
     }
 
-    /** The place for a session is taken by it, or free again if it is null. */
-    private void isOpened(Session session, Use use) {
-        lock.lock();
-        try {
-            opening--;
-            waiting -= use == Use.WAIT ? 1 : 0;
-            if (session != null) {
-                sessions.add(lent(session, use));
-                watch(session);
-                timer.schedule(() -> warnIfKept(session), session.longest() + KEPT_LONG, TimeUnit.NANOSECONDS);
-            } else if (sessions.isEmpty()) {
-                runs.clock().forget();
+    /** A session is served now, or its place is free again. */
+    private synchronized void endOpening(Session session) {
+        if (session.isServed()) {
+            watch(session);
+            timer.schedule(() -> warnIfKept(session), session.longest + KEPT_LONG, TimeUnit.NANOSECONDS);
+        } else {
+            sessions.remove(session);
+            if (!hasServed()) {
+                runs.clock.forget();
             }
-            changed.signalAll();
-        } finally {
-            lock.unlock();
         }
+        notifyAll();
     }
 
     /** Has the timer look after a session when it has lasted long enough. */
     private void watch(Session session) {
-        if (!isClosed) {
-            timer.schedule(() -> leaveIfIdle(session), session.longest(), TimeUnit.NANOSECONDS);
-        }
+        timer.schedule(() -> leaveIfIdle(session), session.longest, TimeUnit.NANOSECONDS);
     }
 
     private void leaveIfIdle(Session session) {
-        lock.lock();
-        try {
-            if (!isFree(session) || session.isClosed() || !session.held().isEmpty()) {
+        synchronized (this) {
+            if (!isFree(session) || session.isClosed || !session.held.isEmpty()) {
                 return; // who gives it back leaves it
             }
-            session.isLent = true;
-        } finally {
-            lock.unlock();
+            session.use = Use.LOOK;
         }
         giveBack(session);
     }
 
     private static void warnIfKept(Session session) {
-        if (!session.isClosed() && !session.held().isEmpty()) {
+        if (!session.isClosed && !session.held.isEmpty()) {
             LOG.log(Level.WARNING, "a session should have ended a minute ago, and jobs without an answer keep it: {0}",
-                session.held());
+                session.held);
         }
     }
 
-    /** A session has ended that was not left. So its server may have ended, and the next one has another clock. */
-    private void forgetLost(Session session) {
-        sessions.remove(session);
-        runs.clock().forget();
-        changed.signalAll();
-    }
-
-    private void requireOpen() {
-        if (isClosed) {
-            throw new IllegalStateException("the queue is closed");
+    /**
+     * Forgets those of these sessions that nobody uses and that have ended, but were not left. Their server may have
+     * ended, and the next one has another clock.
+     */
+    private void forgetLost(Predicate<Session> these) {
+        if (sessions.removeIf(it -> it.use == null && these.test(it) && it.isLost())) {
+            runs.clock.forget();
+            notifyAll();
         }
     }
 }

@@ -1,7 +1,6 @@
 package rbbroker.client;
 
 import java.io.IOException;
-import java.net.ConnectException;
 import java.net.InetSocketAddress;
 import java.net.Socket;
 import java.nio.ByteBuffer;
@@ -9,7 +8,6 @@ import java.nio.channels.Channels;
 import java.nio.channels.Pipe;
 import java.nio.channels.SelectionKey;
 import java.nio.channels.WritableByteChannel;
-import java.nio.charset.StandardCharsets;
 import java.util.concurrent.TimeUnit;
 import java.util.concurrent.locks.LockSupport;
 import javax.net.ssl.SSLException;
@@ -29,33 +27,24 @@ final class TlsConnection extends Connection {
     /** How long a thread whose sending failed waits for the reason, which may be on its way. */
     private static final long REASON = TimeUnit.SECONDS.toMillis(1);
 
-    private final Pipe pipe;
     private final Socket socket = new Socket();
-    private final Thread reader;
+    private Pipe pipe;
+    private Thread reader;
     private volatile SSLSocket tls;
     private volatile IOException fault;
     private boolean isConnected;
 
-    private TlsConnection(Pipe pipe, InetSocketAddress address, Options options) throws IOException {
-        super(pipe.source());
-        this.pipe = pipe;
-        reader = new Thread(() -> read(address, options), "rbbroker-tls-" + options.port());
-        reader.setDaemon(true);
+    TlsConnection(Options options) {
+        super(options);
     }
 
-    /** Begins to connect. */
-    static TlsConnection to(InetSocketAddress address, Options options) throws IOException {
-        Pipe pipe = Pipe.open();
-        TlsConnection connection = null;
-        try {
-            connection = new TlsConnection(pipe, address, options);
-            connection.reader.start();
-            return connection;
-        } finally {
-            if (connection == null) {
-                closeAll(pipe.source(), pipe.sink());
-            }
-        }
+    @Override
+    void connect(InetSocketAddress address) throws IOException {
+        pipe = Pipe.open();
+        receiveFrom(pipe.source());
+        reader = new Thread(() -> read(address), "rbbroker-tls-" + options.port());
+        reader.setDaemon(true);
+        reader.start();
     }
 
     @Override
@@ -70,11 +59,15 @@ final class TlsConnection extends Connection {
     }
 
     @Override
-    void send(String text, long deadline) throws IOException {
+    void write(ByteBuffer text) throws IOException {
         try {
-            tls.getOutputStream().write(text.getBytes(StandardCharsets.US_ASCII));
+            tls.getOutputStream().write(text.array());
         } catch (IOException broken) {
-            awaitEnd();
+            try {
+                reader.join(REASON);
+            } catch (InterruptedException interrupt) {
+                Thread.currentThread().interrupt();
+            }
             throw fault == null ? broken : fault;
         }
     }
@@ -86,22 +79,14 @@ final class TlsConnection extends Connection {
 
     @Override
     public void close() {
-        closeAll(tls, socket);
+        closeAll(tls, socket, pipe == null ? null : pipe.sink());
         super.close();
     }
 
-    private void awaitEnd() {
-        try {
-            reader.join(REASON);
-        } catch (InterruptedException interrupt) {
-            Thread.currentThread().interrupt();
-        }
-    }
-
-    private void read(InetSocketAddress address, Options options) {
+    private void read(InetSocketAddress address) {
         try (WritableByteChannel sink = pipe.sink()) {
             try {
-                connect(address, options);
+                agree(address);
                 sink.write(ByteBuffer.wrap(MARK));
                 tls.getInputStream().transferTo(Channels.newOutputStream(sink));
             } catch (IOException | RuntimeException broken) {
@@ -112,12 +97,10 @@ final class TlsConnection extends Connection {
         }
     }
 
-    private void connect(InetSocketAddress address, Options options) throws IOException {
+    private void agree(InetSocketAddress address) throws IOException {
         int patience = (int) Math.min(Integer.MAX_VALUE, TimeUnit.NANOSECONDS.toMillis(options.patience()) + 1);
         socket.connect(address, patience);
-        if (socket.getLocalSocketAddress().equals(address)) {
-            throw new ConnectException("Connection refused"); // it found itself, as a plain one may
-        }
+        requireOther(socket.getLocalSocketAddress(), address);
         socket.setTcpNoDelay(true);
         socket.setSoTimeout(patience);
         tls = (SSLSocket) options.tls().createSocket(socket, options.host(), options.port(), true);

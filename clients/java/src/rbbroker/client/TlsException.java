@@ -1,9 +1,5 @@
 package rbbroker.client;
 
-import java.io.EOFException;
-import java.io.IOException;
-import javax.net.ssl.SSLException;
-
 /**
  * There is no TLS with the server: one side does not accept the other's certificate, or the other side is no TLS
  * server. The same call would meet the same fault, so it is not made again.
@@ -12,16 +8,6 @@ public final class TlsException extends ServerLostException {
     private static final long serialVersionUID = 1;
 
     TlsException(String text, boolean isInDoubt, Throwable cause) {
-        super(text, isInDoubt, cause);
-    }
-
-    /** Whether TLS itself is at fault, and not a connection that was lost. */
-    static boolean isOf(IOException fault) {
-        return fault instanceof SSLException && !(fault.getCause() instanceof EOFException);
-    }
-
-    @Override
-    boolean mayPass() {
-        return false;
+        super(text, isInDoubt, false, cause);
     }
 }

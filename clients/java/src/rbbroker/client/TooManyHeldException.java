@@ -6,10 +6,9 @@ package rbbroker.client;
  */
 public final class TooManyHeldException extends RefusedException {
     static final String REPLY = "ERR 9 held";
-
     private static final long serialVersionUID = 1;
 
     TooManyHeldException() {
-        super(REPLY, "the session holds as many jobs as it may; finish some first");
+        super(REPLY, "the session holds as many jobs as it may; finish some first", false);
     }
 }

@@ -1,49 +1,48 @@
 package rbbroker.client;
 
+import java.util.concurrent.ThreadLocalRandom;
 import java.util.concurrent.TimeUnit;
+import java.util.concurrent.locks.LockSupport;
+import rbbroker.client.Session.Use;
 
-/** The tries of one call, which is made again while its faults may pass and its patience lasts. */
+/**
+ * The tries of one call, which is made again while its faults may pass and its patience lasts.
+ *
+ * <p>Each pause between two tries is twice as long as the one before, up to a longest. From that a random part is taken
+ * off, up to a half: clients that lose their server at the same moment do not all come back at the same moment.
+ */
 final class Tries {
-    private final long patience;
-    private final Pauses pauses = new Pauses();
-    private long begun = System.nanoTime();
-    private ServerLostException doubt;
+    private static final long LONGEST_PAUSE = TimeUnit.SECONDS.toNanos(2);
 
-    Tries(long patience) {
+    private final Use use;
+    private final long patience;
+    private final long begun = System.nanoTime();
+    private long nextPause = TimeUnit.MILLISECONDS.toNanos(100);
+    private BrokerException doubt;
+
+    Tries(Use use, long patience) {
+        this.use = use;
         this.patience = patience;
     }
 
     /**
      * Pauses after a fault, before the next try. Throws the fault if there is to be none: once a try is in doubt, no
-     * later one takes that back.
+     * later one takes that back. An interrupt ends the pause, and all tries of a call that does not wait.
      */
-    void pauseAfter(BrokerException fault) throws InterruptedException {
-        if (doubt == null && fault instanceof ServerLostException lost && lost.isInDoubt()) {
-            doubt = lost;
+    void pauseAfter(BrokerException fault) {
+        boolean isInDoubt = fault instanceof ServerLostException lost && lost.isInDoubt();
+        if (!fault.mayPass || isInDoubt && use == Use.CHANGE) {
+            throw fault;
         }
-        long pause = pauses.next();
-        if (System.nanoTime() - begun + pause > patience) {
+        doubt = doubt == null && isInDoubt ? fault : doubt;
+        long pause = nextPause - ThreadLocalRandom.current().nextLong(nextPause / 2);
+        nextPause = Math.min(2 * nextPause, LONGEST_PAUSE);
+        boolean isOver = System.nanoTime() - begun + pause > patience;
+        if (!isOver) {
+            LockSupport.parkNanos(pause);
+        }
+        if (isOver || use != Use.WAIT && Thread.currentThread().isInterrupted()) {
             throw doubt == null ? fault : doubt;
         }
-        TimeUnit.NANOSECONDS.sleep(pause);
-    }
-
-    /**
-     * As {@link #pauseAfter}, for a call that no interrupt ends: an interrupted thread does not pause, and gives up.
-     */
-    void pauseUnlessInterrupted(BrokerException fault) {
-        try {
-            pauseAfter(fault);
-        } catch (InterruptedException interrupt) {
-            Thread.currentThread().interrupt();
-            throw doubt == null ? fault : doubt;
-        }
-    }
-
-    /** A try succeeded, and others follow: what went wrong before does not count. */
-    void succeed() {
-        pauses.reset();
-        begun = System.nanoTime();
-        doubt = null;
     }
 }

@@ -7,11 +7,6 @@ public final class UnknownReplyException extends ServerLostException {
     private static final long serialVersionUID = 1;
 
     UnknownReplyException(String text, boolean isInDoubt, Throwable cause) {
-        super(text, isInDoubt, cause);
-    }
-
-    @Override
-    boolean mayPass() {
-        return false;
+        super(text, isInDoubt, false, cause);
     }
 }

@@ -16,6 +16,7 @@ import java.util.Map;
 import java.util.concurrent.Delayed;
 import java.util.concurrent.TimeUnit;
 import org.junit.Test;
+import rbbroker.client.Request.Element;
 
 /** Jobs by themselves, and as a server's queue places them. */
 public class JobTest {
